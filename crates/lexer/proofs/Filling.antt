@@ -1,0 +1,94 @@
+-- The arrays filled token by token are those of the list of tokens: a number stored at the list's end in a padded list pads the longer
+-- list, and there are never more than 256. Assumes nothing.
+use mathlib.Core.Path.{_≡_, refl, sym, ap, _∙_}
+use mathlib.Core.List.{List, [], _∷_, _++_, map, map-append, append-assoc, append-nil}
+use Prim.Native.Nat.{ℕ, suc, _+_, _-_, _≤_, _<_}
+use native.Mathlib.Omega.{arith}
+use lib.ListN.{length, set, getD, replicate, length-append, length-map, List·getD-append}
+use lib.Dec.{eqb·suc-zero}
+use lib.Seq.{set-at}
+use borrow.Author.Tests.{lt-ltb, le-ltb}
+use Rattle.lexer.specs.Token.{Token}
+use Rattle.lexer.specs.Cutting.{Cutting, tokens, refused}
+use Rattle.lexer.specs.Cutter.{cutting}
+use Rattle.lexer.specs.Arrays.{codeOf, pad, tokensOf, answerOf, lexedOf, lexed}
+use Rattle.lexer.specs.Steps.{arrays, none, push, fill, refusal, answered, finish, resume}
+use Rattle.lexer.specs.declared.Tokens.{Tokens}
+use Rattle.lexer.specs.declared.LexAnswer.the-variants as LexAnswer
+use Rattle.lexer.proofs.Sound.{sound}
+use Rattle.lexer.proofs.Placement.{placed-from, few}
+
+-- a number stored behind those that are there
+pad-set : (xs : List ℕ) (n v : ℕ) → length xs ≡ n → n < 256 → set (pad xs) n v ≡ pad (xs ++ v ∷ [])
+pad-set xs n v e h =
+    let m : ℕ = 256 - (length xs + 1) in
+    let f : 256 - length xs ≡ suc m = omega arith in
+    let g : m ≡ 256 - length (xs ++ v ∷ []) = omega (arith, length-append xs (v ∷ [])) in
+    ap (λ (k : ℕ). set (xs ++ replicate k 0) n v) f
+    ∙ set-at xs 0 (replicate m 0) v n e
+    ∙ sym (append-assoc xs (v ∷ []) (replicate m 0))
+    ∙ ap (λ (k : ℕ). (xs ++ v ∷ []) ++ replicate k 0) g
+
+-- one array of a field of the tokens
+field-set : (f : Token → ℕ) (xs : List Token) (x : Token) → length xs < 256 → set (pad (map f xs)) (length xs) (f x) ≡ pad (map f (xs ++ x ∷ []))
+field-set f xs x h = pad-set (map f xs) (length xs) (f x) (length-map xs f) h ∙ ap pad (sym (map-append f xs (x ∷ [])))
+
+arrays-same : {k m s t l o : List ℕ} {i j : ℕ} → k ≡ m → s ≡ t → l ≡ o → i ≡ j → arrays k s l i ≡ arrays m t o j
+arrays-same e f g h = cc
+
+push-next : (xs : List Token) (x : Token) → length xs < 256 → push (tokensOf xs) (x .kind) (x .start) (x .len) ≡ tokensOf (xs ++ x ∷ [])
+unfolding push tokensOf
+push-next xs x h =
+    arrays-same (field-set (λ (t : Token). codeOf (t .kind)) xs x h) (field-set (λ (t : Token). t .start) xs x h) (field-set (λ (t : Token). t .len) xs x h)
+    (sym (length-append xs (x ∷ [])))
+
+fill-from : (ys xs : List Token) → length xs + length ys ≤ 256 → fill (tokensOf xs) ys ≡ tokensOf (xs ++ ys)
+unfolding fill
+fill-from [] xs h = ap tokensOf (sym (append-nil xs))
+fill-from (y ∷ ys) xs h =
+    ap (λ (t : Tokens). fill t ys) (push-next xs y (omega arith))
+    ∙ fill-from ys (xs ++ y ∷ []) (omega (arith, length-append xs (y ∷ [])))
+    ∙ ap tokensOf (append-assoc xs (y ∷ []) ys)
+
+none-is : none ≡ tokensOf []
+unfolding none tokensOf
+none-is = refl
+
+-- ---- the answer
+
+finish-is : (ts : List Token) → finish (tokensOf ts) ≡ answered (answerOf ts) (tokensOf ts)
+unfolding finish tokensOf
+finish-is [] = refl
+finish-is (t ∷ ts) = simp (eqb·suc-zero)
+
+resume-is : (r : Cutting) → ((ts : List Token) → r ≡ tokens ts → length ts ≤ 256) → resume none r ≡ lexedOf r
+unfolding resume refusal
+resume-is (tokens ts) h = let l = h ts refl in ap finish (ap (λ (t : Tokens). fill t ts) none-is ∙ fill-from ts [] (omega arith)) ∙ finish-is ts
+resume-is (refused a) h = ap (answered a) none-is
+
+pub lexed-long : (s : List ℕ) → 256 < length s → lexed s ≡ answered LexAnswer.TooLong (tokensOf [])
+unfolding lexed
+lexed-long s h = simp (lt-ltb 256 (length s) h)
+
+pub lexed-short : (s : List ℕ) → length s ≤ 256 → lexed s ≡ lexedOf (cutting s)
+unfolding lexed
+lexed-short s h = simp (le-ltb 256 (length s) h)
+
+pub too-long : (s : List ℕ) → 256 < length s → refusal LexAnswer.TooLong ≡ lexed s
+unfolding refusal
+too-long s h = ap (answered LexAnswer.TooLong) none-is ∙ sym (lexed-long s h)
+
+pub not-too-long : (s : List ℕ) → length s ≤ 256 → resume none (cutting s) ≡ lexed s
+not-too-long s h =
+    resume-is (cutting s) (λ ts e. omega (arith, few s 0 ts (placed-from (sound s) s refl ts e) (omega arith)))
+    ∙ sym (lexed-short s h)
+
+-- ---- the arrays read back
+
+map-at : (f : Token → ℕ) (ts : List Token) (i : ℕ) (d : Token) → i < length ts → getD (map f ts) i 0 ≡ f (getD ts i d)
+map-at f [] i d h = absurd (omega arith)
+map-at f (t ∷ ts) ℕ.zero d h = refl
+map-at f (t ∷ ts) (suc i) d h = map-at f ts i d (omega arith)
+
+pub field-at : (f : Token → ℕ) (ts : List Token) (i : ℕ) (d : Token) → i < length ts → getD (pad (map f ts)) i 0 ≡ f (getD ts i d)
+field-at f ts i d h = List·getD-append (map f ts) (replicate (256 - length (map f ts)) 0) 0 i (omega (arith, length-map ts f)) ∙ map-at f ts i d h

@@ -1,0 +1,13 @@
+pub mod Table
+pub mod Classes
+pub mod Runs
+pub mod Signs
+pub mod Longest
+pub mod Pieces
+pub mod Advance
+pub mod Sound
+pub mod Unique
+pub mod Placement
+pub mod Filling
+pub mod Claims
+pub mod Examples

@@ -1,0 +1,21 @@
+-- Each array is 256 zeros, as in `none`. Assumes nothing.
+use Rattle.lexer.specs.Steps.{none, refusal}
+use borrow.Author.Needs.{needs}
+use Rattle.lexer.proofs.refused.Statement.{statement}
+use Rattle.lexer.proofs.refused.Tie as tie
+
+zeros-requires : tie.Need-zeros-requires
+zeros-requires c κs = search needs
+
+zeros-requires-2 : tie.Need-zeros-requires-2
+zeros-requires-2 c κs = search needs
+
+zeros-requires-3 : tie.Need-zeros-requires-3
+zeros-requires-3 c κs = search needs
+
+returns : tie.Need-returns
+unfolding refusal none
+returns c = let a = c .before .before .zeros .ensures in let b = c .before .zeros2 .ensures in let d = c .zeros3 .ensures in cc
+
+pub refused-spec : {M : Type 1} → statement M
+refused-spec = tie.close (tie.spec zeros-requires zeros-requires-2 zeros-requires-3 returns)

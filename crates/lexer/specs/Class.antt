@@ -1,0 +1,38 @@
+-- What is meant: the class of a byte. Assumes nothing.
+use mathlib.Core.Bool.{Bool, true, false, _&&_, _||_}
+use mathlib.Core.List.{List, [], _∷_}
+use Prim.Native.Nat.{ℕ}
+use lib.Dec.{leb, eqb}
+use Rattle.lexer.specs.Text.{bytes}
+use Rattle.lexer.specs.declared.Class.{Class}
+use Rattle.lexer.specs.declared.Class.the-variants as Class
+
+abbrev pub pick : {A : Type 0} → Bool → A → A → A
+pick true a b = a
+pick false a b = b
+
+abbrev pub within : ℕ → ℕ → ℕ → Bool
+within a z b = leb a b && leb b z
+
+abbrev pub oneOf : List ℕ → ℕ → Bool
+oneOf [] b = false
+oneOf (x ∷ xs) b = eqb b x || oneOf xs b
+
+-- "blank (space 32, tab 9)"
+unfoldable pub isBlank : ℕ → Bool
+isBlank b = eqb b 32 || eqb b 9
+
+-- "letter or digit (A-Z, a-z, 0-9)"
+unfoldable pub isAlphanumeric : ℕ → Bool
+isAlphanumeric b =
+    within 65 90 b
+    || (within 97 122 b
+    || within 48 57 b)
+
+-- "The signs are ( ) , * + - & | ~ < = >."
+unfoldable pub isSign : ℕ → Bool
+isSign b = oneOf (bytes "(),*+-&|~<=>") b
+
+-- "Each of the 256 byte values has one class: blank, letter or digit, a sign, or foreign."
+unfoldable pub classOf : ℕ → Class
+classOf b = pick (isBlank b) Class.Blank (pick (isAlphanumeric b) Class.Alphanumeric (pick (isSign b) Class.Sign Class.Foreign))

@@ -1,0 +1,9 @@
+pub mod Text
+pub mod Class
+pub mod Token
+pub mod Spelling
+pub mod Cutting
+pub mod Placement
+pub mod Cutter
+pub mod Arrays
+pub mod Steps
