@@ -1,0 +1,14 @@
+pub mod Laws
+pub mod Leaves
+pub mod Heads
+pub mod Steps
+pub mod Answers
+pub mod Ranks
+pub mod Sound
+pub mod Complete
+pub mod Unique
+pub mod Exact
+pub mod Names
+pub mod Rules
+pub mod Texts
+pub mod Claims

@@ -1,0 +1,109 @@
+-- The names of a formula stand in its tokens and in its postfix order as they stand in the formula, left to right: every rule
+-- of the grammar and every step of the order keeps them so. Assumes nothing.
+use mathlib.Core.Path.{_≡_, refl, sym, ap, ap₂, _∙_}
+use mathlib.Core.List.{List, [], _∷_, _++_, append-assoc, append-nil}
+use Prim.Native.Nat.{ℕ}
+use Rattle.formula.specs.Formula.{Term, Atom, Form, Formula}
+use Rattle.formula.specs.Names.{termNames, formulaNames}
+use Rattle.syntax.specs.Symbol.{Leaf, Symbol, leaf, opening, closing, comma, relation, contact, part}
+use Rattle.syntax.specs.Grammar.{leafTerm, IsTerm, t-leaf, t-minus, t-times, t-plus, t-parenthesis, t-looser, IsFormula, f-truth, f-falsity, f-contact, f-part, f-empty, f-tilde, f-and, f-or, f-implies, f-iff, f-parenthesis, f-looser, Derives}
+use Rattle.syntax.specs.Postfix.{termAfter, formulaAfter, postfix, symbolNames, namesIn}
+
+module _ {N : Type 0} where
+  names-append : (a b : List (Symbol N)) → namesIn (a ++ b) ≡ namesIn a ++ namesIn b
+  unfolding namesIn
+  names-append [] b = refl
+  names-append (x ∷ a) b = ap (λ (l : List N). symbolNames x ++ l) (names-append a b) ∙ sym (append-assoc (symbolNames x) (namesIn a) (namesIn b))
+
+  -- one symbol more
+  names-last : (a : List (Symbol N)) (x : Symbol N) → namesIn (a ++ x ∷ []) ≡ namesIn a ++ symbolNames x
+  unfolding namesIn
+  names-last a x = names-append a (x ∷ []) ∙ ap (λ (l : List N). namesIn a ++ l) (append-nil (symbolNames x))
+
+  -- a sign more
+  names-sign : (a : List (Symbol N)) (x : Symbol N) → symbolNames x ≡ [] → namesIn (a ++ x ∷ []) ≡ namesIn a
+  names-sign a x e = names-last a x ∙ ap (λ (l : List N). namesIn a ++ l) e ∙ append-nil (namesIn a)
+
+  -- a sign between two lists
+  names-between : (a b : List (Symbol N)) (x : Symbol N) → symbolNames x ≡ [] → namesIn (a ++ x ∷ b) ≡ namesIn a ++ namesIn b
+  unfolding namesIn
+  names-between a b x e = names-append a (x ∷ b) ∙ ap (λ (l : List N). namesIn a ++ (l ++ namesIn b)) e
+
+  -- ---- in the order
+
+  -- what stands behind o, after a and then b
+  two : (o a b : List N) {x y : List N} → x ≡ o ++ a → y ≡ x ++ b → y ≡ o ++ (a ++ b)
+  two o a b e f = f ∙ ap (λ (l : List N). l ++ b) e ∙ append-assoc o a b
+
+  term-order : (t : Term N) (o : List (Symbol N)) → namesIn (termAfter t o) ≡ namesIn o ++ termNames t
+  unfolding termAfter
+  term-order Term.zero o = names-last o (leaf Leaf.zero)
+  term-order Term.one o = names-last o (leaf Leaf.one)
+  term-order (Term.name x) o = names-last o (leaf (Leaf.name x))
+  term-order (Term.complement t) o = names-sign (termAfter t o) _ refl ∙ term-order t o
+  term-order (Term.intersection t u) o = names-sign (termAfter u (termAfter t o)) _ refl ∙ two (namesIn o) (termNames t) (termNames u) (term-order t o) (term-order u (termAfter t o))
+  term-order (Term.union t u) o = names-sign (termAfter u (termAfter t o)) _ refl ∙ two (namesIn o) (termNames t) (termNames u) (term-order t o) (term-order u (termAfter t o))
+
+  formula-order : (f : Formula N) (o : List (Symbol N)) → namesIn (formulaAfter f o) ≡ namesIn o ++ formulaNames f
+  unfolding formulaAfter
+  formula-order Form.truth o = names-last o _
+  formula-order Form.falsity o = names-last o _
+  formula-order (Form.atom (Atom.contact t u)) o = names-sign (termAfter u (termAfter t o)) _ refl ∙ two (namesIn o) (termNames t) (termNames u) (term-order t o) (term-order u (termAfter t o))
+  formula-order (Form.atom (Atom.part t u)) o = names-sign (termAfter u (termAfter t o)) _ refl ∙ two (namesIn o) (termNames t) (termNames u) (term-order t o) (term-order u (termAfter t o))
+  formula-order (Form.atom (Atom.empty t)) o = names-sign (termAfter t o) _ refl ∙ term-order t o
+  formula-order (Form.negation f) o = names-sign (formulaAfter f o) _ refl ∙ formula-order f o
+  formula-order (Form.conjunction f g) o = names-sign (formulaAfter g (formulaAfter f o)) _ refl ∙ two (namesIn o) (formulaNames f) (formulaNames g) (formula-order f o) (formula-order g (formulaAfter f o))
+  formula-order (Form.disjunction f g) o = names-sign (formulaAfter g (formulaAfter f o)) _ refl ∙ two (namesIn o) (formulaNames f) (formulaNames g) (formula-order f o) (formula-order g (formulaAfter f o))
+  formula-order (Form.implication f g) o = names-sign (formulaAfter g (formulaAfter f o)) _ refl ∙ two (namesIn o) (formulaNames f) (formulaNames g) (formula-order f o) (formula-order g (formulaAfter f o))
+  formula-order (Form.equivalence f g) o = names-sign (formulaAfter g (formulaAfter f o)) _ refl ∙ two (namesIn o) (formulaNames f) (formulaNames g) (formula-order f o) (formula-order g (formulaAfter f o))
+
+  -- ---- in the tokens
+
+  in-parenthesis : (ts : List (Symbol N)) → namesIn (opening ∷ ts ++ closing ∷ []) ≡ namesIn ts
+  unfolding namesIn
+  in-parenthesis ts = names-sign ts closing refl
+
+  of-leaf : (x : Leaf N) → namesIn (leaf x ∷ []) ≡ termNames (leafTerm x)
+  unfolding namesIn
+  of-leaf Leaf.zero = refl
+  of-leaf Leaf.one = refl
+  of-leaf (Leaf.name x) = refl
+
+  joined : (ts us : List (Symbol N)) {a b : List N} (x : Symbol N) → symbolNames x ≡ [] → namesIn ts ≡ a → namesIn us ≡ b → namesIn (ts ++ x ∷ us) ≡ a ++ b
+  joined ts us x e g h = names-between ts us x e ∙ ap₂ _++_ g h
+
+  term-names : {l : ℕ} {ts : List (Symbol N)} {t : Term N} → IsTerm l ts t → namesIn ts ≡ termNames t
+  unfolding namesIn
+  term-names (t-leaf {x = x}) = of-leaf x
+  term-names (t-minus g) = term-names g
+  term-names (t-times {ts = ts} {us = us} g h) = joined ts us _ refl (term-names g) (term-names h)
+  term-names (t-plus {ts = ts} {us = us} g h) = joined ts us _ refl (term-names g) (term-names h)
+  term-names (t-parenthesis {ts = ts} g) = in-parenthesis ts ∙ term-names g
+  term-names (t-looser g) = term-names g
+
+  in-relation : (ts us : List (Symbol N)) {a b : List N} → namesIn ts ≡ a → namesIn us ≡ b → namesIn (ts ++ (comma ∷ us ++ closing ∷ [])) ≡ a ++ b
+  in-relation ts us g h = joined ts (us ++ closing ∷ []) comma refl g (names-sign us closing refl ∙ h)
+
+  formula-names : {l : ℕ} {ts : List (Symbol N)} {f : Formula N} → IsFormula l ts f → namesIn ts ≡ formulaNames f
+  unfolding namesIn
+  formula-names f-truth = refl
+  formula-names f-falsity = refl
+  formula-names (f-contact {ts = ts} {us = us} g h) = in-relation ts us (term-names g) (term-names h)
+  formula-names (f-part {ts = ts} {us = us} g h) = in-relation ts us (term-names g) (term-names h)
+  formula-names (f-empty {ts = ts} g) = names-sign ts _ refl ∙ term-names g
+  formula-names (f-tilde g) = formula-names g
+  formula-names (f-and {ts = ts} {us = us} g h) = joined ts us _ refl (formula-names g) (formula-names h)
+  formula-names (f-or {ts = ts} {us = us} g h) = joined ts us _ refl (formula-names g) (formula-names h)
+  formula-names (f-implies {ts = ts} {us = us} g h) = joined ts us _ refl (formula-names g) (formula-names h)
+  formula-names (f-iff {ts = ts} {us = us} g h) = joined ts us _ refl (formula-names g) (formula-names h)
+  formula-names (f-parenthesis {ts = ts} g) = in-parenthesis ts ∙ formula-names g
+  formula-names (f-looser g) = formula-names g
+
+  -- the names of the tokens are those of the formula
+  pub names-of-tokens : (xs : List (Symbol N)) (f : Formula N) → Derives xs f → namesIn xs ≡ formulaNames f
+  names-of-tokens xs f d = formula-names d
+
+  -- and so are those of its order
+  pub names-of-order : (f : Formula N) → namesIn (postfix f) ≡ formulaNames f
+  unfolding namesIn
+  names-of-order f = formula-order f []

@@ -1,0 +1,69 @@
+-- `verdict_of` meets its contract: each case is its row of the table of calls. Assumes nothing.
+use borrow.Author.Needs.{needs}
+use mathlib.Core.Path.{sym, ap}
+use Rattle.syntax.specs.Rule.{verdictOf}
+use Rattle.syntax.proofs.verdict_of.Statement.{statement}
+use Rattle.syntax.proofs.verdict_of.Tie as tie
+use Rattle.syntax.proofs.verdict_of.Reads as reads
+use Rattle.syntax.proofs.verdict_of.Lts as lts
+
+enum-told : tie.Need-enum-told
+enum-told c = search needs
+
+enum-told-2 : tie.Need-enum-told-2
+enum-told-2 c = search needs
+
+enum-told-3 : tie.Need-enum-told-3
+enum-told-3 c = search needs
+
+enum-known-a : tie.Need-enum-known-a
+enum-known-a c = search needs
+
+enum-known-a-2 : tie.Need-enum-known-a-2
+enum-known-a-2 c = search needs
+
+enum-known-a-3 : tie.Need-enum-known-a-3
+enum-known-a-3 c = search needs
+
+enum-known-a-4 : tie.Need-enum-known-a-4
+enum-known-a-4 c = search needs
+
+returns : tie.Need-returns
+returns c = search needs
+
+returns-2 : tie.Need-returns-2
+returns-2 c = search needs
+
+returns-3 : tie.Need-returns-3
+returns-3 c = search needs
+
+returns-4 : tie.Need-returns-4
+returns-4 c = sym (ap verdictOf (c .before .a .given .1))
+
+returns-5 : tie.Need-returns-5
+returns-5 c = sym (ap verdictOf (c .before .a2 .given .1))
+
+returns-6 : tie.Need-returns-6
+returns-6 c = sym (ap verdictOf (c .before .a3 .given .1))
+
+returns-7 : tie.Need-returns-7
+returns-7 c = sym (ap verdictOf (c .before .a4 .given .1))
+
+pub verdict-of-spec : {M : Type 1} → statement M
+verdict-of-spec =
+    tie.close
+    (tie.spec
+    enum-told
+    enum-told-2
+    enum-told-3
+    enum-known-a
+    enum-known-a-2
+    enum-known-a-3
+    enum-known-a-4
+    returns
+    returns-2
+    returns-3
+    returns-4
+    returns-5
+    returns-6
+    returns-7)

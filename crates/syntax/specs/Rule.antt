@@ -1,0 +1,54 @@
+-- What is computed: the answer for a rule text, with its tokens and its formula's order as arrays. Assumes nothing.
+use mathlib.Core.List.{List, [], _∷_, _++_, map}
+use Prim.Native.Nat.{ℕ, _-_}
+use lib.ListN.{length, getD, replicate}
+use Rattle.lexer.specs.Token.{Token}
+use Rattle.lexer.specs.Cutting.{Cutting, tokens, refused}
+use Rattle.lexer.specs.Cutter.{cutting}
+use Rattle.lexer.specs.Arrays.{tokensOf, lexed}
+use Rattle.lexer.specs.declared.LexAnswer.{LexAnswer}
+use Rattle.lexer.specs.declared.LexAnswer.the-variants as LexAnswer
+use Rattle.syntax.specs.Machine.{Sym, Result, accepted, refused as refusedAt, reading}
+use Rattle.syntax.specs.Reader.{codes}
+use Rattle.syntax.specs.RuleText.{symbolsOf, placeOf}
+use Rattle.syntax.specs.declared.RuleAnswer.{RuleAnswer}
+use Rattle.syntax.specs.declared.RuleAnswer.the-variants as RuleAnswer
+use Rattle.syntax.specs.declared.Rule.{Rule}
+use Rattle.syntax.specs.declared.Verdict.{Verdict}
+use Rattle.syntax.specs.declared.Verdict.the-variants as Verdict
+
+-- a refusal comes with no token and no order
+unfoldable pub refusalOf : RuleAnswer → Rule
+refusalOf a = record { answer = a; tokens = tokensOf []; order = replicate 256 0; len = 0 }
+
+-- the formula's order in an array, what is past it 0; or refusal 6 at the token's place
+abbrev pub readTokens : List ℕ → List Token → Result → Rule
+readTokens s ts (accepted o) =
+    record { answer = RuleAnswer.Formula; tokens = tokensOf ts; order = codes o ++ replicate (256 - length o) 0; len = length o }
+readTokens s ts (refusedAt i) = refusalOf (RuleAnswer.GrammarAt (placeOf s ts i))
+
+abbrev pub tokensIn : Cutting → List Token
+tokensIn (tokens ts) = ts
+tokensIn (refused a) = []
+
+abbrev pub byAnswer : LexAnswer → List ℕ → List Token → Rule
+byAnswer LexAnswer.Tokens s ts = readTokens s ts (reading (symbolsOf s ts))
+byAnswer LexAnswer.TooLong s ts = refusalOf RuleAnswer.TooLong
+byAnswer LexAnswer.NoToken s ts = refusalOf RuleAnswer.NoToken
+byAnswer (LexAnswer.ForeignByte i) s ts = refusalOf (RuleAnswer.ForeignByte i)
+byAnswer (LexAnswer.LongName i) s ts = refusalOf (RuleAnswer.LongName i)
+byAnswer (LexAnswer.Measured i) s ts = refusalOf (RuleAnswer.Measured i)
+
+-- the answer for a text
+unfoldable pub ruleOf : List ℕ → Rule
+ruleOf s = byAnswer (lexed s .answer) s (tokensIn (cutting s))
+
+-- document 01's number of each refusal, and what it carries, by the table of calls
+abbrev pub verdictOf : RuleAnswer → Verdict
+verdictOf RuleAnswer.Formula = Verdict.Read
+verdictOf RuleAnswer.TooLong = Verdict.Refused 2 256
+verdictOf RuleAnswer.NoToken = Verdict.Refused 1 0
+verdictOf (RuleAnswer.ForeignByte i) = Verdict.Refused 3 i
+verdictOf (RuleAnswer.LongName i) = Verdict.Refused 4 i
+verdictOf (RuleAnswer.Measured i) = Verdict.Refused 5 i
+verdictOf (RuleAnswer.GrammarAt i) = Verdict.Refused 6 i

@@ -1,0 +1,432 @@
+// The reader of rule text: document 01, 'Rule text', and refusals 1 to 6 of the table of calls. The
+// tokens of a text are read by recursive descent into the formula's postfix order; what cannot be read
+// is refused at the first token such that the tokens up to it begin no formula. No public function has
+// a requires.
+ghost use mathlib.Core.Path.{_≡_};
+ghost use mathlib.Core.Bool.{true};
+ghost use Prim.Native.Nat.{ℕ, _+_, _≤_, _<_};
+ghost use lib.ListN.{length, set};
+ghost use Rattle.syntax.specs.Symbol.{binary};
+ghost use Rattle.syntax.specs.Reader.{kindAt, goes, bindingOf, Inside, Room, expectedOf, endedOf, endedIn, relatedOf, relatedIn, zeroedOf, zeroedIn, Asked, Said, MoreAsked, MoreSaid, ParenthesisSaid, RelationAsked, RelationSaid, startOf, ParseSaid};
+ghost use mathlib.Core.List.{List};
+ghost use lib.ListN.{replicate};
+ghost use Rattle.lexer.specs.Token.{Token};
+ghost use Rattle.lexer.specs.Arrays.{tokensOf};
+ghost use Rattle.syntax.specs.Machine.{reading};
+ghost use Rattle.syntax.specs.RuleText.{symbolsOf, placeOf};
+ghost use Rattle.syntax.specs.Rule.{refusalOf, readTokens, ruleOf, verdictOf};
+use formula::Sign;
+use lexer::LexAnswer;
+use lexer::Tokens;
+
+// The kinds of tokens, by the lexer's numbers; END stands past the last token.
+const IMPLIES: u8 = 0;
+
+const IFF: u8 = 1;
+
+const OR: u8 = 2;
+
+const AND: u8 = 3;
+
+const PLUS: u8 = 4;
+
+const TIMES: u8 = 5;
+
+const MINUS: u8 = 6;
+
+const TILDE: u8 = 7;
+
+const OPEN: u8 = 8;
+
+const CLOSE: u8 = 9;
+
+const IS_ZERO: u8 = 10;
+
+const COMMA: u8 = 11;
+
+const TRUTH: u8 = 12;
+
+const FALSITY: u8 = 13;
+
+const CONTACT: u8 = 14;
+
+const PART: u8 = 15;
+
+const ZERO: u8 = 16;
+
+const NAME: u8 = 18;
+
+const END: u8 = 19;
+
+// What a reader answers: a value, whether it is a term, the token after it and the length of the order
+// so far; or the token that is refused.
+pub enum Read {
+    Value(bool, usize, usize),
+    Refused(usize),
+}
+
+fn kind_at(kinds: &[u8], at: usize) -> u8
+    ensures { λ r. ⌜ r ≡ kindAt (now (kinds .entry)) at ⌝ }
+{
+    if at < kinds.len() { kinds[at] } else { END }
+}
+
+// One more than the rank of a binary sign where it goes on a term, or on a formula; else 0.
+fn goes_on(term: bool, b: Sign) -> u8
+    ensures { λ r. ⌜ r ≡ goes term (binary b) ⌝ }
+{
+    let l = formula::level(b);
+    if formula::joins_terms(b) {
+        if term { l + 4 } else { 0 }
+    } else {
+        if term { 0 } else { l + 1 }
+    }
+}
+
+// The same for a kind of token.
+fn binding(term: bool, kind: u8) -> u8
+    ensures { λ r. ⌜ r ≡ bindingOf term kind ⌝ }
+{
+    match kind {
+        IMPLIES => goes_on(term, Sign::Implies),
+        IFF => goes_on(term, Sign::Iff),
+        OR => goes_on(term, Sign::Or),
+        AND => goes_on(term, Sign::And),
+        PLUS => goes_on(term, Sign::Plus),
+        TIMES => goes_on(term, Sign::Times),
+        _ => 0,
+    }
+}
+
+// A value and the token that must stand after it.
+fn expected(kinds: &[u8], kind: u8, r: Read) -> Read
+    requires { ⌜ Inside (length (now kinds)) r ⌝ }
+    ensures { λ s. ⌜ s ≡ expectedOf (now (kinds .entry)) kind r ⌝ }
+{
+    match r {
+        Read::Value(t, p, n) => {
+            if kind_at(kinds, p) == kind {
+                Read::Value(t, p + 1, n)
+            } else {
+                Read::Refused(p)
+            }
+        }
+        Read::Refused(_) => r,
+    }
+}
+
+// A sign after its last value; a value of the other sort is refused.
+fn ended(r: Read, term: bool, kind: u8, order: &mut [u8; 256]) -> Read
+    requires { ⌜ Room r ⌝ }
+    ensures { λ s. ⌜ (s ≡ endedOf term r) × (now (order .exit) ≡ endedIn term kind r (now (order .entry))) ⌝ }
+{
+    match r {
+        Read::Value(t, p, n) => {
+            if t == term {
+                order[n] = kind;
+                return Read::Value(t, p, n + 1);
+            }
+            Read::Refused(p)
+        }
+        Read::Refused(_) => r,
+    }
+}
+
+// C or <= after its second term.
+fn related(r: Read, kind: u8, order: &mut [u8; 256]) -> Read
+    requires { ⌜ Room r ⌝ }
+    ensures { λ s. ⌜ (s ≡ relatedOf r) × (now (order .exit) ≡ relatedIn kind r (now (order .entry))) ⌝ }
+{
+    match r {
+        Read::Value(_, p, n) => {
+            order[n] = kind;
+            Read::Value(false, p, n + 1)
+        }
+        Read::Refused(_) => r,
+    }
+}
+
+// A term with =0 after it is a formula.
+fn zeroed(kinds: &[u8], r: Read, order: &mut [u8; 256]) -> Read
+    requires { ⌜ (length (now kinds) ≤ 256) × (Inside (length (now kinds)) r) ⌝ }
+    ensures { λ s. ⌜ (s ≡ zeroedOf (now (kinds .entry)) r) × (now (order .exit) ≡ zeroedIn (now (kinds .entry)) r (now (order .entry))) ⌝ }
+{
+    match r {
+        Read::Value(t, p, n) => {
+            if t {
+                if kind_at(kinds, p) == IS_ZERO {
+                    order[n] = IS_ZERO;
+                    return Read::Value(false, p + 1, n + 1);
+                }
+                return r;
+            }
+            r
+        }
+        Read::Refused(_) => r,
+    }
+}
+
+// A value of rank k or tighter: 0 to 3 are the levels of formulas, 4 to 6 those of terms from level 1 on.
+// A parenthesis in front may hold a formula only where one may stand (w).
+fn level(kinds: &[u8], at: usize, k: u8, w: bool, order: &mut [u8; 256], n: usize) -> Read
+    requires { ⌜ Asked (now kinds) at k w n ⌝ }
+    ensures { λ r. ⌜ Said (now (kinds .entry)) at k w n (now (order .entry)) r (now (order .exit)) ⌝ }
+{
+    if k < 4 {
+        let x = formula_prefix(kinds, at, order, n);
+        return more(kinds, k, x, order);
+    }
+    let x = term_prefix(kinds, at, w, order, n);
+    more(kinds, k, x, order)
+}
+
+// The binary signs of rank k or tighter after a value, each with its right value.
+fn more(kinds: &[u8], k: u8, r: Read, order: &mut [u8; 256]) -> Read
+    requires { ⌜ MoreAsked (now kinds) k r ⌝ }
+    ensures { λ s. ⌜ MoreSaid (now (kinds .entry)) k r (now (order .entry)) s (now (order .exit)) ⌝ }
+{
+    match r {
+        Read::Value(t, p, n) => {
+            let c = kind_at(kinds, p);
+            let b = binding(t, c);
+            if k < b {
+                let x = level(kinds, p + 1, b, !t, order, n);
+                let y = ended(x, t, c, order);
+                return more(kinds, k, y, order);
+            }
+            r
+        }
+        Read::Refused(_) => r,
+    }
+}
+
+// A formula with no binary sign in front, or a whole term.
+fn formula_prefix(kinds: &[u8], at: usize, order: &mut [u8; 256], n: usize) -> Read
+    requires { ⌜ Asked (now kinds) at 3 true n ⌝ }
+    ensures { λ r. ⌜ Said (now (kinds .entry)) at 3 true n (now (order .entry)) r (now (order .exit)) ⌝ }
+{
+    let c = kind_at(kinds, at);
+    match c {
+        TILDE => {
+            let x = formula_prefix(kinds, at + 1, order, n);
+            ended(x, false, c, order)
+        }
+        TRUTH..=FALSITY => {
+            order[n] = c;
+            Read::Value(false, at + 1, n + 1)
+        }
+        CONTACT..=PART => relation(kinds, at + 1, c, order, n),
+        _ => {
+            let x = level(kinds, at, 4, true, order, n);
+            zeroed(kinds, x, order)
+        }
+    }
+}
+
+// The two terms of C or <=, in a parenthesis.
+fn relation(kinds: &[u8], at: usize, kind: u8, order: &mut [u8; 256], n: usize) -> Read
+    requires { ⌜ RelationAsked (now kinds) at n ⌝ }
+    ensures { λ r. ⌜ RelationSaid (now (kinds .entry)) at kind n (now (order .entry)) r (now (order .exit)) ⌝ }
+{
+    if kind_at(kinds, at) == OPEN {
+        let x = level(kinds, at + 1, 4, false, order, n);
+        let y = expected(kinds, COMMA, x);
+        match y {
+            Read::Value(_, p, m) => {
+                let z = level(kinds, p, 4, false, order, m);
+                let e = expected(kinds, CLOSE, z);
+                return related(e, kind, order);
+            }
+            Read::Refused(_) => {
+                return y;
+            }
+        }
+    }
+    Read::Refused(at)
+}
+
+// A term with no binary sign in front, or a parenthesis.
+fn term_prefix(kinds: &[u8], at: usize, w: bool, order: &mut [u8; 256], n: usize) -> Read
+    requires { ⌜ Asked (now kinds) at 6 w n ⌝ }
+    ensures { λ r. ⌜ Said (now (kinds .entry)) at 6 w n (now (order .entry)) r (now (order .exit)) ⌝ }
+{
+    let c = kind_at(kinds, at);
+    match c {
+        ZERO..=NAME => {
+            order[n] = c;
+            Read::Value(true, at + 1, n + 1)
+        }
+        MINUS => {
+            let x = term_prefix(kinds, at + 1, false, order, n);
+            ended(x, true, c, order)
+        }
+        OPEN => parenthesis(kinds, at + 1, w, order, n),
+        _ => Read::Refused(at),
+    }
+}
+
+fn start(w: bool) -> u8
+    ensures { λ r. ⌜ r ≡ startOf w ⌝ }
+{
+    if w { 0 } else { 4 }
+}
+
+// What stands in a parenthesis, and the sign that closes it.
+fn parenthesis(kinds: &[u8], at: usize, w: bool, order: &mut [u8; 256], n: usize) -> Read
+    requires { ⌜ Asked (now kinds) at (startOf w) w n ⌝ }
+    ensures { λ r. ⌜ ParenthesisSaid (now (kinds .entry)) at w n (now (order .entry)) r (now (order .exit)) ⌝ }
+{
+    let x = level(kinds, at, start(w), w, order, n);
+    expected(kinds, CLOSE, x)
+}
+
+// All the tokens: the formula's order, or the token that is refused.
+fn parse(kinds: &[u8], order: &mut [u8; 256]) -> Read
+    requires { ⌜ length (now kinds) ≤ 256 ⌝ }
+    ensures { λ r. ⌜ ParseSaid (now (kinds .entry)) (now (order .entry)) r (now (order .exit)) ⌝ }
+{
+    let r = level(kinds, 0, 0, true, order, 0);
+    match r {
+        Read::Value(t, p, _) => {
+            if t {
+                return Read::Refused(p);
+            }
+            if p < kinds.len() {
+                return Read::Refused(p);
+            }
+            r
+        }
+        Read::Refused(_) => r,
+    }
+}
+
+// How a rule text is answered; what is refused carries its place.
+pub enum RuleAnswer {
+    Formula,
+    TooLong,
+    NoToken,
+    ForeignByte(usize),
+    LongName(usize),
+    Measured(usize),
+    GrammarAt(usize),
+}
+
+// A rule as read: its tokens, and the kinds of those that are its formula in postfix order, of which there
+// are len; the names of the order are those of the text, in their order. A refusal comes with neither.
+pub struct Rule {
+    pub answer: RuleAnswer,
+    pub tokens: Tokens,
+    pub order: [u8; 256],
+    pub len: usize,
+}
+
+// Document 01's number of a refusal and what it carries.
+pub enum Verdict {
+    Read,
+    Refused { number: u8, place: usize },
+}
+
+fn zeros() -> [u8; 256]
+    ensures { λ r. ⌜ r ≡ replicate 256 0 ⌝ }
+{
+    [0u8; 256]
+}
+
+fn refusal(a: RuleAnswer) -> Rule
+    ensures { λ r. ⌜ r ≡ refusalOf a ⌝ }
+{
+    Rule {
+        answer: a,
+        tokens: Tokens {
+            kinds: zeros(),
+            starts: zeros(),
+            lens: zeros(),
+            n: 0,
+        },
+        order: zeros(),
+        len: 0,
+    }
+}
+
+// The place in the text of token i, or the text's length.
+fn place(t: Tokens, length: usize, i: usize) -> usize
+    requires { ⌜ t .n ≤ 256 ⌝ }
+    ensures { λ r. ⌜ ((s : List ℕ) (ts : List Token) → t ≡ tokensOf ts → length ≡ lib.ListN.length s → r ≡ placeOf s ts i) ⌝ }
+{
+    let starts = t.starts;
+    let n = t.n;
+    if i < n { starts[i] as usize } else { length }
+}
+
+// The formula of the tokens of a text.
+fn parsed(t: Tokens, length: usize) -> Rule
+    requires { ⌜ t .n ≤ 256 ⌝ }
+    ensures { λ r. ⌜ ((s : List ℕ) (ts : List Token) → t ≡ tokensOf ts → length ≡ lib.ListN.length s → r ≡ readTokens s ts (reading (symbolsOf s ts))) ⌝ }
+{
+    let kinds = t.kinds;
+    let n = t.n;
+    let mut order = zeros();
+    let r = parse(&kinds[..n], &mut order);
+    match r {
+        Read::Value(_, _, m) => Rule {
+            answer: RuleAnswer::Formula,
+            tokens: t,
+            order: order,
+            len: m,
+        },
+        Read::Refused(i) => {
+            let p = place(t, length, i);
+            refusal(RuleAnswer::GrammarAt(p))
+        }
+    }
+}
+
+// The formula of a rule text, or why it is refused.
+pub fn read_rule(text: &[u8]) -> Rule
+    ensures { λ r. ⌜ r ≡ ruleOf (now (text .entry)) ⌝ }
+{
+    let l = lexer::lex(text);
+    let a = l.answer;
+    let t = l.tokens;
+    match a {
+        LexAnswer::Tokens => parsed(t, text.len()),
+        LexAnswer::TooLong => refusal(RuleAnswer::TooLong),
+        LexAnswer::NoToken => refusal(RuleAnswer::NoToken),
+        LexAnswer::ForeignByte(i) => refusal(RuleAnswer::ForeignByte(i)),
+        LexAnswer::LongName(i) => refusal(RuleAnswer::LongName(i)),
+        LexAnswer::Measured(i) => refusal(RuleAnswer::Measured(i)),
+    }
+}
+
+// The number of a refusal and what it carries, by the table of calls.
+pub fn verdict_of(a: RuleAnswer) -> Verdict
+    ensures { λ r. ⌜ r ≡ verdictOf a ⌝ }
+{
+    match a {
+        RuleAnswer::Formula => Verdict::Read,
+        RuleAnswer::TooLong => Verdict::Refused {
+            number: 2,
+            place: 256,
+        },
+        RuleAnswer::NoToken => Verdict::Refused {
+            number: 1,
+            place: 0,
+        },
+        RuleAnswer::ForeignByte(i) => Verdict::Refused {
+            number: 3,
+            place: i,
+        },
+        RuleAnswer::LongName(i) => Verdict::Refused {
+            number: 4,
+            place: i,
+        },
+        RuleAnswer::Measured(i) => Verdict::Refused {
+            number: 5,
+            place: i,
+        },
+        RuleAnswer::GrammarAt(i) => Verdict::Refused {
+            number: 6,
+            place: i,
+        },
+    }
+}
