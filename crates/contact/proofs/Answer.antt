@@ -1,0 +1,176 @@
+-- The first row that makes the rules true and passes the check decides the rules: its plan gives exactly the row, so it meets
+-- them; and the row of any floor that meets them is one of those tried, so where no row is found no floor meets them. The
+-- claims hold for any numbering of the atoms under which the numbered rules say what the rules say. Assumes nothing.
+use mathlib.Core.Bool.{Bool, true, false}
+use mathlib.Core.Path.{_≡_, refl, sym, ap, ap₂, _∙_, subst}
+use mathlib.Core.Logic.{⊎-elim, _↔_, ∥∥₁-elim}
+use mathlib.Core.List.{List, [], _∷_, map, nil≢cons, head-eq-of-cons-eq}
+use Prim.Native.Nat.{ℕ, zero, suc}
+use native.Mathlib.Omega.{arith}
+use lib.ListN.{length, length-map}
+use Rattle.formula.specs.Formula.{Atom, Form, Formula}
+use Rattle.evalset.specs.Search.{In, here, any, first, orElse}
+use Rattle.evalset.proofs.Search.{clash, cases, and-intro, both, none-in, uncons, in-left, in-right, in-either, map-intro, map-elim, any-intro, none-elim, none-intro, first-some, first-none, first-found, first-append, first-map}
+use Rattle.contact.specs.Meaning.{Floor, atomOn, meetsAll}
+use Rattle.contact.specs.Numbering.{allAtoms, numberedAtoms, AtomBelow, RulesBelow}
+use Rattle.contact.specs.Row.{Row, Realises, Realisable, rulesTrue, Before}
+use Rattle.contact.specs.Plan.{rowMarks, check, rows, good, firstRow, firstRowOf}
+use Rattle.contact.proofs.Numbered.{Faithful, numbered-faithful}
+use Rattle.contact.proofs.Realise.{planFloor, plan-row, row-check}
+
+-- ---- the rows of n atoms are the lists of n Booleans, in the order of rows
+
+pub rows-intro : (row : Row) → In row (rows (length row))
+rows-intro [] = here
+rows-intro (true ∷ row) = in-left (map (λ r. false ∷ r) (rows (length row))) (map-intro (λ r. true ∷ r) (rows-intro row))
+rows-intro (false ∷ row) = in-right (map (λ r. true ∷ r) (rows (length row))) (map-intro (λ r. false ∷ r) (rows-intro row))
+
+pub rows-elim : (n : ℕ) (row : Row) → In row (rows n) → length row ≡ n
+rows-elim zero row i = ⊎-elim (λ q. ap length q) (λ j. none-in j) (uncons i)
+rows-elim (suc n) row i =
+    ⊎-elim (λ j. let r = map-elim (λ s. true ∷ s) (rows n) j in ap length (r .1) ∙ ap suc (rows-elim n (r .0) (r .2)))
+    (λ j. let r = map-elim (λ s. false ∷ s) (rows n) j in ap length (r .1) ∙ ap suc (rows-elim n (r .0) (r .2)))
+    (in-either (map (λ s. true ∷ s) (rows n)) (map (λ s. false ∷ s) (rows n)) i)
+
+-- the rows that begin with true stand before those that begin with false
+abbrev sides : List Row → List Row → List Row
+sides ts fs = orElse (map (λ r. true ∷ r) ts) (map (λ r. false ∷ r) fs)
+
+rows-first : (n : ℕ) (p : Row → Bool)
+    → first p (rows (suc n)) ≡ sides (first (λ r. p (true ∷ r)) (rows n)) (first (λ r. p (false ∷ r)) (rows n))
+rows-first n p =
+    first-append p (map (λ r. true ∷ r) (rows n)) (map (λ r. false ∷ r) (rows n))
+    ∙ ap₂ orElse (first-map (λ r. true ∷ r) p (rows n)) (first-map (λ r. false ∷ r) p (rows n))
+
+-- no row before the first that passes does
+pub before-first : (n : ℕ) (p : Row → Bool) (row other : Row) → first p (rows n) ≡ row ∷ [] → length other ≡ n → Before other row
+    → p other ≡ false
+before-first n p row [] e l b = absurd b
+before-first zero p row (c ∷ o) e l b = absurd (omega arith)
+before-first (suc n) p row (c ∷ o) e l b =
+    cases (any (λ r. p (true ∷ r)) (rows n))
+    (λ h. let x = first-some (λ r. p (true ∷ r)) (rows n) h in
+    let q : row ≡ true ∷ x .0 = head-eq-of-cons-eq (sym e ∙ rows-first n p ∙ ap (λ L. sides L falses) (x .1)) in
+    left c (x .0) (subst (Before (c ∷ o)) q b) (before-first n (λ r. p (true ∷ r)) (x .0) o (x .1) (omega arith)))
+    (λ h. let none = first-none (λ r. p (true ∷ r)) (rows n) h in
+    let w : map (λ r. false ∷ r) falses ≡ row ∷ [] = ap (λ L. sides L falses) (sym none) ∙ sym (rows-first n p) ∙ e in
+    cases (any (λ r. p (false ∷ r)) (rows n))
+    (λ k. let x = first-some (λ r. p (false ∷ r)) (rows n) k in
+    let q : row ≡ false ∷ x .0 = head-eq-of-cons-eq (sym w ∙ ap (map (λ r. false ∷ r)) (x .1)) in
+    right c (x .0) (subst (Before (c ∷ o)) q b) (none-elim (λ r. p (true ∷ r)) h (subst (λ k. In o (rows k)) len (rows-intro o)))
+    (before-first n (λ r. p (false ∷ r)) (x .0) o (x .1) (omega arith)))
+    (λ k. absurd (nil≢cons (ap (map (λ r. false ∷ r)) (sym (first-none (λ r. p (false ∷ r)) (rows n) k)) ∙ w))))
+  where
+    falses : List Row
+    falses = first (λ r. p (false ∷ r)) (rows n)
+
+    len : length o ≡ n
+    len = omega arith
+
+    left : (d : Bool) (r : Row) → Before (d ∷ o) (true ∷ r) → (Before o r → p (true ∷ o) ≡ false) → p (d ∷ o) ≡ false
+    left true r i f = f i
+    left false r i f = absurd i
+
+    right : (d : Bool) (r : Row) → Before (d ∷ o) (false ∷ r) → p (true ∷ o) ≡ false → (Before o r → p (false ∷ o) ≡ false)
+        → p (d ∷ o) ≡ false
+    right true r i t f = t
+    right false r i t f = f i
+
+-- ---- the claims, for any faithful numbering of the atoms
+
+module _ (n : ℕ) (atoms : List (Atom ℕ)) (nums : List (Form ℕ)) where
+  -- what a found row is
+  pub record Good (row : Row) : Type 0 where
+    pub whole : length row ≡ length atoms
+    pub makes : rulesTrue nums row ≡ true
+    pub checked : check n (rowMarks atoms row) ≡ true
+
+  good-elim : (row : Row) → In row (rows (length atoms)) → good n atoms nums row ≡ true → Good row
+  unfolding good
+  good-elim row i g =
+      let k = both (rulesTrue nums row) (check n (rowMarks atoms row)) g in
+      record { whole = rows-elim (length atoms) row i; makes = k .0; checked = k .1 }
+
+  pub first-good : (row : Row) → firstRow n atoms nums ≡ row ∷ [] → Good row
+  unfolding firstRow
+  first-good row e = let r = first-found (good n atoms nums) (rows (length atoms)) e in good-elim row (r .0) (r .1)
+
+  module _ (rules : List (Formula ℕ)) (faithful : Faithful rules atoms nums) where
+    -- the plan of a good row meets every rule
+    pub good-meets : (row : Row) (g : Good row) → meetsAll (planFloor n (rowMarks atoms row) (g .checked)) rules ≡ true
+    good-meets row g =
+        sym (faithful (planFloor n (rowMarks atoms row) (g .checked)))
+        ∙ ap (rulesTrue nums) (plan-row n atoms row (g .whole) (g .checked)) ∙ g .makes
+
+  module _ (names : (a : Atom ℕ) → In a atoms → AtomBelow n a) where
+    -- a realisable row that makes the rules true is good
+    realised-good : (row : Row) (F : Floor ℕ) → Realises F atoms row → rulesTrue nums row ≡ true → good n atoms nums row ≡ true
+    unfolding good
+    realised-good row F h k = and-intro (rulesTrue nums row) (check n (rowMarks atoms row)) k (row-check n atoms names row F h)
+
+    -- no realisable row before the first makes the rules true
+    pub first-earliest : (row other : Row) → firstRow n atoms nums ≡ row ∷ [] → Realisable atoms other → rulesTrue nums other ≡ true
+        → Before other row → ⊥
+    unfolding firstRow
+    first-earliest row other e real k b =
+        ∥∥₁-elim real (λ x y. absurd x)
+        (λ f. let l : length other ≡ length atoms = ap length (sym (f .1)) ∙ length-map atoms (atomOn (f .0)) in
+        clash (realised-good other (f .0) (f .1) k) (before-first (length atoms) (good n atoms nums) row other e l b))
+
+    module _ (rules : List (Formula ℕ)) (faithful : Faithful rules atoms nums) where
+      -- the row of a floor that meets the rules is among those tried, and good
+      some-good : (F : Floor ℕ) → meetsAll F rules ≡ true → any (good n atoms nums) (rows (length atoms)) ≡ true
+      some-good F h =
+          let row : Row = map (atomOn F) atoms in
+          any-intro (good n atoms nums) (subst (λ k. In row (rows k)) (length-map atoms (atomOn F)) (rows-intro row))
+          (realised-good row F refl (faithful F ∙ h))
+
+      -- no row is found exactly where no floor meets every rule
+      pub none-exactly : (firstRow n atoms nums ≡ []) ↔ ((F : Floor ℕ) → meetsAll F rules ≡ true → ⊥)
+      unfolding firstRow
+      none-exactly = (
+        λ e F h. let r = first-some (good n atoms nums) (rows (length atoms)) (some-good F h) in nil≢cons (sym e ∙ r .1),
+        λ h. first-none (good n atoms nums) (rows (length atoms))
+            (none-intro (good n atoms nums) (rows (length atoms))
+            (λ row i g. let a = good-elim row i g in
+            h (planFloor n (rowMarks atoms row) (a .checked)) (good-meets rules faithful row a))),
+      )
+
+-- ---- the same with the atoms numbered by place
+
+-- "The answer uses the first realisable row that makes all rules true."
+pub record IsFirstRow {N : Type 0} (rules : List (Formula N)) (row : Row) : Type 0 where
+  pub realisable : Realisable (allAtoms rules) row
+  pub makes : rulesTrue (numberedAtoms rules) row ≡ true
+  pub earliest : (other : Row) → Realisable (allAtoms rules) other → rulesTrue (numberedAtoms rules) other ≡ true → Before other row
+      → ⊥
+
+module _ (n : ℕ) (rules : List (Formula ℕ)) where
+  abbrev pub RowOf : Row → Type 0
+  RowOf row = Good n (allAtoms rules) (numberedAtoms rules) row
+
+  pub row-found : (row : Row) → firstRowOf n rules ≡ row ∷ [] → RowOf row
+  row-found row e = first-good n (allAtoms rules) (numberedAtoms rules) row e
+
+  -- the plan of the first row
+  abbrev pub planOf : (row : Row) → firstRowOf n rules ≡ row ∷ [] → Floor ℕ
+  planOf row e = planFloor n (rowMarks (allAtoms rules) row) (row-found row e .checked)
+
+  -- gives exactly the row
+  pub plan-gives-row : (row : Row) (e : firstRowOf n rules ≡ row ∷ []) → Realises (planOf row e) (allAtoms rules) row
+  plan-gives-row row e = plan-row n (allAtoms rules) row (row-found row e .whole) (row-found row e .checked)
+
+  -- and meets every rule
+  pub plan-meets : (row : Row) (e : firstRowOf n rules ≡ row ∷ []) → meetsAll (planOf row e) rules ≡ true
+  plan-meets row e = good-meets n (allAtoms rules) (numberedAtoms rules) rules (numbered-faithful rules) row (row-found row e)
+
+  pub no-plan-exactly : RulesBelow n rules → (firstRowOf n rules ≡ []) ↔ ((F : Floor ℕ) → meetsAll F rules ≡ true → ⊥)
+  no-plan-exactly names = none-exactly n (allAtoms rules) (numberedAtoms rules) names rules (numbered-faithful rules)
+
+  pub first-row : RulesBelow n rules → (row : Row) → firstRowOf n rules ≡ row ∷ [] → IsFirstRow rules row
+  first-row names row e =
+      record {
+        realisable = ∣ (planOf row e, plan-gives-row row e) ∣₁;
+        makes = row-found row e .makes;
+        earliest = λ other real k b. first-earliest n (allAtoms rules) (numberedAtoms rules) names row other e real k b;
+      }

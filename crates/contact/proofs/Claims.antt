@@ -1,0 +1,174 @@
+-- What the crate proves, in the order of document 01, each claim with the file that has its proof. Nothing is assumed: any
+-- number of names, of atoms and of points. Floors and rules are those of specs/Meaning.antt.
+use mathlib.Core.Bool.{Bool, true, not}
+use mathlib.Core.Path.{_≡_}
+use mathlib.Core.Logic.{_↔_}
+use mathlib.Core.List.{List, [], _∷_, map}
+use Prim.Native.Nat.{ℕ, _+_, _*_, _-_, _/_, _^_, _≤_, _<_, max}
+use lib.ListN.{length, getD}
+use Rattle.formula.specs.Formula.{Atom, Form, Formula, Name}
+use Rattle.evalset.specs.Search.{In, first, gather, below}
+use Rattle.evalset.specs.Bit.{bit}
+use Rattle.contact.specs.Meaning.{Floor, atomOn, meetsAll}
+use Rattle.formula.specs.Names.{atomNames}
+use Rattle.contact.specs.Numbering.{allAtoms, sameName, namesOf, numberedNames, numberedAtoms, AtomBelow, RulesBelow}
+use Rattle.contact.specs.Row.{Row, Realises, Realisable, PartialRow, RealisesPart, rulesTrue}
+use Rattle.contact.specs.Plan.{Mark, marksOf, rowMarks, separated, check, pointsFor, rows, good, firstRowOf, trueContacts, falseZeros}
+use Rattle.contact.specs.Tableau.{refutes, closes, Sound, Exact, search}
+use Rattle.contact.proofs.Bits
+use Rattle.contact.proofs.Realise
+use Rattle.contact.proofs.Numbered
+use Rattle.contact.proofs.Answer
+use Rattle.contact.proofs.Naming
+use Rattle.contact.proofs.SameFloor
+use Rattle.contact.proofs.Searching
+use Rattle.contact.proofs.Count
+
+-- ---- evaluations (Bits)
+
+-- every choice of names below n is an evaluation below 2^n
+pub every-choice : (n : ℕ) (v : ℕ → Bool) → (e : ℕ) × (e < 2 ^ n) × ((i : ℕ) → i < n → bit e i ≡ v i)
+every-choice n v = (Bits.encode n v, Bits.encode-lt n v, Bits.bit-encode n v)
+
+-- ---- numbers for names and for atoms (Naming, Numbered)
+
+-- names are the same exactly if their bytes are
+pub same-name : (x y : Name) → (sameName x y ≡ true) ↔ (x ≡ y)
+same-name = Naming.same-name
+
+-- each name of the rules has a number below how many names they have, and is found at it
+pub name-found : (rules : List (Formula Name)) {x : Name} → In x (gather atomNames (allAtoms rules))
+    → (Naming.numberOf rules x < length (namesOf rules)) × (Naming.nameOf rules (Naming.numberOf rules x) ≡ x)
+name-found rules i = Naming.name-found rules i
+
+-- so the numbered rules' names are below that number
+pub numbered-below : (rules : List (Formula Name)) → RulesBelow (length (namesOf rules)) (numberedNames rules)
+numbered-below = Naming.numbered-below
+
+-- the atoms are numbered from 0, rules in order, left to right
+pub numbered-in-order : {A : Type 0} (rules : List (Form A)) → allAtoms (numberedAtoms rules) ≡ below (length (allAtoms rules))
+numbered-in-order rules = Numbered.numbered-in-order rules
+
+-- and the numbered rules say of a floor what the rules say
+pub numbered-faithful : (rules : List (Formula ℕ)) (F : Floor ℕ)
+    → rulesTrue (numberedAtoms rules) (map (atomOn F) (allAtoms rules)) ≡ meetsAll F rules
+numbered-faithful = Numbered.numbered-faithful
+
+-- ---- which rows are realisable (Realise)
+
+-- the check of a partial row passes exactly if some floor gives the decided atoms their values
+pub check-exactly : (n : ℕ) (atoms : List (Atom ℕ)) (part : PartialRow) → ((a : Atom ℕ) → In a atoms → AtomBelow n a)
+    → length part ≤ length atoms → (check n (marksOf atoms part) ≡ true) ↔ ∥ ((F : Floor ℕ) × RealisesPart F atoms part) ∥₁
+check-exactly = Realise.check-exactly
+
+-- the check of a row passes exactly if the row is realisable
+pub row-exactly : (n : ℕ) (atoms : List (Atom ℕ)) (row : Row) → ((a : Atom ℕ) → In a atoms → AtomBelow n a) → length row ≡ length atoms
+    → (check n (rowMarks atoms row) ≡ true) ↔ Realisable atoms row
+row-exactly = Realise.row-exactly
+
+-- ---- the plan that is given (Realise, Answer, Naming)
+
+-- the plan's floor has as many points as the plan
+pub plan-points : (n : ℕ) (ms : List Mark) (h : check n ms ≡ true) → Realise.planFloor n ms h .points ≡ length (pointsFor n ms)
+plan-points = Realise.plan-points
+
+-- those at two places are in contact if they are not separated
+pub plan-touch : (n : ℕ) (ms : List Mark) (h : check n ms ≡ true) (p q : ℕ)
+    → Realise.planFloor n ms h .touch p q ≡ not (separated ms (getD (pointsFor n ms) p 0) (getD (pointsFor n ms) q 0))
+plan-touch = Realise.plan-touch
+
+-- and bit i of a point says whether it lies in name i
+pub plan-lies : (n : ℕ) (ms : List Mark) (h : check n ms ≡ true) (i p : ℕ)
+    → Realise.planFloor n ms h .lies i p ≡ bit (getD (pointsFor n ms) p 0) i
+plan-lies = Realise.plan-lies
+
+-- the plan of a row that passes the check gives every atom the row's value
+pub plan-row : (n : ℕ) (atoms : List (Atom ℕ)) (row : Row) → length row ≡ length atoms → (h : check n (rowMarks atoms row) ≡ true)
+    → Realises (Realise.planFloor n (rowMarks atoms row) h) atoms row
+plan-row = Realise.plan-row
+
+-- the row that is found is realisable, makes the rules true, and no realisable row before it does
+pub first-row : (n : ℕ) (rules : List (Formula ℕ)) → RulesBelow n rules → (row : Row) → firstRowOf n rules ≡ row ∷ []
+    → Answer.IsFirstRow rules row
+first-row = Answer.first-row
+
+-- its plan gives the atoms exactly this row
+pub plan-gives-row : (n : ℕ) (rules : List (Formula ℕ)) (row : Row) (e : firstRowOf n rules ≡ row ∷ [])
+    → Realises (Answer.planOf n rules row e) (allAtoms rules) row
+plan-gives-row = Answer.plan-gives-row
+
+-- and meets every rule
+pub plan-meets : (n : ℕ) (rules : List (Formula ℕ)) (row : Row) (e : firstRowOf n rules ≡ row ∷ [])
+    → meetsAll (Answer.planOf n rules row e) rules ≡ true
+plan-meets = Answer.plan-meets
+
+-- no row is found exactly if no floor meets every rule
+pub no-plan-exactly : (n : ℕ) (rules : List (Formula ℕ)) → RulesBelow n rules
+    → (firstRowOf n rules ≡ []) ↔ ((F : Floor ℕ) → meetsAll F rules ≡ true → ⊥)
+no-plan-exactly = Answer.no-plan-exactly
+
+-- of the rules as read, over names: the row found is the first realisable one that makes them true
+pub first-row-named : (rules : List (Formula Name)) (row : Row)
+    → firstRowOf (length (namesOf rules)) (numberedNames rules) ≡ row ∷ [] → Answer.IsFirstRow rules row
+first-row-named = Naming.first-row-named
+
+-- the plan, each name at its number, gives their atoms this row
+pub plan-row-named : (rules : List (Formula Name)) (row : Row)
+    (e : firstRowOf (length (namesOf rules)) (numberedNames rules) ≡ row ∷ [])
+    → Realises (Naming.namedPlan rules row e) (allAtoms rules) row
+plan-row-named = Naming.plan-row-named
+
+-- and meets all of them
+pub plan-meets-named : (rules : List (Formula Name)) (row : Row)
+    (e : firstRowOf (length (namesOf rules)) (numberedNames rules) ≡ row ∷ []) → meetsAll (Naming.namedPlan rules row e) rules ≡ true
+plan-meets-named = Naming.plan-meets-named
+
+-- and no row is found exactly if no floor over names meets all of them
+pub no-plan-named : (rules : List (Formula Name))
+    → (firstRowOf (length (namesOf rules)) (numberedNames rules) ≡ []) ↔ ((F : Floor Name) → meetsAll F rules ≡ true → ⊥)
+no-plan-named = Naming.no-plan-named
+
+-- floors with the same points, contacts and regions meet the same rules
+pub meets-same : {N : Type 0} (F G : Floor N) → SameFloor.SameFloor F G → (rules : List (Formula N)) → meetsAll F rules ≡ meetsAll G rules
+meets-same F G same rules = SameFloor.meets-same F G same rules
+
+-- ---- how many points (Count)
+
+-- with c true contacts and z false zero atoms there are at most max(1, 2c + z) points
+pub point-bound : (n : ℕ) (ms : List Mark) → length (pointsFor n ms) ≤ max 1 (2 * trueContacts ms + falseZeros ms)
+point-bound = Count.point-bound
+
+-- at most 32 points for at most 16 atoms
+pub points-at-most : (n : ℕ) (atoms : List (Atom ℕ)) (part : PartialRow) → length atoms ≤ 16
+    → length (pointsFor n (marksOf atoms part)) ≤ 32
+points-at-most = Count.points-at-most
+
+-- so at most 530 words: the first, one a point, one a pair of points in contact, the last
+pub words-at-most : (p : ℕ) → p ≤ 32 → 1 + p + p * (p - 1) / 2 + 1 ≤ 530
+words-at-most = Count.words-at-most
+
+-- ---- the search (Searching)
+
+-- a search that closes branches by a test finds the first row that passes, for any test that is sound, and exact at the leaves
+pub search-first : (n : ℕ) (passes : Row → Bool) (test : PartialRow → Bool) → Sound passes test → Exact n passes test
+    → search test n [] ≡ first passes (rows n)
+search-first = Searching.search-first
+
+-- a rule that is false by Kleene's tables is false whatever the undecided atoms are
+pub refutes-sound : (nums : List (Form ℕ)) → Sound (rulesTrue nums) (refutes nums)
+refutes-sound = Searching.refutes-sound
+
+-- with the check of the decided atoms it is sound for the rows that make the rules true and pass the check
+pub closes-sound : (n : ℕ) (atoms : List (Atom ℕ)) (nums : List (Form ℕ)) → ((a : Atom ℕ) → In a atoms → AtomBelow n a)
+    → Sound (good n atoms nums) (closes n atoms nums)
+closes-sound = Searching.closes-sound
+
+-- and exact at the leaves, the rules' atoms being numbered below how many there are
+pub closes-exact : (n : ℕ) (atoms : List (Atom ℕ)) (nums : List (Form ℕ)) → ((i : ℕ) → In i (allAtoms nums) → i < length atoms)
+    → Exact (length atoms) (good n atoms nums) (closes n atoms nums)
+closes-exact = Searching.closes-exact
+
+-- so the search that closes branches early finds the row that the answer uses
+pub search-answer : (n : ℕ) (rules : List (Formula ℕ)) → RulesBelow n rules
+    → search (closes n (allAtoms rules) (numberedAtoms rules)) (length (allAtoms rules)) [] ≡ firstRowOf n rules
+search-answer = Searching.search-answer

@@ -1,0 +1,9 @@
+pub mod Bits
+pub mod Realise
+pub mod Numbered
+pub mod Answer
+pub mod Naming
+pub mod Searching
+pub mod Count
+pub mod SameFloor
+pub mod Claims

@@ -1,0 +1,277 @@
+-- Numbers may stand for names: a floor over numbers is one over names, each name at its number, and meets the rules as read
+-- where it meets the numbered ones; the numbered rules with the names put back are the rules as read, so the same holds the
+-- other way round. Assumes nothing.
+use mathlib.Core.Bool.{Bool, true, false, not, _&&_, _||_, Bool·beq, cond}
+use mathlib.Core.Path.{_≡_, refl, sym, ap, ap₂, _∙_, subst, fun-ext}
+use mathlib.Core.Logic.{⊎-elim, _↔_, ∥∥₁-map}
+use mathlib.Core.List.{List, [], _∷_, _++_, map, map-map, nil≢cons, cons≢nil, head-eq-of-cons-eq, tail-eq-of-cons-eq}
+use Prim.Native.Nat.{ℕ, zero, suc, _<_}
+use native.Mathlib.Omega.{arith}
+use lib.Dec.{eqb}
+use lib.ListN.{length, getD}
+use borrow.Author.Tests.{eqb-true, eq-eqb}
+use Rattle.formula.specs.Formula.{Term, Atom, Form, Formula, Name}
+use Rattle.evalset.specs.Search.{In, here, next, any, all, gather, below}
+use Rattle.evalset.proofs.Search.{clash, cases, and-intro, both, none-in, uncons, at-head, in-left, in-right, map-elim, all-map, keep-intro, gather-intro}
+use Rattle.contact.specs.Meaning.{Floor, holds, within, partTerm, atomOn, value, meets, meetsAll}
+use Rattle.formula.specs.Names.{termNames, atomNames, atomsOf}
+use Rattle.contact.specs.Numbering.{allAtoms, distinct, position, sameName, namesOf, mapTerm, mapAtom, mapForm, numberedNames, numberedAtoms, TermBelow, AtomBelow, RulesBelow}
+use Rattle.contact.specs.Row.{Row, Realises, Realisable, rulesTrue}
+use Rattle.contact.specs.Plan.{firstRowOf}
+use Rattle.contact.proofs.Numbered.{all-atoms-map, numbered-map}
+use Rattle.contact.proofs.Answer.{IsFirstRow, first-row, planOf, plan-gives-row, plan-meets, no-plan-exactly}
+
+-- ---- renaming
+
+module _ {N M : Type 0} (g : N → M) where
+  -- the floor over the names N in which x is what g x is
+  abbrev pub renamed : Floor M → Floor N
+  renamed F =
+      record {
+        points = F .points;
+        some = F .some;
+        touch = F .touch;
+        reflexive = F .reflexive;
+        symmetric = F .symmetric;
+        lies = λ x p. F .lies (g x) p;
+      }
+
+  pub holds-map : (v : M → Bool) (t : Term N) → holds v (mapTerm g t) ≡ holds (λ x. v (g x)) t
+  holds-map v Term.zero = refl
+  holds-map v Term.one = refl
+  holds-map v (Term.name x) = refl
+  holds-map v (Term.complement t) = ap not (holds-map v t)
+  holds-map v (Term.intersection s t) = ap₂ _&&_ (holds-map v s) (holds-map v t)
+  holds-map v (Term.union s t) = ap₂ _||_ (holds-map v s) (holds-map v t)
+
+  module _ (F : Floor M) where
+    within-map : (t : Term N) → within F (mapTerm g t) ≡ within (renamed F) t
+    within-map t = fun-ext (λ p. holds-map (λ x. F .lies x p) t)
+
+    -- the one renaming lemma
+    pub atom-map : (a : Atom N) → atomOn F (mapAtom g a) ≡ atomOn (renamed F) a
+    atom-map (Atom.contact x y) =
+        ap₂
+        (λ (u w : ℕ → Bool). any (λ p. u p && any (λ q. w q && F .touch p q) (below (F .points))) (below (F .points)))
+        (within-map x) (within-map y)
+    atom-map (Atom.part x y) = ap (λ (u : ℕ → Bool). not (any u (below (F .points)))) (within-map (partTerm x y))
+    atom-map (Atom.empty t) = ap (λ (u : ℕ → Bool). not (any u (below (F .points)))) (within-map t)
+
+module _ {A B : Type 0} (h : A → B) where
+  pub value-map : (v : B → Bool) (f : Form A) → value v (mapForm h f) ≡ value (λ a. v (h a)) f
+  value-map v Form.truth = refl
+  value-map v Form.falsity = refl
+  value-map v (Form.atom a) = refl
+  value-map v (Form.negation f) = ap not (value-map v f)
+  value-map v (Form.conjunction f g) = ap₂ _&&_ (value-map v f) (value-map v g)
+  value-map v (Form.disjunction f g) = ap₂ _||_ (value-map v f) (value-map v g)
+  value-map v (Form.implication f g) = ap₂ (λ a b. not a || b) (value-map v f) (value-map v g)
+  value-map v (Form.equivalence f g) = ap₂ Bool·beq (value-map v f) (value-map v g)
+
+-- a floor meets the renamed rules exactly if, renamed, it meets the rules
+pub meets-map : {N M : Type 0} (g : N → M) (F : Floor M) (rules : List (Formula N))
+    → meetsAll F (map (mapForm (mapAtom g)) rules) ≡ meetsAll (renamed g F) rules
+meets-map {N} g F rules =
+    all-map (mapForm (mapAtom g)) (meets F) rules
+    ∙ ap (λ (p : Formula N → Bool). all p rules)
+    (fun-ext (λ f. value-map (mapAtom g) (atomOn F) f ∙ ap (λ (v : Atom N → Bool). value v f) (fun-ext (atom-map g F))))
+
+-- and gives their atoms the row that, renamed, it gives the atoms of the rules
+pub row-map : {N M : Type 0} (g : N → M) (F : Floor M) (rules : List (Formula N))
+    → map (atomOn F) (allAtoms (map (mapForm (mapAtom g)) rules)) ≡ map (atomOn (renamed g F)) (allAtoms rules)
+row-map {N} g F rules =
+    ap (map (atomOn F)) (all-atoms-map (mapAtom g) rules) ∙ map-map (atomOn F) (mapAtom g) (allAtoms rules)
+    ∙ ap (λ (v : Atom N → Bool). map v (allAtoms rules)) (fun-ext (atom-map g F))
+
+-- ---- and back again
+
+module _ {N M : Type 0} (g : N → M) (back : M → N) where
+  term-back : (t : Term N) → ((x : N) → In x (termNames t) → back (g x) ≡ x) → mapTerm back (mapTerm g t) ≡ t
+  term-back Term.zero h = refl
+  term-back Term.one h = refl
+  term-back (Term.name x) h = ap Term.name (h x here)
+  term-back (Term.complement t) h = ap Term.complement (term-back t h)
+  term-back (Term.intersection s t) h =
+      ap₂ Term.intersection (term-back s (λ x i. h x (in-left (termNames t) i))) (term-back t (λ x i. h x (in-right (termNames s) i)))
+  term-back (Term.union s t) h =
+      ap₂ Term.union (term-back s (λ x i. h x (in-left (termNames t) i))) (term-back t (λ x i. h x (in-right (termNames s) i)))
+
+  atom-back : (a : Atom N) → ((x : N) → In x (atomNames a) → back (g x) ≡ x) → mapAtom back (mapAtom g a) ≡ a
+  atom-back (Atom.contact s t) h =
+      ap₂ Atom.contact (term-back s (λ x i. h x (in-left (termNames t) i))) (term-back t (λ x i. h x (in-right (termNames s) i)))
+  atom-back (Atom.part s t) h =
+      ap₂ Atom.part (term-back s (λ x i. h x (in-left (termNames t) i))) (term-back t (λ x i. h x (in-right (termNames s) i)))
+  atom-back (Atom.empty t) h = ap Atom.empty (term-back t h)
+
+module _ {A B : Type 0} (g : A → B) (back : B → A) where
+  abbrev Undone : List A → Type 0
+  Undone atoms = (a : A) → In a atoms → back (g a) ≡ a
+
+  -- the two sides of a binary sign
+  sides-back : (f h : Form A) (c : Form A → Form A → Form A) → Undone (atomsOf f ++ atomsOf h)
+      → (Undone (atomsOf f) → mapForm back (mapForm g f) ≡ f) → (Undone (atomsOf h) → mapForm back (mapForm g h) ≡ h)
+      → c (mapForm back (mapForm g f)) (mapForm back (mapForm g h)) ≡ c f h
+  sides-back f h c u left right =
+      ap₂ c (left (λ a i. u a (in-left (atomsOf h) i))) (right (λ a i. u a (in-right (atomsOf f) i)))
+
+  form-back : (f : Form A) → Undone (atomsOf f) → mapForm back (mapForm g f) ≡ f
+  form-back Form.truth u = refl
+  form-back Form.falsity u = refl
+  form-back (Form.atom a) u = ap Form.atom (u a here)
+  form-back (Form.negation f) u = ap Form.negation (form-back f u)
+  form-back (Form.conjunction f h) u = sides-back f h Form.conjunction u (form-back f) (form-back h)
+  form-back (Form.disjunction f h) u = sides-back f h Form.disjunction u (form-back f) (form-back h)
+  form-back (Form.implication f h) u = sides-back f h Form.implication u (form-back f) (form-back h)
+  form-back (Form.equivalence f h) u = sides-back f h Form.equivalence u (form-back f) (form-back h)
+
+  forms-back : (fs : List (Form A)) → Undone (allAtoms fs) → map (mapForm back) (map (mapForm g) fs) ≡ fs
+  forms-back [] u = refl
+  forms-back (f ∷ fs) u =
+      ap₂ _∷_ (form-back f (λ a i. u a (in-left (allAtoms fs) i))) (forms-back fs (λ a i. u a (in-right (atomsOf f) i)))
+
+-- ---- names below a number
+
+module _ {N : Type 0} (g : N → ℕ) (n : ℕ) where
+  term-below : (t : Term N) → ((x : N) → In x (termNames t) → g x < n) → TermBelow n (mapTerm g t)
+  term-below Term.zero h = tt
+  term-below Term.one h = tt
+  term-below (Term.name x) h = h x here
+  term-below (Term.complement t) h = term-below t h
+  term-below (Term.intersection s t) h =
+      (term-below s (λ x i. h x (in-left (termNames t) i)), term-below t (λ x i. h x (in-right (termNames s) i)))
+  term-below (Term.union s t) h =
+      (term-below s (λ x i. h x (in-left (termNames t) i)), term-below t (λ x i. h x (in-right (termNames s) i)))
+
+  atom-below : (a : Atom N) → ((x : N) → In x (atomNames a) → g x < n) → AtomBelow n (mapAtom g a)
+  atom-below (Atom.contact s t) h =
+      (term-below s (λ x i. h x (in-left (termNames t) i)), term-below t (λ x i. h x (in-right (termNames s) i)))
+  atom-below (Atom.part s t) h =
+      (term-below s (λ x i. h x (in-left (termNames t) i)), term-below t (λ x i. h x (in-right (termNames s) i)))
+  atom-below (Atom.empty t) h = term-below t h
+
+-- ---- positions
+
+-- a test that decides equality
+abbrev pub Decides : {N : Type 0} → (N → N → Bool) → Type 0
+Decides {N} same = (x y : N) → (same x y ≡ true) ↔ (x ≡ y)
+
+pub same-name : Decides sameName
+same-name [] [] = (λ h. refl, λ e. refl)
+same-name [] (b ∷ w) = (λ h. clash h refl, λ e. absurd (nil≢cons e))
+same-name (a ∷ v) [] = (λ h. clash h refl, λ e. absurd (cons≢nil e))
+same-name (a ∷ v) (b ∷ w) = (
+  λ h. let r = both (eqb a b) (sameName v w) h in ap₂ _∷_ (eqb-true a b (r .0)) (same-name v w .0 (r .1)),
+  λ e. and-intro (eqb a b) (sameName v w) (eq-eqb a b (head-eq-of-cons-eq e)) (same-name v w .1 (tail-eq-of-cons-eq e)),
+)
+
+module _ {N : Type 0} (same : N → N → Bool) (decides : Decides same) where
+  -- every element stands in the list of the distinct ones
+  pub distinct-in : {x : N} (xs : List N) → In x xs → In x (distinct same xs)
+  distinct-in [] i = i
+  distinct-in {x} (y ∷ ys) i =
+      cases (same y x) (λ h. at-head (sym (decides y x .0 h)))
+      (λ h. ⊎-elim (λ q. clash (decides y x .1 (sym q)) h)
+      (λ j. next (keep-intro (λ z. not (same y z)) (distinct-in ys j) (ap not h))) (uncons i))
+
+  -- and is found at its position
+  pub position-found : (d : N) {x : N} (xs : List N) → In x xs
+      → (position same xs x < length xs) × (getD xs (position same xs x) d ≡ x)
+  position-found d [] i = none-in i
+  position-found d {x} (y ∷ ys) i =
+      go (same y x) refl (λ h. position-found d ys (⊎-elim (λ q. clash (decides y x .1 (sym q)) h) (λ j. j) (uncons i)))
+    where
+      go : (b : Bool) → same y x ≡ b
+          → (same y x ≡ false → (position same ys x < length ys) × (getD ys (position same ys x) d ≡ x))
+          → (cond b 0 (suc (position same ys x)) < suc (length ys)) × (getD (y ∷ ys) (cond b 0 (suc (position same ys x))) d ≡ x)
+      go true e f = (omega arith, decides y x .0 e)
+      go false e f = let r = f e in (omega (arith, r .0), r .1)
+
+-- ---- the rules as read and the numbered rules
+
+module _ (rules : List (Formula Name)) where
+  -- the number of a name, and the name of a number
+  abbrev pub numberOf : Name → ℕ
+  numberOf x = position sameName (namesOf rules) x
+
+  abbrev pub nameOf : ℕ → Name
+  nameOf i = getD (namesOf rules) i []
+
+  -- each name of the rules has a number below how many they are, and is found at it
+  pub name-found : {x : Name} → In x (gather atomNames (allAtoms rules))
+      → (numberOf x < length (namesOf rules)) × (nameOf (numberOf x) ≡ x)
+  name-found i =
+      position-found sameName same-name [] (namesOf rules) (distinct-in sameName same-name (gather atomNames (allAtoms rules)) i)
+
+  -- the numbered rules' names are below that number
+  pub numbered-below : RulesBelow (length (namesOf rules)) (numberedNames rules)
+  numbered-below a i =
+      let r = map-elim (mapAtom numberOf) (allAtoms rules) (subst (In a) (all-atoms-map (mapAtom numberOf) rules) i) in
+      subst (AtomBelow (length (namesOf rules))) (sym (r .1))
+      (atom-below numberOf (length (namesOf rules)) (r .0) (λ x j. name-found (gather-intro atomNames (r .2) j) .0))
+
+  -- with the names put back they are the rules as read
+  pub names-back : map (mapForm (mapAtom nameOf)) (numberedNames rules) ≡ rules
+  names-back =
+      forms-back (mapAtom numberOf) (mapAtom nameOf) rules
+      (λ a i. atom-back numberOf nameOf a (λ x j. name-found (gather-intro atomNames i j) .1))
+
+  -- a floor over numbers, as one over names, gives the rules' atoms the same values and meets the same rules
+  pub numbers-row : (F : Floor ℕ) → map (atomOn (renamed numberOf F)) (allAtoms rules) ≡ map (atomOn F) (allAtoms (numberedNames rules))
+  numbers-row F = sym (row-map numberOf F rules)
+
+  pub numbers-meet : (F : Floor ℕ) → meetsAll (renamed numberOf F) rules ≡ meetsAll F (numberedNames rules)
+  numbers-meet F = sym (meets-map numberOf F rules)
+
+  -- and so does a floor over names, as one over numbers
+  pub names-row : (F : Floor Name) → map (atomOn (renamed nameOf F)) (allAtoms (numberedNames rules)) ≡ map (atomOn F) (allAtoms rules)
+  names-row F =
+      sym (row-map nameOf F (numberedNames rules))
+      ∙ ap (λ (rs : List (Formula Name)). map (atomOn F) (allAtoms rs)) names-back
+
+  pub names-meet : (F : Floor Name) → meetsAll (renamed nameOf F) (numberedNames rules) ≡ meetsAll F rules
+  names-meet F = sym (meets-map nameOf F (numberedNames rules)) ∙ ap (meetsAll F) names-back
+
+  -- so the realisable rows are the same
+  pub realisable-named : (row : Row) → Realisable (allAtoms (numberedNames rules)) row ↔ Realisable (allAtoms rules) row
+  realisable-named row = (
+    λ r. ∥∥₁-map r (λ f. (renamed numberOf (f .0), numbers-row (f .0) ∙ f .1)),
+    λ r. ∥∥₁-map r (λ f. (renamed nameOf (f .0), names-row (f .0) ∙ f .1)),
+  )
+
+  -- and the numbers of the atoms
+  rules-true-named : (row : Row) → rulesTrue (numberedAtoms (numberedNames rules)) row ≡ rulesTrue (numberedAtoms rules) row
+  rules-true-named row = ap (λ (nums : List (Form ℕ)). rulesTrue nums row) (numbered-map (mapAtom numberOf) rules)
+
+  -- the row found is the first realisable one that makes the rules true
+  pub first-row-named : (row : Row) → firstRowOf (length (namesOf rules)) (numberedNames rules) ≡ row ∷ [] → IsFirstRow rules row
+  first-row-named row e =
+      let r = first-row (length (namesOf rules)) (numberedNames rules) numbered-below row e in
+      record {
+        realisable = realisable-named row .0 (r .realisable);
+        makes = sym (rules-true-named row) ∙ r .makes;
+        earliest = λ other real k b. r .earliest other (realisable-named other .1 real) (rules-true-named other ∙ k) b;
+      }
+
+  -- no row is found exactly where no floor meets the rules as read
+  pub no-plan-named : (firstRowOf (length (namesOf rules)) (numberedNames rules) ≡ []) ↔ ((F : Floor Name) → meetsAll F rules ≡ true → ⊥)
+  no-plan-named =
+      let w = no-plan-exactly (length (namesOf rules)) (numberedNames rules) numbered-below in (
+        λ e F h. w .0 e (renamed nameOf F) (names-meet F ∙ h),
+        λ none. w .1 (λ F h. none (renamed numberOf F) (numbers-meet F ∙ h)),
+      )
+
+  -- the plan of the first row, over names, gives the row and meets the rules as read
+  abbrev pub namedPlan : (row : Row) → firstRowOf (length (namesOf rules)) (numberedNames rules) ≡ row ∷ [] → Floor Name
+  namedPlan row e = renamed numberOf (planOf (length (namesOf rules)) (numberedNames rules) row e)
+
+  pub plan-row-named : (row : Row) (e : firstRowOf (length (namesOf rules)) (numberedNames rules) ≡ row ∷ [])
+      → Realises (namedPlan row e) (allAtoms rules) row
+  plan-row-named row e =
+      numbers-row (planOf (length (namesOf rules)) (numberedNames rules) row e)
+      ∙ plan-gives-row (length (namesOf rules)) (numberedNames rules) row e
+
+  pub plan-meets-named : (row : Row) (e : firstRowOf (length (namesOf rules)) (numberedNames rules) ≡ row ∷ [])
+      → meetsAll (namedPlan row e) rules ≡ true
+  plan-meets-named row e =
+      numbers-meet (planOf (length (namesOf rules)) (numberedNames rules) row e)
+      ∙ plan-meets (length (namesOf rules)) (numberedNames rules) row e

@@ -1,0 +1,481 @@
+-- The check passes exactly where some floor gives the decided atoms their values. The evaluations of a floor's points are
+-- allowed, those of points in contact are not separated, so every mark is served; and where every mark is served, the points
+-- of the plan, all unseparated pairs in contact, are such a floor. For any number of names and of points. Assumes nothing.
+use mathlib.Core.Bool.{Bool, true, false, not, _&&_, or-comm, Bool-set}
+use mathlib.Core.Path.{_≡_, refl, sym, ap, ap₂, _∙_, subst, fun-ext}
+use mathlib.Core.Logic.{⊎-elim, _↔_, ∥∥₁-elim}
+use mathlib.Core.List.{List, [], _∷_, map}
+use Prim.Native.Nat.{ℕ, _^_, _≤_, _<_}
+use native.Mathlib.Omega.{arith}
+use lib.ListN.{length, getD, length-map}
+use lib.Dec.{ltb}
+use borrow.Author.Tests.{not-true, not-false, ltb-true, lt-ltb}
+use Rattle.formula.specs.Formula.{Term, Atom}
+use Rattle.evalset.specs.Search.{In, here, next, any, all, first, gather, below, elem}
+use Rattle.evalset.specs.Bit.{bit}
+use Rattle.evalset.proofs.Search.{clash, untrue, bool-ext, and-intro, both, or-left, or-cases, any-intro, any-elim, none-elim, none-intro, all-elim, all-intro, first-some, first-in, keep-intro, keep-elim, uncons, none-in, place, placed, gather-intro, gather-elim, below-intro, below-elim, elem-intro, elem-elim, or-else-left, or-else-cases, or-else-some}
+use Rattle.contact.specs.Meaning.{Floor, within, isEmpty, touches, atomOn}
+use Rattle.contact.specs.Numbering.{TermBelow, AtomBelow}
+use Rattle.contact.specs.Row.{Row, Realises, Realisable, is, unknown, PartialRow, Extends, RealisesPart}
+use Rattle.contact.specs.Plan.{at, evaluations, Mark, touching, apart, vacant, inhabited, mark, marksOf, rowMarks, parts, separated, empties, allowed, fills, partners, leads, served, check, withPartner, gives, given, pointsFor}
+use Rattle.contact.proofs.Bits.{encode, encode-lt, bit-encode, holds-same}
+
+-- ---- what marks say of a floor
+
+-- the value of the marked atom on a floor, and the value that the mark gives it
+abbrev pub markOn : Floor ℕ → Mark → Bool
+markOn F (touching x y) = touches F x y
+markOn F (apart x y) = touches F x y
+markOn F (vacant t) = isEmpty F t
+markOn F (inhabited t) = isEmpty F t
+
+abbrev pub signOf : Mark → Bool
+signOf (touching x y) = true
+signOf (apart x y) = false
+signOf (vacant t) = true
+signOf (inhabited t) = false
+
+-- the floor gives each marked atom its value
+abbrev pub RealisesMarks : Floor ℕ → List Mark → Type 0
+RealisesMarks F ms = (m : Mark) → In m ms → markOn F m ≡ signOf m
+
+-- the names of the marked atom are numbered below n
+abbrev pub MarkBelow : ℕ → Mark → Type 0
+MarkBelow n (touching x y) = TermBelow n x × TermBelow n y
+MarkBelow n (apart x y) = TermBelow n x × TermBelow n y
+MarkBelow n (vacant t) = TermBelow n t
+MarkBelow n (inhabited t) = TermBelow n t
+
+-- ---- the floor of a list of evaluations
+
+-- a search over places is one over elements
+any-places : (P : ℕ → Bool) (xs : List ℕ) → any (λ i. P (getD xs i 0)) (below (length xs)) ≡ any P xs
+any-places P xs =
+    bool-ext (any (λ i. P (getD xs i 0)) (below (length xs))) (any P xs)
+    (λ h. let r = any-elim (λ i. P (getD xs i 0)) (below (length xs)) h in
+    any-intro P (placed 0 xs (r .0) (below-elim (length xs) (r .0) (r .1))) (r .2))
+    (λ h. let r = any-elim P xs h in
+    let s = place 0 (r .1) in
+    any-intro (λ i. P (getD xs i 0)) (below-intro (length xs) (s .0) (s .1)) (ap P (s .2) ∙ r .2))
+
+pub separated-symmetric : (ms : List Mark) (e f : ℕ) → separated ms e f ≡ true → separated ms f e ≡ true
+unfolding separated
+separated-symmetric ms e f h = let r = any-elim (parts e f) ms h in any-intro (parts f e) (r .1) (flip (r .0) (r .2))
+  where
+    flip : (m : Mark) → parts e f m ≡ true → parts f e m ≡ true
+    flip (touching x y) k = k
+    flip (apart x y) k = rw or-comm k
+    flip (vacant t) k = k
+    flip (inhabited t) k = k
+
+-- "All unseparated pairs are in contact."
+unfoldable pub floorOf : (ms : List Mark) (pts : List ℕ) → 0 < length pts → ((e : ℕ) → In e pts → separated ms e e ≡ false) → Floor ℕ
+floorOf ms pts some own =
+    record {
+      points = length pts;
+      some = omega arith;
+      touch = λ p q. not (separated ms (getD pts p 0) (getD pts q 0));
+      reflexive = λ p h. ap not (own (getD pts p 0) (placed 0 pts p h));
+      symmetric = λ p q hp hq h. ap not (untrue _ (λ k. clash (separated-symmetric ms _ _ k) (not-true _ h)));
+      lies = λ i p. bit (getD pts p 0) i;
+    }
+
+-- the value of a marked atom there
+abbrev onPoints : List Mark → List ℕ → Mark → Bool
+onPoints ms pts (touching x y) = any (λ e. at x e && any (λ f. at y f && not (separated ms e f)) pts) pts
+onPoints ms pts (apart x y) = any (λ e. at x e && any (λ f. at y f && not (separated ms e f)) pts) pts
+onPoints ms pts (vacant t) = not (any (at t) pts)
+onPoints ms pts (inhabited t) = not (any (at t) pts)
+
+module _ (ms : List Mark) (pts : List ℕ) (some : 0 < length pts) (own : (e : ℕ) → In e pts → separated ms e e ≡ false) where
+  floor-touches : (x y : Term ℕ)
+      → touches (floorOf ms pts some own) x y ≡ any (λ e. at x e && any (λ f. at y f && not (separated ms e f)) pts) pts
+  unfolding floorOf
+  floor-touches x y =
+      ap (λ (g : ℕ → Bool). any g (below (length pts)))
+      (fun-ext (λ i. ap (λ (b : Bool). at x (getD pts i 0) && b) (any-places (λ f. at y f && not (separated ms (getD pts i 0) f)) pts)))
+      ∙ any-places (λ e. at x e && any (λ f. at y f && not (separated ms e f)) pts) pts
+
+  floor-empty : (t : Term ℕ) → isEmpty (floorOf ms pts some own) t ≡ not (any (at t) pts)
+  unfolding floorOf
+  floor-empty t = ap not (any-places (at t) pts)
+
+  floor-mark : (m : Mark) → markOn (floorOf ms pts some own) m ≡ onPoints ms pts m
+  floor-mark (touching x y) = floor-touches x y
+  floor-mark (apart x y) = floor-touches x y
+  floor-mark (vacant t) = floor-empty t
+  floor-mark (inhabited t) = floor-empty t
+
+-- ---- the tests, taken apart and put together
+
+abbrev pub Allowed : ℕ → List Mark → ℕ → Type 0
+Allowed n ms e = (e < 2 ^ n) × (any (empties e) ms ≡ false) × (separated ms e e ≡ false)
+
+module _ (n : ℕ) (ms : List Mark) where
+  pub allowed-elim : (e : ℕ) → allowed n ms e ≡ true → Allowed n ms e
+  unfolding allowed
+  allowed-elim e h =
+      let r = both (ltb e (2 ^ n)) (not (any (empties e) ms) && not (separated ms e e)) h in
+      let s = both (not (any (empties e) ms)) (not (separated ms e e)) (r .1) in
+      (ltb-true e (2 ^ n) (r .0), not-true _ (s .0), not-true _ (s .1))
+
+  pub allowed-intro : (e : ℕ) → Allowed n ms e → allowed n ms e ≡ true
+  unfolding allowed
+  allowed-intro e h =
+      and-intro (ltb e (2 ^ n)) (not (any (empties e) ms) && not (separated ms e e)) (lt-ltb e (2 ^ n) (h .0))
+      (and-intro (not (any (empties e) ms)) (not (separated ms e e)) (ap not (h .1)) (ap not (h .2)))
+
+  pub fills-elim : (t : Term ℕ) (e : ℕ) → fills n ms t e ≡ true → (allowed n ms e ≡ true) × (at t e ≡ true)
+  unfolding fills
+  fills-elim t e h = both (allowed n ms e) (at t e) h
+
+  pub fills-intro : (t : Term ℕ) (e : ℕ) → allowed n ms e ≡ true → at t e ≡ true → fills n ms t e ≡ true
+  unfolding fills
+  fills-intro t e h k = and-intro (allowed n ms e) (at t e) h k
+
+  pub partners-elim : (y : Term ℕ) (p q : ℕ) → partners n ms y p q ≡ true → (fills n ms y q ≡ true) × (separated ms p q ≡ false)
+  unfolding partners
+  partners-elim y p q h = let r = both (fills n ms y q) (not (separated ms p q)) h in (r .0, not-true _ (r .1))
+
+  pub partners-intro : (y : Term ℕ) (p q : ℕ) → fills n ms y q ≡ true → separated ms p q ≡ false → partners n ms y p q ≡ true
+  unfolding partners
+  partners-intro y p q h k = and-intro (fills n ms y q) (not (separated ms p q)) h (ap not k)
+
+  pub leads-elim : (x y : Term ℕ) (p : ℕ) → leads n ms x y p ≡ true
+      → (fills n ms x p ≡ true) × (any (partners n ms y p) (evaluations n) ≡ true)
+  unfolding leads
+  leads-elim x y p h = both (fills n ms x p) (any (partners n ms y p) (evaluations n)) h
+
+  pub leads-intro : (x y : Term ℕ) (p : ℕ) → fills n ms x p ≡ true → any (partners n ms y p) (evaluations n) ≡ true
+      → leads n ms x y p ≡ true
+  unfolding leads
+  leads-intro x y p h k = and-intro (fills n ms x p) (any (partners n ms y p) (evaluations n)) h k
+
+  pub check-elim : check n ms ≡ true → (any (allowed n ms) (evaluations n) ≡ true) × (all (served n ms) ms ≡ true)
+  unfolding check
+  check-elim h = both (any (allowed n ms) (evaluations n)) (all (served n ms) ms) h
+
+  pub check-intro : any (allowed n ms) (evaluations n) ≡ true → all (served n ms) ms ≡ true → check n ms ≡ true
+  unfolding check
+  check-intro h k = and-intro (any (allowed n ms) (evaluations n)) (all (served n ms) ms) h k
+
+-- ---- from the check to the plan
+
+module _ (n : ℕ) (ms : List Mark) where
+  abbrev es : List ℕ
+  es = evaluations n
+
+  gives-ok : (m : Mark) {e : ℕ} → In e (gives n ms m) → In e es × (allowed n ms e ≡ true)
+  gives-ok (touching x y) {e} i =
+      let r = gather-elim (withPartner n ms y) (first (leads n ms x y) es) i in
+      let p = first-in (leads n ms x y) es (r .1) in
+      ⊎-elim
+      (λ q. (subst (λ z. In z es) (sym q) (p .0), ap (allowed n ms) q ∙ fills-elim n ms x (r .0) (leads-elim n ms x y (r .0) (p .1) .0) .0))
+      (λ j. let s = first-in (partners n ms y (r .0)) es j in
+      (s .0, fills-elim n ms y e (partners-elim n ms y (r .0) e (s .1) .0) .0))
+      (uncons (r .2))
+  gives-ok (apart x y) i = none-in i
+  gives-ok (vacant t) i = none-in i
+  gives-ok (inhabited t) {e} i = let r = first-in (fills n ms t) es i in (r .0, fills-elim n ms t e (r .1) .0)
+
+  given-ok : {e : ℕ} → In e (given n ms) → In e es × (allowed n ms e ≡ true)
+  unfolding given
+  given-ok i =
+      ⊎-elim (λ j. let r = gather-elim (gives n ms) ms j in gives-ok (r .0) (r .2)) (λ j. first-in (allowed n ms) es j)
+      (or-else-cases (gather (gives n ms) ms) (first (allowed n ms) es) i)
+
+  -- the plan's points are the evaluations given
+  pub point-allowed : {e : ℕ} → In e (pointsFor n ms) → allowed n ms e ≡ true
+  unfolding pointsFor
+  point-allowed {e} i = given-ok (elem-elim e (given n ms) (keep-elim (λ k. elem k (given n ms)) es i .1)) .1
+
+  given-point : {e : ℕ} → In e (given n ms) → In e (pointsFor n ms)
+  unfolding pointsFor
+  given-point {e} i = keep-intro (λ k. elem k (given n ms)) (given-ok i .0) (elem-intro e i)
+
+  gives-point : {m : Mark} {e : ℕ} → In m ms → In e (gives n ms m) → In e (pointsFor n ms)
+  unfolding given
+  gives-point i j = given-point (or-else-left (first (allowed n ms) es) (gather-intro (gives n ms) i j))
+
+  module _ (checked : check n ms ≡ true) where
+    some-given : (e : ℕ) × In e (given n ms)
+    unfolding given
+    some-given =
+        let r = first-some (allowed n ms) es (check-elim n ms checked .0) in
+        or-else-some (gather (gives n ms) ms) (first (allowed n ms) es) (r .0, subst (In (r .0)) (sym (r .1)) here)
+
+    pub points-some : 0 < length (pointsFor n ms)
+    points-some = let r = place 0 (given-point (some-given .1)) in omega (arith, r .1)
+
+    -- the plan that is given, as a floor
+    unfoldable pub planFloor : Floor ℕ
+    planFloor = floorOf ms (pointsFor n ms) points-some (λ e i. allowed-elim n ms e (point-allowed i) .2)
+
+    -- its points are those of the plan in their order, unseparated ones are in contact, and bit i says which lie in name i
+    pub plan-points : planFloor .points ≡ length (pointsFor n ms)
+    unfolding planFloor floorOf
+    plan-points = refl
+
+    pub plan-touch : (p q : ℕ) → planFloor .touch p q ≡ not (separated ms (getD (pointsFor n ms) p 0) (getD (pointsFor n ms) q 0))
+    unfolding planFloor floorOf
+    plan-touch p q = refl
+
+    pub plan-lies : (i p : ℕ) → planFloor .lies i p ≡ bit (getD (pointsFor n ms) p 0) i
+    unfolding planFloor floorOf
+    plan-lies i p = refl
+
+    all-served : (m : Mark) → In m ms → served n ms m ≡ true
+    all-served m i = all-elim (served n ms) i (check-elim n ms checked .1)
+
+    abbrev reach : Term ℕ → ℕ → ℕ → Bool
+    reach y e f = at y f && not (separated ms e f)
+
+    abbrev meetsOn : Term ℕ → Term ℕ → ℕ → Bool
+    meetsOn x y e = at x e && any (reach y e) (pointsFor n ms)
+
+    on-plan : (m : Mark) → In m ms → onPoints ms (pointsFor n ms) m ≡ signOf m
+    unfolding separated
+    on-plan (touching x y) i =
+        let r = first-some (leads n ms x y) es (all-served (touching x y) i) in
+        let p : ℕ = r .0 in
+        let hp = leads-elim n ms x y p (r .3) in
+        let s = first-some (partners n ms y p) es (hp .1) in
+        let q : ℕ = s .0 in
+        let hq = partners-elim n ms y p q (s .3) in
+        let p-in = subst (In p) (sym (r .1)) here in
+        let pair : (e : ℕ) → In e (withPartner n ms y p) → In e (pointsFor n ms) =
+        λ e j. gives-point i (gather-intro (withPartner n ms y) p-in j) in
+        any-intro (meetsOn x y) (pair p here)
+        (and-intro (at x p) (any (reach y p) (pointsFor n ms)) (fills-elim n ms x p (hp .0) .1)
+        (any-intro (reach y p) (pair q (next (subst (In q) (sym (s .1)) here)))
+        (and-intro (at y q) (not (separated ms p q)) (fills-elim n ms y q (hq .0) .1) (ap not (hq .1)))))
+    on-plan (apart x y) i =
+        none-intro (meetsOn x y) (pointsFor n ms)
+        (λ e j h.
+        let k = both (at x e) (any (reach y e) (pointsFor n ms)) h in
+        let r = any-elim (reach y e) (pointsFor n ms) (k .1) in
+        let f : ℕ = r .0 in
+        let l = both (at y f) (not (separated ms e f)) (r .2) in
+        clash
+        (any-intro (parts e f) i (or-left (at x e && at y f) (at x f && at y e) (and-intro (at x e) (at y f) (k .0) (l .0))))
+        (not-true _ (l .1)))
+    on-plan (vacant t) i =
+        ap not
+        (none-intro (at t) (pointsFor n ms) (λ e j h. clash h (none-elim (empties e) (allowed-elim n ms e (point-allowed j) .1) i)))
+    on-plan (inhabited t) i =
+        let r = first-some (fills n ms t) es (all-served (inhabited t) i) in
+        ap not (any-intro (at t) (gives-point i (subst (In (r .0)) (sym (r .1)) here)) (fills-elim n ms t (r .0) (r .3) .1))
+
+    pub plan-realises : RealisesMarks planFloor ms
+    unfolding planFloor
+    plan-realises m i = floor-mark ms (pointsFor n ms) _ _ m ∙ on-plan m i
+
+-- ---- from a floor to the check
+
+-- a contact, by its two points
+touches-intro : (F : Floor ℕ) (x y : Term ℕ) (p q : ℕ) → p < F .points → q < F .points → within F x p ≡ true → within F y q ≡ true
+    → F .touch p q ≡ true → touches F x y ≡ true
+touches-intro F x y p q hp hq ix iy h =
+    any-intro (λ k. within F x k && any (λ l. within F y l && F .touch k l) (below (F .points))) (below-intro (F .points) p hp)
+    (and-intro (within F x p) (any (λ l. within F y l && F .touch p l) (below (F .points))) ix
+    (any-intro (λ l. within F y l && F .touch p l) (below-intro (F .points) q hq) (and-intro (within F y q) (F .touch p q) iy h)))
+
+record Met (F : Floor ℕ) (x y : Term ℕ) : Type 0 where
+  p : ℕ
+  q : ℕ
+  p-lt : p < F .points
+  q-lt : q < F .points
+  p-in : within F x p ≡ true
+  q-in : within F y q ≡ true
+  meet : F .touch p q ≡ true
+
+touches-elim : (F : Floor ℕ) (x y : Term ℕ) → touches F x y ≡ true → Met F x y
+touches-elim F x y h =
+    let r = any-elim (λ k. within F x k && any (λ l. within F y l && F .touch k l) (below (F .points))) (below (F .points)) h in
+    let k = both (within F x (r .0)) (any (λ l. within F y l && F .touch (r .0) l) (below (F .points))) (r .2) in
+    let s = any-elim (λ l. within F y l && F .touch (r .0) l) (below (F .points)) (k .1) in
+    let l = both (within F y (s .0)) (F .touch (r .0) (s .0)) (s .2) in
+    record {
+      p = r .0;
+      q = s .0;
+      p-lt = below-elim (F .points) (r .0) (r .1);
+      q-lt = below-elim (F .points) (s .0) (s .1);
+      p-in = k .0;
+      q-in = l .0;
+      meet = l .1;
+    }
+
+module _ (n : ℕ) (ms : List Mark) (names : (m : Mark) → In m ms → MarkBelow n m) (F : Floor ℕ) (real : RealisesMarks F ms) where
+  -- the evaluation of a point
+  abbrev ev : ℕ → ℕ
+  ev p = encode n (λ i. F .lies i p)
+
+  ev-in : (p : ℕ) → In (ev p) (evaluations n)
+  ev-in p = below-intro (2 ^ n) (ev p) (encode-lt n (λ i. F .lies i p))
+
+  ev-at : (t : Term ℕ) (p : ℕ) → TermBelow n t → at t (ev p) ≡ within F t p
+  ev-at t p o = holds-same n (λ i. bit (ev p) i) (λ i. F .lies i p) (bit-encode n (λ i. F .lies i p)) t o
+
+  -- points in contact have unseparated evaluations
+  ev-parts : (p q : ℕ) → p < F .points → q < F .points → F .touch p q ≡ true → (m : Mark) → In m ms → parts (ev p) (ev q) m ≡ true → ⊥
+  ev-parts p q hp hq h (touching x y) i k = clash k refl
+  ev-parts p q hp hq h (apart x y) i k =
+      let o = names (apart x y) i in
+      clash
+      (⊎-elim
+      (λ l. let r = both (at x (ev p)) (at y (ev q)) l in
+      touches-intro F x y p q hp hq (sym (ev-at x p (o .0)) ∙ r .0) (sym (ev-at y q (o .1)) ∙ r .1) h)
+      (λ l. let r = both (at x (ev q)) (at y (ev p)) l in
+      touches-intro F x y q p hq hp (sym (ev-at x q (o .0)) ∙ r .0) (sym (ev-at y p (o .1)) ∙ r .1) (F .symmetric p q hp hq h))
+      (or-cases (at x (ev p) && at y (ev q)) (at x (ev q) && at y (ev p)) k))
+      (real (apart x y) i)
+  ev-parts p q hp hq h (vacant t) i k = clash k refl
+  ev-parts p q hp hq h (inhabited t) i k = clash k refl
+
+  ev-separated : (p q : ℕ) → p < F .points → q < F .points → F .touch p q ≡ true → separated ms (ev p) (ev q) ≡ false
+  unfolding separated
+  ev-separated p q hp hq h = none-intro (parts (ev p) (ev q)) ms (ev-parts p q hp hq h)
+
+  ev-empties : (p : ℕ) → p < F .points → (m : Mark) → In m ms → empties (ev p) m ≡ true → ⊥
+  ev-empties p hp (touching x y) i k = clash k refl
+  ev-empties p hp (apart x y) i k = clash k refl
+  ev-empties p hp (vacant t) i k =
+      clash (any-intro (within F t) (below-intro (F .points) p hp) (sym (ev-at t p (names (vacant t) i)) ∙ k))
+      (not-true _ (real (vacant t) i))
+  ev-empties p hp (inhabited t) i k = clash k refl
+
+  ev-allowed : (p : ℕ) → p < F .points → allowed n ms (ev p) ≡ true
+  ev-allowed p hp =
+      allowed-intro n ms (ev p)
+      (encode-lt n (λ i. F .lies i p), none-intro (empties (ev p)) ms (ev-empties p hp), ev-separated p p hp hp (F .reflexive p hp))
+
+  ev-fills : (t : Term ℕ) (p : ℕ) → TermBelow n t → p < F .points → within F t p ≡ true → fills n ms t (ev p) ≡ true
+  ev-fills t p o hp h = fills-intro n ms t (ev p) (ev-allowed p hp) (ev-at t p o ∙ h)
+
+  ev-served : (m : Mark) → In m ms → served n ms m ≡ true
+  ev-served (touching x y) i =
+      let o = names (touching x y) i in
+      let w = touches-elim F x y (real (touching x y) i) in
+      any-intro (leads n ms x y) (ev-in (w .p))
+      (leads-intro n ms x y (ev (w .p)) (ev-fills x (w .p) (o .0) (w .p-lt) (w .p-in))
+      (any-intro (partners n ms y (ev (w .p))) (ev-in (w .q))
+      (partners-intro n ms y (ev (w .p)) (ev (w .q)) (ev-fills y (w .q) (o .1) (w .q-lt) (w .q-in))
+      (ev-separated (w .p) (w .q) (w .p-lt) (w .q-lt) (w .meet)))))
+  ev-served (apart x y) i = refl
+  ev-served (vacant t) i = refl
+  ev-served (inhabited t) i =
+      let r = any-elim (within F t) (below (F .points)) (not-false _ (real (inhabited t) i)) in
+      any-intro (fills n ms t) (ev-in (r .0)) (ev-fills t (r .0) (names (inhabited t) i) (below-elim (F .points) (r .0) (r .1)) (r .2))
+
+  pub floor-check : check n ms ≡ true
+  floor-check =
+      check-intro n ms (any-intro (allowed n ms) (ev-in 0) (ev-allowed 0 (F .some))) (all-intro (served n ms) ms ev-served)
+
+-- where marks pass the check, some of them do
+pub check-fewer : (n : ℕ) (ms fewer : List Mark) → ((m : Mark) → In m fewer → MarkBelow n m) → ((m : Mark) → In m fewer → In m ms)
+    → check n ms ≡ true → check n fewer ≡ true
+check-fewer n ms fewer names sub h = floor-check n fewer names (planFloor n ms h) (λ m i. plan-realises n ms h m (sub m i))
+
+-- ---- marks and rows
+
+mark-on : (F : Floor ℕ) (a : Atom ℕ) (b : Bool) → markOn F (mark a b) ≡ atomOn F a
+mark-on F (Atom.contact x y) true = refl
+mark-on F (Atom.contact x y) false = refl
+mark-on F (Atom.part x y) true = refl
+mark-on F (Atom.part x y) false = refl
+mark-on F (Atom.empty t) true = refl
+mark-on F (Atom.empty t) false = refl
+
+mark-sign : (a : Atom ℕ) (b : Bool) → signOf (mark a b) ≡ b
+mark-sign (Atom.contact x y) true = refl
+mark-sign (Atom.contact x y) false = refl
+mark-sign (Atom.part x y) true = refl
+mark-sign (Atom.part x y) false = refl
+mark-sign (Atom.empty t) true = refl
+mark-sign (Atom.empty t) false = refl
+
+mark-below : (n : ℕ) (a : Atom ℕ) (b : Bool) → AtomBelow n a → MarkBelow n (mark a b)
+mark-below n (Atom.contact x y) true o = o
+mark-below n (Atom.contact x y) false o = o
+mark-below n (Atom.part x y) true o = o
+mark-below n (Atom.part x y) false o = o
+mark-below n (Atom.empty t) true o = o
+mark-below n (Atom.empty t) false o = o
+
+pub marks-below : (n : ℕ) (atoms : List (Atom ℕ)) (part : PartialRow) → ((a : Atom ℕ) → In a atoms → AtomBelow n a)
+    → (m : Mark) → In m (marksOf atoms part) → MarkBelow n m
+marks-below n [] part o m i = none-in i
+marks-below n (a ∷ atoms) [] o m i = none-in i
+marks-below n (a ∷ atoms) (is b ∷ part) o m i =
+    ⊎-elim (λ q. subst (MarkBelow n) (sym q) (mark-below n a b (o a here))) (λ j. marks-below n atoms part (λ c k. o c (next k)) m j)
+    (uncons i)
+marks-below n (a ∷ atoms) (unknown ∷ part) o m i = marks-below n atoms part (λ c k. o c (next k)) m i
+
+-- a floor that gives the decided atoms their values realises the marks
+part-marks : (F : Floor ℕ) (atoms : List (Atom ℕ)) (part : PartialRow) → RealisesPart F atoms part → RealisesMarks F (marksOf atoms part)
+part-marks F [] part h m i = none-in i
+part-marks F (a ∷ atoms) [] h m i = none-in i
+part-marks F (a ∷ atoms) (is b ∷ part) h m i =
+    ⊎-elim (λ q. ap (markOn F) q ∙ mark-on F a b ∙ h .0 ∙ sym (mark-sign a b) ∙ ap signOf (sym q)) (λ j. part-marks F atoms part (h .1) m j)
+    (uncons i)
+part-marks F (a ∷ atoms) (unknown ∷ part) h m i = part-marks F atoms part h m i
+
+-- and one that realises the marks gives them their values
+marks-part : (F : Floor ℕ) (atoms : List (Atom ℕ)) (part : PartialRow) → length part ≤ length atoms → RealisesMarks F (marksOf atoms part)
+    → RealisesPart F atoms part
+marks-part F atoms [] l h = tt
+marks-part F [] (t ∷ part) l h = absurd (omega arith)
+marks-part F (a ∷ atoms) (is b ∷ part) l h =
+    (sym (mark-on F a b) ∙ h (mark a b) here ∙ mark-sign a b, marks-part F atoms part (omega arith) (λ m i. h m (next i)))
+marks-part F (a ∷ atoms) (unknown ∷ part) l h = marks-part F atoms part (omega arith) h
+
+-- a row extends itself, and no other row of its length
+extends-self : (row : Row) → Extends row (map is row)
+extends-self [] = tt
+extends-self (b ∷ row) = (refl, extends-self row)
+
+extends-whole : (s row : Row) → length row ≡ length s → Extends s (map is row) → s ≡ row
+extends-whole [] [] l h = refl
+extends-whole [] (b ∷ row) l h = absurd (omega arith)
+extends-whole (c ∷ s) [] l h = absurd (omega arith)
+extends-whole (c ∷ s) (b ∷ row) l h = ap₂ _∷_ (h .0) (extends-whole s row (omega arith) (h .1))
+
+-- ---- the claims
+
+module _ (n : ℕ) (atoms : List (Atom ℕ)) where
+  -- the plan gives the decided atoms their values
+  pub plan-part : (part : PartialRow) → length part ≤ length atoms → (checked : check n (marksOf atoms part) ≡ true)
+      → RealisesPart (planFloor n (marksOf atoms part) checked) atoms part
+  plan-part part l checked =
+      marks-part (planFloor n (marksOf atoms part) checked) atoms part l (plan-realises n (marksOf atoms part) checked)
+
+  -- and of a whole row it gives every atom the row's value
+  pub plan-row : (row : Row) → length row ≡ length atoms → (checked : check n (rowMarks atoms row) ≡ true)
+      → Realises (planFloor n (rowMarks atoms row) checked) atoms row
+  plan-row row l checked =
+      let F : Floor ℕ = planFloor n (rowMarks atoms row) checked in
+      let whole : length (map is row) ≤ length atoms = omega (arith, length-map row is) in
+      extends-whole (map (atomOn F) atoms) row (l ∙ sym (length-map atoms (atomOn F))) (plan-part (map is row) whole checked)
+
+  module _ (names : (a : Atom ℕ) → In a atoms → AtomBelow n a) where
+    pub part-check : (part : PartialRow) (F : Floor ℕ) → RealisesPart F atoms part → check n (marksOf atoms part) ≡ true
+    part-check part F h = floor-check n (marksOf atoms part) (marks-below n atoms part names) F (part-marks F atoms part h)
+
+    pub row-check : (row : Row) (F : Floor ℕ) → Realises F atoms row → check n (rowMarks atoms row) ≡ true
+    row-check row F h = part-check (map is row) F (subst (λ (r : Row). Extends r (map is row)) (sym h) (extends-self row))
+
+-- the check of a partial row passes exactly if some floor gives the decided atoms their values
+pub check-exactly : (n : ℕ) (atoms : List (Atom ℕ)) (part : PartialRow) → ((a : Atom ℕ) → In a atoms → AtomBelow n a)
+    → length part ≤ length atoms → (check n (marksOf atoms part) ≡ true) ↔ ∥ ((F : Floor ℕ) × RealisesPart F atoms part) ∥₁
+check-exactly n atoms part names l = (
+  λ h. ∣ (planFloor n (marksOf atoms part) h, plan-part n atoms part l h) ∣₁,
+  λ r. ∥∥₁-elim r (Bool-set _ _) (λ f. part-check n atoms names part (f .0) (f .1)),
+)
+
+-- the check of a row passes exactly if the row is realisable
+pub row-exactly : (n : ℕ) (atoms : List (Atom ℕ)) (row : Row) → ((a : Atom ℕ) → In a atoms → AtomBelow n a) → length row ≡ length atoms
+    → (check n (rowMarks atoms row) ≡ true) ↔ Realisable atoms row
+row-exactly n atoms row names l = (
+  λ h. ∣ (planFloor n (rowMarks atoms row) h, plan-row n atoms row l h) ∣₁,
+  λ r. ∥∥₁-elim r (Bool-set _ _) (λ f. row-check n atoms names row (f .0) (f .1)),
+)

@@ -1,0 +1,45 @@
+-- What a floor meets depends on how many points it has, which of them are in contact and where they lie, and on nothing else:
+-- every search in the meaning runs over the points alone. Assumes nothing.
+use mathlib.Core.Bool.{Bool, not, _&&_}
+use mathlib.Core.Path.{_≡_, ap, ap₂, _∙_, fun-ext}
+use mathlib.Core.List.{List}
+use Prim.Native.Nat.{ℕ, _<_}
+use Rattle.formula.specs.Formula.{Term, Atom, Formula}
+use Rattle.evalset.specs.Search.{any, all, below}
+use Rattle.evalset.proofs.Search.{any-same, below-elim}
+use Rattle.contact.specs.Meaning.{Floor, holds, within, isEmpty, touches, partTerm, atomOn, value, meetsAll}
+
+-- two floors with the same points, contacts and regions
+pub record SameFloor {N : Type 0} (F G : Floor N) : Type 0 where
+  pub points : F .points ≡ G .points
+  pub touch : (p q : ℕ) → p < F .points → q < F .points → F .touch p q ≡ G .touch p q
+  pub lies : (x : N) (p : ℕ) → p < F .points → F .lies x p ≡ G .lies x p
+
+module _ {N : Type 0} (F G : Floor N) (same : SameFloor F G) where
+  within-same : (t : Term N) (p : ℕ) → p < F .points → within F t p ≡ within G t p
+  within-same t p h = ap (λ (v : N → Bool). holds v t) (fun-ext (λ x. same .lies x p h))
+
+  empty-same : (t : Term N) → isEmpty F t ≡ isEmpty G t
+  empty-same t =
+      ap not
+      (any-same (within F t) (within G t) (below (F .points)) (λ p i. within-same t p (below-elim (F .points) p i))
+      ∙ ap (λ (k : ℕ). any (within G t) (below k)) (same .points))
+
+  touches-same : (x y : Term N) → touches F x y ≡ touches G x y
+  touches-same x y =
+      any-same (λ p. within F x p && any (λ q. within F y q && F .touch p q) (below (F .points)))
+      (λ p. within G x p && any (λ q. within G y q && G .touch p q) (below (F .points))) (below (F .points))
+      (λ p i. let hp : p < F .points = below-elim (F .points) p i in
+      ap₂ _&&_ (within-same x p hp)
+      (any-same (λ q. within F y q && F .touch p q) (λ q. within G y q && G .touch p q) (below (F .points))
+      (λ q j. let hq : q < F .points = below-elim (F .points) q j in
+      ap₂ _&&_ (within-same y q hq) (same .touch p q hp hq))))
+      ∙ ap (λ (k : ℕ). any (λ p. within G x p && any (λ q. within G y q && G .touch p q) (below k)) (below k)) (same .points)
+
+  atom-same : (a : Atom N) → atomOn F a ≡ atomOn G a
+  atom-same (Atom.contact x y) = touches-same x y
+  atom-same (Atom.part x y) = empty-same (partTerm x y)
+  atom-same (Atom.empty t) = empty-same t
+
+  pub meets-same : (rules : List (Formula N)) → meetsAll F rules ≡ meetsAll G rules
+  meets-same rules = ap (λ (v : Atom N → Bool). all (value v) rules) (fun-ext atom-same)

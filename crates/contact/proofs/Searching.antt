@@ -1,0 +1,276 @@
+-- The search that closes branches by a test finds the first row that passes: a sound test closes no branch with such a row
+-- below it, an exact one leaves open no whole row that fails, and the branches are tried in the order of the rows. Both tests
+-- are sound: Kleene's values do not change when more atoms are decided, and a floor of a row is one of each part of it.
+-- Assumes nothing.
+use mathlib.Core.Bool.{Bool, true, false, not, _&&_, _||_, Bool·beq}
+use mathlib.Core.Path.{_≡_, refl, sym, ap, ap₂, _∙_, subst, fun-ext}
+use mathlib.Core.Logic.{⊎-elim}
+use mathlib.Core.List.{List, [], _∷_, _++_, map, append-assoc, append-nil, map-map, map-id}
+use Prim.Native.Nat.{ℕ, zero, suc, _+_, _<_}
+use native.Mathlib.Omega.{arith}
+use lib.ListN.{length, getD, length-append}
+use borrow.Author.Tests.{not-true, not-false}
+use Rattle.formula.specs.Formula.{Atom, Form, Formula}
+use Rattle.evalset.specs.Search.{In, here, next, any, all, first, orElse}
+use Rattle.evalset.proofs.Search.{clash, cases, untrue, both, or-cases, none-in, uncons, at-head, in-left, in-right, map-elim, map-append, any-elim, none-intro, all-elim, first-none, first-append}
+use Rattle.contact.specs.Meaning.{value}
+use Rattle.formula.specs.Names.{atomsOf}
+use Rattle.contact.specs.Numbering.{allAtoms, numberedAtoms, AtomBelow, RulesBelow}
+use Rattle.contact.specs.Row.{Row, rulesTrue, Three, is, unknown, PartialRow, Extends}
+use Rattle.contact.specs.Plan.{Mark, mark, marksOf, rowMarks, check, rows, good, firstRow, firstRowOf}
+use Rattle.contact.specs.Tableau.{not3, and3, or3, iff3, value3, refuted, refutes, closes, Sound, Exact, search}
+use Rattle.contact.proofs.Numbered.{NumbersBelow, numbers-below}
+use Rattle.contact.proofs.Realise.{marks-below, check-fewer}
+
+-- ---- the search, for any test
+
+extends-prefix : (row ext : Row) → Extends (row ++ ext) (map is row)
+extends-prefix [] ext = tt
+extends-prefix (b ∷ row) ext = (refl, extends-prefix row ext)
+
+-- the rows that begin with `row` and have d atoms more
+abbrev under : Row → ℕ → List Row
+under row d = map (λ ext. row ++ ext) (rows d)
+
+-- those with true next, then those with false
+under-split : (row : Row) (d : ℕ) → under row (suc d) ≡ under (row ++ true ∷ []) d ++ under (row ++ false ∷ []) d
+under-split row d =
+    map-append (λ ext. row ++ ext) (map (λ s. true ∷ s) (rows d)) (map (λ s. false ∷ s) (rows d))
+    ∙ ap₂ _++_ (step true) (step false)
+  where
+    step : (b : Bool) → map (λ ext. row ++ ext) (map (λ s. b ∷ s) (rows d)) ≡ under (row ++ b ∷ []) d
+    step b =
+        map-map (λ ext. row ++ ext) (λ s. b ∷ s) (rows d)
+        ∙ ap (λ (f : Row → Row). map f (rows d)) (fun-ext (λ ext. sym (append-assoc row (b ∷ []) ext)))
+
+module _ (n : ℕ) (passes : Row → Bool) (test : PartialRow → Bool) (sound : Sound passes test) (exact : Exact n passes test) where
+  -- a closed branch has no row that passes
+  closed-none : (row : Row) (d : ℕ) → test (map is row) ≡ true → first passes (under row d) ≡ []
+  closed-none row d h =
+      first-none passes (under row d)
+      (none-intro passes (under row d)
+      (λ x i p. let w = map-elim (λ ext. row ++ ext) (rows d) i in
+      clash p (ap passes (w .1) ∙ sound (map is row) h (row ++ w .0) (extends-prefix row (w .0)))))
+
+  search-leaf : (row : Row) → length row ≡ n → search test zero row ≡ first passes (under row zero)
+  search-leaf row l =
+      cases (test (map is row)) (λ h. rw h (sym (closed-none row zero h)))
+      (λ h. let p : passes (row ++ []) ≡ true = ap passes (append-nil row) ∙ exact row l h in
+      rw (h, p) (ap (λ r. r ∷ []) (sym (append-nil row))))
+
+  search-under : (d : ℕ) (row : Row) → length row + d ≡ n → search test d row ≡ first passes (under row d)
+  search-under zero row l = search-leaf row (omega arith)
+  search-under (suc d) row l =
+      cases (test (map is row)) (λ h. rw h (sym (closed-none row (suc d) h)))
+      (λ h.
+      let found : orElse (search test d (row ++ true ∷ [])) (search test d (row ++ false ∷ [])) ≡ first passes (under row (suc d)) =
+      ap₂ orElse (search-under d (row ++ true ∷ []) (omega (arith, length-append row (true ∷ []))))
+      (search-under d (row ++ false ∷ []) (omega (arith, length-append row (false ∷ []))))
+      ∙ sym (first-append passes (under (row ++ true ∷ []) d) (under (row ++ false ∷ []) d))
+      ∙ ap (first passes) (sym (under-split row d)) in
+      rw h found)
+
+pub search-first : (n : ℕ) (passes : Row → Bool) (test : PartialRow → Bool) → Sound passes test → Exact n passes test
+    → search test n [] ≡ first passes (rows n)
+search-first n passes test sound exact = search-under n passes test sound exact n [] (omega arith) ∙ ap (first passes) (map-id (rows n))
+
+-- ---- Kleene's values: what is decided stays
+
+-- t is unknown, or is b
+abbrev Fits : Three → Bool → Type 0
+Fits (is c) b = c ≡ b
+Fits unknown b = Unit {0}
+
+fits-not : (t : Three) (b : Bool) → Fits t b → Fits (not3 t) (not b)
+fits-not (is c) b h = ap not h
+fits-not unknown b h = tt
+
+fits-and : (s t : Three) (b c : Bool) → Fits s b → Fits t c → Fits (and3 s t) (b && c)
+fits-and (is true) t true c h k = k
+fits-and (is true) t false c h k = clash refl h
+fits-and (is false) t true c h k = clash refl (sym h)
+fits-and (is false) t false c h k = refl
+fits-and unknown (is true) b c h k = tt
+fits-and unknown (is false) true c h k = k
+fits-and unknown (is false) false c h k = refl
+fits-and unknown unknown b c h k = tt
+
+or-as : (b c : Bool) → not (not b && not c) ≡ (b || c)
+or-as true c = refl
+or-as false true = refl
+or-as false false = refl
+
+fits-or : (s t : Three) (b c : Bool) → Fits s b → Fits t c → Fits (or3 s t) (b || c)
+fits-or s t b c h k =
+    subst (Fits (or3 s t)) (or-as b c)
+    (fits-not (and3 (not3 s) (not3 t)) (not b && not c)
+    (fits-and (not3 s) (not3 t) (not b) (not c) (fits-not s b h) (fits-not t c k)))
+
+beq-true : (c : Bool) → Bool·beq true c ≡ c
+beq-true true = refl
+beq-true false = refl
+
+beq-false : (c : Bool) → Bool·beq false c ≡ not c
+beq-false true = refl
+beq-false false = refl
+
+fits-iff : (s t : Three) (b c : Bool) → Fits s b → Fits t c → Fits (iff3 s t) (Bool·beq b c)
+fits-iff (is true) t true c h k = subst (Fits t) (sym (beq-true c)) k
+fits-iff (is true) t false c h k = clash refl h
+fits-iff (is false) t true c h k = clash refl (sym h)
+fits-iff (is false) t false c h k = subst (Fits (not3 t)) (sym (beq-false c)) (fits-not t c k)
+fits-iff unknown t b c h k = tt
+
+module _ (part : ℕ → Three) (row : ℕ → Bool) (fits : (i : ℕ) → Fits (part i) (row i)) where
+  value-fits : (f : Form ℕ) → Fits (value3 part f) (value row f)
+  value-fits Form.truth = refl
+  value-fits Form.falsity = refl
+  value-fits (Form.atom i) = fits i
+  value-fits (Form.negation f) = fits-not (value3 part f) (value row f) (value-fits f)
+  value-fits (Form.conjunction f g) = fits-and (value3 part f) (value3 part g) (value row f) (value row g) (value-fits f) (value-fits g)
+  value-fits (Form.disjunction f g) = fits-or (value3 part f) (value3 part g) (value row f) (value row g) (value-fits f) (value-fits g)
+  value-fits (Form.implication f g) =
+      fits-or (not3 (value3 part f)) (value3 part g) (not (value row f)) (value row g)
+      (fits-not (value3 part f) (value row f) (value-fits f)) (value-fits g)
+  value-fits (Form.equivalence f g) = fits-iff (value3 part f) (value3 part g) (value row f) (value row g) (value-fits f) (value-fits g)
+
+fits-refuted : (t : Three) (b : Bool) → Fits t b → refuted t ≡ true → b ≡ false
+fits-refuted (is c) b h k = sym h ∙ not-true c k
+fits-refuted unknown b h k = clash k refl
+
+-- a partial row fits each row that extends it
+extends-fits : (row : Row) (part : PartialRow) → Extends row part → (i : ℕ) → Fits (getD part i unknown) (getD row i false)
+extends-fits row [] h i = tt
+extends-fits [] (unknown ∷ part) h zero = tt
+extends-fits [] (unknown ∷ part) h (suc i) = extends-fits [] part h i
+extends-fits [] (is b ∷ part) h i = absurd h
+extends-fits (c ∷ row) (unknown ∷ part) h zero = tt
+extends-fits (c ∷ row) (unknown ∷ part) h (suc i) = extends-fits row part h i
+extends-fits (c ∷ row) (is b ∷ part) h zero = sym (h .0)
+extends-fits (c ∷ row) (is b ∷ part) h (suc i) = extends-fits row part (h .1) i
+
+-- a rule that is false where some atoms are undecided is false whatever they are
+pub refutes-sound : (nums : List (Form ℕ)) → Sound (rulesTrue nums) (refutes nums)
+unfolding rulesTrue refutes
+refutes-sound nums part h row ext =
+    let w = any-elim (λ f. refuted (value3 (λ i. getD part i unknown) f)) nums h in
+    untrue (all (value (λ i. getD row i false)) nums)
+    (λ g. clash (all-elim (value (λ i. getD row i false)) (w .1) g)
+    (fits-refuted (value3 (λ i. getD part i unknown) (w .0)) (value (λ i. getD row i false) (w .0))
+    (value-fits (λ i. getD part i unknown) (λ i. getD row i false) (extends-fits row part ext) (w .0)) (w .2)))
+
+-- ---- a whole row decides every rule
+
+row-known : (row : Row) (i : ℕ) → i < length row → getD (map is row) i unknown ≡ is (getD row i false)
+row-known [] i h = absurd (omega arith)
+row-known (b ∷ row) zero h = refl
+row-known (b ∷ row) (suc i) h = row-known row i (omega arith)
+
+and-known : (b c : Bool) → and3 (is b) (is c) ≡ is (b && c)
+and-known true c = refl
+and-known false c = refl
+
+or-known : (b c : Bool) → or3 (is b) (is c) ≡ is (b || c)
+or-known true c = refl
+or-known false true = refl
+or-known false false = refl
+
+iff-known : (b c : Bool) → iff3 (is b) (is c) ≡ is (Bool·beq b c)
+iff-known true true = refl
+iff-known true false = refl
+iff-known false true = refl
+iff-known false false = refl
+
+morgan : (b c : Bool) → (not b || not c) ≡ not (b && c)
+morgan true c = refl
+morgan false c = refl
+
+module _ (row : Row) where
+  abbrev values : ℕ → Bool
+  values i = getD row i false
+
+  abbrev decided : ℕ → Three
+  decided i = getD (map is row) i unknown
+
+  abbrev Covered : List ℕ → Type 0
+  Covered numbers = (i : ℕ) → In i numbers → i < length row
+
+  sides-known : (f g : Form ℕ) (c3 : Three → Three → Three) (c : Bool → Bool → Bool) → ((a b : Bool) → c3 (is a) (is b) ≡ is (c a b))
+      → Covered (atomsOf f ++ atomsOf g) → (Covered (atomsOf f) → value3 decided f ≡ is (value values f))
+      → (Covered (atomsOf g) → value3 decided g ≡ is (value values g))
+      → c3 (value3 decided f) (value3 decided g) ≡ is (c (value values f) (value values g))
+  sides-known f g c3 c known h left right =
+      ap₂ c3 (left (λ i k. h i (in-left (atomsOf g) k))) (right (λ i k. h i (in-right (atomsOf f) k)))
+      ∙ known (value values f) (value values g)
+
+  value-known : (f : Form ℕ) → Covered (atomsOf f) → value3 decided f ≡ is (value values f)
+  value-known Form.truth h = refl
+  value-known Form.falsity h = refl
+  value-known (Form.atom i) h = row-known row i (h i here)
+  value-known (Form.negation f) h = ap not3 (value-known f h)
+  value-known (Form.conjunction f g) h = sides-known f g and3 _&&_ and-known h (value-known f) (value-known g)
+  value-known (Form.disjunction f g) h = sides-known f g or3 _||_ or-known h (value-known f) (value-known g)
+  value-known (Form.implication f g) h =
+      sides-known f g (λ s t. or3 (not3 s) t) (λ a b. not a || b) (λ a b. or-known (not a) b) h (value-known f) (value-known g)
+  value-known (Form.equivalence f g) h = sides-known f g iff3 Bool·beq iff-known h (value-known f) (value-known g)
+
+  rules-known : (fs : List (Form ℕ)) → Covered (allAtoms fs)
+      → any (λ f. refuted (value3 decided f)) fs ≡ not (all (value values) fs)
+  rules-known [] h = refl
+  rules-known (f ∷ fs) h =
+      ap₂ _||_ (ap refuted (value-known f (λ i k. h i (in-left (allAtoms fs) k))))
+      (rules-known fs (λ i k. h i (in-right (atomsOf f) k))) ∙ morgan (value values f) (all (value values) fs)
+
+  refutes-known : (nums : List (Form ℕ)) → NumbersBelow (length row) nums → refutes nums (map is row) ≡ not (rulesTrue nums row)
+  unfolding rulesTrue refutes
+  refutes-known nums h = rules-known nums h
+
+-- ---- the two tests together
+
+-- the marks of a partial row are among those of each row that extends it
+no-marks : {P : Type 0} {m : Mark} (atoms : List (Atom ℕ)) → In m (rowMarks atoms []) → P
+no-marks [] i = none-in i
+no-marks (a ∷ atoms) i = none-in i
+
+marks-extend : (row : Row) (part : PartialRow) (atoms : List (Atom ℕ)) → Extends row part → (m : Mark) → In m (marksOf atoms part)
+    → In m (rowMarks atoms row)
+marks-extend row part [] h m i = none-in i
+marks-extend row [] (a ∷ atoms) h m i = none-in i
+marks-extend [] (unknown ∷ part) (a ∷ atoms) h m i = no-marks atoms (marks-extend [] part atoms h m i)
+marks-extend [] (is b ∷ part) (a ∷ atoms) h m i = absurd h
+marks-extend (c ∷ row) (unknown ∷ part) (a ∷ atoms) h m i = next (marks-extend row part atoms h m i)
+marks-extend (c ∷ row) (is b ∷ part) (a ∷ atoms) h m i =
+    ⊎-elim (λ q. at-head (q ∙ ap (mark a) (sym (h .0)))) (λ j. next (marks-extend row part atoms (h .1) m j)) (uncons i)
+
+module _ (n : ℕ) (atoms : List (Atom ℕ)) (nums : List (Form ℕ)) where
+  -- no row that makes the rules true and passes the check extends what is closed
+  pub closes-sound : ((a : Atom ℕ) → In a atoms → AtomBelow n a) → Sound (good n atoms nums) (closes n atoms nums)
+  unfolding closes good
+  closes-sound names part h row ext =
+      untrue (good n atoms nums row)
+      (λ g. let w = both (rulesTrue nums row) (check n (rowMarks atoms row)) g in
+      ⊎-elim (λ q. clash (w .0) (refutes-sound nums part q row ext))
+      (λ q. clash
+      (check-fewer n (rowMarks atoms row) (marksOf atoms part) (marks-below n atoms part names) (marks-extend row part atoms ext) (w .1))
+      (not-true _ q))
+      (or-cases (refutes nums part) (not (check n (marksOf atoms part))) h))
+
+  -- a whole row that stays open is good
+  pub closes-exact : NumbersBelow (length atoms) nums → Exact (length atoms) (good n atoms nums) (closes n atoms nums)
+  unfolding closes good
+  closes-exact numbers row l h =
+      not-false _
+      (sym (ap (λ b. b || not (check n (rowMarks atoms row))) (refutes-known row nums (subst (λ k. NumbersBelow k nums) (sym l) numbers))
+      ∙ morgan (rulesTrue nums row) (check n (rowMarks atoms row))) ∙ h)
+
+  -- the search gives the answer's row
+  pub search-firstRow : ((a : Atom ℕ) → In a atoms → AtomBelow n a) → NumbersBelow (length atoms) nums
+      → search (closes n atoms nums) (length atoms) [] ≡ firstRow n atoms nums
+  unfolding firstRow
+  search-firstRow names numbers =
+      search-first (length atoms) (good n atoms nums) (closes n atoms nums) (closes-sound names) (closes-exact numbers)
+
+-- the same with the atoms numbered by place
+pub search-answer : (n : ℕ) (rules : List (Formula ℕ)) → RulesBelow n rules
+    → search (closes n (allAtoms rules) (numberedAtoms rules)) (length (allAtoms rules)) [] ≡ firstRowOf n rules
+search-answer n rules names = search-firstRow n (allAtoms rules) (numberedAtoms rules) names (numbers-below rules)

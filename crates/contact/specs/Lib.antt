@@ -1,0 +1,5 @@
+pub mod Meaning
+pub mod Numbering
+pub mod Row
+pub mod Plan
+pub mod Tableau

@@ -1,0 +1,104 @@
+-- "Names and atoms are numbered from 0 by first place, rules in order, left to right." Assumes nothing.
+use mathlib.Core.Bool.{Bool, true, false, not, _&&_, cond}
+use mathlib.Core.Path.{_≡_}
+use mathlib.Core.List.{List, [], _∷_, _++_, map}
+use Prim.Native.Nat.{ℕ, zero, suc, _+_, _<_}
+use lib.Dec.{eqb}
+use lib.ListN.{length}
+use Rattle.formula.specs.Formula.{Term, Atom, Form, Formula, Name}
+use Rattle.formula.specs.Names.{atomsOf, atomNames}
+use Rattle.evalset.specs.Search.{In, any, keep, gather}
+
+module _ {A : Type 0} where
+  -- the atoms of the rules, in their order
+  abbrev pub allAtoms : List (Form A) → List A
+  allAtoms rules = gather atomsOf rules
+
+-- each element once, at its first place
+module _ {N : Type 0} (same : N → N → Bool) where
+  abbrev pub distinct : List N → List N
+  distinct [] = []
+  distinct (x ∷ xs) = x ∷ keep (λ y. not (same x y)) (distinct xs)
+
+  -- the place of an element; the length of the list where it is none
+  abbrev pub position : List N → N → ℕ
+  position [] x = 0
+  position (y ∷ ys) x = let r = suc (position ys x) in cond (same y x) 0 r
+
+-- names are the same if their bytes are
+abbrev pub sameName : Name → Name → Bool
+sameName [] [] = true
+sameName [] (b ∷ w) = false
+sameName (a ∷ v) [] = false
+sameName (a ∷ v) (b ∷ w) = let r = sameName v w in eqb a b && r
+
+-- the names of the rules in the order of their numbers
+abbrev pub namesOf : List (Formula Name) → List Name
+namesOf rules = distinct sameName (gather atomNames (allAtoms rules))
+
+-- ---- other names for the names, other atoms for the atoms
+
+module _ {N M : Type 0} (g : N → M) where
+  abbrev pub mapTerm : Term N → Term M
+  mapTerm Term.zero = Term.zero
+  mapTerm Term.one = Term.one
+  mapTerm (Term.name x) = Term.name (g x)
+  mapTerm (Term.complement t) = Term.complement (mapTerm t)
+  mapTerm (Term.intersection s t) = Term.intersection (mapTerm s) (mapTerm t)
+  mapTerm (Term.union s t) = Term.union (mapTerm s) (mapTerm t)
+
+  abbrev pub mapAtom : Atom N → Atom M
+  mapAtom (Atom.contact x y) = Atom.contact (mapTerm x) (mapTerm y)
+  mapAtom (Atom.part x y) = Atom.part (mapTerm x) (mapTerm y)
+  mapAtom (Atom.empty t) = Atom.empty (mapTerm t)
+
+module _ {A B : Type 0} (g : A → B) where
+  abbrev pub mapForm : Form A → Form B
+  mapForm Form.truth = Form.truth
+  mapForm Form.falsity = Form.falsity
+  mapForm (Form.atom a) = Form.atom (g a)
+  mapForm (Form.negation f) = Form.negation (mapForm f)
+  mapForm (Form.conjunction f h) = Form.conjunction (mapForm f) (mapForm h)
+  mapForm (Form.disjunction f h) = Form.disjunction (mapForm f) (mapForm h)
+  mapForm (Form.implication f h) = Form.implication (mapForm f) (mapForm h)
+  mapForm (Form.equivalence f h) = Form.equivalence (mapForm f) (mapForm h)
+
+-- the rules with numbers for names
+abbrev pub numberedNames : List (Formula Name) → List (Formula ℕ)
+numberedNames rules = map (mapForm (mapAtom (position sameName (namesOf rules)))) rules
+
+-- the rules with numbers for atoms, k the first
+module _ {A : Type 0} where
+  abbrev pub numberForm : ℕ → Form A → Form ℕ
+  numberForm k Form.truth = Form.truth
+  numberForm k Form.falsity = Form.falsity
+  numberForm k (Form.atom a) = Form.atom k
+  numberForm k (Form.negation f) = Form.negation (numberForm k f)
+  numberForm k (Form.conjunction f g) = Form.conjunction (numberForm k f) (numberForm (k + length (atomsOf f)) g)
+  numberForm k (Form.disjunction f g) = Form.disjunction (numberForm k f) (numberForm (k + length (atomsOf f)) g)
+  numberForm k (Form.implication f g) = Form.implication (numberForm k f) (numberForm (k + length (atomsOf f)) g)
+  numberForm k (Form.equivalence f g) = Form.equivalence (numberForm k f) (numberForm (k + length (atomsOf f)) g)
+
+  abbrev pub numberFrom : ℕ → List (Form A) → List (Form ℕ)
+  numberFrom k [] = []
+  numberFrom k (f ∷ fs) = numberForm k f ∷ numberFrom (k + length (atomsOf f)) fs
+
+  abbrev pub numberedAtoms : List (Form A) → List (Form ℕ)
+  numberedAtoms rules = numberFrom 0 rules
+
+-- the names of a term, of an atom, of the rules are numbered below n
+abbrev pub TermBelow : ℕ → Term ℕ → Type 0
+TermBelow n Term.zero = Unit {0}
+TermBelow n Term.one = Unit {0}
+TermBelow n (Term.name i) = i < n
+TermBelow n (Term.complement t) = TermBelow n t
+TermBelow n (Term.intersection s t) = TermBelow n s × TermBelow n t
+TermBelow n (Term.union s t) = TermBelow n s × TermBelow n t
+
+abbrev pub AtomBelow : ℕ → Atom ℕ → Type 0
+AtomBelow n (Atom.contact x y) = TermBelow n x × TermBelow n y
+AtomBelow n (Atom.part x y) = TermBelow n x × TermBelow n y
+AtomBelow n (Atom.empty t) = TermBelow n t
+
+abbrev pub RulesBelow : ℕ → List (Formula ℕ) → Type 0
+RulesBelow n rules = (a : Atom ℕ) → In a (allAtoms rules) → AtomBelow n a

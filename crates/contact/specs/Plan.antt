@@ -1,0 +1,144 @@
+-- Document 01, 'The plan that is given', as it is computed: the check of a row, whole or partial, and the points. Rules and
+-- atoms have numbers for names. Facts hold for any number of names. Assumes nothing.
+use mathlib.Core.Bool.{Bool, true, false, not, _&&_, _||_}
+use mathlib.Core.List.{List, [], _∷_, _++_, map}
+use Prim.Native.Nat.{ℕ, zero, suc, _+_, _^_}
+use lib.Dec.{ltb}
+use lib.ListN.{length}
+use Rattle.formula.specs.Formula.{Term, Atom, Form, Formula}
+use Rattle.evalset.specs.Search.{any, all, first, keep, orElse, gather, below, elem}
+use Rattle.evalset.specs.Bit.{bit}
+use Rattle.contact.specs.Meaning.{holds, partTerm}
+use Rattle.contact.specs.Numbering.{allAtoms, numberedAtoms}
+use Rattle.contact.specs.Row.{Row, Three, is, unknown, PartialRow, rulesTrue}
+
+-- "An evaluation is a number whose bit i is set if the point lies in name i." The term holds there.
+abbrev pub at : Term ℕ → ℕ → Bool
+at t e = holds (λ i. bit e i) t
+
+-- all evaluations, ascending
+abbrev pub evaluations : ℕ → List ℕ
+evaluations names = below (2 ^ names)
+
+-- an atom with its value: a true or false contact, a true or false zero atom. "Zero atoms, true or false, are the =0 atoms
+-- and the <= atoms, the term of <=(x,y) being x*-y."
+pub data Mark : Type 0 where
+  touching : Term ℕ → Term ℕ → Mark
+  apart : Term ℕ → Term ℕ → Mark
+  vacant : Term ℕ → Mark
+  inhabited : Term ℕ → Mark
+
+abbrev pub zeroMark : Bool → Term ℕ → Mark
+zeroMark true t = vacant t
+zeroMark false t = inhabited t
+
+abbrev pub mark : Atom ℕ → Bool → Mark
+mark (Atom.contact x y) true = touching x y
+mark (Atom.contact x y) false = apart x y
+mark (Atom.part x y) b = zeroMark b (partTerm x y)
+mark (Atom.empty t) b = zeroMark b t
+
+-- the marks of the decided atoms
+abbrev pub marksOf : List (Atom ℕ) → PartialRow → List Mark
+marksOf [] part = []
+marksOf (a ∷ atoms) [] = []
+marksOf (a ∷ atoms) (is b ∷ part) = mark a b ∷ marksOf atoms part
+marksOf (a ∷ atoms) (unknown ∷ part) = marksOf atoms part
+
+abbrev pub rowMarks : List (Atom ℕ) → Row → List Mark
+rowMarks atoms row = marksOf atoms (map is row)
+
+-- "Two evaluations are separated if a false contact has one in its first term and the other in its second, either way round."
+abbrev pub parts : ℕ → ℕ → Mark → Bool
+parts e f (touching x y) = false
+parts e f (apart x y) = (at x e && at y f) || (at x f && at y e)
+parts e f (vacant t) = false
+parts e f (inhabited t) = false
+
+unfoldable pub separated : List Mark → ℕ → ℕ → Bool
+separated ms e f = any (parts e f) ms
+
+-- a true zero term has the evaluation in it
+abbrev pub empties : ℕ → Mark → Bool
+empties e (touching x y) = false
+empties e (apart x y) = false
+empties e (vacant t) = at t e
+empties e (inhabited t) = false
+
+-- "An evaluation is allowed if it is below 2^names, in no true zero term and not separated from itself."
+unfoldable pub allowed : ℕ → List Mark → ℕ → Bool
+allowed names ms e = ltb e (2 ^ names) && (not (any (empties e) ms) && not (separated ms e e))
+
+-- allowed, and in the term
+unfoldable pub fills : ℕ → List Mark → Term ℕ → ℕ → Bool
+fills names ms t e = allowed names ms e && at t e
+
+-- q is "an allowed, unseparated partner" of p in the term
+unfoldable pub partners : ℕ → List Mark → Term ℕ → ℕ → ℕ → Bool
+partners names ms y p q = fills names ms y q && not (separated ms p q)
+
+-- p is an allowed evaluation in the first term with a partner in the second
+unfoldable pub leads : ℕ → List Mark → Term ℕ → Term ℕ → ℕ → Bool
+leads names ms x y p = fills names ms x p && any (partners names ms y p) (evaluations names)
+
+-- the mark has its witness
+abbrev pub served : ℕ → List Mark → Mark → Bool
+served names ms (touching x y) = any (leads names ms x y) (evaluations names)
+served names ms (apart x y) = true
+served names ms (vacant t) = true
+served names ms (inhabited t) = any (fills names ms t) (evaluations names)
+
+-- the check: some evaluation is allowed, and every mark has its witness
+unfoldable pub check : ℕ → List Mark → Bool
+check names ms = any (allowed names ms) (evaluations names) && all (served names ms) ms
+
+-- p, "and then its least partner"
+abbrev pub withPartner : ℕ → List Mark → Term ℕ → ℕ → List ℕ
+withPartner names ms y p = p ∷ first (partners names ms y p) (evaluations names)
+
+-- "Each false zero atom gives the least allowed evaluation in its term .. Each true contact gives p, the least allowed one in
+-- its first term with an allowed, unseparated partner in the second, and then its least partner."
+abbrev pub gives : ℕ → List Mark → Mark → List ℕ
+gives names ms (touching x y) = gather (withPartner names ms y) (first (leads names ms x y) (evaluations names))
+gives names ms (apart x y) = []
+gives names ms (vacant t) = []
+gives names ms (inhabited t) = first (fills names ms t) (evaluations names)
+
+-- "The points are these evaluations, ascending, each once; if there are none, the least allowed evaluation."
+unfoldable pub given : ℕ → List Mark → List ℕ
+given names ms = orElse (gather (gives names ms) ms) (first (allowed names ms) (evaluations names))
+
+unfoldable pub pointsFor : ℕ → List Mark → List ℕ
+pointsFor names ms = keep (λ e. elem e (given names ms)) (evaluations names)
+
+-- the rows of n atoms in their order
+abbrev pub rows : ℕ → List Row
+rows zero = [] ∷ []
+rows (suc n) = map (λ row. true ∷ row) (rows n) ++ map (λ row. false ∷ row) (rows n)
+
+-- the row makes the rules true and passes the check
+unfoldable pub good : ℕ → List (Atom ℕ) → List (Form ℕ) → Row → Bool
+good names atoms rules row = rulesTrue rules row && check names (rowMarks atoms row)
+
+-- "The answer uses the first realisable row that makes all rules true": a list of one; the empty list is 'no plan'
+unfoldable pub firstRow : ℕ → List (Atom ℕ) → List (Form ℕ) → List Row
+firstRow names atoms rules = first (good names atoms rules) (rows (length atoms))
+
+-- the same of rules with numbers for names
+abbrev pub firstRowOf : ℕ → List (Formula ℕ) → List Row
+firstRowOf names rules = firstRow names (allAtoms rules) (numberedAtoms rules)
+
+-- "With c true contacts and z false zero atoms there are at most max(1, 2 times c + z) points."
+abbrev pub trueContacts : List Mark → ℕ
+trueContacts [] = 0
+trueContacts (touching x y ∷ ms) = suc (trueContacts ms)
+trueContacts (apart x y ∷ ms) = trueContacts ms
+trueContacts (vacant t ∷ ms) = trueContacts ms
+trueContacts (inhabited t ∷ ms) = trueContacts ms
+
+abbrev pub falseZeros : List Mark → ℕ
+falseZeros [] = 0
+falseZeros (touching x y ∷ ms) = falseZeros ms
+falseZeros (apart x y ∷ ms) = falseZeros ms
+falseZeros (vacant t ∷ ms) = falseZeros ms
+falseZeros (inhabited t ∷ ms) = suc (falseZeros ms)

@@ -1,0 +1,57 @@
+-- Rows of values for the atoms, whole and partial, and which of them a floor realises (document 01, 'The plan that is
+-- given'). Assumes nothing.
+use mathlib.Core.Bool.{Bool, true, false}
+use mathlib.Core.Path.{_≡_}
+use mathlib.Core.List.{List, [], _∷_, _++_, map}
+use Prim.Native.Nat.{ℕ, zero, suc}
+use lib.ListN.{getD}
+use Rattle.formula.specs.Formula.{Atom, Form}
+use Rattle.evalset.specs.Search.{all}
+use Rattle.contact.specs.Meaning.{Floor, atomOn, value}
+
+-- "A row gives each atom true or false."
+abbrev pub Row : Type 0
+Row = List Bool
+
+-- "It is realisable if some plan gives all atoms those values." The floor gives the atoms this row.
+abbrev pub Realises : {N : Type 0} → Floor N → List (Atom N) → Row → Type 0
+Realises F atoms row = map (atomOn F) atoms ≡ row
+
+abbrev pub Realisable : {N : Type 0} → List (Atom N) → Row → Type 0
+Realisable {N} atoms row = ∥ ((F : Floor N) × Realises F atoms row) ∥₁
+
+-- a row makes all rules true; they have numbers for atoms
+unfoldable pub rulesTrue : List (Form ℕ) → Row → Bool
+rulesTrue rules row = all (value (λ i. getD row i false)) rules
+
+-- "of two rows the first is the one with true at the lowest atom where they differ"
+abbrev pub Before : Row → Row → Type 0
+Before [] s = ⊥
+Before (b ∷ r) [] = ⊥
+Before (true ∷ r) (true ∷ s) = Before r s
+Before (true ∷ r) (false ∷ s) = Unit {0}
+Before (false ∷ r) (true ∷ s) = ⊥
+Before (false ∷ r) (false ∷ s) = Before r s
+
+-- ---- partial rows
+
+-- true, false, or not decided
+pub data Three : Type 0 where
+  is : Bool → Three
+  unknown : Three
+
+-- a partial row leaves any atoms undecided
+abbrev pub PartialRow : Type 0
+PartialRow = List Three
+
+-- the values that a partial row decides are those of the row
+abbrev pub Extends : Row → PartialRow → Type 0
+Extends row [] = Unit {0}
+Extends [] (unknown ∷ p) = Extends [] p
+Extends [] (is b ∷ p) = ⊥
+Extends (c ∷ row) (unknown ∷ p) = Extends row p
+Extends (c ∷ row) (is b ∷ p) = (c ≡ b) × Extends row p
+
+-- the floor gives the decided atoms their values
+abbrev pub RealisesPart : {N : Type 0} → Floor N → List (Atom N) → PartialRow → Type 0
+RealisesPart F atoms part = Extends (map (atomOn F) atoms) part

@@ -1,0 +1,207 @@
+-- A test on the numbers below n: some pass, the least that passes, and all that pass in rising order. The numbers below m + n are
+-- those below m and the n from m up, and each search goes part by part. Assumes nothing.
+use mathlib.Core.Path.{_≡_, refl, sym, ap, ap₂, _∙_, subst}
+use mathlib.Core.Bool.{Bool, true, false, _&&_, _||_, cond, or-assoc, or-false, or-true, true≢false}
+use mathlib.Core.List.{List, [], _∷_, _++_, append-nil}
+use mathlib.Core.Logic.{_⊎_, inl, inr, ⊎-elim}
+use Prim.Native.Nat.{ℕ, zero, suc, _+_, _-_, _≤_, _<_}
+use native.Mathlib.Nat.{add-zero, zero-add, add-suc, suc-add, eq-or-lt-of-le}
+use native.Mathlib.Decide.{decLt}
+use native.Mathlib.Omega.{arith}
+use lib.ListN.{length}
+use Rattle.evalset.specs.declared.Found.the-variants.{At, Nothing}
+use Rattle.evalset.specs.Search.{any, all, first, keep, orElse, from, below}
+use Rattle.evalset.specs.Sets.{foundOf}
+use Rattle.evalset.proofs.Search.{clash, both, first-append, from-append}
+
+-- below or not
+pub side : (a b : ℕ) → (a < b) ⊎ (b ≤ a)
+side a b = go (decLt a b)
+  where
+    go : Dec (a < b) → (a < b) ⊎ (b ≤ a)
+    go (yes l) = inl l
+    go (no n) = inr (omega arith)
+
+-- equal tests agree on each number
+pub each : {p q : ℕ → Bool} → p ≡ q → (e : ℕ) → p e ≡ q e
+each h e = ap (λ (r : ℕ → Bool). r e) h
+
+-- ---- the numbers in two parts
+pub below-add : (m n : ℕ) → below (m + n) ≡ below m ++ from m n
+below-add m n = from-append 0 m n ∙ ap (λ (x : ℕ). below m ++ from x n) (zero-add m)
+
+module _ (p : ℕ → Bool) where
+  any-append : (xs ys : List ℕ) → any p (xs ++ ys) ≡ (any p xs || any p ys)
+  any-append [] ys = refl
+  any-append (x ∷ xs) ys = ap (λ (b : Bool). p x || b) (any-append xs ys) ∙ sym (or-assoc (p x) (any p xs) (any p ys))
+
+  keep-append : (xs ys : List ℕ) → keep p (xs ++ ys) ≡ keep p xs ++ keep p ys
+  keep-append [] ys = refl
+  keep-append (x ∷ xs) ys = go (p x) (keep-append xs ys)
+    where
+      go : (b : Bool) → keep p (xs ++ ys) ≡ keep p xs ++ keep p ys
+          → cond b (x ∷ keep p (xs ++ ys)) (keep p (xs ++ ys)) ≡ cond b (x ∷ keep p xs) (keep p xs) ++ keep p ys
+      go true ih = ap (λ (zs : List ℕ). x ∷ zs) ih
+      go false ih = ih
+
+  -- ---- numbers of which none passes
+  keep-none : (k n : ℕ) → ((d : ℕ) → k ≤ d → d < k + n → p d ≡ false) → keep p (from k n) ≡ []
+  keep-none k zero f = refl
+  keep-none k (suc n) f =
+      ap (λ (b : Bool). cond b (k ∷ keep p (from (suc k) n)) (keep p (from (suc k) n))) (f k (omega arith) (omega arith))
+      ∙ keep-none (suc k) n (λ d l h. f d (omega arith) (omega arith))
+
+  first-none-from : (k n : ℕ) → ((d : ℕ) → k ≤ d → d < k + n → p d ≡ false) → first p (from k n) ≡ []
+  first-none-from k zero f = refl
+  first-none-from k (suc n) f =
+      ap (λ (b : Bool). cond b (k ∷ []) (first p (from (suc k) n))) (f k (omega arith) (omega arith))
+      ∙ first-none-from (suc k) n (λ d l h. f d (omega arith) (omega arith))
+
+  any-none-from : (k n : ℕ) → ((d : ℕ) → k ≤ d → d < k + n → p d ≡ false) → any p (from k n) ≡ false
+  any-none-from k zero f = refl
+  any-none-from k (suc n) f =
+      ap₂ _||_ (f k (omega arith) (omega arith)) (any-none-from (suc k) n (λ d l h. f d (omega arith) (omega arith)))
+
+  pub first-none : (n : ℕ) → ((d : ℕ) → d < n → p d ≡ false) → first p (below n) ≡ []
+  first-none n f = first-none-from 0 n (λ d l h. f d (omega arith))
+
+  pub any-none : (n : ℕ) → ((d : ℕ) → d < n → p d ≡ false) → any p (below n) ≡ false
+  any-none n f = any-none-from 0 n (λ d l h. f d (omega arith))
+
+  -- ---- what a loop that counts up by one meets
+  pub any-more : (i : ℕ) → any p (below (i + 1)) ≡ (any p (below i) || p i)
+  any-more i =
+      ap (any p) (below-add i 1) ∙ any-append (below i) (i ∷ []) ∙ ap (λ (b : Bool). any p (below i) || b) (or-false (p i))
+
+  pub first-more : (i : ℕ) → first p (below (i + 1)) ≡ orElse (first p (below i)) (cond (p i) (i ∷ []) [])
+  first-more i = ap (first p) (below-add i 1) ∙ first-append p (below i) (i ∷ [])
+
+  pub keep-more : (i : ℕ) → keep p (below (i + 1)) ≡ keep p (below i) ++ cond (p i) (i ∷ []) []
+  keep-more i = ap (keep p) (below-add i 1) ∙ keep-append (below i) (i ∷ [])
+
+  -- ---- a test that passes nowhere from m up: the numbers below m are enough
+  module _ (m n : ℕ) (l : m ≤ n) (f : (d : ℕ) → m ≤ d → d < n → p d ≡ false) where
+    parts : below n ≡ below m ++ from m (n - m)
+    parts = let z : n ≡ m + (n - m) = omega arith in ap below z ∙ below-add m (n - m)
+
+    nowhere : (d : ℕ) → m ≤ d → d < m + (n - m) → p d ≡ false
+    nowhere d a b = f d a (omega arith)
+
+    pub any-cut : any p (below n) ≡ any p (below m)
+    any-cut =
+        ap (any p) parts ∙ any-append (below m) (from m (n - m))
+        ∙ ap (λ (b : Bool). any p (below m) || b) (any-none-from m (n - m) nowhere) ∙ or-false (any p (below m))
+
+    pub first-cut : first p (below n) ≡ first p (below m)
+    first-cut =
+        ap (first p) parts ∙ first-append p (below m) (from m (n - m))
+        ∙ ap (orElse (first p (below m))) (first-none-from m (n - m) nowhere) ∙ alone (first p (below m))
+      where
+        alone : (xs : List ℕ) → orElse xs [] ≡ xs
+        alone [] = refl
+        alone (x ∷ xs) = refl
+
+    pub keep-cut : keep p (below n) ≡ keep p (below m)
+    keep-cut =
+        ap (keep p) parts ∙ keep-append (below m) (from m (n - m))
+        ∙ ap (λ (xs : List ℕ). keep p (below m) ++ xs) (keep-none m (n - m) nowhere) ∙ append-nil (keep p (below m))
+
+-- ---- the least number that passes
+-- e is the least number below n that passes
+pub record Least (n e : ℕ) (p : ℕ → Bool) : Type 0 where
+  pub within : e < n
+  pub passes : p e ≡ true
+  pub before : (d : ℕ) → d < e → p d ≡ false
+
+-- what the answer of a search among n numbers from k up says
+abbrev Says : (ℕ → Bool) → ℕ → ℕ → List ℕ → Type 0
+Says p k n [] = (d : ℕ) → k ≤ d → d < k + n → p d ≡ false
+Says p k n (e ∷ es) = (k ≤ e) × (e < k + n) × (p e ≡ true) × ((d : ℕ) → k ≤ d → d < e → p d ≡ false)
+
+says : (p : ℕ → Bool) (k n : ℕ) → Says p k n (first p (from k n))
+says p k zero = λ d a b. absurd (omega arith)
+says p k (suc n) = go (p k) refl (first p (from (suc k) n)) (says p (suc k) n)
+  where
+    go : (b : Bool) → p k ≡ b → (r : List ℕ) → Says p (suc k) n r → Says p k (suc n) (cond b (k ∷ []) r)
+    go true q r s = (omega arith, omega arith, q, λ d a b. absurd (omega arith))
+    go false q [] s = λ d a b. ⊎-elim (λ z. ap p (sym z) ∙ q) (λ l. s d l (omega arith)) (eq-or-lt-of-le a)
+    go false q (e ∷ es) s =
+        (omega (arith, s .0), omega (arith, s .1), s .2, λ d a b. ⊎-elim (λ z. ap p (sym z) ∙ q) (λ l. s .3 d l b) (eq-or-lt-of-le a))
+
+says-least : (p : ℕ → Bool) (n e : ℕ) (es : List ℕ) → Says p 0 n (e ∷ es) → Least n e p
+says-least p n e es s = record { within = omega (arith, s .1); passes = s .2; before = λ d l. s .3 d (omega arith) l }
+
+module _ (p : ℕ → Bool) (n : ℕ) where
+  pub first-at : (e : ℕ) → Least n e p → first p (below n) ≡ e ∷ []
+  first-at e h =
+      let z : n ≡ e + suc (n - e - 1) = omega (arith, h .within) in
+      ap (λ (x : ℕ). first p (below x)) z ∙ ap (first p) (below-add e (suc (n - e - 1)))
+      ∙ first-append p (below e) (from e (suc (n - e - 1)))
+      ∙ ap₂ (λ (xs : List ℕ) (b : Bool). orElse xs (cond b (e ∷ []) (first p (from (suc e) (n - e - 1)))))
+      (first-none p e (h .before)) (h .passes)
+
+  -- the same, as the code answers it
+  pub found-least : (e : ℕ) → foundOf (first p (below n)) ≡ At e → Least n e p
+  found-least e h = go (first p (below n)) (says p 0 n) h
+    where
+      go : (r : List ℕ) → Says p 0 n r → foundOf r ≡ At e → Least n e p
+      go [] s q = absurd (let z : _≡_ {A = ℕ} 0 1 = cc in omega arith)
+      go (x ∷ xs) s q = let z : x ≡ e = cc in subst (λ (y : ℕ). Least n y p) z (says-least p n x xs s)
+
+  pub found-nothing : foundOf (first p (below n)) ≡ Nothing → (d : ℕ) → d < n → p d ≡ false
+  found-nothing h = go (first p (below n)) (says p 0 n) h
+    where
+      go : (r : List ℕ) → Says p 0 n r → foundOf r ≡ Nothing → (d : ℕ) → d < n → p d ≡ false
+      go [] s q d l = s d (omega arith) (omega arith)
+      go (x ∷ xs) s q d l = absurd (let z : _≡_ {A = ℕ} 0 1 = cc in omega arith)
+
+  pub first-least : {e : ℕ} {es : List ℕ} → first p (below n) ≡ e ∷ es → Least n e p
+  first-least {e} h = found-least e (ap foundOf h)
+
+  pub first-nothing : first p (below n) ≡ [] → (d : ℕ) → d < n → p d ≡ false
+  first-nothing h = found-nothing (ap foundOf h)
+
+  -- ---- some number passes
+  pub any-at : (e : ℕ) → e < n → p e ≡ true → any p (below n) ≡ true
+  any-at e l h =
+      let z : n ≡ e + suc (n - e - 1) = omega arith in
+      ap (λ (x : ℕ). any p (below x)) z ∙ ap (any p) (below-add e (suc (n - e - 1)))
+      ∙ any-append p (below e) (from e (suc (n - e - 1)))
+      ∙ ap (λ (b : Bool). any p (below e) || (b || any p (from (suc e) (n - e - 1)))) h ∙ or-true (any p (below e))
+
+  pub any-nothing : any p (below n) ≡ false → (d : ℕ) → d < n → p d ≡ false
+  any-nothing h d l = go (p d) refl
+    where
+      go : (b : Bool) → p d ≡ b → p d ≡ false
+      go true q = absurd (clash (any-at d l q) h)
+      go false q = q
+
+  pub any-least : any p (below n) ≡ true → (e : ℕ) × Least n e p
+  any-least h = go (first p (below n)) (says p 0 n)
+    where
+      go : (r : List ℕ) → Says p 0 n r → (e : ℕ) × Least n e p
+      go [] s = absurd (clash h (any-none p n (λ d l. s d (omega arith) (omega arith))))
+      go (x ∷ xs) s = (x, says-least p n x xs s)
+
+  -- ---- every number passes
+  pub all-at : all p (below n) ≡ true → (d : ℕ) → d < n → p d ≡ true
+  all-at h d l = go 0 n h d (omega arith) (omega arith)
+    where
+      go : (k m : ℕ) → all p (from k m) ≡ true → (d : ℕ) → k ≤ d → d < k + m → p d ≡ true
+      go k zero t d a b = absurd (omega arith)
+      go k (suc m) t d a b =
+          let s : (p k ≡ true) × (all p (from (suc k) m) ≡ true) = both (p k) (all p (from (suc k) m)) t in
+          ⊎-elim (λ z. ap p (sym z) ∙ s .0) (λ c. go (suc k) m (s .1) d c (omega arith)) (eq-or-lt-of-le a)
+
+  -- as many pass as there are numbers, at most
+  pub keep-length : length (keep p (below n)) ≤ n
+  keep-length = go 0 n
+    where
+      go : (k m : ℕ) → length (keep p (from k m)) ≤ m
+      go k zero = omega arith
+      go k (suc m) = pick (p k) (go (suc k) m)
+        where
+          pick : (b : Bool) → length (keep p (from (suc k) m)) ≤ m
+              → length (cond b (k ∷ keep p (from (suc k) m)) (keep p (from (suc k) m))) ≤ suc m
+          pick true ih = omega arith
+          pick false ih = omega arith

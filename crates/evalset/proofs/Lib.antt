@@ -1,0 +1,6 @@
+pub mod Search
+pub mod Bounded
+pub mod Bits
+pub mod Walk
+pub mod Members
+pub mod Table

@@ -1,0 +1,51 @@
+-- The rule of a table of masks, 'bit e of mask i is bit i of e': one test that antt computes over the whole table, and a law that
+-- carries it to each entry and each evaluation. Assumes nothing.
+use mathlib.Core.Path.{_≡_, refl, sym, ap, _∙_}
+use mathlib.Core.Bool.{Bool, true, false, _&&_, Bool·beq}
+use mathlib.Core.List.{List}
+use mathlib.Core.Logic.{⊎-elim}
+use Prim.Native.Nat.{ℕ, _^_, _≤_, _<_}
+use lib.Dec.{ltb}
+use lib.ListN.{length, getD}
+use borrow.Author.Tests.{ltb-true, lt-ltb, le-ltb}
+use Rattle.evalset.specs.Bit.{bit}
+use Rattle.evalset.specs.Search.{all, below}
+use Rattle.evalset.specs.Sets.{room, nameOf}
+use Rattle.evalset.proofs.Bounded.{side, all-at}
+use Rattle.evalset.proofs.Search.{both}
+use Rattle.evalset.proofs.Bits.{bit-above}
+
+-- the test f passes at each entry of the table and its place
+abbrev pub every : (ℕ → ℕ → Bool) → List ℕ → Bool
+every f xs = all (λ i. f i (getD xs i 0)) (below (length xs))
+
+pub at : (f : ℕ → ℕ → Bool) (xs : List ℕ) → every f xs ≡ true → (i : ℕ) → i < length xs → f i (getD xs i 0) ≡ true
+at f xs t i h = all-at (λ k. f k (getD xs k 0)) (length xs) t i h
+
+-- x is a word whose bit e is bit i of e
+abbrev pub isMask : ℕ → ℕ → Bool
+isMask i x = ltb x (2 ^ room) && all (λ e. Bool·beq (bit x e) (bit e i)) (below room)
+
+same : (a b : Bool) → Bool·beq a b ≡ true → a ≡ b
+same true true t = refl
+same true false t = sym t
+same false true t = t
+same false false t = refl
+
+mask : (i x : ℕ) → isMask i x ≡ true → (e : ℕ) → bit x e ≡ nameOf i e
+mask i x t e = ⊎-elim low high (side e room)
+  where
+    parts : (ltb x (2 ^ room) ≡ true) × (all (λ d. Bool·beq (bit x d) (bit d i)) (below room) ≡ true)
+    parts = both (ltb x (2 ^ room)) (all (λ d. Bool·beq (bit x d) (bit d i)) (below room)) t
+
+    low : e < room → bit x e ≡ nameOf i e
+    low l =
+        same (bit x e) (bit e i) (all-at (λ d. Bool·beq (bit x d) (bit d i)) room (parts .1) e l)
+        ∙ sym (ap (λ (b : Bool). b && bit e i) (lt-ltb e room l))
+
+    high : room ≤ e → bit x e ≡ nameOf i e
+    high l =
+        bit-above room x e (ltb-true x (2 ^ room) (parts .0)) l ∙ sym (ap (λ (b : Bool). b && bit e i) (le-ltb e room l))
+
+pub mask-bits : (xs : List ℕ) → every isMask xs ≡ true → (i : ℕ) → i < length xs → (e : ℕ) → bit (getD xs i 0) e ≡ nameOf i e
+mask-bits xs t i h e = mask i (getD xs i 0) (at isMask xs t i h) e
