@@ -15,7 +15,7 @@ use Rattle.syntax.specs.Machine.{Sym, accepted, refused, reading}
 use Rattle.syntax.specs.Refusal.{Refusal}
 use Rattle.syntax.specs.RuleText.{IsRule, Answers}
 use Rattle.syntax.specs.Reader.{codes}
-use Rattle.syntax.specs.Rule.{ruleOf}
+use Rattle.syntax.specs.Rule.{ruleOf, meaningOf}
 use Rattle.syntax.specs.declared.RuleAnswer.{RuleAnswer}
 use Rattle.syntax.specs.declared.RuleAnswer.the-variants as RuleAnswer
 use Rattle.syntax.proofs.Sound.{sound}
@@ -23,7 +23,7 @@ use Rattle.syntax.proofs.Complete.{complete}
 use Rattle.syntax.proofs.Unique.{unique, formula-back}
 use Rattle.syntax.proofs.Exact.{exact, exact-only}
 use Rattle.syntax.proofs.Names.{names-of-tokens, names-of-order}
-use Rattle.syntax.proofs.Texts.{answered, answered-only, rule-read}
+use Rattle.syntax.proofs.Texts.{answered, answered-only, rule-read, rule-means}
 
 -- ---- lists of tokens
 
@@ -71,3 +71,7 @@ text-answered-only = answered-only
 pub text-read : (s : List ℕ) (f : Formula Name) (h : IsRule s f)
     → ruleOf s ≡ record { answer = RuleAnswer.Formula; tokens = tokensOf (h .tokens-of); order = codes (postfix f) ++ replicate (256 - length (postfix f)) 0; len = length (postfix f) }
 text-read = rule-read
+
+-- and means that formula
+pub text-means : (s : List ℕ) (f : Formula Name) → IsRule s f → meaningOf s ≡ f
+text-means = rule-means

@@ -20,7 +20,7 @@ use Rattle.syntax.specs.Postfix.{postfix}
 use Rattle.syntax.specs.Machine.{Sym, Result, accepted, refused as refusedAt, run as runTokens, reading}
 use Rattle.syntax.specs.Reader.{codes}
 use Rattle.syntax.specs.RuleText.{symbolsOf, placeOf, IsRule, Answers, formula, too-long, no-token, foreign-byte, long-name, measured, grammar}
-use Rattle.syntax.specs.Rule.{refusalOf, readTokens, tokensIn, byAnswer, ruleOf}
+use Rattle.syntax.specs.Rule.{refusalOf, readTokens, tokensIn, byAnswer, ruleOf, formulaRead, meaningOf}
 use Rattle.syntax.specs.declared.RuleAnswer.{RuleAnswer}
 use Rattle.syntax.specs.declared.RuleAnswer.the-variants as RuleAnswer
 use Rattle.syntax.specs.declared.Rule.{Rule}
@@ -28,6 +28,7 @@ use Rattle.syntax.proofs.Sound.{sound}
 use Rattle.syntax.proofs.Complete.{complete}
 use Rattle.syntax.proofs.Exact.{exact, exact-only}
 use Rattle.syntax.proofs.Rules.{sized}
+use Rattle.syntax.proofs.Unique.{formula-back}
 
 -- ---- the rule of a text, by its cut
 
@@ -133,3 +134,11 @@ answered-only s a (long-name {i = i} h c) = sym (ap (λ (x : Rule). x .answer) (
 answered-only s a (measured {i = i} h c) = sym (ap (λ (x : Rule). x .answer) (by-cut s h (refused (LexAnswer.Measured i)) c))
 answered-only s a (grammar {t = t} {ts = ts} {j = j} h c r) =
     sym (ap (λ (x : Rule). x .answer) (by-cut s h (tokens (t ∷ ts)) c ∙ ap (readTokens s (t ∷ ts)) (exact-only (symbolsOf s (t ∷ ts)) j r)))
+
+-- a rule means its formula
+pub rule-means : (s : List ℕ) (f : Formula Name) → IsRule s f → meaningOf s ≡ f
+unfolding meaningOf
+rule-means s f h =
+    ap (λ (r : Cutting). formulaRead (reading (symbolsOf s (tokensIn r)))) (sym (meant-is-computed s (tokens (h .tokens-of)) (h .cut)))
+    ∙ ap formulaRead (complete (symbolsOf s (h .tokens-of)) f (h .derived))
+    ∙ formula-back f

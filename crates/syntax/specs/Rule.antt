@@ -9,6 +9,8 @@ use Rattle.lexer.specs.Arrays.{tokensOf, lexed}
 use Rattle.lexer.specs.declared.LexAnswer.{LexAnswer}
 use Rattle.lexer.specs.declared.LexAnswer.the-variants as LexAnswer
 use Rattle.syntax.specs.Machine.{Sym, Result, accepted, refused as refusedAt, reading}
+use Rattle.formula.specs.Formula.{Form, Formula, Name}
+use Rattle.syntax.specs.Postfix.{formulaOf}
 use Rattle.syntax.specs.Reader.{codes}
 use Rattle.syntax.specs.RuleText.{symbolsOf, placeOf}
 use Rattle.syntax.specs.declared.RuleAnswer.{RuleAnswer}
@@ -42,6 +44,14 @@ byAnswer (LexAnswer.Measured i) s ts = refusalOf (RuleAnswer.Measured i)
 -- the answer for a text
 unfoldable pub ruleOf : List ℕ → Rule
 ruleOf s = byAnswer (lexed s .answer) s (tokensIn (cutting s))
+
+-- "Each entry is the rule's text as it came, and means the formula read from it": of a text that is no rule, F
+abbrev pub formulaRead : Result → Formula Name
+formulaRead (accepted o) = formulaOf o
+formulaRead (refusedAt i) = Form.falsity
+
+unfoldable pub meaningOf : List ℕ → Formula Name
+meaningOf s = formulaRead (reading (symbolsOf s (tokensIn (cutting s))))
 
 -- document 01's number of each refusal, and what it carries, by the table of calls
 abbrev pub verdictOf : RuleAnswer → Verdict

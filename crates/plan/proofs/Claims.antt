@@ -1,0 +1,89 @@
+-- What this crate promises, claim by claim; each holds by the file named in its comment. Assumes nothing.
+use mathlib.Core.Path.{_≡_, sym, ap, _∙_, subst}
+use mathlib.Core.Bool.{true}
+use mathlib.Core.List.{List}
+use Prim.Native.Nat.{ℕ, _^_, _≤_, _<_}
+use lib.ListN.{length, take}
+use native.Mathlib.Omega.{arith}
+use Rattle.formula.specs.Formula.{Term, Atom, Formula}
+use Rattle.evalset.specs.declared.EvalSet.{EvalSet}
+use Rattle.evalset.specs.Sets.{mem, memAt}
+use Rattle.contact.specs.Meaning.{Floor, atomOn, meetsAll}
+use Rattle.plan.specs.declared.PlanArrays.{PlanArrays}
+use Rattle.plan.specs.declared.PlanAnswer.the-variants as answer-is
+use Rattle.plan.specs.declared.PlanRead.{PlanRead}
+use Rattle.plan.specs.Words.{Plan, mostNames, Ascends, IsPlan, wordsOf, Refusal}
+use Rattle.plan.specs.Floor.{touching}
+use Rattle.plan.specs.Judging.{yes, unmet, judge}
+use Rattle.plan.specs.Reader.{Reading, plan, refused, readOf}
+use Rattle.plan.specs.Arrays.{Stored, answerOf, planIn, Reads, countOf, planBy, touchesOf, vacantOf}
+use Rattle.plan.proofs.Exact.{Says, exact, plan-read, refusal-read}
+use Rattle.plan.proofs.Contacts.{arrays-plan}
+use Rattle.plan.proofs.Again.{plan-again, rows-kept}
+use Rattle.plan.proofs.Once.{InRange, reads-once}
+use Rattle.plan.proofs.Floors.{planFloor}
+use Rattle.plan.proofs.Judged.{Means, touches-meant, vacant-meant}
+use Rattle.plan.proofs.Unmet.{FirstUnmet, yes-exactly, unmet-exactly}
+
+-- what is read is a plan whose words these are (Sound, Exact)
+pub read-is-plan : (ws : List ℕ) (p : Plan) → readOf ws ≡ plan p → IsPlan p × (wordsOf p ≡ ws)
+read-is-plan ws p e = subst (Says ws) e (exact ws)
+
+-- every plan is read from its words (Complete, Exact)
+pub plan-is-read : (p : Plan) → IsPlan p → readOf (wordsOf p) ≡ plan p
+plan-is-read p h = plan-read p h
+
+-- refusal 13 comes at an index exactly where it is due (Exact)
+pub refused-exactly : (ws : List ℕ) (j : ℕ) → (readOf ws ≡ refused j → Refusal ws j) × (Refusal ws j → readOf ws ≡ refused j)
+refused-exactly ws j = (λ e. subst (Says ws) e (exact ws), refusal-read ws j)
+
+-- words that were read as a plan are the words of the arrays that came back, so written again they are the same (Again)
+pub read-written : (ws : List ℕ) (r : PlanRead) → Reads ws r → r .answer ≡ answer-is.Plan → wordsOf (planBy (r .plan)) ≡ ws
+read-written ws r s e = go (readOf ws) (exact ws) (s .plan) (sym (s .answer) ∙ e)
+  where
+    go : (x : Reading) → Says ws x → Stored (r .plan) (planIn x) → answerOf x ≡ answer-is.Plan → wordsOf (planBy (r .plan)) ≡ ws
+    go (plan p) h t q = ap wordsOf (plan-again (r .plan) p (h .0) t) ∙ h .1
+    go (refused i) h t q = absurd (let z : _≡_ {A = ℕ} 0 1 = cc in omega arith)
+
+-- what was written of arrays that hold a plan is read into arrays that hold the same (Exact)
+pub written-read : (r : PlanArrays) (q : PlanRead) → IsPlan (planBy r) → Reads (wordsOf (planBy r)) q
+    → (q .answer ≡ answer-is.Plan) × Stored (q .plan) (planBy r)
+written-read r q h s =
+    let e : readOf (wordsOf (planBy r)) ≡ plan (planBy r) = plan-read (planBy r) h in
+    (s .answer ∙ ap answerOf e, subst (λ (x : Reading). Stored (q .plan) (planIn x)) e (s .plan))
+
+-- arrays hold a plan if their points ascend below 2^names, whatever their rows (Contacts)
+pub arrays-are-plan : (r : PlanArrays) → length (r .points) ≡ 64 → r .names ≤ mostNames → 0 < countOf r
+    → Ascends 0 (2 ^ (r .names)) (take (countOf r) (r .points)) → IsPlan (planBy r)
+arrays-are-plan r full few some up = arrays-plan r full few some up
+
+-- and if their rows are reflexive and symmetric, these are the plan's contact (Again)
+pub rows-are-contact : (r : PlanArrays) → ((a : ℕ) → a < countOf r → memAt (r .rows) a a ≡ true)
+    → ((a b : ℕ) → a < countOf r → b < countOf r → memAt (r .rows) a b ≡ true → memAt (r .rows) b a ≡ true)
+    → (a b : ℕ) → a < countOf r → b < countOf r → touching (planBy r) a b ≡ memAt (r .rows) a b
+rows-are-contact r self turn a b l m = rows-kept r self turn a b l m
+
+-- reading is one function of the words: what it gives is determined to the last bit (Once)
+pub read-once : (ws : List ℕ) (r s : PlanRead) → InRange (r .plan) → InRange (s .plan) → Reads ws r → Reads ws s → r ≡ s
+read-once ws r s v w a b = reads-once ws r s v w a b
+
+-- a contact judged on arrays has its value on the floor of the plan that they hold, `planFloor` (Floors, Judged)
+pub touches-judged : (p : Plan) (h : IsPlan p) (r : PlanArrays) → Stored r p → (x y : EvalSet) (s t : Term ℕ)
+    → Means (p .names) (mem x) s → Means (p .names) (mem y) t
+    → touchesOf r (mem x) (mem y) ≡ atomOn (planFloor p h) (Atom.contact s t)
+touches-judged p h r k x y s t f g = touches-meant p h r k (mem x) (mem y) s t f g
+
+-- and so has a zero atom (Judged); that of <=(s,t) is the zero atom of s*-t
+pub vacant-judged : (p : Plan) (h : IsPlan p) (r : PlanArrays) → Stored r p → (x : EvalSet) (t : Term ℕ)
+    → Means (p .names) (mem x) t → vacantOf r (mem x) ≡ atomOn (planFloor p h) (Atom.empty t)
+vacant-judged p h r k x t f = vacant-meant p h r k (mem x) t f
+
+-- "Judge answers yes" exactly if every rule is met (Unmet)
+pub judge-yes : {N : Type 0} (F : Floor N) (rules : List (Formula N))
+    → (judge F rules ≡ yes → meetsAll F rules ≡ true) × (meetsAll F rules ≡ true → judge F rules ≡ yes)
+judge-yes F rules = yes-exactly F rules
+
+-- "or the lowest unmet rule, from 1": number k exactly if rule k is not met and all before it are (Unmet)
+pub judge-unmet : {N : Type 0} (F : Floor N) (rules : List (Formula N)) (k : ℕ)
+    → (judge F rules ≡ unmet k → FirstUnmet F 1 rules k) × (FirstUnmet F 1 rules k → judge F rules ≡ unmet k)
+judge-unmet F rules k = unmet-exactly F rules k

@@ -1,0 +1,68 @@
+-- The contacts that rows give rise strictly, whatever the rows are: row after row, and in a row position after position. So arrays
+-- whose points ascend hold a plan. Assumes nothing.
+use mathlib.Core.Path.{_≡_, refl, sym, _∙_, subst}
+use mathlib.Core.Bool.{Bool, true, false, _&&_, cond}
+use mathlib.Core.List.{List, [], _∷_, _++_, append-assoc}
+use Prim.Native.Nat.{ℕ, zero, suc, _+_, _*_, _^_, _/_, _%_, _≤_, _<_}
+use native.Mathlib.Omega.{arith}
+use lib.Dec.{ltb}
+use lib.ListN.{length, take, length-take}
+use borrow.Author.Tests.{ltb-true}
+use Rattle.evalset.specs.Search.{gather, from}
+use Rattle.evalset.specs.Sets.{memAt}
+use Rattle.plan.specs.declared.PlanArrays.{PlanArrays}
+use Rattle.plan.specs.Words.{Ascends, Rises, IsPlan, mostNames}
+use Rattle.plan.specs.Arrays.{countOf, pairOf, rowTo, linksTo, planBy}
+use Rattle.plan.proofs.Truth.{and-e}
+
+rises-from : (low low′ n : ℕ) (ks : List ℕ) → low ≤ low′ → Rises low′ n ks → Rises low n ks
+rises-from low low′ n [] h r = tt
+rises-from low low′ n (k ∷ ks) h r = (omega (arith, r .0), r .1, r .2, r .3)
+
+pair-rises : (i j n : ℕ) (t : ℕ → Bool) (js : List ℕ) → j < n → n ≤ 256 → Rises (i * 256 + suc j) n js
+    → Rises (i * 256 + j) n (pairOf i j t ++ js)
+unfolding pairOf
+pair-rises i j n t js h f r = go (ltb i j && t j) refl
+  where
+    go : (b : Bool) → (ltb i j && t j) ≡ b → Rises (i * 256 + j) n (cond b ((i * 256 + j) ∷ []) [] ++ js)
+    go true e =
+        let l : i < j = ltb-true i j (and-e (ltb i j) (t j) e .0) in
+        let q : (i * 256 + j) / 256 ≡ i = omega arith in
+        let s : (i * 256 + j) % 256 ≡ j = omega arith in
+        let z : suc (i * 256 + j) ≡ i * 256 + suc j = omega arith in
+        (omega arith, omega arith, omega arith, subst (λ (x : ℕ). Rises x n js) (sym z) r)
+    go false e = rises-from (i * 256 + j) (i * 256 + suc j) n js (omega arith) r
+
+row-rises : (m j i n : ℕ) (t : ℕ → Bool) (js : List ℕ) → j + m ≤ n → n ≤ 256 → Rises (i * 256 + n) n js
+    → Rises (i * 256 + j) n (gather (λ b. pairOf i b t) (from j m) ++ js)
+row-rises zero j i n t js h f r = rises-from (i * 256 + j) (i * 256 + n) n js (omega arith) r
+row-rises (suc m) j i n t js h f r =
+    subst (Rises (i * 256 + j) n) (sym (append-assoc (pairOf i j t) (gather (λ b. pairOf i b t) (from (suc j) m)) js))
+    (pair-rises i j n t (gather (λ b. pairOf i b t) (from (suc j) m) ++ js) (omega arith) f
+    (row-rises m (suc j) i n t js (omega arith) f r))
+
+rows-rise : (m i n : ℕ) (t : ℕ → ℕ → Bool) → n ≤ 256 → Rises (i * 256 + 0) n (gather (λ a. rowTo n a (t a)) (from i m))
+unfolding rowTo
+rows-rise zero i n t f = tt
+rows-rise (suc m) i n t f =
+    row-rises n 0 i n (t i) (gather (λ a. rowTo n a (t a)) (from (suc i) m)) (omega arith) f
+    (rises-from (i * 256 + n) (suc i * 256 + 0) n (gather (λ a. rowTo n a (t a)) (from (suc i) m)) (omega arith)
+    (rows-rise m (suc i) n t f))
+
+pub links-rise : (m n : ℕ) (t : ℕ → ℕ → Bool) → n ≤ 256 → Rises 0 n (linksTo m n t)
+unfolding linksTo
+links-rise m n t f = rows-rise m 0 n t f
+
+-- arrays with points that ascend hold a plan
+pub arrays-plan : (r : PlanArrays) → length (r .points) ≡ 64 → r .names ≤ mostNames → 0 < countOf r
+    → Ascends 0 (2 ^ (r .names)) (take (countOf r) (r .points)) → IsPlan (planBy r)
+unfolding planBy
+arrays-plan r full few some up =
+    let size : length (take (countOf r) (r .points)) ≡ countOf r = length-take (countOf r) (r .points) ∙ omega arith in
+    record {
+      few = few;
+      some = omega arith;
+      ascend = up;
+      rise = subst (λ (n : ℕ). Rises 0 n (linksTo (countOf r) (countOf r) (memAt (r .rows)))) (sym size)
+          (links-rise (countOf r) (countOf r) (memAt (r .rows)) (omega arith));
+    }

@@ -1,0 +1,224 @@
+-- Arrays that hold a list, and rows that hold a square of contacts: a point more is one bit, a contact more is two.
+-- Assumes nothing.
+use mathlib.Core.Path.{_≡_, refl, sym, ap, ap₂, _∙_, fun-ext}
+use mathlib.Core.Bool.{Bool, true, _&&_, _||_, or-false}
+use mathlib.Core.List.{List, [], _∷_, _++_, append-assoc}
+use mathlib.Core.Logic.{_⊎_, inl, inr, ⊎-elim}
+use Prim.Native.Nat.{ℕ, zero, suc, _+_, _-_, _*_, _≤_, _<_}
+use native.Mathlib.Omega.{arith}
+use native.Mathlib.Decide.{ℕ-discrete as decEq}
+use lib.Dec.{eqb, ltb}
+use lib.ListN.{length, getD, set, replicate, length-append}
+use lib.Seq.{set-append-seam}
+use borrow.Author.Tests.{eqb-true, eq-eqb, ne-eqb, ltb-true, lt-ltb}
+use Rattle.evalset.specs.declared.EvalSet.{EvalSet}
+use Rattle.evalset.specs.Search.{any}
+use Rattle.evalset.specs.Sets.{room, mem, memAt, addOf}
+use Rattle.evalset.proofs.Bounded.{each}
+use Rattle.evalset.proofs.Bits.{bit-none}
+use Rattle.evalset.proofs.Members.{add-in, mem-at-same, mem-at-other}
+use Rattle.plan.specs.Words.{Plan}
+use Rattle.plan.specs.Floor.{between, touching}
+use Rattle.plan.specs.Arrays.{pad, square}
+use Rattle.plan.specs.Held.{planOf, addAt, joinedOf}
+use Rattle.plan.proofs.Truth.{and-e, and-i, or-e, or-l, or-r, same-truth, untrue}
+use Rattle.plan.proofs.Lists.{any-snoc}
+
+-- ---- a list in an array
+pub pad-set : (n : ℕ) (l : List ℕ) (a : ℕ) → length l < n → set (pad n l) (length l) a ≡ pad n (l ++ (a ∷ []))
+unfolding pad
+pad-set n l a h =
+    let m : n - length l ≡ suc (n - length (l ++ (a ∷ []))) = omega (arith, length-append l (a ∷ [])) in
+    ap (λ (k : ℕ). set (l ++ replicate k 0) (length l) a) m
+    ∙ set-append-seam l 0 (replicate (n - length (l ++ (a ∷ []))) 0) a
+    ∙ sym (append-assoc l (a ∷ []) (replicate (n - length (l ++ (a ∷ []))) 0))
+
+pub pad-none : (n : ℕ) → replicate n 0 ≡ pad n []
+unfolding pad
+pad-none n = let e : n ≡ n - 0 = omega arith in ap (λ (k : ℕ). replicate k 0) e
+
+-- ---- what a square says
+pub record Related (p : Plan) (a b : ℕ) : Type 0 where
+  pub left : a < length (p .points)
+  pub right : b < length (p .points)
+  pub how : (a ≡ b) ⊎ (any (between a b) (p .contacts) ≡ true)
+
+pub square-e : (p : Plan) (a b : ℕ) → square p a b ≡ true → Related p a b
+unfolding square touching
+square-e p a b e =
+    let n = length (p .points) in
+    let u = and-e (ltb a n && ltb b n) (touching p a b) e in
+    let v = and-e (ltb a n) (ltb b n) (u .0) in
+    record {
+      left = ltb-true a n (v .0);
+      right = ltb-true b n (v .1);
+      how = ⊎-elim (λ q. inl (eqb-true a b q)) (λ q. inr q) (or-e (eqb a b) (any (between a b) (p .contacts)) (u .1));
+    }
+
+pub square-i : (p : Plan) (a b : ℕ) → Related p a b → square p a b ≡ true
+unfolding square touching
+square-i p a b r =
+    let n = length (p .points) in
+    and-i (ltb a n && ltb b n) (touching p a b) (and-i (ltb a n) (ltb b n) (lt-ltb a n (r .left)) (lt-ltb b n (r .right)))
+    (⊎-elim (λ q. or-l (eqb a b) (any (between a b) (p .contacts)) (eq-eqb a b q))
+    (λ q. or-r (eqb a b) (any (between a b) (p .contacts)) q) (r .how))
+
+-- ---- one position more in a row, one contact more
+add-e : (t : ℕ → ℕ → Bool) (i j a b : ℕ) → addAt t i j a b ≡ true → (t a b ≡ true) ⊎ ((a ≡ i) × (b ≡ j))
+add-e t i j a b e =
+    ⊎-elim (λ q. inl q) (λ q. let w = and-e (eqb a i) (eqb b j) q in inr (eqb-true a i (w .0), eqb-true b j (w .1)))
+    (or-e (t a b) (eqb a i && eqb b j) e)
+
+add-old : (t : ℕ → ℕ → Bool) (i j a b : ℕ) → t a b ≡ true → addAt t i j a b ≡ true
+add-old t i j a b e = or-l (t a b) (eqb a i && eqb b j) e
+
+add-new : (t : ℕ → ℕ → Bool) (i j a b : ℕ) → a ≡ i → b ≡ j → addAt t i j a b ≡ true
+add-new t i j a b p q = or-r (t a b) (eqb a i && eqb b j) (and-i (eqb a i) (eqb b j) (eq-eqb a i p) (eq-eqb b j q))
+
+module _ (t : ℕ → ℕ → Bool) (i j a b : ℕ) where
+  joined-e : joinedOf t i j a b ≡ true → (t a b ≡ true) ⊎ (((a ≡ i) × (b ≡ j)) ⊎ ((a ≡ j) × (b ≡ i)))
+  unfolding joinedOf
+  joined-e e =
+      ⊎-elim (λ q. ⊎-elim (λ x. inl x) (λ x. inr (inl x)) (add-e t i j a b q)) (λ q. inr (inr q)) (add-e (addAt t i j) j i a b e)
+
+  joined-old : t a b ≡ true → joinedOf t i j a b ≡ true
+  unfolding joinedOf
+  joined-old e = add-old (addAt t i j) j i a b (add-old t i j a b e)
+
+  joined-one : a ≡ i → b ≡ j → joinedOf t i j a b ≡ true
+  unfolding joinedOf
+  joined-one p q = add-old (addAt t i j) j i a b (add-new t i j a b p q)
+
+  joined-other : a ≡ j → b ≡ i → joinedOf t i j a b ≡ true
+  unfolding joinedOf
+  joined-other p q = add-new (addAt t i j) j i a b p q
+
+-- ---- rows of sets
+getD-all : {A : Type 0} (n i : ℕ) (a : A) → getD (replicate n a) i a ≡ a
+getD-all zero i a = refl
+getD-all (suc n) zero a = refl
+getD-all (suc n) (suc i) a = getD-all n i a
+
+pub rows-none : (n names : ℕ) → memAt (replicate n (record { bits = 0 })) ≡ square (planOf names [] [])
+unfolding memAt mem
+rows-none n names =
+    fun-ext (λ a. fun-ext (λ b.
+    ap (λ (s : EvalSet). mem s b) (getD-all n a (record { bits = 0 })) ∙ bit-none b
+    ∙ sym (untrue (square (planOf names [] []) a b) (λ e. let l = square-e (planOf names [] []) a b e .left in omega arith))))
+
+pub row-set : (rows : List EvalSet) (i j : ℕ) (v : EvalSet) → i < length rows → j < room → mem v ≡ addOf (memAt rows i) j
+    → memAt (set rows i v) ≡ addAt (memAt rows) i j
+row-set rows i j v h l e = fun-ext (λ a. fun-ext (λ b. go a b (decEq a i)))
+  where
+    go : (a b : ℕ) → Dec (a ≡ i) → memAt (set rows i v) a b ≡ addAt (memAt rows) i j a b
+    go a b (yes q) =
+        ap (λ (x : ℕ). memAt (set rows i v) x b) q
+        ∙ each (mem-at-same rows i v h ∙ e) b
+        ∙ add-in (memAt rows i) j l b
+        ∙ ap₂ (λ (x : ℕ) (t : Bool). memAt rows x b || (t && eqb b j)) (sym q) (sym (eq-eqb a i q))
+    go a b (no q) =
+        each (mem-at-other rows i a v q) b ∙ sym (or-false (memAt rows a b))
+        ∙ ap (λ (t : Bool). memAt rows a b || (t && eqb b j)) (sym (ne-eqb a i q))
+
+-- ---- one point more
+module _ (n : ℕ) (pts : List ℕ) (e : ℕ) where
+  pub square-point : joinedOf (square (planOf n pts [])) (length pts) (length pts) ≡ square (planOf n (pts ++ (e ∷ [])) [])
+  square-point = fun-ext (λ a. fun-ext (λ b. same-truth _ _ (there a b) (back a b (decEq a (length pts)))))
+    where
+      size : length (pts ++ (e ∷ [])) ≡ length pts + 1
+      size = length-append pts (e ∷ [])
+
+      there : (a b : ℕ) → joinedOf (square (planOf n pts [])) (length pts) (length pts) a b ≡ true
+          → square (planOf n (pts ++ (e ∷ [])) []) a b ≡ true
+      there a b q =
+          square-i (planOf n (pts ++ (e ∷ [])) []) a b
+          (⊎-elim
+          (λ x. let r = square-e (planOf n pts []) a b x in
+          record { left = omega (arith, size, r .left); right = omega (arith, size, r .right); how = r .how })
+          (λ x. let z : (a ≡ length pts) × (b ≡ length pts) = ⊎-elim (λ y. y) (λ y. y) x in
+          record { left = omega (arith, size, z .0); right = omega (arith, size, z .1); how = inl (z .0 ∙ sym (z .1)) })
+          (joined-e (square (planOf n pts [])) (length pts) (length pts) a b q))
+
+      back : (a b : ℕ) → Dec (a ≡ length pts) → square (planOf n (pts ++ (e ∷ [])) []) a b ≡ true
+          → joinedOf (square (planOf n pts [])) (length pts) (length pts) a b ≡ true
+      back a b d q = go d (square-e (planOf n (pts ++ (e ∷ [])) []) a b q)
+        where
+          equal : Related (planOf n (pts ++ (e ∷ [])) []) a b → a ≡ b
+          equal r = ⊎-elim (λ z. z) (λ z. absurd (let w : _≡_ {A = ℕ} 0 1 = cc in omega arith)) (r .how)
+
+          go : Dec (a ≡ length pts) → Related (planOf n (pts ++ (e ∷ [])) []) a b
+              → joinedOf (square (planOf n pts [])) (length pts) (length pts) a b ≡ true
+          go (yes z) r = joined-one (square (planOf n pts [])) (length pts) (length pts) a b z (sym (equal r) ∙ z)
+          go (no z) r =
+              let q : a ≡ b = equal r in
+              joined-old (square (planOf n pts [])) (length pts) (length pts) a b
+              (square-i (planOf n pts []) a b
+              (record { left = omega (arith, size, r .left, z); right = omega (arith, size, r .left, z); how = inl q }))
+
+-- ---- one contact more
+module _ (n : ℕ) (pts ks : List ℕ) (i j : ℕ) (later : i < j) (within : j < length pts) (few : length pts ≤ 256) where
+  pub square-link : joinedOf (square (planOf n pts ks)) i j ≡ square (planOf n pts (ks ++ ((i * 256 + j) ∷ [])))
+  square-link = fun-ext (λ a. fun-ext (λ b. same-truth _ _ (there a b) (back a b)))
+    where
+      k : ℕ
+      k = i * 256 + j
+
+      more : (a b : ℕ) → any (between a b) (ks ++ (k ∷ [])) ≡ (any (between a b) ks || between a b k)
+      more a b = any-snoc (between a b) ks k
+
+      there : (a b : ℕ) → joinedOf (square (planOf n pts ks)) i j a b ≡ true → square (planOf n pts (ks ++ (k ∷ []))) a b ≡ true
+      there a b q =
+          square-i (planOf n pts (ks ++ (k ∷ []))) a b
+          (⊎-elim
+          (λ x. let r = square-e (planOf n pts ks) a b x in
+          record {
+            left = r .left;
+            right = r .right;
+            how = ⊎-elim (λ z. inl z)
+                (λ z. inr (more a b ∙ or-l (any (between a b) ks) (between a b k) z)) (r .how);
+          })
+          (λ x. ⊎-elim one other x)
+          (joined-e (square (planOf n pts ks)) i j a b q))
+        where
+          one : (a ≡ i) × (b ≡ j) → Related (planOf n pts (ks ++ (k ∷ []))) a b
+          one z =
+              let s : k ≡ a * 256 + b = omega (arith, z .0, z .1) in
+              record {
+                left = omega (arith, z .0);
+                right = omega (arith, z .1);
+                how = inr (more a b ∙ or-r (any (between a b) ks) (between a b k)
+                    (or-l (eqb k (a * 256 + b)) (eqb k (b * 256 + a)) (eq-eqb k (a * 256 + b) s)));
+              }
+
+          other : (a ≡ j) × (b ≡ i) → Related (planOf n pts (ks ++ (k ∷ []))) a b
+          other z =
+              let s : k ≡ b * 256 + a = omega (arith, z .0, z .1) in
+              record {
+                left = omega (arith, z .0);
+                right = omega (arith, z .1);
+                how = inr (more a b ∙ or-r (any (between a b) ks) (between a b k)
+                    (or-r (eqb k (a * 256 + b)) (eqb k (b * 256 + a)) (eq-eqb k (b * 256 + a) s)));
+              }
+
+      back : (a b : ℕ) → square (planOf n pts (ks ++ (k ∷ []))) a b ≡ true → joinedOf (square (planOf n pts ks)) i j a b ≡ true
+      back a b q = go (square-e (planOf n pts (ks ++ (k ∷ []))) a b q)
+        where
+          old : Related (planOf n pts ks) a b → joinedOf (square (planOf n pts ks)) i j a b ≡ true
+          old r = joined-old (square (planOf n pts ks)) i j a b (square-i (planOf n pts ks) a b r)
+
+          go : Related (planOf n pts (ks ++ (k ∷ []))) a b → joinedOf (square (planOf n pts ks)) i j a b ≡ true
+          go r =
+              let l : a < length pts = r .left in
+              let m : b < length pts = r .right in
+              ⊎-elim
+              (λ z. old (record { left = l; right = m; how = inl z }))
+              (λ z. ⊎-elim
+              (λ x. old (record { left = l; right = m; how = inr x }))
+              (λ x. ⊎-elim
+              (λ y. let s : i * 256 + j ≡ a * 256 + b = eqb-true (i * 256 + j) (a * 256 + b) y in
+              let u : a ≡ i = omega arith in let v : b ≡ j = omega arith in joined-one (square (planOf n pts ks)) i j a b u v)
+              (λ y. let s : i * 256 + j ≡ b * 256 + a = eqb-true (i * 256 + j) (b * 256 + a) y in
+              let u : a ≡ j = omega arith in let v : b ≡ i = omega arith in joined-other (square (planOf n pts ks)) i j a b u v)
+              (or-e (eqb k (a * 256 + b)) (eqb k (b * 256 + a)) x))
+              (or-e (any (between a b) ks) (between a b k) (sym (more a b) ∙ z)))
+              (r .how)

@@ -1,0 +1,41 @@
+-- `plan::room` meets its contract: the seven powers are written out.
+use native.Mathlib.Omega.{arith}
+use Prim.Native.Nat.{ℕ, suc, _^_, _≤_}
+use native.Mathlib.Nat.{le-antisymm}
+use mathlib.Core.Path.{_≡_, sym, ap}
+use Rattle.plan.proofs.room.Statement.{statement}
+use Rattle.plan.proofs.room.Tie as tie
+
+above : (k n : ℕ) → k ≤ n → (n ≡ k → ⊥) → suc k ≤ n
+above k n h d = omega arith
+
+returns : tie.Need-returns
+returns c = ap (λ (x : ℕ). 2 ^ x) (sym (c .match .keys1))
+
+returns-2 : tie.Need-returns-2
+returns-2 c = ap (λ (x : ℕ). 2 ^ x) (sym (c .match .keys2))
+
+returns-3 : tie.Need-returns-3
+returns-3 c = ap (λ (x : ℕ). 2 ^ x) (sym (c .match .keys3))
+
+returns-4 : tie.Need-returns-4
+returns-4 c = ap (λ (x : ℕ). 2 ^ x) (sym (c .match .keys4))
+
+returns-5 : tie.Need-returns-5
+returns-5 c = ap (λ (x : ℕ). 2 ^ x) (sym (c .match .keys5))
+
+returns-6 : tie.Need-returns-6
+returns-6 c = ap (λ (x : ℕ). 2 ^ x) (sym (c .match .keys6))
+
+returns-7 : tie.Need-returns-7
+returns-7 c =
+    let n = c .before .args .names in
+    let r = c .match .rest in
+    let low : 6 ≤ n = above 5 n (above 4 n
+    (above 3 n (above 2 n (above 1 n (above 0 n (omega arith) (r .0 .0 .0 .0 .0 .1)) (r .0 .0 .0 .0 .1)) (r .0 .0 .0 .1))
+    (r .0 .0 .1)) (r .0 .1)) (r .1) in
+    let six : 6 ≡ n = le-antisymm low (c .before .pre) in ap (λ (x : ℕ). 2 ^ x) six
+
+pub room-spec : {M : Type 1} → statement M
+room-spec =
+    tie.close (tie.spec returns returns-2 returns-3 returns-4 returns-5 returns-6 returns-7)
