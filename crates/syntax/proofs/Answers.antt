@@ -13,7 +13,7 @@ use Rattle.formula.specs.Sign.{joinsTerms}
 use Rattle.formula.specs.Formula.{Name}
 use Rattle.syntax.specs.Symbol.{Leaf, Relation, leaf, binary, constant, relation, contact, part}
 use Rattle.syntax.specs.Machine.{Sym, Frame, inParenthesis, afterMinus, afterTilde, afterBinary, firstOf, secondOf, rankOf, allow, same, State, want, have, call, Popped, guard, join, step, Result, run, reading}
-use Rattle.syntax.specs.Reader.{code, codes, kindAt, top, bindingOf, goesAt, pick, Holds, Goes, Stops, Sorted, Within, Inside, Room, expectedOf, endedOf, endedIn, relatedOf, relatedIn, zeroedOf, zeroedIn, Asked, Said, MoreAsked, MoreSaid, ParenthesisSaid, RelationAsked, RelationSaid, startOf, Parsed, ParseSaid}
+use Rattle.syntax.specs.Reader.{code, codes, kindAt, top, bindingOf, goesAt, pick, followsOf, Holds, Goes, Stops, Sorted, Within, Inside, Room, expectedOf, endedOf, endedIn, relatedOf, relatedIn, zeroedOf, zeroedIn, Asked, Said, MoreAsked, MoreSaid, ParenthesisSaid, RelationAsked, RelationSaid, startOf, Parsed, ParseSaid}
 use Rattle.syntax.specs.declared.Read.{Read}
 use Rattle.syntax.specs.declared.Read.the-variants.{Value, Refused}
 use Rattle.syntax.proofs.Laws.{true≢false, pop-keep}
@@ -187,8 +187,16 @@ more-none ks k s t p n c b A a v q r h =
       within = λ m d g. g;
     })
 
-pub more-refused : (ks : List ℕ) (k : ℕ) (s : Read) (p : ℕ) (A : List ℕ) → s ≡ Refused p → MoreSaid ks k s A s A
-more-refused ks k s p A v = subst (λ (z : Read). MoreSaid ks k z A z A) (sym v) (record { says = λ xs e K l R g. g; stops = tt; sorted = λ w g. g; within = λ m d g. g })
+pub more-refused : (ks : List ℕ) (k : ℕ) (s : Read) (p : ℕ) (A : List ℕ) → s ≡ Refused p → MoreSaid ks k s A (Refused p) A
+more-refused ks k s p A v = subst (λ (z : Read). MoreSaid ks k z A (Refused p) A) (sym v) (record { says = λ xs e K l R g. g; stops = tt; sorted = λ w g. g; within = λ m d g. g })
+
+-- an answer on which no binary sign goes is the answer
+pub none-follows : (ks : List ℕ) (k : ℕ) (s : Read) (A : List ℕ) → MoreAsked ks k s → followsOf ks k s ≡ false → MoreSaid ks k s A s A
+none-follows ks k (Value t p n) A a h = more-none ks k (Value t p n) t p n (kindAt ks p) (bindingOf t (kindAt ks p)) A a refl refl refl (ltb-false k (bindingOf t (kindAt ks p)) h)
+none-follows ks k (Refused p) A a h = more-refused ks k (Refused p) p A refl
+
+pub level-alone : (ks : List ℕ) (a k : ℕ) (w : Bool) (n j : ℕ) (v : Bool) (A : List ℕ) (x : Read) (B : List ℕ) → Asked ks a k w n → v ≡ w → k ≤ j → (k < 4 → j ≤ 3) → Said ks a j v n A x B → followsOf ks k x ≡ false → Said ks a k w n A x B
+level-alone ks a k w n j v A x B q u h l s f = level-said ks a k w n j v A x B x B u h s (none-follows ks k x B (level-more-asked ks a k w n (leftAt ks a k) j v A x B q refl l s .1) f)
 
 -- ---- what the readers ask of one another
 
@@ -342,6 +350,31 @@ module _ (ks : List ℕ) (a : ℕ) (w : Bool) (n : ℕ) (q : Asked ks a 6 w n) w
     within = tt;
   }
 
+-- ---- formula_prefix at a parenthesis: what it holds is read as a term's parenthesis, then the signs of terms
+
+module _ (ks : List ℕ) (a n : ℕ) (q : Asked ks a 3 true n) (c : ℕ) (k : c ≡ kindAt ks a) (h : c ≡ 8) where
+  opening-plain : Asked ks a 4 true n
+  opening-plain = plain-asked ks a n q (left ks a 7) c refl k (λ e. absurd (let y : ⊥ = omega arith in y)) (λ e. absurd (let y : ⊥ = omega arith in y)) .1
+
+  opening-term : Asked ks a 6 true n
+  opening-term = level-term-asked ks a 4 true n (leftAt ks a 4) opening-plain refl (omega arith) .1
+
+  pub opening-asked : (t : ℕ) → left ks a 7 ≡ t → (left ks (a + 1) 15 < t) × Asked ks (a + 1) 0 true n
+  opening-asked t u = let z : (left ks (a + 1) 15 < left ks a 1) × Asked ks (a + 1) 0 true n = parenthesis-asked ks a true n opening-term (left ks a 1) c refl k h in (omega (arith, z .0, u), z .1)
+
+  module _ (A : List ℕ) (x : Read) (B : List ℕ) (s : ParenthesisSaid ks (a + 1) true n A x B) where
+    opening-read : Said ks a 6 true n A x B
+    opening-read = parenthesis-prefix-said ks a true n opening-term A x B c k h s
+
+    pub opening-more-asked : (t : ℕ) → left ks a 7 ≡ t → (leftAfter ks x < t) × MoreAsked ks 4 x
+    opening-more-asked t u = let z : (leftAfter ks x < leftAt ks a 4) × MoreAsked ks 4 x = level-more-asked ks a 4 true n (leftAt ks a 4) 6 true A x B opening-plain refl (λ l. absurd (let y : ⊥ = omega arith in y)) opening-read in (omega (arith, z .0, u), z .1)
+
+    pub opening-joined : (y : Read) (C : List ℕ) → MoreSaid ks 4 x B y C → Said ks a 4 true n A y C
+    opening-joined y C m = level-said ks a 4 true n 6 true A x B y C refl (omega arith) opening-read m
+
+    pub opening-alone : followsOf ks 4 x ≡ false → Said ks a 4 true n A x B
+    opening-alone f = level-alone ks a 4 true n 6 true A x B opening-plain refl (omega arith) (λ l. absurd (let y : ⊥ = omega arith in y)) opening-read f
+
 -- ---- parenthesis
 
 pub parenthesis-level-asked : (ks : List ℕ) (a : ℕ) (w : Bool) (n t k : ℕ) → Asked ks a (startOf w) w n → left ks a 15 ≡ t → k ≡ startOf w → (leftAt ks a k < t) × Asked ks a k w n
@@ -385,13 +418,12 @@ module _ (ks : List ℕ) (a n : ℕ) (q : RelationAsked ks a n) where
         parted-goes xs ks e (run (drop a xs) a (call d K o)) d K x B (s .sorted) (s .stops)
         (subst (λ (z : Result). Goes xs z (firstOf d ∷ K) x B) (sym (at-sign xs ks e a 8 (call d K o) (sym k ∙ h) (omega arith))) (s .says xs e (firstOf d ∷ K) refl (omega arith) o g))
 
-    pub first-refused : (y : Read) (p d c : ℕ) → c ≡ kindAt ks a → c ≡ 8 → y ≡ expectedOf ks 11 x → y ≡ Refused p → RelationSaid ks a d n A y B
-    first-refused y p d c k h e r =
-        subst (λ (z : Read). RelationSaid ks a d n A z B) (sym r) (record {
-          says = λ xs i f u K w o g. subst (λ (z : Read). Turns xs (run (drop a xs) a (call f K o)) f K z B) (sym e ∙ r) (first-turns c k h xs i f K o g);
-          stops = tt;
-          within = tt;
-        })
+    pub first-refused : (y : Read) (p d c : ℕ) → c ≡ kindAt ks a → c ≡ 8 → y ≡ expectedOf ks 11 x → y ≡ Refused p → RelationSaid ks a d n A (Refused p) B
+    first-refused y p d c k h e r = record {
+      says = λ xs i f u K w o g. subst (λ (z : Read). Turns xs (run (drop a xs) a (call f K o)) f K z B) (sym e ∙ r) (first-turns c k h xs i f K o g);
+      stops = tt;
+      within = tt;
+    }
 
     module _ (y : Read) (t : Bool) (p m : ℕ) (e : y ≡ expectedOf ks 11 x) (v : y ≡ Value t p m) where
       second-within : (a + 1 < p) × (p ≤ length ks) × (m + (a + 1) ≤ n + p)

@@ -4,6 +4,7 @@ use native.Mathlib.Omega.{arith}
 use mathlib.Core.Path.{_≡_, refl, sym, ap, subst, _∙_}
 use mathlib.Core.List.{List, [], _∷_}
 use mathlib.Core.Bool.{Bool, true, false, Bool·beq}
+use lib.Dec.{ltb}
 use lib.ListN.{length, getD, set}
 use borrow.Author.Tests.{eq-eqb, ne-eqb}
 use Rattle.formula.specs.declared.Sign.{Sign}
@@ -11,7 +12,7 @@ use Rattle.formula.specs.declared.Sign.the-variants.{Implies, Iff, Or, And, Plu
 use Rattle.formula.specs.Sign.{levelOf, joinsTerms}
 use Rattle.syntax.specs.Symbol.{binary}
 use Rattle.syntax.specs.Machine.{same}
-use Rattle.syntax.specs.Reader.{kindAt, goes, bindingOf, pick, Inside, Room, expectedOf, endedOf, endedIn, relatedOf, relatedIn, zeroedOf, zeroedIn}
+use Rattle.syntax.specs.Reader.{kindAt, goes, bindingOf, pick, followsOf, Inside, Room, expectedOf, endedOf, endedIn, relatedOf, relatedIn, zeroedOf, zeroedIn}
 use Rattle.syntax.specs.declared.Read.{Read}
 use Rattle.syntax.specs.declared.Read.the-variants.{Value, Refused}
 use Rattle.syntax.proofs.Laws.{true≢false}
@@ -89,7 +90,15 @@ inside-value l r t p n e h = subst (Inside l) e h
 pub room-value : (r : Read) (t : Bool) (p n : ℕ) → r ≡ Value t p n → Room r → n < 256
 room-value r t p n e h = subst Room e h
 
+-- ---- follows
+
+pub follows-value : (ks : List ℕ) (k : ℕ) (r : Read) (t : Bool) (p n c b : ℕ) → r ≡ Value t p n → c ≡ kindAt ks p → b ≡ bindingOf t c → ltb k b ≡ followsOf ks k r
+follows-value ks k r t p n c b e i j = ap (ltb k) (j ∙ ap (bindingOf t) i) ∙ sym (ap (followsOf ks k) e)
+
 -- ---- expected
+
+pub expected-refused : (ks : List ℕ) (c : ℕ) (r : Read) (p : ℕ) → r ≡ Refused p → Refused p ≡ expectedOf ks c r
+expected-refused ks c r p e = sym (ap (expectedOf ks c) e)
 
 module _ (ks : List ℕ) (c : ℕ) (r : Read) (t : Bool) (p n : ℕ) (e : r ≡ Value t p n) where
   pub expected-yes : kindAt ks p ≡ c → Value t (p + 1) n ≡ expectedOf ks c r
@@ -119,8 +128,14 @@ module _ (term : Bool) (c : ℕ) (A : List ℕ) (r : Read) (t : Bool) (p n : ℕ
   pub ended-no : Bool·beq t term ≡ false → (Refused p ≡ endedOf term r) × (A ≡ endedIn term c r A)
   ended-no h = let s : (endedOf term r ≡ Refused p) × (endedIn term c r A ≡ A) = ended-as false (same-of t term false h) in (sym (s .0), sym (s .1))
 
+pub ended-refused : (term : Bool) (c : ℕ) (A : List ℕ) (r : Read) (p : ℕ) → r ≡ Refused p → (Refused p ≡ endedOf term r) × (A ≡ endedIn term c r A)
+ended-refused term c A r p e = (sym (ap (endedOf term) e), sym (ap (λ (q : Read). endedIn term c q A) e))
+
 pub related-value : (c : ℕ) (A : List ℕ) (r : Read) (t : Bool) (p n : ℕ) → r ≡ Value t p n → (Value false p (n + 1) ≡ relatedOf r) × (set A n c ≡ relatedIn c r A)
 related-value c A r t p n e = (sym (ap relatedOf e), sym (ap (λ (q : Read). relatedIn c q A) e))
+
+pub related-refused : (c : ℕ) (A : List ℕ) (r : Read) (p : ℕ) → r ≡ Refused p → (Refused p ≡ relatedOf r) × (A ≡ relatedIn c r A)
+related-refused c A r p e = (sym (ap relatedOf e), sym (ap (λ (q : Read). relatedIn c q A) e))
 
 -- ---- zeroed
 
@@ -149,3 +164,6 @@ module _ (ks : List ℕ) (A : List ℕ) (r : Read) where
   zeroed-formula t p n e h =
       let g : r ≡ Value false p n = e ∙ ap (λ (b : Bool). Value b p n) h in
       (sym e ∙ g ∙ sym (zeroed-as (Value false p n) g .0), sym (zeroed-as (Value false p n) g .1))
+
+  pub zeroed-refused : (p : ℕ) → r ≡ Refused p → (Refused p ≡ zeroedOf ks r) × (A ≡ zeroedIn ks r A)
+  zeroed-refused p e = (sym (zeroed-as (Refused p) e .0), sym (zeroed-as (Refused p) e .1))

@@ -4,7 +4,7 @@ use mathlib.Core.Bool.{Bool, true, false}
 use mathlib.Core.List.{List, [], _∷_, _++_}
 use mathlib.Core.Path.{_≡_}
 use Prim.Native.Nat.{ℕ, suc, _+_, _-_, _≤_, _<_}
-use lib.Dec.{eqb}
+use lib.Dec.{eqb, ltb}
 use lib.ListN.{length, getD, drop, set, replicate}
 use Rattle.formula.specs.declared.Sign.{Sign}
 use Rattle.formula.specs.declared.Sign.the-variants.{Implies, Iff, Or, And, Plus, Times}
@@ -118,6 +118,11 @@ Room (Value t p n) = n < 256
 Room (Refused p) = Unit {0}
 
 -- ---- the functions that call no reader
+
+-- whether a binary sign above rank k goes on the value
+abbrev pub followsOf : List ℕ → ℕ → Read → Bool
+followsOf ks k (Value t p n) = ltb k (bindingOf t (kindAt ks p))
+followsOf ks k (Refused p) = false
 
 -- a value with the kind c after it
 abbrev pub expectedOf : List ℕ → ℕ → Read → Read

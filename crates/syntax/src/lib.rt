@@ -4,15 +4,14 @@
 // a requires.
 ghost use mathlib.Core.Path.{_≡_};
 ghost use mathlib.Core.Bool.{true};
-ghost use Prim.Native.Nat.{ℕ, _+_, _≤_, _<_};
-ghost use lib.ListN.{length, set};
-ghost use Rattle.syntax.specs.Symbol.{binary};
-ghost use Rattle.syntax.specs.Reader.{kindAt, goes, bindingOf, Inside, Room, expectedOf, endedOf, endedIn, relatedOf, relatedIn, zeroedOf, zeroedIn, Asked, Said, MoreAsked, MoreSaid, ParenthesisSaid, RelationAsked, RelationSaid, startOf, ParseSaid};
 ghost use mathlib.Core.List.{List};
-ghost use lib.ListN.{replicate};
+ghost use Prim.Native.Nat.{ℕ, _+_, _≤_, _<_};
+ghost use lib.ListN.{length, set, replicate};
 ghost use Rattle.lexer.specs.Token.{Token};
 ghost use Rattle.lexer.specs.Arrays.{tokensOf};
+ghost use Rattle.syntax.specs.Symbol.{binary};
 ghost use Rattle.syntax.specs.Machine.{reading};
+ghost use Rattle.syntax.specs.Reader.{kindAt, goes, bindingOf, followsOf, Inside, Room, expectedOf, endedOf, endedIn, relatedOf, relatedIn, zeroedOf, zeroedIn, Asked, Said, MoreAsked, MoreSaid, ParenthesisSaid, RelationAsked, RelationSaid, startOf, ParseSaid};
 ghost use Rattle.syntax.specs.RuleText.{symbolsOf, placeOf};
 ghost use Rattle.syntax.specs.Rule.{refusalOf, readTokens, ruleOf, verdictOf};
 use formula::Sign;
@@ -58,13 +57,40 @@ const NAME: u8 = 18;
 
 const END: u8 = 19;
 
+// How a rule text is answered; what is refused carries its place.
+pub enum RuleAnswer {
+    Formula,
+    TooLong,
+    NoToken,
+    ForeignByte(usize),
+    LongName(usize),
+    Measured(usize),
+    GrammarAt(usize),
+}
+
+// A rule as read: its tokens, and the kinds of those that are its formula in postfix order, of which there
+// are len; the names of the order are those of the text, in their order. A refusal comes with neither.
+pub struct Rule {
+    pub answer: RuleAnswer,
+    pub tokens: Tokens,
+    pub order: [u8; 256],
+    pub len: usize,
+}
+
+// Document 01's number of a refusal and what it carries.
+pub enum Verdict {
+    Read,
+    Refused { number: u8, place: usize },
+}
+
 // What a reader answers: a value, whether it is a term, the token after it and the length of the order
 // so far; or the token that is refused.
-pub enum Read {
+enum Read {
     Value(bool, usize, usize),
     Refused(usize),
 }
 
+// The kind at a place.
 fn kind_at(kinds: &[u8], at: usize) -> u8
     ensures { λ r. ⌜ r ≡ kindAt (now (kinds .entry)) at ⌝ }
 {
@@ -98,6 +124,19 @@ fn binding(term: bool, kind: u8) -> u8
     }
 }
 
+// Whether a binary sign of rank k or tighter goes on the value; none goes on a refusal.
+fn follows(kinds: &[u8], k: u8, r: Read) -> bool
+    ensures { λ b. ⌜ b ≡ followsOf (now (kinds .entry)) k r ⌝ }
+{
+    match r {
+        Read::Value(t, p, _) => {
+            let b = binding(t, kind_at(kinds, p));
+            k < b
+        }
+        Read::Refused(_) => false,
+    }
+}
+
 // A value and the token that must stand after it.
 fn expected(kinds: &[u8], kind: u8, r: Read) -> Read
     requires { ⌜ Inside (length (now kinds)) r ⌝ }
@@ -111,7 +150,7 @@ fn expected(kinds: &[u8], kind: u8, r: Read) -> Read
                 Read::Refused(p)
             }
         }
-        Read::Refused(_) => r,
+        Read::Refused(p) => Read::Refused(p),
     }
 }
 
@@ -128,7 +167,7 @@ fn ended(r: Read, term: bool, kind: u8, order: &mut [u8; 256]) -> Read
             }
             Read::Refused(p)
         }
-        Read::Refused(_) => r,
+        Read::Refused(p) => Read::Refused(p),
     }
 }
 
@@ -142,7 +181,7 @@ fn related(r: Read, kind: u8, order: &mut [u8; 256]) -> Read
             order[n] = kind;
             Read::Value(false, p, n + 1)
         }
-        Read::Refused(_) => r,
+        Read::Refused(p) => Read::Refused(p),
     }
 }
 
@@ -158,11 +197,11 @@ fn zeroed(kinds: &[u8], r: Read, order: &mut [u8; 256]) -> Read
                     order[n] = IS_ZERO;
                     return Read::Value(false, p + 1, n + 1);
                 }
-                return r;
+                return Read::Value(t, p, n);
             }
-            r
+            Read::Value(t, p, n)
         }
-        Read::Refused(_) => r,
+        Read::Refused(p) => Read::Refused(p),
     }
 }
 
@@ -174,10 +213,16 @@ fn level(kinds: &[u8], at: usize, k: u8, w: bool, order: &mut [u8; 256], n: usiz
 {
     if k < 4 {
         let x = formula_prefix(kinds, at, order, n);
-        return more(kinds, k, x, order);
+        if follows(kinds, k, x) {
+            return more(kinds, k, x, order);
+        }
+        return x;
     }
     let x = term_prefix(kinds, at, w, order, n);
-    more(kinds, k, x, order)
+    if follows(kinds, k, x) {
+        return more(kinds, k, x, order);
+    }
+    x
 }
 
 // The binary signs of rank k or tighter after a value, each with its right value.
@@ -194,13 +239,14 @@ fn more(kinds: &[u8], k: u8, r: Read, order: &mut [u8; 256]) -> Read
                 let y = ended(x, t, c, order);
                 return more(kinds, k, y, order);
             }
-            r
+            Read::Value(t, p, n)
         }
-        Read::Refused(_) => r,
+        Read::Refused(p) => Read::Refused(p),
     }
 }
 
-// A formula with no binary sign in front, or a whole term.
+// A formula with no binary sign in front, or a whole term. A parenthesis in front, of either sort, is read
+// with no level of terms around it, since parentheses nest.
 fn formula_prefix(kinds: &[u8], at: usize, order: &mut [u8; 256], n: usize) -> Read
     requires { ⌜ Asked (now kinds) at 3 true n ⌝ }
     ensures { λ r. ⌜ Said (now (kinds .entry)) at 3 true n (now (order .entry)) r (now (order .exit)) ⌝ }
@@ -216,6 +262,14 @@ fn formula_prefix(kinds: &[u8], at: usize, order: &mut [u8; 256], n: usize) -> R
             Read::Value(false, at + 1, n + 1)
         }
         CONTACT..=PART => relation(kinds, at + 1, c, order, n),
+        OPEN => {
+            let x = parenthesis(kinds, at + 1, true, order, n);
+            if follows(kinds, 4, x) {
+                let y = more(kinds, 4, x, order);
+                return zeroed(kinds, y, order);
+            }
+            zeroed(kinds, x, order)
+        }
         _ => {
             let x = level(kinds, at, 4, true, order, n);
             zeroed(kinds, x, order)
@@ -237,8 +291,8 @@ fn relation(kinds: &[u8], at: usize, kind: u8, order: &mut [u8; 256], n: usize) 
                 let e = expected(kinds, CLOSE, z);
                 return related(e, kind, order);
             }
-            Read::Refused(_) => {
-                return y;
+            Read::Refused(p) => {
+                return Read::Refused(p);
             }
         }
     }
@@ -265,6 +319,7 @@ fn term_prefix(kinds: &[u8], at: usize, w: bool, order: &mut [u8; 256], n: usize
     }
 }
 
+// The rank at which what stands in a parenthesis is read.
 fn start(w: bool) -> u8
     ensures { λ r. ⌜ r ≡ startOf w ⌝ }
 {
@@ -300,38 +355,14 @@ fn parse(kinds: &[u8], order: &mut [u8; 256]) -> Read
     }
 }
 
-// How a rule text is answered; what is refused carries its place.
-pub enum RuleAnswer {
-    Formula,
-    TooLong,
-    NoToken,
-    ForeignByte(usize),
-    LongName(usize),
-    Measured(usize),
-    GrammarAt(usize),
-}
-
-// A rule as read: its tokens, and the kinds of those that are its formula in postfix order, of which there
-// are len; the names of the order are those of the text, in their order. A refusal comes with neither.
-pub struct Rule {
-    pub answer: RuleAnswer,
-    pub tokens: Tokens,
-    pub order: [u8; 256],
-    pub len: usize,
-}
-
-// Document 01's number of a refusal and what it carries.
-pub enum Verdict {
-    Read,
-    Refused { number: u8, place: usize },
-}
-
+// An array with nothing in it.
 fn zeros() -> [u8; 256]
     ensures { λ r. ⌜ r ≡ replicate 256 0 ⌝ }
 {
     [0u8; 256]
 }
 
+// A refusal, which comes with no token and no order.
 fn refusal(a: RuleAnswer) -> Rule
     ensures { λ r. ⌜ r ≡ refusalOf a ⌝ }
 {

@@ -1,6 +1,6 @@
 -- A value gets its sign, for which there is room; a refusal stays. Assumes nothing.
 use native.Mathlib.Omega.{arith}
-use Rattle.syntax.proofs.Leaves.{room-value, related-value}
+use Rattle.syntax.proofs.Leaves.{room-value, related-value, related-refused}
 use borrow.Author.Needs.{needs}
 use Rattle.syntax.proofs.related.Statement.{statement}
 use Rattle.syntax.proofs.related.Tie as tie
@@ -11,18 +11,18 @@ enum-known-r c = search needs
 element-write-order : tie.Need-element-write-order
 element-write-order c = room-value _ _ _ _ (c .before .r .given .1) (c .before .before .before .pre)
 
-add-t9 : tie.Need-add-t9
-add-t9 c = omega (arith, room-value _ _ _ _ (c .before .r .given .1) (c .before .before .before .pre))
+add-t10 : tie.Need-add-t10
+add-t10 c = omega (arith, room-value _ _ _ _ (c .before .r .given .1) (c .before .before .before .pre))
 
-enum-told : tie.Need-enum-told
-enum-told c = search needs
+enum-known-r-2 : tie.Need-enum-known-r-2
+enum-known-r-2 c = search needs
 
 returns : tie.Need-returns
 returns c = related-value _ _ _ _ _ _ (c .before .r .given .1)
 
 returns-2 : tie.Need-returns-2
-returns-2 c = search needs
+returns-2 c = related-refused _ _ _ _ (c .before .r2 .given .1)
 
 pub related-spec : {M : Type 1} → statement M
 related-spec =
-    tie.close (tie.spec enum-known-r element-write-order add-t9 enum-told returns returns-2)
+    tie.close (tie.spec enum-known-r element-write-order add-t10 enum-known-r-2 returns returns-2)
