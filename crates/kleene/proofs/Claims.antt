@@ -1,0 +1,60 @@
+-- What the crate proves, each claim with the file that has its proof. Nothing is assumed: any formula over atom numbers, and any
+-- pattern of undecided atoms. The contract of `run` is that of src/lib.rt.
+use mathlib.Core.Bool.{Bool}
+use mathlib.Core.Path.{_≡_}
+use mathlib.Core.List.{List, [], _∷_}
+use Prim.Native.Nat.{ℕ, _≤_, _<_}
+use lib.ListN.{length}
+use Rattle.formula.specs.Formula.{Form}
+use Rattle.formula.specs.Names.{atomsOf}
+use Rattle.evalset.specs.Search.{In}
+use Rattle.evalset.specs.Sets.{mem}
+use Rattle.contact.specs.Meaning.{value}
+use Rattle.contact.specs.Row.{Three}
+use Rattle.contact.specs.Tableau.{value3, refuted}
+use Rattle.kleene.specs.declared.Two.{Two}
+use Rattle.kleene.specs.Code.{postfix, Safe}
+use Rattle.kleene.specs.Rails.{Duo, noOf, sure, duoOf, valueD, exec, duoAt, leafAt}
+use Rattle.kleene.proofs.Formed
+use Rattle.kleene.proofs.Three
+
+-- ---- the code of a formula (Formed)
+
+-- its code leaves its value on the stack
+pub exec-postfix : (v : ℕ → Duo) (f : Form ℕ) (st : List Duo) → exec v (postfix f) st ≡ valueD v f ∷ st
+exec-postfix = Formed.exec-postfix
+
+-- `run` may be called with the code of a formula of at most 16 atoms and 256 signs
+pub safe-postfix : (f : Form ℕ) → ((i : ℕ) → In i (atomsOf f) → i < 16) → length (postfix f) ≤ 256 → Safe 128 16 (postfix f) 0
+safe-postfix = Formed.safe-postfix
+
+-- ---- the search's three values (Three)
+
+-- the rails of a formula are those of its value in the search's tables
+pub value-three : (v : ℕ → Duo) (w : ℕ → Three) (f : Form ℕ) → ((i : ℕ) → In i (atomsOf f) → v i ≡ duoOf (w i))
+    → valueD v f ≡ duoOf (value3 w f)
+value-three = Three.value-three
+
+-- so it is on the second rail exactly if the search refutes it
+pub refuted-three : (v : ℕ → Duo) (w : ℕ → Three) (f : Form ℕ) → ((i : ℕ) → In i (atomsOf f) → v i ≡ duoOf (w i))
+    → noOf (valueD v f) ≡ refuted (value3 w f)
+refuted-three = Three.refuted-three
+
+-- where every atom is decided, so is the formula, and its value is the usual one
+pub value-sure : (v : ℕ → Duo) (w : ℕ → Bool) (f : Form ℕ) → ((i : ℕ) → In i (atomsOf f) → v i ≡ sure (w i))
+    → valueD v f ≡ sure (value w f)
+value-sure = Three.value-sure
+
+-- ---- what a run gives (Three), where r is its result for the code of f, at an evaluation that gives the atoms the values w
+
+-- the evaluations on its second rail are those that refute the formula
+pub run-refuted : (f : Form ℕ) (leaves : List Two) (e : ℕ) (r : Two) (w : ℕ → Three)
+    → exec (leafAt leaves e) (postfix f) [] ≡ duoAt r e ∷ [] → ((i : ℕ) → In i (atomsOf f) → leafAt leaves e i ≡ duoOf (w i))
+    → mem (r .no) e ≡ refuted (value3 w f)
+run-refuted = Three.run-refuted
+
+-- and those on its first rail, where every atom is decided, make it true
+pub run-value : (f : Form ℕ) (leaves : List Two) (e : ℕ) (r : Two) (w : ℕ → Bool)
+    → exec (leafAt leaves e) (postfix f) [] ≡ duoAt r e ∷ [] → ((i : ℕ) → In i (atomsOf f) → leafAt leaves e i ≡ sure (w i))
+    → mem (r .yes) e ≡ value w f
+run-value = Three.run-value

@@ -1,0 +1,4 @@
+pub mod Formed
+pub mod Turns
+pub mod Three
+pub mod Claims

@@ -1,0 +1,107 @@
+// Kleene's strong three values on two rails of sets, surely true and surely false, for the postfix code of one rule over
+// atom numbers: a run gives a value for each evaluation of a set, so ROOM rows at once. What is on neither rail is undecided.
+// Values are pairs, `Duo` of specs/Rails.antt, and each contract says the pair at each evaluation. The code comes from our own
+// reader: `run` requires that it is safe, as that of a formula is (proofs/Formed.antt). Assumes nothing.
+ghost use mathlib.Core.Path.{_≡_};
+ghost use mathlib.Core.List.{[], _∷_};
+ghost use Prim.Native.Nat.{ℕ, _≤_, _<_};
+ghost use Rattle.evalset.specs.Sets.{room};
+ghost use Rattle.kleene.specs.Code.{Safe};
+ghost use Rattle.kleene.specs.Rails.{Duo, notD, tableOf, pushOf, exec, duoAt, leafAt};
+use evalset::EvalSet;
+
+// A value for each evaluation: where it is surely true, and where surely false.
+pub struct Two {
+    pub yes: EvalSet,
+    pub no: EvalSet,
+}
+
+// The value with these rails.
+pub fn rails(yes: EvalSet, no: EvalSet) -> Two
+    ensures { λ r. ⌜ (r .yes ≡ yes) × (r .no ≡ no) ⌝ }
+{
+    Two { yes, no }
+}
+
+// The negation: the rails change places.
+fn swapped(a: Two) -> Two
+    ensures { λ r. ⌜ ((e : ℕ) → duoAt r e ≡ notD (duoAt a e)) ⌝ }
+{
+    let yes = a.yes;
+    let no = a.no;
+    Two { yes: no, no: yes }
+}
+
+// Two values under the sign c: 1 is &, 2 is |, 3 is -> and 4 is <->.
+fn combined(c: u8, a: Two, b: Two) -> Two
+    requires { ⌜ (1 ≤ c) × (c < 5) ⌝ }
+    ensures { λ r. ⌜ ((e : ℕ) → duoAt r e ≡ tableOf c (duoAt a e) (duoAt b e)) ⌝ }
+{
+    let y = a.yes;
+    let n = a.no;
+    let z = b.yes;
+    let m = b.no;
+    if c == 1 {
+        rails(evalset::meet(y, z), evalset::join(n, m))
+    } else if c == 2 {
+        rails(evalset::join(y, z), evalset::meet(n, m))
+    } else if c == 3 {
+        rails(evalset::join(n, z), evalset::meet(y, m))
+    } else {
+        rails(
+            evalset::join(evalset::meet(y, z), evalset::meet(n, m)),
+            evalset::join(evalset::meet(y, m), evalset::meet(n, z)),
+        )
+    }
+}
+
+// What the sign c of a constant pushes: 5 is F and 6 is T.
+fn constant(c: u8) -> Two
+    requires { ⌜ (5 ≤ c) × (c < 7) ⌝ }
+    ensures { λ r. ⌜ ((v : ℕ → Duo) (e : ℕ) → e < room → duoAt r e ≡ pushOf v c) ⌝ }
+{
+    if c == 5 {
+        rails(evalset::empty(), evalset::full())
+    } else {
+        rails(evalset::full(), evalset::empty())
+    }
+}
+
+// The code of a formula run on its atoms' values: the formula's value at each evaluation. Only our own crates call it, with
+// code of at most 256 signs that they read from a rule, so that the stack never overflows.
+pub fn run(code: &[u8], leaves: [Two; 16]) -> Two
+    requires { ⌜ Safe 128 16 (now code) 0 ⌝ }
+    ensures { λ r. ⌜ ((e : ℕ) → e < room → exec (leafAt leaves e) (now (code .entry)) [] ≡ (duoAt r e ∷ [])) ⌝ }
+{
+    let none = evalset::empty();
+    let nil = rails(none, none);
+    let mut stack = [nil; 128];
+    let mut sp: usize = 0;
+    let mut i: usize = 0;
+    while i < code.len() {
+        let c = code[i];
+        i += 1;
+        if c == 0 {
+            let a = stack[sp - 1];
+            stack[sp - 1] = swapped(a);
+            continue;
+        }
+        if c < 5 {
+            let a = stack[sp - 2];
+            let b = stack[sp - 1];
+            stack[sp - 2] = combined(c, a, b);
+            sp -= 1;
+            continue;
+        }
+        if c < 7 {
+            stack[sp] = constant(c);
+            sp += 1;
+            continue;
+        }
+        let k = (c - 7) as usize;
+        let leaf = leaves[k];
+        stack[sp] = leaf;
+        sp += 1;
+    }
+    stack[0]
+}
