@@ -1,0 +1,141 @@
+-- Names in arrays are as good as lists of names: a name is found again below the zeros that pad it, so that kept names are the same where
+-- their bytes are, have the same numbers, and are put last alike. Assumes nothing.
+use mathlib.Core.Bool.{Bool, true, false, _&&_, cond}
+use mathlib.Core.Path.{_≡_, refl, sym, ap, ap₂, _∙_}
+use mathlib.Core.List.{List, [], _∷_, _++_, map, map-append, append-assoc}
+use Prim.Native.Nat.{ℕ, suc, _+_, _-_, _≤_, _<_}
+use native.Mathlib.Omega.{arith}
+use native.Mathlib.Decide.{ℕ-discrete}
+use lib.Dec.{eqb, ltb}
+use lib.ListN.{length, take, set, replicate, length-append, length-map}
+use lib.Seq.{take-at, set-at}
+use borrow.Author.Tests.{eq-eqb, ne-eqb, lt-ltb, le-ltb}
+use Rattle.formula.specs.Formula.{Name}
+use Rattle.lexer.specs.Arrays.{pad}
+use Rattle.evalset.proofs.Search.{untrue}
+use Rattle.contact.specs.Numbering.{position, sameName}
+use Rattle.contact.proofs.Naming.{same-name}
+use Rattle.names.specs.declared.Name.{Name as KeptName}
+use Rattle.names.specs.declared.Names.{Names}
+use Rattle.names.specs.Gather.{room, isKnown, withName, nameOf, arraysOf, bytesIn, knownOf, Kept}
+use Rattle.names.specs.Steps.{sameKept, placeIn, push, withKept}
+use Rattle.names.proofs.Distinct.{position-in, position-out}
+
+-- ---- one name
+
+pub same-kept : (v w : Name) → sameKept (nameOf v) w ≡ sameName v w
+unfolding sameKept nameOf
+same-kept v w = go (ℕ-discrete (length v) (length w))
+  where
+    zeros : List ℕ
+    zeros = replicate (16 - length v) 0
+
+    go : Dec (length v ≡ length w) → (eqb (length v) (length w) && sameName (take (length w) (v ++ zeros)) w) ≡ sameName v w
+    go (yes e) =
+        ap (λ (t : Bool). t && sameName (take (length w) (v ++ zeros)) w) (eq-eqb (length v) (length w) e)
+        ∙ ap (λ (x : Name). sameName x w) (take-at v zeros (length w) e)
+    go (no n) =
+        ap (λ (t : Bool). t && sameName (take (length w) (v ++ zeros)) w) (ne-eqb (length v) (length w) n)
+        ∙ sym (untrue (sameName v w) (λ h. n (ap length (same-name v w .0 h))))
+
+bytes-back : (w : Name) → bytesIn (nameOf w) ≡ w
+unfolding nameOf
+bytes-back w = take-at w (replicate (16 - length w) 0) (length w) refl
+
+-- ---- the names
+
+place-in : (w : Name) (ks : List Name) → placeIn w (map nameOf ks) ≡ position sameName ks w
+unfolding placeIn
+place-in w [] = refl
+place-in w (k ∷ ks) = ap₂ (λ (t : Bool) (n : ℕ). cond t 0 (suc n)) (same-kept k w) (place-in w ks)
+
+kept-list : (ks : List Name) → take (arraysOf ks .count) (arraysOf ks .list) ≡ map nameOf ks
+unfolding arraysOf
+kept-list ks = take-at (map nameOf ks) (replicate (6 - length ks) (nameOf [])) (length ks) (length-map ks nameOf)
+
+pub kept-count : (ks : List Name) → arraysOf ks .count ≡ length ks
+unfolding arraysOf
+kept-count ks = refl
+
+-- the names that arrays hold are those that were put into them
+pub known-back : (ks : List Name) → knownOf (arraysOf ks) ≡ ks
+unfolding knownOf
+known-back ks = ap (map bytesIn) (kept-list ks) ∙ each ks
+  where
+    each : (ls : List Name) → map bytesIn (map nameOf ls) ≡ ls
+    each [] = refl
+    each (l ∷ ls) = ap₂ _∷_ (bytes-back l) (each ls)
+
+pub kept-names : (ks : List Name) → length ks ≤ room → Kept (arraysOf ks)
+kept-names ks h = record { canonical = ap arraysOf (sym (known-back ks)); few = omega (arith, kept-count ks) }
+
+-- the number of a name
+pub number-kept : (ks : List Name) (w : Name) → placeIn w (take (arraysOf ks .count) (arraysOf ks .list)) ≡ position sameName ks w
+number-kept ks w = ap (placeIn w) (kept-list ks) ∙ place-in w ks
+
+abbrev names : List KeptName → ℕ → Names
+names l n = record { list = l; count = n }
+
+push-kept : (ks : List Name) (w : Name) → length ks < 6 → push (arraysOf ks) (nameOf w) ≡ arraysOf (ks ++ w ∷ [])
+unfolding push arraysOf
+push-kept ks w h =
+    let m : ℕ = 6 - (length ks + 1) in
+    let f : 6 - length ks ≡ suc m = omega arith in
+    let g : m ≡ 6 - length (ks ++ w ∷ []) = omega (arith, length-append ks (w ∷ [])) in
+    ap (λ (l : List KeptName). names l (length ks + 1))
+    (ap (λ (n : ℕ). set (map nameOf ks ++ replicate n (nameOf [])) (length ks) (nameOf w)) f
+    ∙ set-at (map nameOf ks) (nameOf []) (replicate m (nameOf [])) (nameOf w) (length ks) (length-map ks nameOf)
+    ∙ sym (append-assoc (map nameOf ks) (nameOf w ∷ []) (replicate m (nameOf [])))
+    ∙ ap (λ (l : List KeptName). l ++ replicate m (nameOf [])) (sym (map-append nameOf ks (w ∷ [])))
+    ∙ ap (λ (n : ℕ). map nameOf (ks ++ w ∷ []) ++ replicate n (nameOf [])) g)
+    ∙ ap (names (map nameOf (ks ++ w ∷ []) ++ replicate (6 - length (ks ++ w ∷ [])) (nameOf []))) (sym (length-append ks (w ∷ [])))
+
+module _ (ks : List Name) (w : Name) (few : length ks ≤ room) where
+  abbrev number : ℕ
+  number = position sameName ks w
+
+  -- one name more
+  pub with-kept : (number ≡ room → ⊥) → withKept (arraysOf ks) w number ≡ arraysOf (withName ks w)
+  unfolding withKept withName
+  with-kept h = go (isKnown ks w) refl
+    where
+      go : (b : Bool) → isKnown ks w ≡ b → cond (ltb number (arraysOf ks .count)) (arraysOf ks) (push (arraysOf ks) (nameOf w)) ≡ arraysOf (cond b ks (ks ++ w ∷ []))
+      go true e =
+          let l : number < arraysOf ks .count = omega (arith, position-in sameName ks w e, kept-count ks) in
+          ap (λ (t : Bool). cond t (arraysOf ks) (push (arraysOf ks) (nameOf w))) (lt-ltb number (arraysOf ks .count) l)
+      go false e =
+          let f : number ≡ length ks = position-out sameName ks w e in
+          let l : arraysOf ks .count ≤ number = omega (arith, kept-count ks) in
+          let r : length ks < 6 = omega arith in
+          ap (λ (t : Bool). cond t (arraysOf ks) (push (arraysOf ks) (nameOf w))) (le-ltb number (arraysOf ks .count) l)
+          ∙ push-kept ks w r
+
+  -- with it there are too many exactly if its number is too high
+  pub too-many : number ≡ room → ltb room (length (withName ks w)) ≡ true
+  unfolding withName
+  too-many h = go (isKnown ks w) refl
+    where
+      go : (b : Bool) → isKnown ks w ≡ b → ltb room (length (cond b ks (ks ++ w ∷ []))) ≡ true
+      go true e = absurd (omega (arith, position-in sameName ks w e))
+      go false e = let f : number ≡ length ks = position-out sameName ks w e in lt-ltb room (length (ks ++ w ∷ [])) (omega (arith, length-append ks (w ∷ [])))
+
+  pub not-too-many : (number ≡ room → ⊥) → length (withName ks w) ≤ room
+  unfolding withName
+  not-too-many h = go (isKnown ks w) refl
+    where
+      go : (b : Bool) → isKnown ks w ≡ b → length (cond b ks (ks ++ w ∷ [])) ≤ room
+      go true e = few
+      go false e = let f : number ≡ length ks = position-out sameName ks w e in omega (arith, length-append ks (w ∷ []))
+
+-- ---- the numbers
+
+-- a number stored behind those that are there
+pub pad-set : (xs : List ℕ) (n v : ℕ) → length xs ≡ n → n < 256 → set (pad xs) n v ≡ pad (xs ++ v ∷ [])
+pad-set xs n v e h =
+    let m : ℕ = 256 - (length xs + 1) in
+    let f : 256 - length xs ≡ suc m = omega arith in
+    let g : m ≡ 256 - length (xs ++ v ∷ []) = omega (arith, length-append xs (v ∷ [])) in
+    ap (λ (k : ℕ). set (xs ++ replicate k 0) n v) f
+    ∙ set-at xs 0 (replicate m 0) v n e
+    ∙ sym (append-assoc xs (v ∷ []) (replicate m 0))
+    ∙ ap (λ (k : ℕ). (xs ++ v ∷ []) ++ replicate k 0) g

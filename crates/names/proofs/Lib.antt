@@ -1,0 +1,9 @@
+pub mod Scans
+pub mod Distinct
+pub mod Arrays
+pub mod Tokens
+pub mod Going
+pub mod Outcome
+pub mod Places
+pub mod Texts
+pub mod Claims

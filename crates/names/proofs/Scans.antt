@@ -1,0 +1,102 @@
+-- One turn of each scan over the arrays: the lists are taken apart at the place that is looked at, and the rest is scanned on.
+-- Assumes nothing.
+use mathlib.Core.Path.{_≡_, sym, ap, _∙_}
+use mathlib.Core.Bool.{Bool, true, false, _&&_, cond}
+use mathlib.Core.List.{List, [], _∷_, _++_}
+use Prim.Native.Nat.{ℕ, suc, _+_, _-_, _≤_, _<_}
+use native.Mathlib.Omega.{arith}
+use native.Mathlib.Numerals.{add-one}
+use lib.ListN.{length, take, drop, getD, set, replicate, drop-of-length-le, length-take}
+use lib.Seq.{drop-cons, set-at, take-suc, append-snoc, length-take-le, getD-take}
+use borrow.Author.Tests.{eq-eqb, ne-eqb, lt-ltb, le-ltb}
+use Rattle.formula.specs.Formula.{Name}
+use Rattle.contact.specs.Numbering.{sameName}
+use Rattle.names.specs.declared.Name.{Name as KeptName}
+use Rattle.names.specs.declared.Names.{Names}
+use Rattle.names.specs.Gather.{nameOf}
+use Rattle.names.specs.Steps.{sameKept, placeIn, push, withKept}
+
+pub rest : {A : Type 0} (s : List A) (i : ℕ) (d : A) → i < length s → drop i s ≡ getD s i d ∷ drop (i + 1) s
+rest s i d h = rw (add-one, drop-cons s i d)
+
+-- ---- same
+
+module _ (k : KeptName) (w : Name) where
+  pub lengths-differ : (k .len ≡ length w → ⊥) → false ≡ sameKept k w
+  unfolding sameKept
+  lengths-differ n = sym (ap (λ (t : Bool). t && sameName (take (length w) (k .bytes)) w) (ne-eqb (k .len) (length w) n))
+
+  pub lengths-agree : k .len ≡ length w → sameName (take (length w) (k .bytes)) w ≡ sameKept k w
+  unfolding sameKept
+  lengths-agree e = sym (ap (λ (t : Bool). t && sameName (take (length w) (k .bytes)) w) (eq-eqb (k .len) (length w) e))
+
+-- the bytes from i on
+module _ (bytes w : List ℕ) (i : ℕ) (full : length bytes ≡ 16) (short : length w ≤ 16) where
+  abbrev pub sameFrom : Bool
+  sameFrom = sameName (drop i (take (length w) bytes)) (drop i w)
+
+  kept-rest : i < length w → drop i (take (length w) bytes) ≡ getD bytes i 0 ∷ drop (i + 1) (take (length w) bytes)
+  kept-rest h =
+      let l : i < length (take (length w) bytes) = omega (arith, length-take (length w) bytes) in
+      rest (take (length w) bytes) i 0 l
+      ∙ ap (λ (x : ℕ). x ∷ drop (i + 1) (take (length w) bytes)) (getD-take (length w) bytes i 0 h)
+
+  pub byte-same : i < length w → getD bytes i 0 ≡ getD w i 0 → sameFrom ≡ sameName (drop (i + 1) (take (length w) bytes)) (drop (i + 1) w)
+  byte-same h e = rw (kept-rest h, rest w i 0 h, eq-eqb (getD bytes i 0) (getD w i 0) e)
+
+  pub byte-differs : i < length w → (getD bytes i 0 ≡ getD w i 0 → ⊥) → sameFrom ≡ false
+  byte-differs h e = rw (kept-rest h, rest w i 0 h, ne-eqb (getD bytes i 0) (getD w i 0) e)
+
+  pub bytes-end : length w ≤ i → sameFrom ≡ true
+  bytes-end h =
+      let l : length (take (length w) bytes) ≤ i = omega (arith, length-take (length w) bytes) in
+      rw (drop-of-length-le (take (length w) bytes) l, drop-of-length-le w h)
+
+-- ---- number_of
+
+-- what is read past the end of a list of names
+abbrev pub empty : KeptName
+empty = record { bytes = []; len = 0 }
+
+module _ (w : Name) (ks : List KeptName) (i : ℕ) where
+  pub number-here : i < length ks → sameKept (getD ks i empty) w ≡ true → i + placeIn w (drop i ks) ≡ i
+  unfolding placeIn
+  number-here h e =
+      let z : placeIn w (drop i ks) ≡ 0 = rw (rest ks i empty h, e) in
+      omega arith
+
+  pub number-next : i < length ks → sameKept (getD ks i empty) w ≡ false → i + placeIn w (drop i ks) ≡ i + 1 + placeIn w (drop (i + 1) ks)
+  unfolding placeIn
+  number-next h e =
+      let z : placeIn w (drop i ks) ≡ suc (placeIn w (drop (i + 1) ks)) = rw (rest ks i empty h, e) in
+      omega arith
+
+  pub number-end : length ks ≤ i → i + placeIn w (drop i ks) ≡ i
+  unfolding placeIn
+  number-end h =
+      let z : placeIn w (drop i ks) ≡ 0 = rw (drop-of-length-le ks h) in
+      omega arith
+
+-- ---- name_of: one byte more over the zeros
+
+pub copy-next : (m : ℕ) (s : List ℕ) (i : ℕ) → i < length s → i < m
+    → set (take i s ++ replicate (m - i) 0) i (getD s i 0) ≡ take (i + 1) s ++ replicate (m - (i + 1)) 0
+copy-next m s i h k =
+    let e : m - i ≡ suc (m - (i + 1)) = omega arith in
+    let f : set (take i s ++ 0 ∷ replicate (m - (i + 1)) 0) i (getD s i 0) ≡ take i s ++ getD s i 0 ∷ replicate (m - (i + 1)) 0
+    = set-at (take i s) 0 (replicate (m - (i + 1)) 0) (getD s i 0) i (length-take-le i s (omega arith)) in
+    ap (λ (n : ℕ). set (take i s ++ replicate n 0) i (getD s i 0)) e
+    ∙ f
+    ∙ sym (append-snoc (take i s) (getD s i 0) (replicate (m - (i + 1)) 0))
+    ∙ ap (λ (l : List ℕ). l ++ replicate (m - (i + 1)) 0) (sym (take-suc s i 0 h) ∙ ap (λ (n : ℕ). take n s) (sym (add-one i)))
+
+-- ---- with_name
+
+module _ (ns : Names) (w : Name) (n : ℕ) where
+  pub name-there : n < ns .count → ns ≡ withKept ns w n
+  unfolding withKept
+  name-there h = sym (ap (λ (t : Bool). cond t ns (push ns (nameOf w))) (lt-ltb n (ns .count) h))
+
+  pub name-new : ns .count ≤ n → (k : KeptName) → k ≡ nameOf w → push ns k ≡ withKept ns w n
+  unfolding withKept
+  name-new h k e = ap (push ns) e ∙ sym (ap (λ (t : Bool). cond t ns (push ns (nameOf w))) (le-ltb n (ns .count) h))

@@ -1,0 +1,74 @@
+-- The invariant: the bytes up to i are copied over the zeros. The measure is what is left of the name. Assumes nothing.
+use Prim.Native.Nat.{ℕ, _-_, _≤_}
+use mathlib.Core.Path.{_≡_, refl, ap, _∙_}
+use mathlib.Core.List.{List, _++_}
+use native.Mathlib.Omega.{arith}
+use lib.ListN.{length, take, getD, set, replicate}
+use lib.Seq.{take-length}
+use borrow.Author.Needs.{needs}
+use Rattle.names.specs.declared.Name.{Name}
+use Rattle.names.specs.Gather.{nameOf}
+use Rattle.names.proofs.Scans.{copy-next}
+use Rattle.names.proofs.name_of.Statement.{statement}
+use Rattle.names.proofs.name_of.Tie as tie
+
+abbrev nameWith : List ℕ → ℕ → Name
+nameWith b n = record { bytes = b; len = n }
+
+abbrev Inv-loop : tie.InvT-loop
+Inv-loop w bytes₀ i₀ bytes i = (i ≤ length w) × (length w ≤ 16) × (bytes ≡ take i w ++ replicate (16 - i) 0)
+
+abbrev μ-loop : tie.MeasureT-loop
+μ-loop w bytes₀ i₀ bytes i = length w - i
+
+loop-holds : tie.Need-loop-holds Inv-loop μ-loop
+loop-holds c = (omega arith, c .pre, refl)
+
+shared-slice-read-bytes : tie.Need-shared-slice-read-bytes Inv-loop μ-loop
+shared-slice-read-bytes c = search needs
+
+array-write-bytes : tie.Need-array-write-bytes Inv-loop μ-loop
+array-write-bytes c = omega arith
+
+add-i : tie.Need-add-i Inv-loop μ-loop
+add-i c = omega arith
+
+loop-less : tie.Need-loop-less Inv-loop μ-loop
+loop-less c = omega arith
+
+loop-again : tie.Need-loop-again Inv-loop μ-loop
+loop-again c =
+    let s = c .before .before .before .args .w .now in
+    let i = c .before .before .loop .i in
+    let inv = c .before .before .loop .inv in (
+      omega arith,
+      inv .1,
+      ap (λ (b : List ℕ). set b i (getD s i 0)) (inv .2) ∙ copy-next 16 s i (c .before .loop-test .taken) (omega arith),
+    )
+
+cast-len : tie.Need-cast-len Inv-loop μ-loop
+cast-len c = omega arith
+
+returns : tie.Need-returns Inv-loop μ-loop
+unfolding nameOf
+returns c =
+    let s = c .before .before .args .w .now in
+    let i = c .before .loop .i in
+    let e : i ≡ length s = omega arith in
+    ap (λ (b : List ℕ). nameWith b (length s))
+    (c .before .loop .inv .2 ∙ ap (λ (n : ℕ). take n s ++ replicate (16 - n) 0) e ∙ ap (λ (l : List ℕ). l ++ replicate (16 - length s) 0) (take-length s))
+
+pub name-of-spec : {M : Type 1} → statement M
+name-of-spec =
+    tie.close
+    (tie.spec
+    Inv-loop
+    μ-loop
+    loop-holds
+    shared-slice-read-bytes
+    array-write-bytes
+    add-i
+    loop-less
+    loop-again
+    cast-len
+    returns)

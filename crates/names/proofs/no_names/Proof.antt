@@ -1,0 +1,12 @@
+-- Six empty entries are what no name is padded with. Assumes nothing.
+use mathlib.Core.Path.{refl}
+use Rattle.names.specs.Gather.{nameOf, arraysOf}
+use Rattle.names.proofs.no_names.Statement.{statement}
+use Rattle.names.proofs.no_names.Tie as tie
+
+returns : tie.Need-returns
+unfolding arraysOf nameOf
+returns c = refl
+
+pub no-names-spec : {M : Type 1} → statement M
+no-names-spec = tie.close (tie.spec returns)

@@ -1,0 +1,24 @@
+-- What is meant by refusal 7 of the table of calls: "a seventh name", carrying "that name's first byte". Assumes nothing.
+use mathlib.Core.Path.{_≡_}
+use mathlib.Core.List.{List, _∷_, _++_, map}
+use Prim.Native.Nat.{ℕ}
+use lib.ListN.{length}
+use Rattle.formula.specs.Formula.{Name}
+use Rattle.evalset.specs.Search.{In}
+use Rattle.contact.specs.Numbering.{distinct, sameName}
+use Rattle.names.specs.Gather.{NameAt, nameAt, room}
+
+-- names without their places
+abbrev pub namesAt : List NameAt → List Name
+namesAt xs = map (λ (x : NameAt). x .name) xs
+
+-- behind the names of the earlier texts, one at place p is the seventh different one, at its first place
+pub record SeventhAt (earlier : List Name) (xs : List NameAt) (p : ℕ) : Type 0 where
+  pub before : List NameAt
+  pub name : Name
+  pub after : List NameAt
+  pub split : xs ≡ before ++ nameAt p name ∷ after
+  -- there are six different names before it
+  pub six : length (distinct sameName (earlier ++ namesAt before)) ≡ room
+  -- and it is none of them
+  pub new : In name (earlier ++ namesAt before) → ⊥

@@ -1,0 +1,178 @@
+// The names of rule texts, numbered from 0 by first place over several texts, at most six: document 01,
+// 'Meaning', second paragraph, and refusal 7 of the table of calls. The names of a text are found in the
+// tokens that the reader handed back; nothing is cut again. `gather` is called by this project's own
+// crates, and requires what they have: the rule that was read from the text, and names that `no_names`
+// or `gather` gave back. What is computed is in specs/Gather.antt, what is proved of it in
+// proofs/Claims.antt.
+ghost use mathlib.Core.Path.{_≡_};
+ghost use Prim.Native.Nat.{_≤_, _<_};
+ghost use mathlib.Core.List.{[]};
+ghost use lib.ListN.{length, take, replicate};
+ghost use Rattle.names.specs.Gather.{arraysOf, nameOf, knownOf, Gathers, gathered};
+ghost use Rattle.names.specs.Steps.{sameKept, placeIn, withKept};
+use syntax::Rule;
+
+// The kind of a token that is a name, by the lexer's numbers.
+const NAME: u8 = 18;
+
+// How many names there may be.
+const ROOM: usize = 6;
+
+// A name's bytes, zeros after them.
+pub struct Name {
+    pub bytes: [u8; 16],
+    pub len: u8,
+}
+
+// The names in the order of their numbers; the entries past them are empty.
+pub struct Names {
+    pub list: [Name; 6],
+    pub count: usize,
+}
+
+// Whether six names are enough, or where the seventh different one stands first.
+pub enum NamesAnswer {
+    Enough,
+    SeventhName(usize),
+}
+
+// The names that are known after a text, the numbers of the names in it, place by place with zeros after
+// them, and the answer. At a seventh name these are the names and numbers before it.
+pub struct Gathered {
+    pub names: Names,
+    pub numbers: [u8; 256],
+    pub answer: NamesAnswer,
+}
+
+fn zeros() -> [u8; 256]
+    ensures { λ r. ⌜ r ≡ replicate 256 0 ⌝ }
+{
+    [0u8; 256]
+}
+
+fn wide(n: u8) -> usize
+    ensures { λ r. ⌜ r ≡ n ⌝ }
+{
+    n as usize
+}
+
+// No name at all.
+pub fn no_names() -> Names
+    ensures { λ r. ⌜ r ≡ arraysOf [] ⌝ }
+{
+    let bytes = [0u8; 16];
+    let empty = Name { bytes, len: 0 };
+    let list = [empty; 6];
+    Names { list, count: 0 }
+}
+
+// Whether a name that is kept has these bytes; they are compared only where the lengths agree.
+fn same(k: Name, w: &[u8]) -> bool
+    requires { ⌜ length (now w) ≤ 16 ⌝ }
+    ensures { λ r. ⌜ r ≡ sameKept k (now (w .entry)) ⌝ }
+{
+    let n = wide(k.len);
+    if n != w.len() {
+        return false;
+    }
+    let bytes = k.bytes;
+    let mut i: usize = 0;
+    while i < w.len() {
+        if bytes[i] != w[i] {
+            return false;
+        }
+        i += 1;
+    }
+    true
+}
+
+// The number of the name with these bytes; how many names there are where it is none of them.
+fn number_of(names: Names, w: &[u8]) -> usize
+    requires { ⌜ (names .count ≤ 6) × (length (now w) ≤ 16) ⌝ }
+    ensures { λ r. ⌜ r ≡ placeIn (now (w .entry)) (take (names .count) (names .list)) ⌝ }
+{
+    let list = names.list;
+    let count = names.count;
+    let mut i: usize = 0;
+    while i < count {
+        let k = list[i];
+        if same(k, w) {
+            return i;
+        }
+        i += 1;
+    }
+    i
+}
+
+// A name as it is kept.
+fn name_of(w: &[u8]) -> Name
+    requires { ⌜ length (now w) ≤ 16 ⌝ }
+    ensures { λ r. ⌜ r ≡ nameOf (now (w .entry)) ⌝ }
+{
+    let mut bytes = [0u8; 16];
+    let mut i: usize = 0;
+    while i < w.len() {
+        bytes[i] = w[i];
+        i += 1;
+    }
+    let len = w.len() as u8;
+    Name { bytes, len }
+}
+
+// The names with the one of these bytes and this number put last, if it is not among them.
+fn with_name(names: Names, w: &[u8], number: usize) -> Names
+    requires { ⌜ (number < 6) × (length (now w) ≤ 16) ⌝ }
+    ensures { λ r. ⌜ r ≡ withKept names (now (w .entry)) number ⌝ }
+{
+    let count = names.count;
+    if number < count {
+        return names;
+    }
+    let name = name_of(w);
+    let mut next = names;
+    next.list[count] = name;
+    next.count = count + 1;
+    next
+}
+
+// The names of a rule's text behind those that are known, up to the seventh; a text that was refused
+// has none.
+pub fn gather(text: &[u8], rule: Rule, names: Names) -> Gathered
+    requires { ⌜ Gathers (now text) rule names ⌝ }
+    ensures { λ r. ⌜ r ≡ gathered (now (text .entry)) (knownOf names) ⌝ }
+{
+    let t = rule.tokens;
+    let kinds = t.kinds;
+    let starts = t.starts;
+    let lens = t.lens;
+    let n = t.n;
+    let mut known = names;
+    let mut numbers = zeros();
+    let mut m: usize = 0;
+    let mut i: usize = 0;
+    while i < n {
+        if kinds[i] != NAME {
+            i += 1;
+            continue;
+        }
+        let start = wide(starts[i]);
+        let end = start + wide(lens[i]);
+        let number = number_of(known, &text[start..end]);
+        if number == ROOM {
+            return Gathered {
+                names: known,
+                numbers,
+                answer: NamesAnswer::SeventhName(start),
+            };
+        }
+        known = with_name(known, &text[start..end], number);
+        numbers[m] = number as u8;
+        m += 1;
+        i += 1;
+    }
+    Gathered {
+        names: known,
+        numbers,
+        answer: NamesAnswer::Enough,
+    }
+}
