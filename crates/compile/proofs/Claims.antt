@@ -1,0 +1,77 @@
+-- What is proved of compiling: the pass over a formula's order makes its atoms and its code, a compiled sheet has at each
+-- evaluation what the terms say, and what was read can be compiled. Assumes nothing.
+use mathlib.Core.Bool.{Bool, _&&_}
+use mathlib.Core.Path.{_≡_, sym, ap, _∙_}
+use mathlib.Core.List.{List, [], _++_}
+use Prim.Native.Nat.{ℕ, _+_, _-_, _≤_, _<_}
+use native.Mathlib.Omega.{arith}
+use lib.ListN.{length, take, drop, replicate, length-append}
+use lib.Seq.{take-at}
+use borrow.Author.Tests.{lt-ltb}
+use Rattle.formula.specs.Formula.{Term, Atom, Formula, Name}
+use Rattle.formula.specs.Names.{atomsOf}
+use Rattle.syntax.specs.Postfix.{postfix}
+use Rattle.syntax.specs.RuleText.{IsRule}
+use Rattle.syntax.specs.Reader.{codes}
+use Rattle.syntax.specs.Rule.{ruleOf}
+use Rattle.syntax.specs.declared.Rule.{Rule}
+use Rattle.syntax.proofs.Heads.{length-codes}
+use Rattle.syntax.proofs.Claims.{text-read}
+use Rattle.evalset.specs.Sets.{room, memAt}
+use Rattle.evalset.proofs.Bounded.{each}
+use Rattle.contact.specs.Numbering.{mapAtom, mapForm, numberForm}
+use Rattle.contact.specs.Plan.{at}
+use Rattle.compile.specs.declared.Sheet.{Sheet}
+use Rattle.compile.specs.Code.{postfixCode, written}
+use Rattle.compile.specs.Sheet.{setOf, firstTerm, secondSet, atomAt, CompiledFrom}
+use Rattle.compile.specs.Machine.{start, run}
+use Rattle.compile.proofs.Laws.{formula-run}
+use Rattle.compile.proofs.Steps.{written-parts, written-length}
+
+-- ---- the pass over the order
+
+-- for names of any type, behind any atoms: the formula's atoms with numbers for names, and its code with numbers for atoms
+pub order-compiled : {N : Type 0} (g : N → ℕ) (f : Formula N) (atoms : List (Atom ℕ))
+    → run g (postfix f) (start atoms) ≡ record { terms = []; atoms = atoms ++ atomsOf (mapForm (mapAtom g) f); code = postfixCode (numberForm (length atoms) f) }
+unfolding run
+order-compiled g f atoms = formula-run g f [] (start atoms)
+
+-- ---- a compiled sheet
+
+-- a set has of the evaluations below room those in which its term holds
+pub set-members : (t : Term ℕ) (e : ℕ) → e < room → setOf t e ≡ at t e
+unfolding setOf
+set-members t e l = ap (λ (b : Bool). b && at t e) (lt-ltb e room l)
+
+module _ {sheet : Sheet} {atoms : List (Atom ℕ)} (c : CompiledFrom sheet atoms) (i e : ℕ) (l : e < room) where
+  -- the first set of an atom, the zero term's of a zero atom
+  pub first-members : memAt (sheet .xs) i e ≡ at (firstTerm (atomAt atoms i)) e
+  first-members = each (c .firsts i) e ∙ set-members (firstTerm (atomAt atoms i)) e l
+
+  -- the second set of a contact
+  pub second-members : (x y : Term ℕ) → atomAt atoms i ≡ Atom.contact x y → memAt (sheet .ys) i e ≡ at y e
+  second-members x y h = each (c .seconds i ∙ ap secondSet h) e ∙ set-members y e l
+
+-- ---- the array of code
+
+-- the code stands from a place on, and all else is as before
+pub code-stands : (from : ℕ) (ws buf : List ℕ) → from + length ws ≤ length buf → written from ws buf ≡ take from buf ++ (ws ++ drop (from + length ws) buf)
+code-stands = written-parts
+
+pub code-length : (from : ℕ) (ws buf : List ℕ) → length (written from ws buf) ≡ length buf
+code-length = written-length
+
+-- ---- what was read
+
+module _ (s : List ℕ) (f : Formula Name) (h : IsRule s f) where
+  -- the order that a reader hands back, up to its length, is one that can be compiled
+  pub order-read : take (ruleOf s .len) (ruleOf s .order) ≡ codes (postfix f)
+  order-read =
+      ap (λ (r : Rule). take (r .len) (r .order)) (text-read s f h)
+      ∙ take-at (codes (postfix f)) (replicate (256 - length (postfix f)) 0) (length (postfix f)) (length-codes (postfix f))
+
+  -- and short enough, since it has a place in the array
+  pub order-short : length (ruleOf s .order) ≡ 256 → length (codes (postfix f)) ≤ 256
+  order-short l =
+      let e : length (codes (postfix f) ++ replicate (256 - length (postfix f)) 0) ≡ 256 = sym (ap (λ (r : Rule). length (r .order)) (text-read s f h)) ∙ l in
+      omega (arith, length-append (codes (postfix f)) (replicate (256 - length (postfix f)) 0))

@@ -1,0 +1,318 @@
+-- The loop follows the machine: after i symbols its stack, its sheet and its array are those of the machine's state, for every
+-- formula, numbering and atoms that were given. Each turn is one symbol. Assumes nothing.
+use mathlib.Core.Bool.{true, false}
+use mathlib.Core.Path.{_≡_, refl, sym, ap, ap₂, subst, _∙_}
+use mathlib.Core.List.{List, [], _∷_, _++_, map, append-assoc, append-nil}
+use Prim.Native.Nat.{ℕ, zero, suc, _+_, _-_, _≤_, _<_}
+use native.Mathlib.Omega.{arith}
+use native.Mathlib.Numerals.{add-one}
+use lib.Dec.{eqb}
+use lib.ListN.{length, getD, take, drop, set, length-append, length-set, take-append-drop}
+use lib.Seq.{length-take-le, take-suc, take-length}
+use Rattle.formula.specs.Formula.{Atom, Formula, Name}
+use Rattle.syntax.specs.Symbol.{Leaf, leaf, opening}
+use Rattle.syntax.specs.Postfix.{postfix, symbolNames, namesIn}
+use Rattle.syntax.specs.Machine.{Sym}
+use Rattle.syntax.specs.Reader.{code, codes}
+use Rattle.syntax.proofs.Heads.{length-codes}
+use Rattle.syntax.proofs.Claims.{order-names}
+use Rattle.evalset.specs.declared.EvalSet.{EvalSet}
+use Rattle.evalset.specs.Sets.{mem, memAt}
+use Rattle.compile.specs.declared.Sheet.{Sheet}
+use Rattle.compile.specs.Code.{written}
+use Rattle.compile.specs.Kinds.{takenBy, termKind, atomKind, namesBy, setBy, firstBy, secondBy, signBy}
+use Rattle.compile.specs.Sheet.{CompiledFrom, Grows}
+use Rattle.compile.specs.Machine.{State, start, step, run}
+use Rattle.compile.specs.Compiles.{atomsAfter, codeAfter, Given, Asked, Compiles}
+use Rattle.compile.proofs.Laws.{compiled, run-last, run-append, formula-run, Bounds, run-bounds}
+use Rattle.compile.proofs.Heights.{symbolAt, order-fine}
+use Rattle.compile.proofs.Steps.{written-none, written-more, Stacked, Put, term-step, Made, atom-step, sign-step, atom-grows, names-by, no-name, one-at-most}
+
+-- ---- the kinds and the names of an order
+
+code-at : (xs : List Sym) (i : ℕ) → i < length xs → getD (codes xs) i 0 ≡ code (symbolAt xs i)
+unfolding codes
+code-at [] i l = absurd (omega arith)
+code-at (x ∷ xs) ℕ.zero l = refl
+code-at (x ∷ xs) (suc i) l = code-at xs i (omega arith)
+
+names-append : (a b : List Sym) → namesIn (a ++ b) ≡ namesIn a ++ namesIn b
+unfolding namesIn
+names-append [] b = refl
+names-append (x ∷ a) b = ap (λ (l : List Name). symbolNames x ++ l) (names-append a b) ∙ sym (append-assoc (symbolNames x) (namesIn a) (namesIn b))
+
+-- how many names stand before a place
+abbrev pub passed : List Sym → ℕ → ℕ
+passed xs i = length (namesIn (take i xs))
+
+take-next : (xs : List Sym) (i : ℕ) → i < length xs → take (i + 1) xs ≡ take i xs ++ symbolAt xs i ∷ []
+take-next xs i l = ap (λ (k : ℕ). take k xs) (add-one i) ∙ take-suc xs i opening l
+
+passed-next : (xs : List Sym) (i : ℕ) → i < length xs → passed xs (i + 1) ≡ passed xs i + namesBy (code (symbolAt xs i))
+unfolding namesIn
+passed-next xs i l =
+    ap (λ (p : List Sym). length (namesIn p)) (take-next xs i l) ∙ ap length (names-append (take i xs) (symbolAt xs i ∷ []))
+    ∙ length-append (namesIn (take i xs)) (symbolNames (symbolAt xs i) ++ [])
+    ∙ ap (λ (k : List Name). passed xs i + length k) (append-nil (symbolNames (symbolAt xs i))) ∙ ap (λ (k : ℕ). passed xs i + k) (names-by (symbolAt xs i))
+
+passed-few : (xs : List Sym) (i : ℕ) → i ≤ length xs → passed xs i ≤ i
+unfolding namesIn
+passed-few xs ℕ.zero l = omega arith
+passed-few xs (suc i) l =
+    let z : suc i ≡ i + 1 = omega arith in
+    omega (arith, ap (passed xs) z, passed-next xs i l, passed-few xs i (omega arith), one-at-most (code (symbolAt xs i)))
+
+module _ (g : Name → ℕ) where
+  -- the first names are skipped
+  skip : (a b c : List Name) → getD (map g (a ++ b)) (length (a ++ c)) 0 ≡ getD (map g b) (length c) 0
+  skip [] b c = refl
+  skip (x ∷ a) b c = skip a b c
+
+  name-here : (xs : List Sym) (i : ℕ) (y : Name) → i < length xs → symbolAt xs i ≡ leaf (Leaf.name y) → getD (map g (namesIn xs)) (passed xs i) 0 ≡ g y
+  unfolding namesIn
+  name-here [] i y l e = absurd (omega arith)
+  name-here (x ∷ xs) ℕ.zero y l e = ap (λ (z : Sym). getD (map g (symbolNames z ++ namesIn xs)) 0 0) e
+  name-here (x ∷ xs) (suc i) y l e = skip (symbolNames x) (namesIn xs) (namesIn (take i xs)) ∙ name-here xs i y (omega arith) e
+
+-- ---- the state
+
+-- the machine after i symbols of the formula's order
+abbrev pub reached : Formula Name → (Name → ℕ) → List (Atom ℕ) → ℕ → State
+reached f g atoms i = run g (take i (postfix f)) (start atoms)
+
+module _ (f : Formula Name) (g : Name → ℕ) (atoms : List (Atom ℕ)) where
+  abbrev here : ℕ → Sym
+  here i = symbolAt (postfix f) i
+
+  reached-next : (i : ℕ) → i < length (postfix f) → reached f g atoms (i + 1) ≡ step g (here i) (reached f g atoms i)
+  reached-next i l = ap (λ (p : List Sym). run g p (start atoms)) (take-next (postfix f) i l) ∙ run-last g (take i (postfix f)) (here i) (start atoms)
+
+  -- at the end stand the formula's atoms and its code
+  reached-end : (i : ℕ) → i ≡ length (postfix f) → reached f g atoms i ≡ record { terms = []; atoms = atomsAfter g f atoms; code = codeAfter f atoms }
+  unfolding run
+  reached-end i e = ap (λ (p : List Sym). run g p (start atoms)) (ap (λ (k : ℕ). take k (postfix f)) e ∙ take-length (postfix f)) ∙ formula-run g f [] (start atoms)
+
+  reached-bounds : (i : ℕ) → i ≤ length (postfix f) → Bounds g i (start atoms) (reached f g atoms i)
+  reached-bounds i l = subst (λ (k : ℕ). Bounds g k (start atoms) (reached f g atoms i)) (length-take-le i (postfix f) l) (run-bounds g (take i (postfix f)) (start atoms))
+
+  -- no atom is taken away on the way to the end
+  reached-few : (i : ℕ) → length (reached f g atoms i .atoms) ≤ length (atomsAfter g f atoms)
+  reached-few i =
+      subst (λ (s : State). length (reached f g atoms i .atoms) ≤ length (s .atoms))
+      (sym (run-append g (take i (postfix f)) (drop i (postfix f)) (start atoms)) ∙ ap (λ (p : List Sym). run g p (start atoms)) (take-append-drop i (postfix f) ∙ sym (take-length (postfix f)))
+      ∙ reached-end (length (postfix f)) refl)
+      (run-bounds g (drop i (postfix f)) (reached f g atoms i) .more)
+
+-- the loop's values are those of the machine's state s, where so many names are passed
+pub record Follows (names from : ℕ) (buf : List ℕ) (s : State) (count : ℕ) (out : List ℕ) (stack : List EvalSet) (height used : ℕ) (sheet : Sheet) (end : ℕ) : Type 0 where
+  pub high : height ≡ length (s .terms)
+  pub stacked : Stacked stack (s .terms)
+  pub counted : used ≡ count
+  pub compiled-from : CompiledFrom sheet (s .atoms)
+  pub named : sheet .names ≡ names
+  pub ends : end ≡ from + length (s .code)
+  pub wrote : out ≡ written from (s .code) buf
+
+pub record Inv (order numbers : List ℕ) (before : Sheet) (buf : List ℕ) (from : ℕ) (out : List ℕ) (stack : List EvalSet) (height used : ℕ) (sheet : Sheet) (end i : ℕ) : Type 0 where
+  pub within : i ≤ length order
+  pub whole : length stack ≡ 257
+  pub follows : (f : Formula Name) (g : Name → ℕ) (atoms : List (Atom ℕ)) → Given order numbers before f g atoms
+      → Follows (before .names) from buf (reached f g atoms i) (passed (postfix f) i) out stack height used sheet end
+
+-- ---- before the first symbol
+
+pub begins : (order numbers : List ℕ) (before : Sheet) (buf : List ℕ) (from : ℕ) (stack : List EvalSet) → length stack ≡ 257
+    → Inv order numbers before buf from buf stack 0 0 before from 0
+unfolding run namesIn
+begins order numbers before buf from stack w =
+    record {
+      within = omega arith;
+      whole = w;
+      follows = λ f g atoms G.
+          record {
+            high = refl;
+            stacked = tt;
+            counted = refl;
+            compiled-from = G .compiled;
+            named = refl;
+            ends = omega arith;
+            wrote = written-none from buf;
+          };
+    }
+
+-- ---- at a symbol
+
+module _ {order numbers : List ℕ} {before : Sheet} {f : Formula Name} {g : Name → ℕ} {atoms : List (Atom ℕ)} (G : Given order numbers before f g atoms) where
+  same-length : length (postfix f) ≡ length order
+  same-length = sym (length-codes (postfix f)) ∙ ap length (sym (G .order-is))
+
+  kind-is : (i : ℕ) → i < length order → getD order i 0 ≡ code (symbolAt (postfix f) i)
+  kind-is i l = ap (λ (o : List ℕ). getD o i 0) (G .order-is) ∙ code-at (postfix f) i (omega (arith, same-length))
+
+  number-is : (i : ℕ) (y : Name) → i < length order → symbolAt (postfix f) i ≡ leaf (Leaf.name y) → getD numbers (passed (postfix f) i) 0 ≡ g y
+  number-is i y l e =
+      ap (λ (o : List ℕ). getD o (passed (postfix f) i) 0) (G .numbers-are ∙ ap (map g) (sym (order-names f)))
+      ∙ name-here g (postfix f) i y (omega (arith, same-length)) e
+
+module _ {order numbers : List ℕ} {before : Sheet} {buf : List ℕ} {from : ℕ} {out : List ℕ} {stack : List EvalSet} {height used : ℕ} {sheet : Sheet} {end i : ℕ}
+    (q : Asked order numbers before from) (inv : Inv order numbers before buf from out stack height used sheet end i) where
+  abbrev first-follows : Follows (before .names) from buf (reached (q .formula) (q .numbering) (q .atoms) i) (passed (postfix (q .formula)) i) out stack height used sheet end
+  first-follows = inv .follows (q .formula) (q .numbering) (q .atoms) (q .given)
+
+  -- the stack is no higher than the symbols passed, the code no longer, and the sheet no fuller than in the end
+  pub low : height ≤ i
+  low = omega (arith, first-follows .high, reached-bounds (q .formula) (q .numbering) (q .atoms) i (omega (arith, inv .within, same-length (q .given))) .high)
+
+  pub fits : end ≤ from + i
+  fits = omega (arith, first-follows .ends, reached-bounds (q .formula) (q .numbering) (q .atoms) i (omega (arith, inv .within, same-length (q .given))) .long)
+
+  pub few-names : used ≤ i
+  few-names = omega (arith, first-follows .counted, passed-few (postfix (q .formula)) i (omega (arith, inv .within, same-length (q .given))))
+
+  pub few-atoms : sheet .atoms ≤ 16
+  few-atoms = omega (arith, first-follows .compiled-from .counted, first-follows .compiled-from .few)
+
+  module _ (l : i < length order) where
+    pub enough : takenBy (getD order i 0) ≤ height
+    enough =
+        let e = kind-is (q .given) i l in
+        let z : i < length (postfix (q .formula)) = omega (arith, same-length (q .given)) in
+        omega (arith, ap takenBy e, order-fine (q .numbering) (start (q .atoms)) (q .formula) i z .enough, first-follows .high)
+
+    pub space : atomKind (getD order i 0) ≡ true → sheet .atoms < 16
+    space a =
+        let e = kind-is (q .given) i l in
+        let z : i < length (postfix (q .formula)) = omega (arith, same-length (q .given)) in
+        omega (
+          arith,
+          first-follows .compiled-from .counted,
+          q .given .few,
+          reached-few (q .formula) (q .numbering) (q .atoms) (i + 1),
+          ap (λ (s : State). length (s .atoms)) (reached-next (q .formula) (q .numbering) (q .atoms) i z),
+          atom-grows (q .numbering) (symbolAt (postfix (q .formula)) i) (reached (q .formula) (q .numbering) (q .atoms) i) (ap atomKind (sym e) ∙ a),
+        )
+
+    -- ---- a turn
+
+    abbrev kind : ℕ
+    kind = getD order i 0
+
+    module _ (h : ℕ) (d : h ≡ height - takenBy kind) where
+      -- the next symbol, once the values are those of the state after it
+      next : {out' : List ℕ} {stack' : List EvalSet} {height' used' : ℕ} {sheet' : Sheet} {end' : ℕ} → length stack' ≡ 257
+          → ((f : Formula Name) (g : Name → ℕ) (atoms : List (Atom ℕ)) → Given order numbers before f g atoms
+          → Follows (before .names) from buf (step g (symbolAt (postfix f) i) (reached f g atoms i)) (passed (postfix f) i + namesBy kind) out' stack' height' used' sheet' end')
+          → Inv order numbers before buf from out' stack' height' used' sheet' end' (i + 1)
+      next {out'} {stack'} {height'} {used'} {sheet'} {end'} w h' =
+          record {
+            within = omega arith;
+            whole = w;
+            follows = λ f g atoms G.
+                let z : i < length (postfix f) = omega (arith, same-length G) in
+                subst (λ (s : State). Follows (before .names) from buf s (passed (postfix f) (i + 1)) out' stack' height' used' sheet' end')
+                (sym (reached-next f g atoms i z))
+                (subst (λ (k : ℕ). Follows (before .names) from buf (step g (symbolAt (postfix f) i) (reached f g atoms i)) k out' stack' height' used' sheet' end')
+                (sym (passed-next (postfix f) i z ∙ ap (λ (k : ℕ). passed (postfix f) i + namesBy k) (sym (kind-is G i l)))) (h' f g atoms G));
+          }
+
+      pub term-again : (r : EvalSet) (k more : ℕ) → h < 257 → termKind kind ≡ true → k ≡ getD numbers used 0 → more ≡ namesBy kind
+          → mem r ≡ setBy kind k (memAt stack h) (memAt stack (h + 1))
+          → Inv order numbers before buf from out (set stack h r) (h + 1) (used + more) sheet end (i + 1)
+      term-again r k more b t n j m =
+          next (length-set stack h r ∙ inv .whole)
+          (λ f g atoms G.
+          let F = inv .follows f g atoms G in
+          let S : State = reached f g atoms i in
+          let x : Sym = symbolAt (postfix f) i in
+          let e : kind ≡ code x = kind-is G i l in
+          let P : Put (set stack h r) h S (step g x S)
+          = term-step g stack r k height h (S .atoms) (S .code) (omega (arith, inv .whole)) x (S .terms) (ap termKind (sym e) ∙ t) (F .high)
+          (subst (λ (j : ℕ). takenBy j ≤ height) e enough) (d ∙ ap (λ (j : ℕ). height - takenBy j) e) (F .stacked)
+          (λ y w. n ∙ ap (λ (j : ℕ). getD numbers j 0) (F .counted) ∙ number-is G i y l w)
+          (m ∙ ap (λ (j : ℕ). setBy j k (memAt stack h) (memAt stack (h + 1))) e) in
+          record {
+            high = P .high;
+            stacked = P .stacked;
+            counted = ap₂ _+_ (F .counted) j;
+            compiled-from = subst (CompiledFrom sheet) (sym (P .same-atoms)) (F .compiled-from);
+            named = F .named;
+            ends = F .ends ∙ ap (λ (c : List ℕ). from + length c) (sym (P .same-code));
+            wrote = F .wrote ∙ ap (λ (c : List ℕ). written from c buf) (sym (P .same-code));
+          })
+
+      module _ (v : ℕ) (c : v ≡ signBy kind (sheet .atoms)) (t : termKind kind ≡ false) where
+        -- outside of terms no name is passed
+        no-more : (n : ℕ) → used ≡ n → used ≡ n + namesBy kind
+        no-more n e = omega (arith, no-name kind t)
+
+        -- the code goes one place on
+        code-more : {s : State} {n : ℕ} (x : Sym) (cs : List ℕ) → kind ≡ code x → Follows (before .names) from buf s n out stack height used sheet end
+            → cs ≡ s .code ++ signBy (code x) (length (s .atoms)) ∷ [] → (end + 1 ≡ from + length cs) × (set out end v ≡ written from cs buf)
+        code-more {s} x cs e F w =
+            let z : cs ≡ s .code ++ v ∷ [] = w ∙ ap (λ (j : ℕ). s .code ++ j ∷ []) (ap₂ signBy (sym e) (sym (F .compiled-from .counted)) ∙ sym c) in (
+              omega (arith, F .ends, ap length z, length-append (s .code) (v ∷ [])),
+              ap (λ (o : List ℕ). set o end v) (F .wrote) ∙ written-more (s .code) from v buf end (F .ends) ∙ ap (λ (o : List ℕ). written from o buf) (sym z),
+            )
+
+        pub atom-again : (r : Sheet) → atomKind kind ≡ true
+            → Grows sheet r (eqb kind 14) (firstBy kind (memAt stack h) (memAt stack (h + 1))) (secondBy kind (memAt stack (h + 1)))
+            → Inv order numbers before buf from (set out end v) stack h used r (end + 1) (i + 1)
+        atom-again r a m =
+            next (inv .whole)
+            (λ f g atoms G.
+            let F = inv .follows f g atoms G in
+            let S : State = reached f g atoms i in
+            let x : Sym = symbolAt (postfix f) i in
+            let e : kind ≡ code x = kind-is G i l in
+            let M : Made stack h (signBy (code x) (length (S .atoms))) r S (step g x S)
+            = atom-step g stack height h (S .atoms) (S .code) (F .compiled-from) (omega (arith, space a, F .compiled-from .counted)) x (S .terms) (ap atomKind (sym e) ∙ a) (F .high)
+            (subst (λ (j : ℕ). takenBy j ≤ height) e enough) (d ∙ ap (λ (j : ℕ). height - takenBy j) e) (F .stacked)
+            (subst (λ (j : ℕ). Grows sheet r (eqb j 14) (firstBy j (memAt stack h) (memAt stack (h + 1))) (secondBy j (memAt stack (h + 1)))) e m) in
+            let C = code-more x (step g x S .code) e F (M .coded) in
+            record {
+              high = M .high;
+              stacked = M .stacked;
+              counted = no-more (passed (postfix f) i) (F .counted);
+              compiled-from = M .compiled;
+              named = m .names-kept ∙ F .named;
+              ends = C .0;
+              wrote = C .1;
+            })
+
+        pub sign-again : atomKind kind ≡ false → Inv order numbers before buf from (set out end v) stack h used sheet (end + 1) (i + 1)
+        sign-again a =
+            next (inv .whole)
+            (λ f g atoms G.
+            let F = inv .follows f g atoms G in
+            let S : State = reached f g atoms i in
+            let x : Sym = symbolAt (postfix f) i in
+            let e : kind ≡ code x = kind-is G i l in
+            let z : i < length (postfix f) = omega (arith, same-length G) in
+            let W = sign-step g x S (order-fine g (start atoms) f i z .proper) (ap termKind (sym e) ∙ t) (ap atomKind (sym e) ∙ a) in
+            let C = code-more x (step g x S .code) e F (ap (λ (s : State). s .code) (W .0)) in
+            record {
+              high = omega (arith, d, F .high, W .1, ap takenBy e, ap (λ (s : State). length (s .terms)) (W .0));
+              stacked = subst (λ (s : State). Stacked stack (s .terms)) (sym (W .0)) (F .stacked);
+              counted = no-more (passed (postfix f) i) (F .counted);
+              compiled-from = subst (λ (s : State). CompiledFrom sheet (s .atoms)) (sym (W .0)) (F .compiled-from);
+              named = F .named;
+              ends = C .0;
+              wrote = C .1;
+            })
+
+-- ---- past the last symbol
+
+pub finished : {order numbers : List ℕ} {before : Sheet} {buf : List ℕ} {from : ℕ} {out : List ℕ} {stack : List EvalSet} {height used : ℕ} {sheet : Sheet} {end i : ℕ}
+    → Inv order numbers before buf from out stack height used sheet end i → length order ≤ i
+    → Compiles order numbers before buf from (record { sheet = sheet; end = end }) out
+unfolding Compiles
+finished {order} {numbers} {before} {buf} {from} {out} {stack} {height} {used} {sheet} {end} {i} inv past f g atoms G =
+    let F = inv .follows f g atoms G in
+    let z : reached f g atoms i ≡ record { terms = []; atoms = atomsAfter g f atoms; code = codeAfter f atoms }
+    = reached-end f g atoms i (omega (arith, inv .within, same-length G)) in
+    record {
+      names-kept = F .named;
+      compiled = subst (λ (s : State). CompiledFrom sheet (s .atoms)) z (F .compiled-from);
+      ends = F .ends ∙ ap (λ (s : State). from + length (s .code)) z;
+      wrote = F .wrote ∙ ap (λ (s : State). written from (s .code) buf) z;
+    }

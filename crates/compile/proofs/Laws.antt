@@ -1,0 +1,159 @@
+-- The order of a term leaves the term on the stack, that of a formula its atoms and its code, whatever stood before: each sign
+-- stands behind what it is put on. Assumes nothing.
+use mathlib.Core.Bool.{true, false}
+use mathlib.Core.Path.{_≡_, refl, sym, ap, ap₂, _∙_}
+use mathlib.Core.List.{List, [], _∷_, _++_, append-assoc, append-nil}
+use Prim.Native.Nat.{ℕ, _+_, _≤_}
+use native.Mathlib.Omega.{arith}
+use lib.ListN.{length, length-append, length-map}
+use Rattle.formula.specs.declared.Sign.the-variants.{Implies, Iff, Or, And, Plus, Times}
+use Rattle.formula.specs.Formula.{Term, Atom, Form, Formula}
+use Rattle.formula.specs.Names.{atomsOf}
+use Rattle.syntax.specs.Symbol.{Symbol, leaf, minus, tilde, opening, closing, comma, isZero, binary, constant, relation, contact, part}
+use Rattle.syntax.specs.Postfix.{termAfter, formulaAfter}
+use Rattle.contact.specs.Numbering.{mapTerm, mapAtom, mapForm, numberForm}
+use Rattle.contact.proofs.Numbered.{atoms-map}
+use Rattle.compile.specs.Code.{postfixCode}
+use Rattle.compile.specs.Machine.{State, below, withTerms, withAtom, withSign, step, run}
+
+module _ {N : Type 0} (g : N → ℕ) where
+  pub run-append : (a b : List (Symbol N)) (s : State) → run g (a ++ b) s ≡ run g b (run g a s)
+  unfolding run
+  run-append [] b s = refl
+  run-append (x ∷ a) b s = run-append a b (step g x s)
+
+  -- one symbol more
+  pub run-last : (o : List (Symbol N)) (x : Symbol N) (s : State) → run g (o ++ x ∷ []) s ≡ step g x (run g o s)
+  unfolding run
+  run-last o x s = run-append o (x ∷ []) s
+
+  -- a term more
+  abbrev pub pushed : Term N → State → State
+  pushed t s = withTerms (mapTerm g t ∷ s .terms) s
+
+  -- a formula more
+  abbrev pub compiled : Formula N → State → State
+  compiled f s =
+      record {
+        terms = s .terms;
+        atoms = s .atoms ++ atomsOf (mapForm (mapAtom g) f);
+        code = s .code ++ postfixCode (numberForm (length (s .atoms)) f);
+      }
+
+  -- ---- terms
+
+  pub term-run : (t : Term N) (o : List (Symbol N)) (s : State) → run g (termAfter t o) s ≡ pushed t (run g o s)
+  unfolding termAfter
+  term-run Term.zero o s = run-last o _ s
+  term-run Term.one o s = run-last o _ s
+  term-run (Term.name x) o s = run-last o _ s
+  term-run (Term.complement t) o s = run-last (termAfter t o) _ s ∙ ap (step g minus) (term-run t o s)
+  term-run (Term.intersection t u) o s = run-last (termAfter u (termAfter t o)) _ s ∙ ap (step g (binary Times)) (term-run u (termAfter t o) s ∙ ap (pushed u) (term-run t o s))
+  term-run (Term.union t u) o s = run-last (termAfter u (termAfter t o)) _ s ∙ ap (step g (binary Plus)) (term-run u (termAfter t o) s ∙ ap (pushed u) (term-run t o s))
+
+  pub terms-run : (t u : Term N) (o : List (Symbol N)) (s : State) → run g (termAfter u (termAfter t o)) s ≡ pushed u (pushed t (run g o s))
+  terms-run t u o s = term-run u (termAfter t o) s ∙ ap (pushed u) (term-run t o s)
+
+  -- ---- formulas
+
+  count : (f : Formula N) → length (atomsOf (mapForm (mapAtom g) f)) ≡ length (atomsOf f)
+  count f = ap length (atoms-map (mapAtom g) f) ∙ length-map (atomsOf f) (mapAtom g)
+
+  -- a constant; a sign behind one formula; a sign behind two
+  constant-more : (c : ℕ) (s : State) → withSign c s ≡ record { terms = s .terms; atoms = s .atoms ++ []; code = s .code ++ c ∷ [] }
+  constant-more c s = ap (λ (a : List (Atom ℕ)). record { terms = s .terms; atoms = a; code = s .code ++ c ∷ [] }) (sym (append-nil (s .atoms)))
+
+  tilde-more : (f : Formula N) (s : State) → withSign 0 (compiled f s) ≡ compiled (Form.negation f) s
+  unfolding postfixCode
+  tilde-more f s =
+      ap (λ (c : List ℕ). record { terms = s .terms; atoms = s .atoms ++ atomsOf (mapForm (mapAtom g) f); code = c })
+      (append-assoc (s .code) (postfixCode (numberForm (length (s .atoms)) f)) (0 ∷ []))
+
+  sign-more : (f h : Formula N) (c : ℕ) (s : State) → withSign c (compiled h (compiled f s))
+      ≡ record {
+        terms = s .terms;
+        atoms = s .atoms ++ (atomsOf (mapForm (mapAtom g) f) ++ atomsOf (mapForm (mapAtom g) h));
+        code = s .code ++ (postfixCode (numberForm (length (s .atoms)) f) ++ (postfixCode (numberForm (length (s .atoms) + length (atomsOf f)) h) ++ c ∷ []));
+      }
+  sign-more f h c s =
+      let x : List ℕ = postfixCode (numberForm (length (s .atoms)) f) in
+      let n : length (s .atoms ++ atomsOf (mapForm (mapAtom g) f)) ≡ length (s .atoms) + length (atomsOf f)
+      = length-append (s .atoms) (atomsOf (mapForm (mapAtom g) f)) ∙ ap (λ (k : ℕ). length (s .atoms) + k) (count f) in
+      ap₂ (λ (a : List (Atom ℕ)) (k : List ℕ). record { terms = s .terms; atoms = a; code = k })
+      (append-assoc (s .atoms) (atomsOf (mapForm (mapAtom g) f)) (atomsOf (mapForm (mapAtom g) h)))
+      (ap (λ (k : ℕ). ((s .code ++ x) ++ postfixCode (numberForm k h)) ++ c ∷ []) n
+      ∙ append-assoc (s .code ++ x) (postfixCode (numberForm (length (s .atoms) + length (atomsOf f)) h)) (c ∷ [])
+      ∙ append-assoc (s .code) x (postfixCode (numberForm (length (s .atoms) + length (atomsOf f)) h) ++ c ∷ []))
+
+  pub formula-run : (f : Formula N) (o : List (Symbol N)) (s : State) → run g (formulaAfter f o) s ≡ compiled f (run g o s)
+  unfolding formulaAfter postfixCode
+  formula-run Form.truth o s = run-last o _ s ∙ constant-more 6 (run g o s)
+  formula-run Form.falsity o s = run-last o _ s ∙ constant-more 5 (run g o s)
+  formula-run (Form.atom (Atom.contact t u)) o s = run-last (termAfter u (termAfter t o)) _ s ∙ ap (step g (relation contact)) (terms-run t u o s)
+  formula-run (Form.atom (Atom.part t u)) o s = run-last (termAfter u (termAfter t o)) _ s ∙ ap (step g (relation part)) (terms-run t u o s)
+  formula-run (Form.atom (Atom.empty t)) o s = run-last (termAfter t o) _ s ∙ ap (step g isZero) (term-run t o s)
+  formula-run (Form.negation f) o s = run-last (formulaAfter f o) _ s ∙ ap (step g tilde) (formula-run f o s) ∙ tilde-more f (run g o s)
+  formula-run (Form.conjunction f h) o s =
+      run-last (formulaAfter h (formulaAfter f o)) _ s ∙ ap (step g (binary And)) (formula-run h (formulaAfter f o) s ∙ ap (compiled h) (formula-run f o s)) ∙ sign-more f h 1 (run g o s)
+  formula-run (Form.disjunction f h) o s =
+      run-last (formulaAfter h (formulaAfter f o)) _ s ∙ ap (step g (binary Or)) (formula-run h (formulaAfter f o) s ∙ ap (compiled h) (formula-run f o s)) ∙ sign-more f h 2 (run g o s)
+  formula-run (Form.implication f h) o s =
+      run-last (formulaAfter h (formulaAfter f o)) _ s ∙ ap (step g (binary Implies)) (formula-run h (formulaAfter f o) s ∙ ap (compiled h) (formula-run f o s)) ∙ sign-more f h 3 (run g o s)
+  formula-run (Form.equivalence f h) o s =
+      run-last (formulaAfter h (formulaAfter f o)) _ s ∙ ap (step g (binary Iff)) (formula-run h (formulaAfter f o) s ∙ ap (compiled h) (formula-run f o s)) ∙ sign-more f h 4 (run g o s)
+
+  -- ---- bounds
+
+  -- of n symbols: each puts at most one term on the stack and one number into the code, and no atom is taken away
+  pub record Bounds (n : ℕ) (s r : State) : Type 0 where
+    pub high : length (r .terms) ≤ length (s .terms) + n
+    pub long : length (r .code) ≤ length (s .code) + n
+    pub more : length (s .atoms) ≤ length (r .atoms)
+
+  by-terms : (ts : List (Term ℕ)) (s : State) → length ts ≤ length (s .terms) + 1 → Bounds 1 s (withTerms ts s)
+  by-terms ts s l = record { high = l; long = omega arith; more = omega arith }
+
+  by-atom : (a : Atom ℕ) (ts : List (Term ℕ)) (s : State) → length ts ≤ length (s .terms) → Bounds 1 s (withAtom a ts s)
+  by-atom a ts s l =
+      record { high = omega arith; long = omega (arith, length-append (s .code) ((7 + length (s .atoms)) ∷ [])); more = omega (arith, length-append (s .atoms) (a ∷ [])) }
+
+  by-sign : (c : ℕ) (s : State) → Bounds 1 s (withSign c s)
+  by-sign c s = record { high = omega arith; long = omega (arith, length-append (s .code) (c ∷ [])); more = omega arith }
+
+  by-none : (s : State) → Bounds 1 s s
+  by-none s = record { high = omega arith; long = omega arith; more = omega arith }
+
+  fewer : (ts : List (Term ℕ)) → length (below ts) ≤ length ts
+  fewer [] = omega arith
+  fewer (t ∷ ts) = omega arith
+
+  step-bounds : (x : Symbol N) (s : State) → Bounds 1 s (step g x s)
+  step-bounds (leaf x) s = by-terms _ s (omega arith)
+  step-bounds minus s = by-terms _ s (omega (arith, fewer (s .terms)))
+  step-bounds (binary Times) s = by-terms _ s (omega (arith, fewer (s .terms), fewer (below (s .terms))))
+  step-bounds (binary Plus) s = by-terms _ s (omega (arith, fewer (s .terms), fewer (below (s .terms))))
+  step-bounds isZero s = by-atom _ _ s (fewer (s .terms))
+  step-bounds (relation contact) s = by-atom _ _ s (omega (arith, fewer (s .terms), fewer (below (s .terms))))
+  step-bounds (relation part) s = by-atom _ _ s (omega (arith, fewer (s .terms), fewer (below (s .terms))))
+  step-bounds tilde s = by-sign 0 s
+  step-bounds (binary And) s = by-sign 1 s
+  step-bounds (binary Or) s = by-sign 2 s
+  step-bounds (binary Implies) s = by-sign 3 s
+  step-bounds (binary Iff) s = by-sign 4 s
+  step-bounds (constant false) s = by-sign 5 s
+  step-bounds (constant true) s = by-sign 6 s
+  step-bounds opening s = by-none s
+  step-bounds closing s = by-none s
+  step-bounds comma s = by-none s
+
+  pub run-bounds : (xs : List (Symbol N)) (s : State) → Bounds (length xs) s (run g xs s)
+  unfolding run
+  run-bounds [] s = record { high = omega arith; long = omega arith; more = omega arith }
+  run-bounds (x ∷ xs) s =
+      let a = step-bounds x s in
+      let b = run-bounds xs (step g x s) in
+      record {
+        high = omega (arith, a .high, b .high);
+        long = omega (arith, a .long, b .long);
+        more = omega (arith, a .more, b .more);
+      }

@@ -1,0 +1,55 @@
+-- The set of a term is made of the sets of its parts: at each evaluation below room the signs are the connectives. Assumes nothing.
+use mathlib.Core.Bool.{Bool, true, false, not, _&&_, _||_, and-true, and-false}
+use mathlib.Core.Path.{_≡_, refl, sym, fun-ext}
+use Prim.Native.Nat.{ℕ}
+use lib.Dec.{ltb}
+use Rattle.formula.specs.Formula.{Term}
+use Rattle.evalset.specs.Sets.{room, noneOf, fullOf, nameOf, meetOf, joinOf, minusOf}
+use Rattle.contact.specs.Meaning.{partTerm}
+use Rattle.contact.specs.Plan.{at}
+use Rattle.compile.specs.Sheet.{setOf}
+
+cut-not : (r a : Bool) → (r && not (r && a)) ≡ (r && not a)
+cut-not true a = refl
+cut-not false a = refl
+
+cut-and : (r a b : Bool) → ((r && a) && (r && b)) ≡ (r && (a && b))
+cut-and true a b = refl
+cut-and false a b = refl
+
+cut-or : (r a b : Bool) → ((r && a) || (r && b)) ≡ (r && (a || b))
+cut-or true a b = refl
+cut-or false a b = refl
+
+cut-less : (r a b : Bool) → ((r && a) && not (r && b)) ≡ (r && (a && not b))
+cut-less true a b = refl
+cut-less false a b = refl
+
+pub of-zero : noneOf ≡ setOf Term.zero
+unfolding setOf
+of-zero = fun-ext (λ e. sym (and-false (ltb e room)))
+
+pub of-one : fullOf ≡ setOf Term.one
+unfolding setOf
+of-one = fun-ext (λ e. sym (and-true (ltb e room)))
+
+pub of-name : (i : ℕ) → nameOf i ≡ setOf (Term.name i)
+unfolding setOf
+of-name i = refl
+
+module _ (t u : Term ℕ) where
+  pub of-intersection : meetOf (setOf t) (setOf u) ≡ setOf (Term.intersection t u)
+  unfolding setOf
+  of-intersection = fun-ext (λ e. cut-and (ltb e room) (at t e) (at u e))
+
+  pub of-union : joinOf (setOf t) (setOf u) ≡ setOf (Term.union t u)
+  unfolding setOf
+  of-union = fun-ext (λ e. cut-or (ltb e room) (at t e) (at u e))
+
+  pub of-part : minusOf (setOf t) (setOf u) ≡ setOf (partTerm t u)
+  unfolding setOf
+  of-part = fun-ext (λ e. cut-less (ltb e room) (at t e) (at u e))
+
+pub of-complement : (t : Term ℕ) → minusOf fullOf (setOf t) ≡ setOf (Term.complement t)
+unfolding setOf
+of-complement t = fun-ext (λ e. cut-not (ltb e room) (at t e))

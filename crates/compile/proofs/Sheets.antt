@@ -1,0 +1,98 @@
+-- A sheet holds one atom more once it is stored behind the others: at its own place it is found, elsewhere what stood there.
+-- Assumes nothing.
+use mathlib.Core.Bool.{Bool, true, false}
+use mathlib.Core.Path.{_≡_, refl, sym, ap, subst, _∙_, fun-ext}
+use mathlib.Core.List.{List, [], _∷_, _++_}
+use Prim.Native.Nat.{ℕ, zero, suc, _+_, _<_}
+use native.Mathlib.Omega.{arith}
+use lib.Dec.{eqb, eqb·zero-suc, eqb·suc-zero, eqb·suc-suc}
+use lib.ListN.{length, getD, set, replicate, length-append}
+use lib.Seq.{getD-set-same, getD-set-other}
+use borrow.Author.Tests.{eqb-true, eqb-false}
+use Rattle.formula.specs.Formula.{Term, Atom}
+use Rattle.evalset.specs.declared.EvalSet.{EvalSet}
+use Rattle.evalset.specs.Sets.{mem, memAt, noneOf}
+use Rattle.evalset.proofs.Search.{cases}
+use Rattle.evalset.proofs.Bits.{bit-none}
+use Rattle.evalset.proofs.Members.{mem-at-same, mem-at-other}
+use Rattle.compile.specs.declared.Sheet.{Sheet}
+use Rattle.compile.specs.Kinds.{pick}
+use Rattle.compile.specs.Sheet.{isContact, firstSet, secondSet, atomAt, CompiledFrom, Grows}
+use Rattle.compile.proofs.Sets.{of-zero}
+
+pub grows-same : {sheet r : Sheet} {b c : Bool} {x y z w : ℕ → Bool} → Grows sheet r b x y → b ≡ c → x ≡ z → y ≡ w → Grows sheet r c z w
+grows-same {sheet} {r} {b} {c} {x} {y} {z} {w} h e p q =
+    subst (λ (d : Bool). Grows sheet r d z w) e (subst (λ (u : ℕ → Bool). Grows sheet r b u w) p (subst (λ (u : ℕ → Bool). Grows sheet r b x u) q h))
+
+-- ---- an array with one place stored
+
+module _ {A : Type 0} (xs : List A) (n : ℕ) (a d : A) (h : n < length xs) where
+  pub stored : (i : ℕ) → getD (set xs n a) i d ≡ pick (eqb i n) a (getD xs i d)
+  stored i =
+      cases (eqb i n)
+      (λ e. ap (λ (j : ℕ). getD (set xs n a) j d) (eqb-true i n e) ∙ getD-set-same xs n a d h ∙ sym (ap (λ (b : Bool). pick b a (getD xs i d)) e))
+      (λ e. getD-set-other xs n i a d (eqb-false i n e) ∙ sym (ap (λ (b : Bool). pick b a (getD xs i d)) e))
+
+module _ (xs : List EvalSet) (n : ℕ) (s : EvalSet) (h : n < length xs) where
+  pub stored-set : (i : ℕ) → memAt (set xs n s) i ≡ pick (eqb i n) (mem s) (memAt xs i)
+  stored-set i =
+      cases (eqb i n)
+      (λ e. ap (λ (j : ℕ). memAt (set xs n s) j) (eqb-true i n e) ∙ mem-at-same xs n s h ∙ sym (ap (λ (b : Bool). pick b (mem s) (memAt xs i)) e))
+      (λ e. mem-at-other xs n i s (eqb-false i n e) ∙ sym (ap (λ (b : Bool). pick b (mem s) (memAt xs i)) e))
+
+-- ---- the atoms
+
+last-atom : (atoms : List (Atom ℕ)) (a : Atom ℕ) (i : ℕ) → atomAt (atoms ++ a ∷ []) i ≡ pick (eqb i (length atoms)) a (atomAt atoms i)
+last-atom [] a ℕ.zero = refl
+last-atom [] a (suc i) = sym (ap (λ (b : Bool). pick b a (Atom.empty Term.zero)) (eqb·suc-zero i))
+last-atom (b ∷ atoms) a ℕ.zero = sym (ap (λ (d : Bool). pick d a b) (eqb·zero-suc (length atoms)))
+last-atom (b ∷ atoms) a (suc i) = last-atom atoms a i ∙ ap (λ (d : Bool). pick d a (atomAt atoms i)) (sym (eqb·suc-suc i (length atoms)))
+
+-- a function of what was picked
+of-pick : {A B : Type 0} (f : A → B) (b : Bool) (x y : A) → pick b (f x) (f y) ≡ f (pick b x y)
+of-pick f true x y = refl
+of-pick f false x y = refl
+
+module _ (atoms : List (Atom ℕ)) (a : Atom ℕ) {B : Type 0} (f : Atom ℕ → B) where
+  last-of : (n i : ℕ) → n ≡ length atoms → (old new : B) → old ≡ f (atomAt atoms i) → new ≡ pick (eqb i n) (f a) old → new ≡ f (atomAt (atoms ++ a ∷ []) i)
+  last-of n i z old new e h =
+      h ∙ ap (λ (b : B). pick (eqb i n) (f a) b) e ∙ ap (λ (m : ℕ). pick (eqb i m) (f a) (f (atomAt atoms i))) z
+      ∙ of-pick f (eqb i (length atoms)) a (atomAt atoms i) ∙ sym (ap f (last-atom atoms a i))
+
+-- a sheet with one atom more
+pub compiled-more : {sheet r : Sheet} {atoms : List (Atom ℕ)} (a : Atom ℕ) → CompiledFrom sheet atoms → length atoms < 16
+    → Grows sheet r (isContact a) (firstSet a) (secondSet a) → CompiledFrom r (atoms ++ a ∷ [])
+compiled-more {sheet} {r} {atoms} a c l h =
+    record {
+      counted = h .one-more ∙ ap suc (c .counted) ∙ omega (arith, length-append atoms (a ∷ []));
+      few = omega (arith, length-append atoms (a ∷ []));
+      contacts = λ i. last-of atoms a isContact (sheet .atoms) i (c .counted) _ _ (c .contacts i) (h .contact-at i);
+      firsts = λ i. last-of atoms a firstSet (sheet .atoms) i (c .counted) _ _ (c .firsts i) (h .first-at i);
+      seconds = λ i. last-of atoms a secondSet (sheet .atoms) i (c .counted) _ _ (c .seconds i) (h .second-at i);
+    }
+
+-- ---- no atom
+
+module _ (sheet : Sheet) (none : EvalSet) (h : mem none ≡ noneOf) where
+  -- a list of empty sets, and what is past its end
+  nothing-at : (n i : ℕ) → memAt (replicate n none) i ≡ noneOf
+  unfolding memAt mem
+  nothing-at ℕ.zero i = fun-ext bit-none
+  nothing-at (suc n) ℕ.zero = h
+  nothing-at (suc n) (suc i) = nothing-at n i
+
+  no-contact : (n i : ℕ) → getD (replicate n false) i false ≡ false
+  no-contact ℕ.zero i = refl
+  no-contact (suc n) ℕ.zero = refl
+  no-contact (suc n) (suc i) = no-contact n i
+
+  pub compiled-none : sheet .atoms ≡ 0 → sheet .contact ≡ replicate 16 false → sheet .xs ≡ replicate 16 none → sheet .ys ≡ replicate 16 none
+      → CompiledFrom sheet []
+  compiled-none z b x y =
+      record {
+        counted = z;
+        few = omega arith;
+        contacts = λ i. ap (λ (l : List Bool). getD l i false) b ∙ no-contact 16 i;
+        firsts = λ i. ap (λ (l : List EvalSet). memAt l i) x ∙ nothing-at 16 i ∙ of-zero;
+        seconds = λ i. ap (λ (l : List EvalSet). memAt l i) y ∙ nothing-at 16 i;
+      }

@@ -1,0 +1,21 @@
+-- The kind decides. Assumes nothing.
+use mathlib.Core.Path.{sym, ap}
+use borrow.Author.Tests.{ne-eqb}
+use Rattle.compile.specs.Kinds.{atomKind}
+use Rattle.compile.proofs.is_atom.Statement.{statement}
+use Rattle.compile.proofs.is_atom.Tie as tie
+
+returns : tie.Need-returns
+unfolding atomKind
+returns c = sym (ap atomKind (c .match .keys1))
+
+returns-2 : tie.Need-returns-2
+unfolding atomKind
+returns-2 c = sym (ap atomKind (c .match .keys2))
+
+returns-3 : tie.Need-returns-3
+unfolding atomKind
+returns-3 c = sym (simp (ne-eqb _ 10 (c .match .rest .0 .1), ne-eqb _ 14 (c .match .rest .1)))
+
+pub is-atom-spec : {M : Type 1} → statement M
+is-atom-spec = tie.close (tie.spec returns returns-2 returns-3)

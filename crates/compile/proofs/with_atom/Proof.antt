@@ -1,0 +1,58 @@
+-- A kind that is neither C nor <= makes a zero atom of its own set. Assumes nothing.
+use Prim.Native.Nat.{ℕ}
+use mathlib.Core.Path.{sym, ap, _∙_}
+use lib.Dec.{eqb}
+use borrow.Author.Needs.{needs}
+use borrow.Author.Tests.{ne-eqb}
+use Rattle.evalset.specs.Sets.{mem}
+use Rattle.compile.specs.Kinds.{firstBy, secondBy}
+use Rattle.compile.proofs.Sheets.{grows-same}
+use Rattle.compile.proofs.with_atom.Statement.{statement}
+use Rattle.compile.proofs.with_atom.Tie as tie
+
+added-requires : tie.Need-added-requires
+added-requires c κs = search needs
+
+minus-requires : tie.Need-minus-requires
+minus-requires c κs = search needs
+
+empty-requires : tie.Need-empty-requires
+empty-requires c κs = search needs
+
+added-requires-2 : tie.Need-added-requires-2
+added-requires-2 c κs = search needs
+
+empty-requires-2 : tie.Need-empty-requires-2
+empty-requires-2 c κs = search needs
+
+added-requires-3 : tie.Need-added-requires-3
+added-requires-3 c κs = search needs
+
+returns : tie.Need-returns
+unfolding firstBy secondBy
+returns c =
+    let a = c .before .before .args in
+    grows-same (c .added .ensures) (sym (ap (λ (k : ℕ). eqb k 14) (c .before .match .keys1)))
+    (sym (ap (λ (k : ℕ). firstBy k (mem (a .x)) (mem (a .y))) (c .before .match .keys1)))
+    (sym (ap (λ (k : ℕ). secondBy k (mem (a .y))) (c .before .match .keys1)))
+
+returns-2 : tie.Need-returns-2
+unfolding firstBy secondBy
+returns-2 c =
+    let a = c .before .before .before .before .args in
+    let k = c .before .before .before .match .keys2 in
+    grows-same (c .added2 .ensures) (sym (ap (λ (k : ℕ). eqb k 14) k))
+    (c .before .before .minus .ensures ∙ sym (ap (λ (k : ℕ). firstBy k (mem (a .x)) (mem (a .y))) k))
+    (c .before .empty .ensures ∙ sym (ap (λ (k : ℕ). secondBy k (mem (a .y))) k))
+
+returns-3 : tie.Need-returns-3
+unfolding firstBy secondBy
+returns-3 c =
+    let a = c .before .before .before .args in
+    let n = c .before .before .match .rest in
+    grows-same (c .added3 .ensures) (sym (ne-eqb _ 14 (n .0 .1)))
+    (sym (simp (ne-eqb (a .kind) 15 (n .1))))
+    (c .before .empty2 .ensures ∙ sym (simp (ne-eqb (a .kind) 14 (n .0 .1))))
+
+pub with-atom-spec : {M : Type 1} → statement M
+with-atom-spec = tie.close (tie.spec added-requires minus-requires empty-requires added-requires-2 empty-requires-2 added-requires-3 returns returns-2 returns-3)

@@ -1,0 +1,50 @@
+-- What the compiler is asked and answers, over every formula, numbering of its names, and list of atoms before it. Assumes nothing.
+use mathlib.Core.Path.{_≡_}
+use mathlib.Core.List.{List, _++_, map}
+use Prim.Native.Nat.{ℕ, _+_, _≤_}
+use lib.ListN.{length}
+use Rattle.formula.specs.Formula.{Atom, Formula, Name}
+use Rattle.formula.specs.Names.{atomsOf, formulaNames}
+use Rattle.syntax.specs.Postfix.{postfix}
+use Rattle.syntax.specs.Reader.{codes}
+use Rattle.contact.specs.Numbering.{mapForm, mapAtom, numberForm}
+use Rattle.compile.specs.declared.Sheet.{Sheet}
+use Rattle.compile.specs.declared.Compiled.{Compiled}
+use Rattle.compile.specs.Code.{postfixCode, written}
+use Rattle.compile.specs.Sheet.{CompiledFrom}
+
+-- the atoms once those of the formula, its names numbered by g, stand behind them
+abbrev pub atomsAfter : (Name → ℕ) → Formula Name → List (Atom ℕ) → List (Atom ℕ)
+atomsAfter g f atoms = atoms ++ atomsOf (mapForm (mapAtom g) f)
+
+-- the formula's code, where so many atoms stand before it
+abbrev pub codeAfter : Formula Name → List (Atom ℕ) → List ℕ
+codeAfter f atoms = postfixCode (numberForm (length atoms) f)
+
+-- the order and the numbers are those of the formula, the sheet that of the atoms, and there is room for the formula's atoms
+pub record Given (order numbers : List ℕ) (sheet : Sheet) (f : Formula Name) (g : Name → ℕ) (atoms : List (Atom ℕ)) : Type 0 where
+  pub order-is : order ≡ codes (postfix f)
+  pub numbers-are : numbers ≡ map g (formulaNames f)
+  pub compiled : CompiledFrom sheet atoms
+  pub few : length (atomsAfter g f atoms) ≤ 16
+
+-- there are such a formula, numbering and atoms, and the code has room
+pub record Asked (order numbers : List ℕ) (sheet : Sheet) (from : ℕ) : Type 0 where
+  pub formula : Formula Name
+  pub numbering : Name → ℕ
+  pub atoms : List (Atom ℕ)
+  pub given : Given order numbers sheet formula numbering atoms
+  pub short : length order ≤ 256
+  pub fits : from + length order ≤ 4096
+
+pub record Result (f : Formula Name) (g : Name → ℕ) (atoms : List (Atom ℕ)) (sheet : Sheet) (buf : List ℕ) (from : ℕ) (r : Compiled) (out : List ℕ) : Type 0 where
+  pub names-kept : r .sheet .names ≡ sheet .names
+  pub compiled : CompiledFrom (r .sheet) (atomsAfter g f atoms)
+  pub ends : r .end ≡ from + length (codeAfter f atoms)
+  pub wrote : out ≡ written from (codeAfter f atoms) buf
+
+-- the answer is right for each formula, numbering and atoms that were given
+unfoldable pub Compiles : List ℕ → List ℕ → Sheet → List ℕ → ℕ → Compiled → List ℕ → Type 0
+Compiles order numbers sheet buf from r out =
+    (f : Formula Name) (g : Name → ℕ) (atoms : List (Atom ℕ)) → Given order numbers sheet f g atoms
+    → Result f g atoms sheet buf from r out

@@ -1,0 +1,5 @@
+pub mod Code
+pub mod Kinds
+pub mod Sheet
+pub mod Machine
+pub mod Compiles

@@ -1,0 +1,242 @@
+// The compiler of a rule: from its formula's order (document 01, 'Rule text') to a set of evaluations for each term of its atoms
+// ('Meaning') and postfix code over atom numbers. Atoms are numbered "by first place, rules in order, left to right". The order
+// is passed once, with a stack of sets for the terms that are whole. Only our own crates compile rules, and only what was
+// read: the requires of `compile_rule` says so, since to test for it would read the rule twice.
+ghost use mathlib.Core.Path.{_≡_};
+ghost use mathlib.Core.List.{[]};
+ghost use Prim.Native.Nat.{_≤_, _<_};
+ghost use lib.Dec.{eqb};
+ghost use lib.ListN.{length, getD};
+ghost use Rattle.evalset.specs.Sets.{mem};
+ghost use Rattle.compile.specs.Kinds.{takenBy, termKind, atomKind, namesBy, setBy, firstBy, secondBy, signBy};
+ghost use Rattle.compile.specs.Sheet.{CompiledFrom, Grows};
+ghost use Rattle.compile.specs.Compiles.{Asked, Compiles};
+use evalset::EvalSet;
+
+// The kinds of tokens, by the lexer's numbers.
+const IMPLIES: u8 = 0;
+
+const IFF: u8 = 1;
+
+const OR: u8 = 2;
+
+const AND: u8 = 3;
+
+const PLUS: u8 = 4;
+
+const TIMES: u8 = 5;
+
+const MINUS: u8 = 6;
+
+const TILDE: u8 = 7;
+
+const IS_ZERO: u8 = 10;
+
+const TRUTH: u8 = 12;
+
+const FALSITY: u8 = 13;
+
+const CONTACT: u8 = 14;
+
+const PART: u8 = 15;
+
+const ZERO: u8 = 16;
+
+const ONE: u8 = 17;
+
+const NAME: u8 = 18;
+
+// A compiled sheet: for atom i whether it is a contact, and its first and second term as sets of evaluations. Of a zero atom
+// xs has the zero term, and ys is empty. What is past the atoms is false and empty.
+pub struct Sheet {
+    pub names: usize,
+    pub atoms: usize,
+    pub contact: [bool; 16],
+    pub xs: [EvalSet; 16],
+    pub ys: [EvalSet; 16],
+}
+
+// The sheet with the rule's atoms behind those before, and the place after the rule's code.
+pub struct Compiled {
+    pub sheet: Sheet,
+    pub end: usize,
+}
+
+// The sheet of no atoms.
+pub fn blank_sheet(names: usize) -> Sheet
+    ensures { λ r. ⌜ (r .names ≡ names) × CompiledFrom r [] ⌝ }
+{
+    let none = evalset::empty();
+    let contact = [false; 16];
+    let sets = [none; 16];
+    Sheet {
+        names,
+        atoms: 0,
+        contact,
+        xs: sets,
+        ys: sets,
+    }
+}
+
+// How many sets a token takes off the stack.
+fn taken(kind: u8) -> usize
+    ensures { λ r. ⌜ r ≡ takenBy kind ⌝ }
+{
+    match kind {
+        PLUS => 2,
+        TIMES => 2,
+        CONTACT => 2,
+        PART => 2,
+        MINUS => 1,
+        IS_ZERO => 1,
+        _ => 0,
+    }
+}
+
+// Whether a token belongs to a term.
+fn is_term(kind: u8) -> bool
+    ensures { λ r. ⌜ r ≡ termKind kind ⌝ }
+{
+    match kind {
+        PLUS => true,
+        TIMES => true,
+        MINUS => true,
+        _ => ZERO <= kind,
+    }
+}
+
+// Whether a token makes an atom.
+fn is_atom(kind: u8) -> bool
+    ensures { λ r. ⌜ r ≡ atomKind kind ⌝ }
+{
+    match kind {
+        IS_ZERO => true,
+        CONTACT => true,
+        _ => kind == PART,
+    }
+}
+
+// How many names a token is.
+fn names_in(kind: u8) -> usize
+    ensures { λ r. ⌜ r ≡ namesBy kind ⌝ }
+{
+    if kind == NAME { 1 } else { 0 }
+}
+
+// The number of the name at a place, 0 past the last.
+fn number_at(numbers: &[u8], at: usize) -> usize
+    ensures { λ r. ⌜ r ≡ getD (now (numbers .entry)) at 0 ⌝ }
+{
+    if at < numbers.len() {
+        numbers[at] as usize
+    } else {
+        0
+    }
+}
+
+// The set of a term whose last token this is: a name by its number, a sign by the sets that it is put on.
+fn term_set(kind: u8, number: usize, x: EvalSet, y: EvalSet) -> EvalSet
+    ensures { λ r. ⌜ mem r ≡ setBy kind number (mem x) (mem y) ⌝ }
+{
+    match kind {
+        ZERO => evalset::empty(),
+        ONE => evalset::full(),
+        NAME => evalset::name_set(number),
+        MINUS => evalset::minus(evalset::full(), x),
+        TIMES => evalset::meet(x, y),
+        _ => evalset::join(x, y),
+    }
+}
+
+// The sheet with one atom more.
+fn added(sheet: Sheet, contact: bool, x: EvalSet, y: EvalSet) -> Sheet
+    requires { ⌜ sheet .atoms < 16 ⌝ }
+    ensures { λ r. ⌜ Grows sheet r contact (mem x) (mem y) ⌝ }
+{
+    let mut grown = sheet;
+    let i = sheet.atoms;
+    grown.contact[i] = contact;
+    grown.xs[i] = x;
+    grown.ys[i] = y;
+    grown.atoms = i + 1;
+    grown
+}
+
+// The sheet with the atom of =0, C or <= on these sets; "<=(x,y) means x*-y=0".
+fn with_atom(sheet: Sheet, kind: u8, x: EvalSet, y: EvalSet) -> Sheet
+    requires { ⌜ sheet .atoms < 16 ⌝ }
+    ensures { λ r. ⌜ Grows sheet r (eqb kind 14) (firstBy kind (mem x) (mem y)) (secondBy kind (mem y)) ⌝ }
+{
+    match kind {
+        CONTACT => added(sheet, true, x, y),
+        PART => added(sheet, false, evalset::minus(x, y), evalset::empty()),
+        _ => added(sheet, false, x, evalset::empty()),
+    }
+}
+
+// The code of a formula's token where so many atoms stand before it.
+fn sign_code(kind: u8, atoms: usize) -> u8
+    requires { ⌜ atoms ≤ 16 ⌝ }
+    ensures { λ r. ⌜ r ≡ signBy kind atoms ⌝ }
+{
+    match kind {
+        TILDE => 0,
+        AND => 1,
+        OR => 2,
+        IMPLIES => 3,
+        IFF => 4,
+        FALSITY => 5,
+        TRUTH => 6,
+        _ => 7 + atoms as u8,
+    }
+}
+
+// A stack of empty sets.
+fn empty_stack() -> [EvalSet; 257]
+    ensures { λ r. ⌜ length r ≡ 257 ⌝ }
+{
+    let none = evalset::empty();
+    [none; 257]
+}
+
+// The rule with this order, whose names have these numbers at their places: its atoms go behind those of the sheet, its code
+// into the array from a place on. A rule has at most 256 tokens, so the stack is never full: the place above its top can
+// be read. The requires asks for the order of a formula, a compiled sheet, and room for the rule's atoms and code: a caller
+// has them of what was read (`order-read` and `order-short` of proofs/Claims.antt) and counted.
+pub fn compile_rule(
+    order: &[u8],
+    numbers: &[u8],
+    sheet: Sheet,
+    code: &mut [u8; 4096],
+    from: usize,
+) -> Compiled
+    requires { ⌜ Asked (now order) (now numbers) sheet from ⌝ }
+    ensures { λ r. ⌜ Compiles (now (order .entry)) (now (numbers .entry)) sheet (now (code .entry)) from r (now (code .exit)) ⌝ }
+{
+    let mut stack = empty_stack();
+    let mut height: usize = 0;
+    let mut used: usize = 0;
+    let mut grown = sheet;
+    let mut end = from;
+    let mut i: usize = 0;
+    while i < order.len() {
+        let kind = order[i];
+        i += 1;
+        height -= taken(kind);
+        // The sets that the token is put on; it is put on neither, the first or both.
+        let x = stack[height];
+        let y = stack[height + 1];
+        if is_term(kind) {
+            stack[height] = term_set(kind, number_at(numbers, used), x, y);
+            height += 1;
+            used += names_in(kind);
+            continue;
+        }
+        code[end] = sign_code(kind, grown.atoms);
+        end += 1;
+        if is_atom(kind) {
+            grown = with_atom(grown, kind, x, y);
+        }
+    }
+    Compiled { sheet: grown, end }
+}
