@@ -1,0 +1,101 @@
+-- The evaluations that the code gathers are those that the marks give: each search on the state's sets is the one on the marks
+-- (Fitting), and what is found is below 2 ^ names. Assumes nothing.
+use mathlib.Core.Bool.{Bool, true, false}
+use mathlib.Core.Path.{_≡_, refl, sym, ap, _∙_, subst}
+use mathlib.Core.Logic.{⊎-elim}
+use mathlib.Core.List.{List, [], _∷_}
+use Prim.Native.Nat.{ℕ, _^_, _≤_, _<_}
+use Rattle.formula.specs.Formula.{Term, Atom}
+use Rattle.evalset.specs.Search.{In, here, any, first, orElse, gather, below, elem}
+use Rattle.evalset.specs.Sets.{most, room, mem, memAt, meetOf}
+use Rattle.evalset.proofs.Bounded.{any-at, any-none}
+use Rattle.evalset.proofs.Members.{first-names}
+use Rattle.evalset.proofs.Search.{clash, none-in, uncons, first-in, below-elim, elem-intro, elem-elim, gather-elim, or-else-cases}
+use Rattle.contact.specs.Meaning.{partTerm}
+use Rattle.contact.specs.Plan.{evaluations, Mark, touching, apart, vacant, inhabited, zeroMark, mark, allowed, fills, partners, leads, withPartner, gives, given}
+use Rattle.search.specs.declared.State.{State}
+use Rattle.search.specs.Tests.{pairFrom, pairOf, givesOf}
+use Rattle.search.specs.Compiled.{Stands, AtomIs, Fit}
+use Rattle.search.proofs.Lists.{gather-same}
+use Rattle.search.proofs.Fitting.{allowed-low, fills-low, partners-low, leads-low, fills-is, partners-is, leads-is}
+
+-- ---- what an atom with its value gives
+
+module _ (n : ℕ) (few : n ≤ most) (s : State) (ms : List Mark) (f : Fit n s ms) where
+  abbrev al : ℕ → Bool
+  al = mem (s .allowed)
+
+  abbrev sep : ℕ → ℕ → Bool
+  sep = memAt (s .rows)
+
+  pub least-is : first al (below room) ≡ first (allowed n ms) (evaluations n)
+  least-is = ap (λ (p : ℕ → Bool). first p (below room)) (f .allowed-is) ∙ first-names (allowed n ms) n few (allowed-low n ms)
+
+  partner-is : (y : ℕ → Bool) (t : Term ℕ) → Stands n y t → (p : ℕ) → p < 2 ^ n
+      → pairFrom (meetOf al y) sep p ≡ withPartner n ms t p
+  partner-is y t h p l =
+      ap (λ (xs : List ℕ). p ∷ xs)
+      (ap (λ (q : ℕ → Bool). first q (below room)) (partners-is n few s ms f y t h p l)
+      ∙ first-names (partners n ms t p) n few (partners-low n ms t p))
+
+  pair-is : (x y : ℕ → Bool) (u t : Term ℕ) → Stands n x u → Stands n y t
+      → pairOf (meetOf al x) (meetOf al y) sep ≡ gives n ms (touching u t)
+  unfolding pairOf
+  pair-is x y u t hx hy =
+      ap (gather (pairFrom (meetOf al y) sep))
+      (ap (λ (p : ℕ → Bool). first p (below room)) (leads-is n few s ms f x y u t hx hy)
+      ∙ first-names (leads n ms u t) n few (leads-low n ms u t))
+      ∙ gather-same (pairFrom (meetOf al y) sep) (withPartner n ms t) (first (leads n ms u t) (evaluations n))
+      (λ p i. partner-is y t hy p (leads-low n ms u t p (first-in (leads n ms u t) (evaluations n) i .1)))
+
+  zero-gives : (k v : Bool) (x y : ℕ → Bool) (t : Term ℕ) → k ≡ false → Stands n x t → givesOf k v al sep x y ≡ gives n ms (zeroMark v t)
+  zero-gives k true x y t h g = ap (λ (b : Bool). givesOf b true al sep x y) h
+  zero-gives k false x y t h g =
+      ap (λ (b : Bool). givesOf b false al sep x y) h ∙ ap (λ (p : ℕ → Bool). first p (below room)) (fills-is n few s ms f x t g)
+      ∙ first-names (fills n ms t) n few (fills-low n ms t)
+
+  pub gives-is : (k v : Bool) (x y : ℕ → Bool) (a : Atom ℕ) → AtomIs n k x y a → givesOf k v al sep x y ≡ gives n ms (mark a v)
+  gives-is k true x y (Atom.contact u t) h = ap (λ (b : Bool). givesOf b true al sep x y) (h .0) ∙ pair-is x y u t (h .1) (h .2)
+  gives-is k false x y (Atom.contact u t) h = ap (λ (b : Bool). givesOf b false al sep x y) (h .0)
+  gives-is k v x y (Atom.part u t) h = zero-gives k v x y (partTerm u t) (h .0) (h .1)
+  gives-is k v x y (Atom.empty t) h = zero-gives k v x y t (h .0) (h .1)
+
+-- ---- the first set, or the second where it is empty
+
+module _ (xs ys : List ℕ) (p : ℕ → Bool) (h : (e : ℕ) → p e ≡ elem e xs) where
+  pub or-else-none : ((e : ℕ) → p e ≡ true → e < room) → any p (below room) ≡ false → orElse xs ys ≡ ys
+  or-else-none low none = go xs h
+    where
+      go : (zs : List ℕ) → ((e : ℕ) → p e ≡ elem e zs) → orElse zs ys ≡ ys
+      go [] g = refl
+      go (z ∷ zs) g =
+          let t : p z ≡ true = g z ∙ elem-intro z (here {xs = zs}) in
+          clash (any-at p room z (low z t) t) none
+
+  pub or-else-some : any p (below room) ≡ true → orElse xs ys ≡ xs
+  or-else-some some = go xs h
+    where
+      go : (zs : List ℕ) → ((e : ℕ) → p e ≡ elem e zs) → orElse zs ys ≡ zs
+      go [] g = clash some (any-none p room (λ e l. g e))
+      go (z ∷ zs) g = refl
+
+-- ---- what is given is below 2 ^ n
+
+module _ (n : ℕ) (ms : List Mark) where
+  found-low : (p : ℕ → Bool) {e : ℕ} → In e (first p (evaluations n)) → e < 2 ^ n
+  found-low p {e} i = below-elim (2 ^ n) e (first-in p (evaluations n) i .0)
+
+  gives-low : (m : Mark) {e : ℕ} → In e (gives n ms m) → e < 2 ^ n
+  gives-low (touching x y) {e} i =
+      let r = gather-elim (withPartner n ms y) (first (leads n ms x y) (evaluations n)) i in
+      ⊎-elim (λ q. subst (λ (d : ℕ). d < 2 ^ n) (sym q) (found-low (leads n ms x y) (r .1)))
+      (λ j. found-low (partners n ms y (r .0)) j) (uncons (r .2))
+  gives-low (apart x y) i = none-in i
+  gives-low (vacant t) i = none-in i
+  gives-low (inhabited t) i = found-low (fills n ms t) i
+
+  pub given-low : (e : ℕ) → elem e (given n ms) ≡ true → e < 2 ^ n
+  unfolding given
+  given-low e h =
+      ⊎-elim (λ j. let r = gather-elim (gives n ms) ms j in gives-low (r .0) (r .2)) (λ j. found-low (allowed n ms) j)
+      (or-else-cases (gather (gives n ms) ms) (first (allowed n ms) (evaluations n)) (elem-elim e (given n ms) h))

@@ -1,0 +1,118 @@
+-- Rows as numbers: bit j of the number is the atom that has j after it, so half the number is the row without its last atom, and
+-- the marks of one atom more are those so far and its own. Assumes nothing.
+use mathlib.Core.Bool.{Bool, true, false, not}
+use mathlib.Core.Path.{_≡_, refl, sym, ap, ap₂, _∙_}
+use mathlib.Core.List.{List, [], _∷_, _++_}
+use Prim.Native.Nat.{ℕ, zero, suc, _+_, _-_, _*_, _/_, _%_, _^_, _≤_, _<_}
+use native.Mathlib.Nat.{mod-lt, zero-lt-suc}
+use native.Mathlib.Numerals.{add-one}
+use native.Mathlib.Omega.{arith}
+use lib.Dec.{eqb}
+use lib.ListN.{length, getD, take}
+use lib.Seq.{take-suc, length-take-le}
+use Rattle.formula.specs.Formula.{Atom}
+use Rattle.evalset.specs.Bit.{bit}
+use Rattle.evalset.specs.Search.{In, here, next}
+use Rattle.evalset.proofs.Bits.{bit-zero, bit-suc}
+use Rattle.contact.specs.Row.{Row}
+use Rattle.contact.specs.Plan.{Mark, mark, rowMarks}
+use Rattle.search.specs.Rows.{rowBits}
+use Rattle.search.specs.Compiled.{atomAt}
+
+-- ---- the row of a number
+
+pub row-length : (k p : ℕ) → length (rowBits k p) ≡ k
+unfolding rowBits
+row-length zero p = refl
+row-length (suc k) p = ap suc (row-length k p)
+
+row-at : (k p i : ℕ) → i < k → getD (rowBits k p) i false ≡ not (bit p (k - 1 - i))
+unfolding rowBits
+row-at zero p i h = absurd (omega arith)
+row-at (suc k) p zero h =
+    let z : k ≡ suc k - 1 - 0 = omega arith in
+    ap (λ (j : ℕ). not (bit p j)) z
+row-at (suc k) p (suc i) h =
+    let z : k - 1 - i ≡ suc k - 1 - suc i = omega arith in
+    row-at k p i (omega arith) ∙ ap (λ (j : ℕ). not (bit p j)) z
+
+digit-zero : (d : ℕ) → d < 2 → eqb d 0 ≡ not (eqb d 1)
+digit-zero zero h = refl
+digit-zero (suc zero) h = refl
+digit-zero (suc (suc d)) h = absurd (omega arith)
+
+-- as the code reads it
+pub row-read : (k p i : ℕ) → i < k → eqb (p / 2 ^ (k - 1 - i) % 2) 0 ≡ getD (rowBits k p) i false
+unfolding bit
+row-read k p i h = digit-zero (p / 2 ^ (k - 1 - i) % 2) (mod-lt _ (zero-lt-suc 1)) ∙ sym (row-at k p i h)
+
+-- ---- one atom more
+
+row-half : (k p : ℕ) → rowBits (suc k) p ≡ rowBits k (p / 2) ++ not (bit p 0) ∷ []
+unfolding rowBits
+row-half zero p = refl
+row-half (suc k) p = ap₂ _∷_ (ap not (bit-suc p k)) (row-half k p)
+
+-- the row without its last atom, and that
+row-parent : (k p : ℕ) → 0 < k → rowBits k p ≡ rowBits (k - 1) (p / 2) ++ getD (rowBits k p) (k - 1) false ∷ []
+row-parent k p h =
+    let z : k ≡ suc (k - 1) = omega arith in
+    let w : k - 1 - (k - 1) ≡ 0 = omega arith in
+    ap (λ (j : ℕ). rowBits j p) z ∙ row-half (k - 1) p
+    ∙ ap (λ (b : Bool). rowBits (k - 1) (p / 2) ++ b ∷ [])
+    (sym (row-at k p (k - 1) (omega arith) ∙ ap (λ (j : ℕ). not (bit p j)) w))
+
+row-child : (k p d : ℕ) → d < 2 → rowBits (k + 1) (p * 2 + d) ≡ rowBits k p ++ not (eqb d 1) ∷ []
+row-child k p d h =
+    let half : (p * 2 + d) / 2 ≡ p = omega arith in
+    let low : (p * 2 + d) % 2 ≡ d = omega arith in
+    ap (λ (j : ℕ). rowBits j (p * 2 + d)) (add-one k) ∙ row-half k (p * 2 + d)
+    ∙ ap₂ (λ (x : ℕ) (b : Bool). rowBits k x ++ not b ∷ []) half (bit-zero (p * 2 + d) ∙ ap (λ (x : ℕ). eqb x 1) low)
+
+-- the children of a row in the tree: the next atom true, and false
+pub row-true : (k p : ℕ) → rowBits (k + 1) (p * 2) ≡ rowBits k p ++ true ∷ []
+row-true k p =
+    let z : p * 2 ≡ p * 2 + 0 = omega arith in
+    ap (rowBits (k + 1)) z ∙ row-child k p 0 (omega arith)
+
+pub row-false : (k p : ℕ) → rowBits (k + 1) (p * 2 + 1) ≡ rowBits k p ++ false ∷ []
+row-false k p = row-child k p 1 (omega arith)
+
+-- ---- the marks of a row
+
+pub no-marks : (atoms : List (Atom ℕ)) → rowMarks atoms [] ≡ []
+no-marks [] = refl
+no-marks (a ∷ atoms) = refl
+
+pub marks-last : (atoms : List (Atom ℕ)) (row : Row) (b : Bool) → length row < length atoms
+    → rowMarks atoms (row ++ b ∷ []) ≡ rowMarks atoms row ++ mark (atomAt atoms (length row)) b ∷ []
+marks-last [] row b l = absurd (omega arith)
+marks-last (a ∷ atoms) [] b l = ap (λ (ms : List Mark). mark a b ∷ ms) (no-marks atoms)
+marks-last (a ∷ atoms) (c ∷ row) b l = ap (λ (ms : List Mark). mark a c ∷ ms) (marks-last atoms row b (omega arith))
+
+-- the marks of the row without its last atom, and of that
+pub marks-parent : (atoms : List (Atom ℕ)) (k p : ℕ) → 0 < k → k ≤ length atoms
+    → rowMarks atoms (rowBits k p)
+    ≡ rowMarks atoms (rowBits (k - 1) (p / 2)) ++ mark (atomAt atoms (k - 1)) (getD (rowBits k p) (k - 1) false) ∷ []
+marks-parent atoms k p h l =
+    let z : length (rowBits (k - 1) (p / 2)) ≡ k - 1 = row-length (k - 1) (p / 2) in
+    let b : Bool = getD (rowBits k p) (k - 1) false in
+    ap (rowMarks atoms) (row-parent k p h) ∙ marks-last atoms (rowBits (k - 1) (p / 2)) b (omega arith)
+    ∙ ap (λ (j : ℕ). rowMarks atoms (rowBits (k - 1) (p / 2)) ++ mark (atomAt atoms j) b ∷ []) z
+
+-- the marks of the first i atoms, and of one more
+pub marks-take : (atoms : List (Atom ℕ)) (row : Row) (i : ℕ) → i < length row → length row ≤ length atoms
+    → rowMarks atoms (take (i + 1) row) ≡ rowMarks atoms (take i row) ++ mark (atomAt atoms i) (getD row i false) ∷ []
+marks-take atoms row i l n =
+    let z : length (take i row) ≡ i = length-take-le i row (omega arith) in
+    ap (λ (j : ℕ). rowMarks atoms (take j row)) (add-one i) ∙ ap (rowMarks atoms) (take-suc row i false l)
+    ∙ marks-last atoms (take i row) (getD row i false) (omega arith)
+    ∙ ap (λ (j : ℕ). rowMarks atoms (take i row) ++ mark (atomAt atoms j) (getD row i false) ∷ []) z
+
+-- each atom of the row has its mark there
+pub mark-in : (atoms : List (Atom ℕ)) (row : Row) (i : ℕ) → i < length row → length row ≤ length atoms
+    → In (mark (atomAt atoms i) (getD row i false)) (rowMarks atoms row)
+mark-in [] row i l n = absurd (omega arith)
+mark-in (a ∷ atoms) [] i l n = absurd (omega arith)
+mark-in (a ∷ atoms) (b ∷ row) zero l n = here
+mark-in (a ∷ atoms) (b ∷ row) (suc i) l n = next (mark-in atoms row i (omega arith) (omega arith))

@@ -1,0 +1,22 @@
+-- `search::start` meets its contract: with no marks everything below 2 ^ names is allowed, and nothing is separated.
+-- Assumes nothing.
+use borrow.Author.Needs.{needs}
+use Rattle.evalset.specs.Sets.{room}
+use Rattle.search.proofs.Listing.{empty-rows}
+use Rattle.search.proofs.Fitting.{fit-start}
+use Rattle.search.proofs.start.Statement.{statement}
+use Rattle.search.proofs.start.Tie as tie
+
+empty-requires : tie.Need-empty-requires
+empty-requires c κs = search needs
+
+below-requires : tie.Need-below-requires
+below-requires c κs = search needs
+
+returns : tie.Need-returns
+unfolding room
+returns c = λ l.
+    fit-start _ _ l (c .below .ensures) (λ p q. empty-rows room p q (c .before .empty .result) (c .before .empty .ensures))
+
+pub start-spec : {M : Type 1} → statement M
+start-spec = tie.close (tie.spec empty-requires below-requires returns)

@@ -1,0 +1,84 @@
+-- When a sheet is compiled from a list of atoms, when a state is that of a list of marks, and what the functions on them ensure.
+-- Assumes nothing.
+use mathlib.Core.Bool.{Bool, true, false, _||_}
+use mathlib.Core.Path.{_≡_}
+use mathlib.Core.List.{List, [], _∷_, _++_}
+use Prim.Native.Nat.{ℕ, _-_, _/_, _^_, _≤_, _<_}
+use lib.ListN.{length, getD}
+use Rattle.formula.specs.Formula.{Term, Atom}
+use Rattle.evalset.specs.Search.{all}
+use Rattle.evalset.specs.Sets.{room, most, mem, memAt, minusOf}
+use Rattle.contact.specs.Meaning.{partTerm}
+use Rattle.contact.specs.Plan.{at, Mark, mark, rowMarks, separated, allowed, served, check}
+use Rattle.search.specs.declared.Sheet.{Sheet}
+use Rattle.search.specs.declared.State.{State}
+use Rattle.search.specs.Rows.{rowBits}
+use Rattle.search.specs.Tests.{lessOf, partOf}
+
+-- the most atoms
+abbrev pub limit : ℕ
+limit = 16
+
+-- of the evaluations below 2 ^ names, x has those in the term
+abbrev pub Stands : ℕ → (ℕ → Bool) → Term ℕ → Type 0
+Stands names x t = (e : ℕ) → e < 2 ^ names → x e ≡ at t e
+
+-- an atom as the sheet has it: whether it is a contact, and its sets
+abbrev pub AtomIs : ℕ → Bool → (ℕ → Bool) → (ℕ → Bool) → Atom ℕ → Type 0
+AtomIs names contact x y (Atom.contact s t) = (contact ≡ true) × Stands names x s × Stands names y t
+AtomIs names contact x y (Atom.part s t) = (contact ≡ false) × Stands names x (partTerm s t)
+AtomIs names contact x y (Atom.empty t) = (contact ≡ false) × Stands names x t
+
+-- what stands past the end of the atoms
+abbrev pub noAtom : Atom ℕ
+noAtom = Atom.empty Term.zero
+
+abbrev pub atomAt : List (Atom ℕ) → ℕ → Atom ℕ
+atomAt atoms i = getD atoms i noAtom
+
+abbrev pub isContact : Sheet → ℕ → Bool
+isContact sheet i = getD (sheet .contact) i false
+
+-- the sheet is compiled from the atoms
+pub record Compiled (sheet : Sheet) (atoms : List (Atom ℕ)) : Type 0 where
+  pub few : sheet .names ≤ most
+  pub counted : sheet .atoms ≡ length atoms
+  pub atom-is : (i : ℕ) → i < length atoms
+      → AtomIs (sheet .names) (isContact sheet i) (memAt (sheet .xs) i) (memAt (sheet .ys) i) (atomAt atoms i)
+
+-- the state is that of the marks
+pub record Fit (names : ℕ) (s : State) (ms : List Mark) : Type 0 where
+  pub allowed-is : mem (s .allowed) ≡ allowed names ms
+  pub rows-are : (p q : ℕ) → p < 2 ^ names → q < 2 ^ names → memAt (s .rows) p q ≡ separated ms p q
+
+-- the state r is s, once an atom has its value: whether it is a contact, its value, its sets
+pub record Follows (contact value : Bool) (x y : ℕ → Bool) (s r : State) : Type 0 where
+  pub less : mem (r .allowed) ≡ minusOf (mem (s .allowed)) (lessOf contact value x y)
+  pub more : (p q : ℕ) → p < room → memAt (r .rows) p q ≡ (memAt (s .rows) p q || partOf contact value x y p q)
+
+-- ---- what the functions ensure, of every list of atoms
+
+-- a decision brings the state of any marks to that of one mark more
+unfoldable pub StepSays : Sheet → State → ℕ → Bool → State → Type 0
+StepSays sheet s k value r =
+    (atoms : List (Atom ℕ)) → Compiled sheet atoms → k < length atoms → (ms : List Mark) → Fit (sheet .names) s ms
+    → Fit (sheet .names) r (ms ++ mark (atomAt atoms k) value ∷ [])
+
+-- every mark of the row has its witness
+unfoldable pub ServedSays : Sheet → State → ℕ → ℕ → Bool → Type 0
+ServedSays sheet s row k r =
+    (atoms : List (Atom ℕ)) → Compiled sheet atoms → k ≤ length atoms → (ms : List Mark) → Fit (sheet .names) s ms
+    → r ≡ all (served (sheet .names) ms) (rowMarks atoms (rowBits k row))
+
+-- the check of the marks of the row
+unfoldable pub RealisableSays : Sheet → State → ℕ → ℕ → Bool → Type 0
+RealisableSays sheet s row k r =
+    (atoms : List (Atom ℕ)) → Compiled sheet atoms → k ≤ length atoms → Fit (sheet .names) s (rowMarks atoms (rowBits k row))
+    → r ≡ check (sheet .names) (rowMarks atoms (rowBits k row))
+
+-- the same, if the row without its last atom passes: its number is half
+unfoldable pub NextSays : Sheet → State → ℕ → ℕ → Bool → Type 0
+NextSays sheet s row k r =
+    (atoms : List (Atom ℕ)) → Compiled sheet atoms → k ≤ length atoms → Fit (sheet .names) s (rowMarks atoms (rowBits k row))
+    → check (sheet .names) (rowMarks atoms (rowBits (k - 1) (row / 2))) ≡ true
+    → r ≡ check (sheet .names) (rowMarks atoms (rowBits k row))

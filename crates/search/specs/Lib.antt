@@ -1,0 +1,4 @@
+pub mod Rows
+pub mod Tests
+pub mod Compiled
+pub mod Planned

@@ -1,0 +1,12 @@
+-- "of two rows the first is the one with true at the lowest atom where they differ": rows as numbers in that order. Of k atoms,
+-- atom i is true where bit k - 1 - i is clear. Assumes nothing.
+use mathlib.Core.Bool.{not}
+use mathlib.Core.List.{[], _∷_}
+use Prim.Native.Nat.{ℕ, zero, suc}
+use Rattle.evalset.specs.Bit.{bit}
+use Rattle.contact.specs.Row.{Row}
+
+-- the row of k atoms with the number p
+unfoldable pub rowBits : ℕ → ℕ → Row
+rowBits zero p = []
+rowBits (suc k) p = not (bit p k) ∷ rowBits k p

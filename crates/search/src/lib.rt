@@ -1,0 +1,392 @@
+// The check of the rows of a compiled sheet, and the plan of a row (document 01, 'The plan that is given').
+// A row is a number: of k atoms, atom i is true where bit k - 1 - i is clear. The state goes down the tree of rows by value: what
+// is allowed, and what is separated from each evaluation. Contracts speak of every list of atoms that the sheet is compiled
+// from (specs/Compiled.antt). A requires asks only that indices are in range: the search alone calls these functions, it has
+// at most 16 atoms, and a test for each call would cost it time. Assumes nothing.
+ghost use mathlib.Core.Path.{_≡_};
+ghost use mathlib.Core.Bool.{true, false};
+ghost use mathlib.Core.List.{[]};
+ghost use Prim.Native.Nat.{ℕ, _≤_, _<_};
+ghost use lib.ListN.{length, getD};
+ghost use Rattle.evalset.specs.Search.{first, keep, below, elem};
+ghost use Rattle.evalset.specs.Sets.{room, most, mem, memAt, addOf};
+ghost use Rattle.search.specs.Rows.{rowBits};
+ghost use Rattle.search.specs.Tests.{Separates, Parts, servedOf, pairOf, givesOf, pickOf, rowOf, rowsOf, Filled};
+ghost use Rattle.search.specs.Compiled.{limit, Fit, Follows, StepSays, ServedSays, RealisableSays, NextSays};
+ghost use Rattle.search.specs.Planned.{pad, StateSays, GatheredSays, GivenSays, Positions, PlanSays};
+use evalset::EvalSet;
+use evalset::Found;
+use evalset::ROOM;
+
+// The most atoms.
+pub const ATOMS: usize = 16;
+
+// A compiled sheet: for atom i whether it is a contact, and its first and second term as sets of evaluations. Of a zero atom
+// xs has the zero term, and ys is empty.
+pub struct Sheet {
+    pub names: usize,
+    pub atoms: usize,
+    pub contact: [bool; ATOMS],
+    pub xs: [EvalSet; ATOMS],
+    pub ys: [EvalSet; ATOMS],
+}
+
+// The evaluations that are allowed, and for each evaluation those separated from it.
+pub struct State {
+    pub allowed: EvalSet,
+    pub rows: [EvalSet; ROOM],
+}
+
+// The points of a plan, ascending, zeros after them, and a contact row for each point: "a square of bits".
+pub struct RowPlan {
+    pub count: usize,
+    pub points: [u8; ROOM],
+    pub rows: [EvalSet; ROOM],
+}
+
+// A set as a list.
+struct Listed {
+    count: usize,
+    points: [u8; ROOM],
+}
+
+// Atom i's value in the row of k atoms.
+pub fn value_in(row: usize, k: usize, i: usize) -> bool
+    requires { ⌜ (i < k) × (k ≤ limit) ⌝ }
+    ensures { λ r. ⌜ r ≡ getD (rowBits k row) i false ⌝ }
+{
+    (row >> (k - 1 - i)) % 2 == 0
+}
+
+// The rows, once each of `first` is separated from each of `second`. The walk meets the evaluations of `first` alone.
+fn separate(rows: [EvalSet; ROOM], first: EvalSet, second: EvalSet) -> [EvalSet; ROOM]
+    ensures { λ r. ⌜ Separates (memAt rows) (mem first) (mem second) (memAt r) ⌝ }
+{
+    let mut out = rows;
+    let mut rest = first;
+    let mut from: usize = 0;
+    while from < ROOM {
+        let Found::At(p) = evalset::least(rest) else {
+            return out;
+        };
+        let r = out[p];
+        out[p] = evalset::join(r, second);
+        rest = evalset::without(rest, p);
+        from = p + 1;
+    }
+    out
+}
+
+// The rows, once a false contact has x and y for its terms: "either way round".
+fn parted(rows: [EvalSet; ROOM], x: EvalSet, y: EvalSet) -> [EvalSet; ROOM]
+    ensures { λ r. ⌜ Parts (memAt rows) (mem x) (mem y) (memAt r) ⌝ }
+{
+    separate(separate(rows, x, y), y, x)
+}
+
+// The state, once an atom has its value. A true contact and a false zero atom leave it as it was.
+fn decided(s: State, contact: bool, x: EvalSet, y: EvalSet, value: bool) -> State
+    ensures { λ r. ⌜ Follows contact value (mem x) (mem y) s r ⌝ }
+{
+    if contact {
+        if value {
+            s
+        } else {
+            let old = s.rows;
+            let own = evalset::meet(x, y);
+            let rows = parted(old, x, y);
+            State {
+                allowed: evalset::minus(s.allowed, own),
+                rows,
+            }
+        }
+    } else if value {
+        let rows = s.rows;
+        State {
+            allowed: evalset::minus(s.allowed, x),
+            rows,
+        }
+    } else {
+        s
+    }
+}
+
+// The state before any atom is decided.
+pub fn start(names: usize) -> State
+    ensures { λ r. ⌜ (names ≤ most → Fit names r []) ⌝ }
+{
+    let none = evalset::empty();
+    let rows = [none; ROOM];
+    State {
+        allowed: evalset::below(names),
+        rows,
+    }
+}
+
+// The state, once atom k has its value.
+pub fn step(sheet: Sheet, s: State, k: usize, value: bool) -> State
+    requires { ⌜ k < limit ⌝ }
+    ensures { λ r. ⌜ StepSays sheet s k value r ⌝ }
+{
+    let contact = sheet.contact[k];
+    let x = sheet.xs[k];
+    let y = sheet.ys[k];
+    decided(s, contact, x, y, value)
+}
+
+// Whether an allowed evaluation of x has an allowed partner in y that is not separated from it.
+fn touches(s: State, x: EvalSet, y: EvalSet) -> bool
+    ensures { λ r. ⌜ r ≡ servedOf true true (mem (s .allowed)) (memAt (s .rows)) (mem x) (mem y) ⌝ }
+{
+    let second = evalset::meet(s.allowed, y);
+    let mut rest = evalset::meet(s.allowed, x);
+    let mut from: usize = 0;
+    while from < ROOM {
+        let Found::At(p) = evalset::least(rest) else {
+            return false;
+        };
+        let r = s.rows[p];
+        if !evalset::is_empty(evalset::minus(second, r)) {
+            return true;
+        }
+        rest = evalset::without(rest, p);
+        from = p + 1;
+    }
+    false
+}
+
+// Whether an atom with its value has its witness.
+fn served(s: State, contact: bool, x: EvalSet, y: EvalSet, value: bool) -> bool
+    ensures { λ r. ⌜ r ≡ servedOf contact value (mem (s .allowed)) (memAt (s .rows)) (mem x) (mem y) ⌝ }
+{
+    if contact {
+        if value { touches(s, x, y) } else { true }
+    } else if value {
+        true
+    } else {
+        !evalset::is_empty(evalset::meet(s.allowed, x))
+    }
+}
+
+// Whether each of the k atoms of the row has its witness.
+fn all_served(sheet: Sheet, s: State, row: usize, k: usize) -> bool
+    requires { ⌜ k ≤ limit ⌝ }
+    ensures { λ r. ⌜ ServedSays sheet s row k r ⌝ }
+{
+    let mut i: usize = 0;
+    while i < k {
+        let contact = sheet.contact[i];
+        let x = sheet.xs[i];
+        let y = sheet.ys[i];
+        if !served(s, contact, x, y, value_in(row, k, i)) {
+            return false;
+        }
+        i += 1;
+    }
+    true
+}
+
+// The check of a row of k atoms, of which s is the state.
+pub fn realisable(sheet: Sheet, s: State, row: usize, k: usize) -> bool
+    requires { ⌜ k ≤ limit ⌝ }
+    ensures { λ r. ⌜ RealisableSays sheet s row k r ⌝ }
+{
+    if evalset::is_empty(s.allowed) {
+        false
+    } else {
+        all_served(sheet, s, row, k)
+    }
+}
+
+// The same where the row without its last atom passed: if that atom left the state as it was, its own mark alone is checked.
+pub fn realisable_next(sheet: Sheet, s: State, row: usize, k: usize) -> bool
+    requires { ⌜ (0 < k) × (k ≤ limit) ⌝ }
+    ensures { λ r. ⌜ NextSays sheet s row k r ⌝ }
+{
+    let i = k - 1;
+    let contact = sheet.contact[i];
+    let value = value_in(row, k, i);
+    if contact == value {
+        let x = sheet.xs[i];
+        let y = sheet.ys[i];
+        served(s, contact, x, y, value)
+    } else {
+        realisable(sheet, s, row, k)
+    }
+}
+
+// The state of a whole row.
+fn state_of(sheet: Sheet, row: usize) -> State
+    requires { ⌜ sheet .atoms ≤ limit ⌝ }
+    ensures { λ r. ⌜ StateSays sheet row r ⌝ }
+{
+    let n = sheet.atoms;
+    let mut s = start(sheet.names);
+    let mut i: usize = 0;
+    while i < n {
+        s = step(sheet, s, i, value_in(row, n, i));
+        i += 1;
+    }
+    s
+}
+
+// The least of a set, as a set.
+fn least_of(s: EvalSet) -> EvalSet
+    ensures { λ r. ⌜ ((e : ℕ) → mem r e ≡ elem e (first (mem s) (below room))) ⌝ }
+{
+    let Found::At(e) = evalset::least(s) else {
+        return evalset::empty();
+    };
+    evalset::insert(evalset::empty(), e)
+}
+
+// "p, the least allowed one in its first term with an allowed, unseparated partner in the second, and then its least partner."
+fn pair_of(first: EvalSet, second: EvalSet, rows: [EvalSet; ROOM]) -> EvalSet
+    ensures { λ r. ⌜ ((e : ℕ) → mem r e ≡ elem e (pairOf (mem first) (mem second) (memAt rows))) ⌝ }
+{
+    let none = evalset::empty();
+    let mut rest = first;
+    let mut from: usize = 0;
+    while from < ROOM {
+        let Found::At(p) = evalset::least(rest) else {
+            return none;
+        };
+        let r = rows[p];
+        if let Found::At(q) = evalset::least(evalset::minus(second, r)) {
+            return evalset::insert(evalset::insert(none, q), p);
+        }
+        rest = evalset::without(rest, p);
+        from = p + 1;
+    }
+    none
+}
+
+// The evaluations that an atom with its value gives.
+fn gives(s: State, contact: bool, x: EvalSet, y: EvalSet, value: bool) -> EvalSet
+    ensures { λ r. ⌜ ((e : ℕ) → mem r e ≡ elem e (givesOf contact value (mem (s .allowed)) (memAt (s .rows)) (mem x) (mem y))) ⌝ }
+{
+    if contact {
+        if value {
+            let rows = s.rows;
+            pair_of(
+                evalset::meet(s.allowed, x),
+                evalset::meet(s.allowed, y),
+                rows,
+            )
+        } else {
+            evalset::empty()
+        }
+    } else if value {
+        evalset::empty()
+    } else {
+        least_of(evalset::meet(s.allowed, x))
+    }
+}
+
+// The evaluations that the atoms of a row give.
+fn gathered(sheet: Sheet, s: State, row: usize) -> EvalSet
+    requires { ⌜ sheet .atoms ≤ limit ⌝ }
+    ensures { λ r. ⌜ GatheredSays sheet s row r ⌝ }
+{
+    let n = sheet.atoms;
+    let mut acc = evalset::empty();
+    let mut i: usize = 0;
+    while i < n {
+        let contact = sheet.contact[i];
+        let x = sheet.xs[i];
+        let y = sheet.ys[i];
+        acc = evalset::join(acc, gives(s, contact, x, y, value_in(row, n, i)));
+        i += 1;
+    }
+    acc
+}
+
+// "The points are these evaluations ..; if there are none, the least allowed evaluation."
+fn given(sheet: Sheet, s: State, row: usize) -> EvalSet
+    requires { ⌜ sheet .atoms ≤ limit ⌝ }
+    ensures { λ r. ⌜ GivenSays sheet s row r ⌝ }
+{
+    let g = gathered(sheet, s, row);
+    if evalset::is_empty(g) {
+        least_of(s.allowed)
+    } else {
+        g
+    }
+}
+
+// The evaluations of a set, "ascending, each once"; zeros stand after them.
+fn ascending(s: EvalSet) -> Listed
+    ensures { λ r. ⌜ (r .count ≡ length (keep (mem s) (below room))) × (r .points ≡ pad (keep (mem s) (below room))) ⌝ }
+{
+    let mut points = [0u8; ROOM];
+    let mut rest = s;
+    let mut from: usize = 0;
+    let mut count: usize = 0;
+    while from < ROOM {
+        let Found::At(e) = evalset::least(rest) else {
+            return Listed { count, points };
+        };
+        points[count] = e as u8;
+        rest = evalset::without(rest, e);
+        from = e + 1;
+        count += 1;
+    }
+    Listed { count, points }
+}
+
+// The set and j, unless it is held apart.
+fn insert_unless(apart: bool, s: EvalSet, j: usize) -> EvalSet
+    ensures { λ r. ⌜ mem r ≡ pickOf apart (mem s) (addOf (mem s) j) ⌝ }
+{
+    if apart { s } else { evalset::insert(s, j) }
+}
+
+// A contact row: the positions of the points that are not in `apart`.
+fn contact_row(points: [u8; ROOM], count: usize, apart: EvalSet) -> EvalSet
+    requires { ⌜ count ≤ room ⌝ }
+    ensures { λ r. ⌜ mem r ≡ rowOf count points (mem apart) ⌝ }
+{
+    let mut acc = evalset::empty();
+    let mut j: usize = 0;
+    while j < count {
+        let e = points[j] as usize;
+        acc = insert_unless(evalset::contains(apart, e), acc, j);
+        j += 1;
+    }
+    acc
+}
+
+// "All unseparated pairs are in contact": the contact rows of the points, from what is separated from each evaluation.
+fn contact_rows(points: [u8; ROOM], count: usize, apart: [EvalSet; ROOM]) -> [EvalSet; ROOM]
+    requires { ⌜ Positions count points ⌝ }
+    ensures { λ r. ⌜ Filled count (rowsOf count points (memAt apart)) (memAt r) ⌝ }
+{
+    let none = evalset::empty();
+    let mut out = [none; ROOM];
+    let mut i: usize = 0;
+    while i < count {
+        let e = points[i] as usize;
+        let row = apart[e];
+        out[i] = contact_row(points, count, row);
+        i += 1;
+    }
+    out
+}
+
+// The plan of a row.
+pub fn planned(sheet: Sheet, row: usize) -> RowPlan
+    requires { ⌜ sheet .atoms ≤ limit ⌝ }
+    ensures { λ r. ⌜ PlanSays sheet row r ⌝ }
+{
+    let s = state_of(sheet, row);
+    let apart = s.rows;
+    let listed = ascending(given(sheet, s, row));
+    let count = listed.count;
+    let points = listed.points;
+    let rows = contact_rows(points, count, apart);
+    RowPlan {
+        count,
+        points,
+        rows,
+    }
+}
