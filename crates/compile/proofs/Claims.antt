@@ -21,7 +21,7 @@ use Rattle.evalset.specs.Sets.{room, memAt}
 use Rattle.evalset.proofs.Bounded.{each}
 use Rattle.contact.specs.Numbering.{mapAtom, mapForm, numberForm}
 use Rattle.contact.specs.Plan.{at}
-use Rattle.compile.specs.declared.Sheet.{Sheet}
+use Rattle.search.specs.declared.Sheet.{Sheet}
 use Rattle.compile.specs.Code.{postfixCode, written}
 use Rattle.compile.specs.Sheet.{setOf, firstTerm, secondSet, atomAt, CompiledFrom}
 use Rattle.compile.specs.Machine.{start, run}

@@ -18,7 +18,7 @@ use Rattle.syntax.proofs.Heads.{length-codes}
 use Rattle.syntax.proofs.Claims.{order-names}
 use Rattle.evalset.specs.declared.EvalSet.{EvalSet}
 use Rattle.evalset.specs.Sets.{mem, memAt}
-use Rattle.compile.specs.declared.Sheet.{Sheet}
+use Rattle.search.specs.declared.Sheet.{Sheet}
 use Rattle.compile.specs.Code.{written}
 use Rattle.compile.specs.Kinds.{takenBy, termKind, atomKind, namesBy, setBy, firstBy, secondBy, signBy}
 use Rattle.compile.specs.Sheet.{CompiledFrom, Grows}

@@ -5,3 +5,4 @@ pub mod Heights
 pub mod Steps
 pub mod Follow
 pub mod Claims
+pub mod Searched

@@ -15,7 +15,7 @@ use Rattle.evalset.specs.Sets.{mem, memAt, noneOf}
 use Rattle.evalset.proofs.Search.{cases}
 use Rattle.evalset.proofs.Bits.{bit-none}
 use Rattle.evalset.proofs.Members.{mem-at-same, mem-at-other}
-use Rattle.compile.specs.declared.Sheet.{Sheet}
+use Rattle.search.specs.declared.Sheet.{Sheet}
 use Rattle.compile.specs.Kinds.{pick}
 use Rattle.compile.specs.Sheet.{isContact, firstSet, secondSet, atomAt, CompiledFrom, Grows}
 use Rattle.compile.proofs.Sets.{of-zero}

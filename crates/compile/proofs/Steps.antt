@@ -18,7 +18,7 @@ use Rattle.evalset.specs.declared.EvalSet.{EvalSet}
 use Rattle.evalset.specs.Sets.{mem, memAt, fullOf, meetOf, joinOf, minusOf}
 use Rattle.evalset.proofs.Search.{clash, cases}
 use Rattle.evalset.proofs.Members.{mem-at-same, mem-at-other}
-use Rattle.compile.specs.declared.Sheet.{Sheet}
+use Rattle.search.specs.declared.Sheet.{Sheet}
 use Rattle.compile.specs.Code.{written}
 use Rattle.compile.specs.Kinds.{pick, takenBy, termKind, atomKind, namesBy, setBy, firstBy, secondBy, signBy}
 use Rattle.compile.specs.Sheet.{setOf, CompiledFrom, Grows}

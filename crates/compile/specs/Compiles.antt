@@ -8,7 +8,7 @@ use Rattle.formula.specs.Names.{atomsOf, formulaNames}
 use Rattle.syntax.specs.Postfix.{postfix}
 use Rattle.syntax.specs.Reader.{codes}
 use Rattle.contact.specs.Numbering.{mapForm, mapAtom, numberForm}
-use Rattle.compile.specs.declared.Sheet.{Sheet}
+use Rattle.search.specs.declared.Sheet.{Sheet}
 use Rattle.compile.specs.declared.Compiled.{Compiled}
 use Rattle.compile.specs.Code.{postfixCode, written}
 use Rattle.compile.specs.Sheet.{CompiledFrom}

@@ -9,7 +9,7 @@ use Rattle.formula.specs.Formula.{Term, Atom}
 use Rattle.evalset.specs.Sets.{room, memAt, noneOf}
 use Rattle.contact.specs.Meaning.{partTerm}
 use Rattle.contact.specs.Plan.{at}
-use Rattle.compile.specs.declared.Sheet.{Sheet}
+use Rattle.search.specs.declared.Sheet.{Sheet}
 use Rattle.compile.specs.Kinds.{pick}
 
 -- the evaluations, all below room, in which the term holds

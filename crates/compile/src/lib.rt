@@ -12,6 +12,7 @@ ghost use Rattle.compile.specs.Kinds.{takenBy, termKind, atomKind, names
 ghost use Rattle.compile.specs.Sheet.{CompiledFrom, Grows};
 ghost use Rattle.compile.specs.Compiles.{Asked, Compiles};
 use evalset::EvalSet;
+use search::Sheet;
 
 // The kinds of tokens, by the lexer's numbers.
 const IMPLIES: u8 = 0;
@@ -45,16 +46,6 @@ const ZERO: u8 = 16;
 const ONE: u8 = 17;
 
 const NAME: u8 = 18;
-
-// A compiled sheet: for atom i whether it is a contact, and its first and second term as sets of evaluations. Of a zero atom
-// xs has the zero term, and ys is empty. What is past the atoms is false and empty.
-pub struct Sheet {
-    pub names: usize,
-    pub atoms: usize,
-    pub contact: [bool; 16],
-    pub xs: [EvalSet; 16],
-    pub ys: [EvalSet; 16],
-}
 
 // The sheet with the rule's atoms behind those before, and the place after the rule's code.
 pub struct Compiled {
