@@ -22,7 +22,8 @@ use Rattle.evalset.proofs.Bounded.{each}
 use Rattle.contact.specs.Numbering.{mapAtom, mapForm, numberForm}
 use Rattle.contact.specs.Plan.{at}
 use Rattle.search.specs.declared.Sheet.{Sheet}
-use Rattle.compile.specs.Code.{postfixCode, written}
+use Rattle.kleene.specs.Code.{postfix as postfixCode}
+use Rattle.compile.specs.Code.{written}
 use Rattle.compile.specs.Sheet.{setOf, firstTerm, secondSet, atomAt, CompiledFrom}
 use Rattle.compile.specs.Machine.{start, run}
 use Rattle.compile.proofs.Laws.{formula-run}

@@ -13,7 +13,7 @@ use Rattle.syntax.specs.Symbol.{Symbol, leaf, minus, tilde, opening, closing, c
 use Rattle.syntax.specs.Postfix.{termAfter, formulaAfter}
 use Rattle.contact.specs.Numbering.{mapTerm, mapAtom, mapForm, numberForm}
 use Rattle.contact.proofs.Numbered.{atoms-map}
-use Rattle.compile.specs.Code.{postfixCode}
+use Rattle.kleene.specs.Code.{atomSign, postfix as postfixCode}
 use Rattle.compile.specs.Machine.{State, below, withTerms, withAtom, withSign, step, run}
 
 module _ {N : Type 0} (g : N → ℕ) where
@@ -115,7 +115,7 @@ module _ {N : Type 0} (g : N → ℕ) where
 
   by-atom : (a : Atom ℕ) (ts : List (Term ℕ)) (s : State) → length ts ≤ length (s .terms) → Bounds 1 s (withAtom a ts s)
   by-atom a ts s l =
-      record { high = omega arith; long = omega (arith, length-append (s .code) ((7 + length (s .atoms)) ∷ [])); more = omega (arith, length-append (s .atoms) (a ∷ [])) }
+      record { high = omega arith; long = omega (arith, length-append (s .code) (atomSign (length (s .atoms)) ∷ [])); more = omega (arith, length-append (s .atoms) (a ∷ [])) }
 
   by-sign : (c : ℕ) (s : State) → Bounds 1 s (withSign c s)
   by-sign c s = record { high = omega arith; long = omega (arith, length-append (s .code) (c ∷ [])); more = omega arith }

@@ -10,7 +10,8 @@ use Rattle.syntax.specs.Reader.{codes}
 use Rattle.contact.specs.Numbering.{mapForm, mapAtom, numberForm}
 use Rattle.search.specs.declared.Sheet.{Sheet}
 use Rattle.compile.specs.declared.Compiled.{Compiled}
-use Rattle.compile.specs.Code.{postfixCode, written}
+use Rattle.kleene.specs.Code.{postfix as postfixCode}
+use Rattle.compile.specs.Code.{written}
 use Rattle.compile.specs.Sheet.{CompiledFrom}
 
 -- the atoms once those of the formula, its names numbered by g, stand behind them

@@ -4,6 +4,7 @@ use mathlib.Core.Bool.{Bool, true, false}
 use Prim.Native.Nat.{ℕ, _+_}
 use lib.Dec.{eqb, leb}
 use Rattle.evalset.specs.Sets.{noneOf, fullOf, nameOf, meetOf, joinOf, minusOf}
+use Rattle.kleene.specs.Code.{atomSign}
 
 abbrev pub pick : {A : Type 0} → Bool → A → A → A
 pick true a b = a
@@ -45,4 +46,4 @@ secondBy k y = pick (eqb k 14) y noneOf
 unfoldable pub signBy : ℕ → ℕ → ℕ
 signBy k atoms =
     pick (eqb k 7) 0
-    (pick (eqb k 3) 1 (pick (eqb k 2) 2 (pick (eqb k 0) 3 (pick (eqb k 1) 4 (pick (eqb k 13) 5 (pick (eqb k 12) 6 (7 + atoms)))))))
+    (pick (eqb k 3) 1 (pick (eqb k 2) 2 (pick (eqb k 0) 3 (pick (eqb k 1) 4 (pick (eqb k 13) 5 (pick (eqb k 12) 6 (atomSign atoms)))))))

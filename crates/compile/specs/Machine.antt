@@ -6,6 +6,7 @@ use Prim.Native.Nat.{ℕ, _+_}
 use lib.ListN.{length}
 use Rattle.formula.specs.declared.Sign.the-variants.{Implies, Iff, Or, And, Plus, Times}
 use Rattle.formula.specs.Formula.{Term, Atom}
+use Rattle.kleene.specs.Code.{atomSign}
 use Rattle.syntax.specs.Symbol.{Leaf, Symbol, leaf, minus, tilde, opening, closing, comma, isZero, binary, constant, relation, contact, part}
 
 pub record State : Type 0 where
@@ -27,7 +28,7 @@ abbrev pub withTerms : List (Term ℕ) → State → State
 withTerms ts s = record { terms = ts; atoms = s .atoms; code = s .code }
 
 abbrev pub withAtom : Atom ℕ → List (Term ℕ) → State → State
-withAtom a ts s = record { terms = ts; atoms = s .atoms ++ a ∷ []; code = s .code ++ (7 + length (s .atoms)) ∷ [] }
+withAtom a ts s = record { terms = ts; atoms = s .atoms ++ a ∷ []; code = s .code ++ atomSign (length (s .atoms)) ∷ [] }
 
 abbrev pub withSign : ℕ → State → State
 withSign c s = record { terms = s .terms; atoms = s .atoms; code = s .code ++ c ∷ [] }

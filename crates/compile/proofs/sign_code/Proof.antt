@@ -1,5 +1,6 @@
 -- The kind picks the code; any other kind is an atom's, whose number is small. Assumes nothing.
 use Prim.Native.Nat.{ℕ}
+use native.Mathlib.Omega.{arith}
 use mathlib.Core.Path.{sym, ap}
 use borrow.Author.Needs.{needs}
 use borrow.Author.Tests.{ne-eqb}
@@ -43,7 +44,7 @@ returns-7 c = sym (ap (λ (k : ℕ). signBy k (c .before .args .atoms)) (c .matc
 
 returns-8 : tie.Need-returns-8
 unfolding signBy
-returns-8 c = sym (simp (ne-eqb _ 7 (c .match .rest .0 .0 .0 .0 .0 .0 .1), ne-eqb _ 3 (c .match .rest .0 .0 .0 .0 .0 .1), ne-eqb _ 2 (c .match .rest .0 .0 .0 .0 .1), ne-eqb _ 0 (c .match .rest .0 .0 .0 .1), ne-eqb _ 1 (c .match .rest .0 .0 .1), ne-eqb _ 13 (c .match .rest .0 .1), ne-eqb _ 12 (c .match .rest .1)))
+returns-8 c = sym (simp (ne-eqb _ 7 (c .match .rest .0 .0 .0 .0 .0 .0 .1), ne-eqb _ 3 (c .match .rest .0 .0 .0 .0 .0 .1), ne-eqb _ 2 (c .match .rest .0 .0 .0 .0 .1), ne-eqb _ 0 (c .match .rest .0 .0 .0 .1), ne-eqb _ 1 (c .match .rest .0 .0 .1), ne-eqb _ 13 (c .match .rest .0 .1), ne-eqb _ 12 (c .match .rest .1)) (omega arith))
 
 pub sign-code-spec : {M : Type 1} → statement M
 sign-code-spec = tie.close (tie.spec cast-result add-result returns returns-2 returns-3 returns-4 returns-5 returns-6 returns-7 returns-8)
