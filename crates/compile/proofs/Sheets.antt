@@ -1,6 +1,6 @@
 -- A sheet holds one atom more once it is stored behind the others: at its own place it is found, elsewhere what stood there.
 -- Assumes nothing.
-use mathlib.Core.Bool.{Bool, true, false}
+use mathlib.Core.Bool.{Bool, true, false, cond}
 use mathlib.Core.Path.{_≡_, refl, sym, ap, subst, _∙_, fun-ext}
 use mathlib.Core.List.{List, [], _∷_, _++_}
 use Prim.Native.Nat.{ℕ, zero, suc, _+_, _<_}
@@ -16,7 +16,6 @@ use Rattle.evalset.proofs.Search.{cases}
 use Rattle.evalset.proofs.Bits.{bit-none}
 use Rattle.evalset.proofs.Members.{mem-at-same, mem-at-other}
 use Rattle.search.specs.declared.Sheet.{Sheet}
-use Rattle.compile.specs.Kinds.{pick}
 use Rattle.compile.specs.Sheet.{isContact, firstSet, secondSet, atomAt, CompiledFrom, Grows}
 use Rattle.compile.proofs.Sets.{of-zero}
 
@@ -27,37 +26,37 @@ grows-same {sheet} {r} {b} {c} {x} {y} {z} {w} h e p q =
 -- ---- an array with one place stored
 
 module _ {A : Type 0} (xs : List A) (n : ℕ) (a d : A) (h : n < length xs) where
-  pub stored : (i : ℕ) → getD (set xs n a) i d ≡ pick (eqb i n) a (getD xs i d)
+  pub stored : (i : ℕ) → getD (set xs n a) i d ≡ cond (eqb i n) a (getD xs i d)
   stored i =
       cases (eqb i n)
-      (λ e. ap (λ (j : ℕ). getD (set xs n a) j d) (eqb-true i n e) ∙ getD-set-same xs n a d h ∙ sym (ap (λ (b : Bool). pick b a (getD xs i d)) e))
-      (λ e. getD-set-other xs n i a d (eqb-false i n e) ∙ sym (ap (λ (b : Bool). pick b a (getD xs i d)) e))
+      (λ e. ap (λ (j : ℕ). getD (set xs n a) j d) (eqb-true i n e) ∙ getD-set-same xs n a d h ∙ sym (ap (λ (b : Bool). cond b a (getD xs i d)) e))
+      (λ e. getD-set-other xs n i a d (eqb-false i n e) ∙ sym (ap (λ (b : Bool). cond b a (getD xs i d)) e))
 
 module _ (xs : List EvalSet) (n : ℕ) (s : EvalSet) (h : n < length xs) where
-  pub stored-set : (i : ℕ) → memAt (set xs n s) i ≡ pick (eqb i n) (mem s) (memAt xs i)
+  pub stored-set : (i : ℕ) → memAt (set xs n s) i ≡ cond (eqb i n) (mem s) (memAt xs i)
   stored-set i =
       cases (eqb i n)
-      (λ e. ap (λ (j : ℕ). memAt (set xs n s) j) (eqb-true i n e) ∙ mem-at-same xs n s h ∙ sym (ap (λ (b : Bool). pick b (mem s) (memAt xs i)) e))
-      (λ e. mem-at-other xs n i s (eqb-false i n e) ∙ sym (ap (λ (b : Bool). pick b (mem s) (memAt xs i)) e))
+      (λ e. ap (λ (j : ℕ). memAt (set xs n s) j) (eqb-true i n e) ∙ mem-at-same xs n s h ∙ sym (ap (λ (b : Bool). cond b (mem s) (memAt xs i)) e))
+      (λ e. mem-at-other xs n i s (eqb-false i n e) ∙ sym (ap (λ (b : Bool). cond b (mem s) (memAt xs i)) e))
 
 -- ---- the atoms
 
-last-atom : (atoms : List (Atom ℕ)) (a : Atom ℕ) (i : ℕ) → atomAt (atoms ++ a ∷ []) i ≡ pick (eqb i (length atoms)) a (atomAt atoms i)
+last-atom : (atoms : List (Atom ℕ)) (a : Atom ℕ) (i : ℕ) → atomAt (atoms ++ a ∷ []) i ≡ cond (eqb i (length atoms)) a (atomAt atoms i)
 last-atom [] a ℕ.zero = refl
-last-atom [] a (suc i) = sym (ap (λ (b : Bool). pick b a (Atom.empty Term.zero)) (eqb·suc-zero i))
-last-atom (b ∷ atoms) a ℕ.zero = sym (ap (λ (d : Bool). pick d a b) (eqb·zero-suc (length atoms)))
-last-atom (b ∷ atoms) a (suc i) = last-atom atoms a i ∙ ap (λ (d : Bool). pick d a (atomAt atoms i)) (sym (eqb·suc-suc i (length atoms)))
+last-atom [] a (suc i) = sym (ap (λ (b : Bool). cond b a (Atom.empty Term.zero)) (eqb·suc-zero i))
+last-atom (b ∷ atoms) a ℕ.zero = sym (ap (λ (d : Bool). cond d a b) (eqb·zero-suc (length atoms)))
+last-atom (b ∷ atoms) a (suc i) = last-atom atoms a i ∙ ap (λ (d : Bool). cond d a (atomAt atoms i)) (sym (eqb·suc-suc i (length atoms)))
 
 -- a function of what was picked
-of-pick : {A B : Type 0} (f : A → B) (b : Bool) (x y : A) → pick b (f x) (f y) ≡ f (pick b x y)
-of-pick f true x y = refl
-of-pick f false x y = refl
+of-cond : {A B : Type 0} (f : A → B) (b : Bool) (x y : A) → cond b (f x) (f y) ≡ f (cond b x y)
+of-cond f true x y = refl
+of-cond f false x y = refl
 
 module _ (atoms : List (Atom ℕ)) (a : Atom ℕ) {B : Type 0} (f : Atom ℕ → B) where
-  last-of : (n i : ℕ) → n ≡ length atoms → (old new : B) → old ≡ f (atomAt atoms i) → new ≡ pick (eqb i n) (f a) old → new ≡ f (atomAt (atoms ++ a ∷ []) i)
+  last-of : (n i : ℕ) → n ≡ length atoms → (old new : B) → old ≡ f (atomAt atoms i) → new ≡ cond (eqb i n) (f a) old → new ≡ f (atomAt (atoms ++ a ∷ []) i)
   last-of n i z old new e h =
-      h ∙ ap (λ (b : B). pick (eqb i n) (f a) b) e ∙ ap (λ (m : ℕ). pick (eqb i m) (f a) (f (atomAt atoms i))) z
-      ∙ of-pick f (eqb i (length atoms)) a (atomAt atoms i) ∙ sym (ap f (last-atom atoms a i))
+      h ∙ ap (λ (b : B). cond (eqb i n) (f a) b) e ∙ ap (λ (m : ℕ). cond (eqb i m) (f a) (f (atomAt atoms i))) z
+      ∙ of-cond f (eqb i (length atoms)) a (atomAt atoms i) ∙ sym (ap f (last-atom atoms a i))
 
 -- a sheet with one atom more
 pub compiled-more : {sheet r : Sheet} {atoms : List (Atom ℕ)} (a : Atom ℕ) → CompiledFrom sheet atoms → length atoms < 16

@@ -1,5 +1,5 @@
 -- One symbol: the stack of sets follows the stack of terms, the sheet the atoms and the array the code. Assumes nothing.
-use mathlib.Core.Bool.{Bool, true, false}
+use mathlib.Core.Bool.{Bool, true, false, cond}
 use mathlib.Core.Path.{_≡_, refl, sym, ap, ap₂, _∙_}
 use mathlib.Core.List.{List, [], _∷_, _++_, append-assoc}
 use Prim.Native.Nat.{ℕ, suc, _+_, _-_, _≤_, _<_}
@@ -20,7 +20,7 @@ use Rattle.evalset.proofs.Search.{clash, cases}
 use Rattle.evalset.proofs.Members.{mem-at-same, mem-at-other}
 use Rattle.search.specs.declared.Sheet.{Sheet}
 use Rattle.compile.specs.Code.{written}
-use Rattle.compile.specs.Kinds.{pick, takenBy, termKind, atomKind, namesBy, setBy, firstBy, secondBy, signBy}
+use Rattle.compile.specs.Kinds.{takenBy, termKind, atomKind, namesBy, setBy, firstBy, secondBy, signBy}
 use Rattle.compile.specs.Sheet.{setOf, CompiledFrom, Grows}
 use Rattle.compile.specs.Machine.{State, withSign, step}
 use Rattle.compile.proofs.Sets.{of-zero, of-one, of-name, of-intersection, of-union, of-part, of-complement}
@@ -231,7 +231,7 @@ name-term = refl
 -- none, outside of terms
 pub no-name : (k : ℕ) → termKind k ≡ false → namesBy k ≡ 0
 unfolding namesBy
-no-name k h = cases (eqb k 18) (λ e. clash (ap termKind (eqb-true k 18 e) ∙ name-term) h) (λ e. ap (λ (b : Bool). pick b 1 0) e)
+no-name k h = cases (eqb k 18) (λ e. clash (ap termKind (eqb-true k 18 e) ∙ name-term) h) (λ e. ap (λ (b : Bool). cond b 1 0) e)
 
 pub one-at-most : (k : ℕ) → namesBy k ≤ 1
 unfolding namesBy

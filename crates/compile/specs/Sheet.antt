@@ -1,5 +1,5 @@
 -- When a sheet is compiled from a list of atoms. Assumes nothing.
-use mathlib.Core.Bool.{Bool, true, false, _&&_}
+use mathlib.Core.Bool.{Bool, true, false, _&&_, cond}
 use mathlib.Core.Path.{_≡_}
 use mathlib.Core.List.{List}
 use Prim.Native.Nat.{ℕ, suc, _≤_}
@@ -10,7 +10,6 @@ use Rattle.evalset.specs.Sets.{room, memAt, noneOf}
 use Rattle.contact.specs.Meaning.{partTerm}
 use Rattle.contact.specs.Plan.{at}
 use Rattle.search.specs.declared.Sheet.{Sheet}
-use Rattle.compile.specs.Kinds.{pick}
 
 -- the evaluations, all below room, in which the term holds
 unfoldable pub setOf : Term ℕ → ℕ → Bool
@@ -56,6 +55,6 @@ pub record CompiledFrom (sheet : Sheet) (atoms : List (Atom ℕ)) : Type 0 where
 pub record Grows (sheet r : Sheet) (contact : Bool) (x y : ℕ → Bool) : Type 0 where
   pub names-kept : r .names ≡ sheet .names
   pub one-more : r .atoms ≡ suc (sheet .atoms)
-  pub contact-at : (i : ℕ) → getD (r .contact) i false ≡ pick (eqb i (sheet .atoms)) contact (getD (sheet .contact) i false)
-  pub first-at : (i : ℕ) → memAt (r .xs) i ≡ pick (eqb i (sheet .atoms)) x (memAt (sheet .xs) i)
-  pub second-at : (i : ℕ) → memAt (r .ys) i ≡ pick (eqb i (sheet .atoms)) y (memAt (sheet .ys) i)
+  pub contact-at : (i : ℕ) → getD (r .contact) i false ≡ cond (eqb i (sheet .atoms)) contact (getD (sheet .contact) i false)
+  pub first-at : (i : ℕ) → memAt (r .xs) i ≡ cond (eqb i (sheet .atoms)) x (memAt (sheet .xs) i)
+  pub second-at : (i : ℕ) → memAt (r .ys) i ≡ cond (eqb i (sheet .atoms)) y (memAt (sheet .ys) i)

@@ -1,14 +1,13 @@
 -- The computed longest spelling is the meant one, by induction on the list: a spelling more is longer than the longest of the others or
 -- not. Assumes nothing.
 use mathlib.Core.Path.{_≡_, refl, sym, subst}
-use mathlib.Core.Bool.{Bool, true, false}
+use mathlib.Core.Bool.{Bool, true, false, cond}
 use mathlib.Core.List.{List, [], _∷_, List·Memᴰ, List·Memᴰ·head, List·Memᴰ·tail}
 use Prim.Native.Nat.{ℕ, _≤_}
 use native.Mathlib.Omega.{arith}
 use lib.Dec.{ltb}
 use lib.ListN.{length}
 use borrow.Author.Tests.{ltb-true, ltb-false}
-use Rattle.lexer.specs.Class.{pick}
 use Rattle.lexer.specs.Spelling.{Spelling, starts}
 use Rattle.lexer.specs.Cutting.{Match, nothing, match, Every, Longest}
 use Rattle.lexer.specs.Cutter.{longer, longest}
@@ -34,7 +33,7 @@ module _ (s : List ℕ) where
   add x xs nothing e h = (List·Memᴰ·head refl, e, (λ _. omega arith, all-none xs (length (x .bytes)) h))
   add x xs (match y) e h = go (ltb (length (x .bytes)) (length (y .bytes))) refl
     where
-      go : (t : Bool) → ltb (length (x .bytes)) (length (y .bytes)) ≡ t → Longest (x ∷ xs) s (pick t (match y) (match x))
+      go : (t : Bool) → ltb (length (x .bytes)) (length (y .bytes)) ≡ t → Longest (x ∷ xs) s (cond t (match y) (match x))
       go true f = let l = ltb-true (length (x .bytes)) (length (y .bytes)) f in (List·Memᴰ·tail (h .0), h .1, (λ _. omega (arith, l), h .2))
       go false f =
           let l = ltb-false (length (x .bytes)) (length (y .bytes)) f in
@@ -49,6 +48,6 @@ module _ (s : List ℕ) where
   longest-is [] = tt
   longest-is (x ∷ xs) = go (starts (x .bytes) s) refl (longest-is xs)
     where
-      go : (t : Bool) → starts (x .bytes) s ≡ t → Longest xs s (longest xs s) → Longest (x ∷ xs) s (pick t (longer x (longest xs s)) (longest xs s))
+      go : (t : Bool) → starts (x .bytes) s ≡ t → Longest xs s (longest xs s) → Longest (x ∷ xs) s (cond t (longer x (longest xs s)) (longest xs s))
       go true e r = add x xs (longest xs s) e r
       go false e r = keep x xs (longest xs s) e r

@@ -1,7 +1,7 @@
 -- What stands first in a text is decided by the class of its first byte; and a token has at least one byte and lies in the text, since
 -- the text starts with its sign, or with its run. Assumes nothing.
 use mathlib.Core.Path.{_≡_, refl, sym, ap, subst, _∙_}
-use mathlib.Core.Bool.{Bool, true, false, _&&_}
+use mathlib.Core.Bool.{Bool, true, false, _&&_, cond}
 use mathlib.Core.List.{List, [], _∷_}
 use Prim.Native.Nat.{ℕ, suc, _+_, _≤_, _<_}
 use native.Mathlib.Omega.{arith}
@@ -9,7 +9,7 @@ use borrow.Author.Needs.{needs}
 use lib.Dec.{eqb, ltb}
 use lib.ListN.{length, take, drop, getD, length-drop}
 use lib.Seq.{getD-drop}
-use Rattle.lexer.specs.Class.{pick, classOf}
+use Rattle.lexer.specs.Class.{classOf}
 use Rattle.lexer.specs.Spelling.{Meaning, token, measured, Spelling, signs, starts, runKind}
 use Rattle.lexer.specs.Cutting.{Match, nothing, match, Every, Longest}
 use Rattle.lexer.specs.Cutter.{meaningPiece, matchPiece, longest, signPiece, runLength, runPiece, byClass, pieceOf}
@@ -82,10 +82,10 @@ run-sized : (b : ℕ) (s : List ℕ) → classOf b ≡ Class.Alphanumeric → Si
 unfolding runPiece runLength
 run-sized b s e = go (runLength (b ∷ s)) (rw e (omega arith)) (run-fits (b ∷ s))
   where
-    go : (n : ℕ) → 1 ≤ n → n ≤ length (b ∷ s) → Sized (pick (ltb 16 n) Piece.LongName (Piece.Token (runKind (take n (b ∷ s))) n)) (length (b ∷ s))
+    go : (n : ℕ) → 1 ≤ n → n ≤ length (b ∷ s) → Sized (cond (ltb 16 n) Piece.LongName (Piece.Token (runKind (take n (b ∷ s))) n)) (length (b ∷ s))
     go n l h = at (ltb 16 n)
       where
-        at : (t : Bool) → Sized (pick t Piece.LongName (Piece.Token (runKind (take n (b ∷ s))) n)) (length (b ∷ s))
+        at : (t : Bool) → Sized (cond t Piece.LongName (Piece.Token (runKind (take n (b ∷ s))) n)) (length (b ∷ s))
         at true = tt
         at false = (l, h)
 

@@ -1,6 +1,6 @@
 -- A run goes on while its next byte is a letter or digit, so it is found one byte after the other. Assumes nothing.
 use mathlib.Core.Path.{_≡_, refl, sym, ap, _∙_}
-use mathlib.Core.Bool.{Bool, true, false}
+use mathlib.Core.Bool.{Bool, true, false, cond}
 use mathlib.Core.List.{List, [], _∷_}
 use Prim.Native.Nat.{ℕ, suc, _+_, _-_, _≤_, _<_}
 use native.Mathlib.Omega.{arith}
@@ -9,7 +9,7 @@ use lib.Dec.{ltb}
 use lib.ListN.{length, take, drop, getD, drop-of-length-le}
 use lib.Seq.{drop-cons}
 use borrow.Author.Tests.{lt-ltb, le-ltb}
-use Rattle.lexer.specs.Class.{pick, classOf}
+use Rattle.lexer.specs.Class.{classOf}
 use Rattle.lexer.specs.Spelling.{runKind, constantKind}
 use Rattle.lexer.specs.Cutter.{inRun, runLength, runPiece}
 use Rattle.lexer.specs.declared.Class.the-variants as Class
@@ -40,12 +40,12 @@ unfolding runLength
 run-fits [] = omega arith
 run-fits (b ∷ s) = go (inRun (classOf b)) (run-fits s)
   where
-    go : (t : Bool) → runLength s ≤ length s → pick t (suc (runLength s)) 0 ≤ suc (length s)
+    go : (t : Bool) → runLength s ≤ length s → cond t (suc (runLength s)) 0 ≤ suc (length s)
     go true h = omega arith
     go false h = omega arith
 
 abbrev two : ℕ → Bool → Bool → ℕ
-two n t u = pick t (suc (pick u (suc n) 0)) 0
+two n t u = cond t (suc (cond u (suc n) 0)) 0
 
 -- a runLength that is not one byte long is a name
 pub run-name : (s : List ℕ) → (_≡_ {A = ℕ} (runLength s) 1 → ⊥) → runKind (take (runLength s) s) ≡ Kind.Name
@@ -53,7 +53,7 @@ unfolding runLength
 run-name [] h = refl
 run-name (b ∷ []) h = go (inRun (classOf b)) h
   where
-    go : (t : Bool) → (_≡_ {A = ℕ} (pick t 1 0) 1 → ⊥) → runKind (take (pick {A = ℕ} t 1 0) (b ∷ [])) ≡ Kind.Name
+    go : (t : Bool) → (_≡_ {A = ℕ} (cond t 1 0) 1 → ⊥) → runKind (take (cond {A = ℕ} t 1 0) (b ∷ [])) ≡ Kind.Name
     go true h = absurd (h refl)
     go false h = refl
 run-name (b ∷ d ∷ s) h = go (inRun (classOf b)) (inRun (classOf d)) h
@@ -79,7 +79,7 @@ unfolding runPiece
 alone s i l n e o k f =
     let g : runLength (drop i s) ≡ 1 = sym e ∙ o in
     ap (λ (x : Kind). Piece.Token x 1) (f ∙ sym (ap (λ (r : List ℕ). runKind (take 1 r)) (rest s i l)))
-    ∙ sym (ap (λ (m : ℕ). pick (ltb 16 m) Piece.LongName (Piece.Token (runKind (take m (drop i s))) m)) g)
+    ∙ sym (ap (λ (m : ℕ). cond (ltb 16 m) Piece.LongName (Piece.Token (runKind (take m (drop i s))) m)) g)
 
 -- a run whose first byte is known goes on at the next place
 pub run-here : (s : List ℕ) (i : ℕ) → i < length s → classOf (getD s i 0) ≡ Class.Alphanumeric → (e : ℕ) → e ≡ i + 1 + runLength (drop (i + 1) s) → e - i ≡ runLength (drop i s)

@@ -1,7 +1,7 @@
 -- The computed cutting is the meant one, by induction on the text: each piece is what the relation asks at its place, and the rest is cut
 -- from where the piece ends. Assumes nothing.
 use mathlib.Core.Path.{_≡_, refl, sym, ap, subst}
-use mathlib.Core.Bool.{Bool, true, false}
+use mathlib.Core.Bool.{Bool, true, false, cond}
 use mathlib.Core.List.{List, [], _∷_}
 use Prim.Native.Nat.{ℕ, suc, _+_, _-_, _≤_}
 use native.Mathlib.Omega.{arith}
@@ -10,7 +10,7 @@ use lib.Dec.{ltb}
 use lib.ListN.{length, take, drop, take-append-drop}
 use lib.Seq.{length-take-le}
 use borrow.Author.Tests.{ltb-true, ltb-false}
-use Rattle.lexer.specs.Class.{pick, classOf}
+use Rattle.lexer.specs.Class.{classOf}
 use Rattle.lexer.specs.Token.{tokenOf}
 use Rattle.lexer.specs.Spelling.{Meaning, token, measured, Spelling, signs, runKind}
 use Rattle.lexer.specs.Cutting.{Cutting, first, Match, nothing, match, Longest, AllAlphanumeric, NoAlphanumericFirst, Run, Cut, end, blank, run, longName, sign, measuredSign, noSign, foreign}
@@ -35,7 +35,7 @@ unfolding runLength
 run-all [] = tt
 run-all (b ∷ s) = go (inRun (classOf b)) refl (run-all s)
   where
-    go : (t : Bool) → inRun (classOf b) ≡ t → AllAlphanumeric (take (runLength s) s) → AllAlphanumeric (take (pick t (suc (runLength s)) 0) (b ∷ s))
+    go : (t : Bool) → inRun (classOf b) ≡ t → AllAlphanumeric (take (runLength s) s) → AllAlphanumeric (take (cond t (suc (runLength s)) 0) (b ∷ s))
     go true e r = (is-alphanumeric (classOf b) e, r)
     go false e r = tt
 
@@ -44,7 +44,7 @@ unfolding runLength
 run-ends [] = tt
 run-ends (b ∷ s) = go (inRun (classOf b)) refl (run-ends s)
   where
-    go : (t : Bool) → inRun (classOf b) ≡ t → NoAlphanumericFirst (drop (runLength s) s) → NoAlphanumericFirst (drop (pick t (suc (runLength s)) 0) (b ∷ s))
+    go : (t : Bool) → inRun (classOf b) ≡ t → NoAlphanumericFirst (drop (runLength s) s) → NoAlphanumericFirst (drop (cond t (suc (runLength s)) 0) (b ∷ s))
     go true e r = r
     go false e r = λ f. let g : inRun (classOf b) ≡ true = ap inRun f in let z : _≡_ {A = ℕ} 0 1 = cc in absurd (omega arith)
 
@@ -84,7 +84,7 @@ module _ (b : ℕ) (s : List ℕ) (i : ℕ) (ih : Claim s) where
       }
 
       piece : Bool → Piece
-      piece t = pick t Piece.LongName (Piece.Token (runKind w) (runLength (b ∷ s)))
+      piece t = cond t Piece.LongName (Piece.Token (runKind w) (runLength (b ∷ s)))
 
       go : (t : Bool) → ltb 16 (runLength (b ∷ s)) ≡ t → Cut i (b ∷ s) (put (piece t) i (rest (piece t)))
       go true e = longName whole (omega (arith, size, ltb-true 16 (runLength (b ∷ s)) e))

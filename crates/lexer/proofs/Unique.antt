@@ -1,7 +1,7 @@
 -- What is meant determines the cutting: at each place one rule of the relation fits, with one longest sign or one whole run, and it gives
 -- what the cutter computes there. Assumes nothing.
 use mathlib.Core.Path.{_≡_, refl, sym, ap, subst, _∙_}
-use mathlib.Core.Bool.{Bool, true, false, _&&_}
+use mathlib.Core.Bool.{Bool, true, false, _&&_, cond}
 use mathlib.Core.List.{List, [], _∷_, _++_}
 use Prim.Native.Nat.{ℕ, suc, _+_, _-_, _≤_, _<_}
 use native.Mathlib.Omega.{arith}
@@ -9,7 +9,7 @@ use lib.Dec.{ltb, eqb}
 use lib.ListN.{length, take, drop}
 use lib.Seq.{take-append-seam, drop-append-seam}
 use borrow.Author.Tests.{lt-ltb, le-ltb, eqb-true}
-use Rattle.lexer.specs.Class.{pick, classOf}
+use Rattle.lexer.specs.Class.{classOf}
 use Rattle.lexer.specs.Token.{tokenOf}
 use Rattle.lexer.specs.Spelling.{Meaning, Spelling, signs, starts, runKind}
 use Rattle.lexer.specs.Cutting.{Cutting, refused, first, Match, nothing, match, Every, Longest, AllAlphanumeric, NoAlphanumericFirst, Run, Cut, end, blank, run, longName, sign, measuredSign, noSign, foreign}
@@ -76,12 +76,12 @@ not-in-run Class.Foreign n = refl
 run-none : (s : List ℕ) → NoAlphanumericFirst s → runLength s ≡ 0
 unfolding runLength
 run-none [] h = refl
-run-none (b ∷ s) h = ap (λ (t : Bool). pick t (suc (runLength s)) 0) (not-in-run (classOf b) h)
+run-none (b ∷ s) h = ap (λ (t : Bool). cond t (suc (runLength s)) 0) (not-in-run (classOf b) h)
 
 run-whole : (w s : List ℕ) → AllAlphanumeric w → NoAlphanumericFirst s → runLength (w ++ s) ≡ length w
 unfolding runLength
 run-whole [] s a h = run-none s h
-run-whole (b ∷ w) s a h = ap (λ (c : Class). pick (inRun c) (suc (runLength (w ++ s))) 0) (a .0) ∙ ap suc (run-whole w s (a .1) h)
+run-whole (b ∷ w) s a h = ap (λ (c : Class). cond (inRun c) (suc (runLength (w ++ s))) 0) (a .0) ∙ ap suc (run-whole w s (a .1) h)
 
 -- ---- one piece at the start of a text
 module _ (i b : ℕ) (s : List ℕ) where
@@ -118,16 +118,16 @@ run-at : (b : ℕ) (w s : List ℕ) → AllAlphanumeric (b ∷ w) → NoAlphanum
 unfolding runPiece
 run-at b w s a h l =
     by-class 0 b (w ++ s) Class.Alphanumeric (a .0)
-    ∙ ap (λ (n : ℕ). pick (ltb 16 n) Piece.LongName (Piece.Token (runKind (take n ((b ∷ w) ++ s))) n)) (run-whole (b ∷ w) s a h)
-    ∙ ap (λ (t : Bool). pick t Piece.LongName (Piece.Token (runKind (take (length (b ∷ w)) ((b ∷ w) ++ s))) (length (b ∷ w)))) (le-ltb 16 (length (b ∷ w)) l)
+    ∙ ap (λ (n : ℕ). cond (ltb 16 n) Piece.LongName (Piece.Token (runKind (take n ((b ∷ w) ++ s))) n)) (run-whole (b ∷ w) s a h)
+    ∙ ap (λ (t : Bool). cond t Piece.LongName (Piece.Token (runKind (take (length (b ∷ w)) ((b ∷ w) ++ s))) (length (b ∷ w)))) (le-ltb 16 (length (b ∷ w)) l)
     ∙ ap (λ (v : List ℕ). Piece.Token (runKind v) (length (b ∷ w))) (take-append-seam (b ∷ w) s)
 
 long-at : (b : ℕ) (w s : List ℕ) → AllAlphanumeric (b ∷ w) → NoAlphanumericFirst s → 16 < length (b ∷ w) → pieceOf ((b ∷ w) ++ s) ≡ Piece.LongName
 unfolding runPiece
 long-at b w s a h l =
     by-class 0 b (w ++ s) Class.Alphanumeric (a .0)
-    ∙ ap (λ (n : ℕ). pick (ltb 16 n) Piece.LongName (Piece.Token (runKind (take n ((b ∷ w) ++ s))) n)) (run-whole (b ∷ w) s a h)
-    ∙ ap (λ (t : Bool). pick t Piece.LongName (Piece.Token (runKind (take (length (b ∷ w)) ((b ∷ w) ++ s))) (length (b ∷ w)))) (lt-ltb 16 (length (b ∷ w)) l)
+    ∙ ap (λ (n : ℕ). cond (ltb 16 n) Piece.LongName (Piece.Token (runKind (take n ((b ∷ w) ++ s))) n)) (run-whole (b ∷ w) s a h)
+    ∙ ap (λ (t : Bool). cond t Piece.LongName (Piece.Token (runKind (take (length (b ∷ w)) ((b ∷ w) ++ s))) (length (b ∷ w)))) (lt-ltb 16 (length (b ∷ w)) l)
 
 on-run : (i : ℕ) (w s t : List ℕ) (r : Cutting) → Run w s t → length w ≤ 16 → r ≡ cutFrom (i + length w) 0 s → first (tokenOf (runKind w) i (length w)) r ≡ cutFrom i 0 t
 on-run i [] s t r h l e = absurd (omega (arith, h .some))

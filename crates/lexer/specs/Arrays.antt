@@ -1,9 +1,9 @@
 -- What is computed: the answer for a text, with its tokens as arrays. Assumes nothing.
+use mathlib.Core.Bool.{cond}
 use mathlib.Core.List.{List, [], _∷_, _++_, map}
 use Prim.Native.Nat.{ℕ, _-_}
 use lib.Dec.{ltb}
 use lib.ListN.{length, replicate}
-use Rattle.lexer.specs.Class.{pick}
 use Rattle.lexer.specs.Token.{Token}
 use Rattle.lexer.specs.Cutting.{Cutting, tokens, refused}
 use Rattle.lexer.specs.Cutter.{cutting}
@@ -60,4 +60,4 @@ lexedOf (refused a) = record { answer = a; tokens = tokensOf [] }
 
 -- refusal 2, "more than 256 bytes", comes before the others
 unfoldable pub lexed : List ℕ → Lexed
-lexed s = pick (ltb 256 (length s)) (record { answer = LexAnswer.TooLong; tokens = tokensOf [] }) (lexedOf (cutting s))
+lexed s = cond (ltb 256 (length s)) (record { answer = LexAnswer.TooLong; tokens = tokensOf [] }) (lexedOf (cutting s))

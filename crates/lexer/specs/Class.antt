@@ -1,15 +1,11 @@
 -- What is meant: the class of a byte. Assumes nothing.
-use mathlib.Core.Bool.{Bool, true, false, _&&_, _||_}
+use mathlib.Core.Bool.{Bool, true, false, _&&_, _||_, cond}
 use mathlib.Core.List.{List, [], _∷_}
 use Prim.Native.Nat.{ℕ}
 use lib.Dec.{leb, eqb}
 use Rattle.lexer.specs.Text.{bytes}
 use Rattle.lexer.specs.declared.Class.{Class}
 use Rattle.lexer.specs.declared.Class.the-variants as Class
-
-abbrev pub pick : {A : Type 0} → Bool → A → A → A
-pick true a b = a
-pick false a b = b
 
 abbrev pub within : ℕ → ℕ → ℕ → Bool
 within a z b = leb a b && leb b z
@@ -35,4 +31,4 @@ isSign b = oneOf (bytes "(),*+-&|~<=>") b
 
 -- "Each of the 256 byte values has one class: blank, letter or digit, a sign, or foreign."
 unfoldable pub classOf : ℕ → Class
-classOf b = pick (isBlank b) Class.Blank (pick (isAlphanumeric b) Class.Alphanumeric (pick (isSign b) Class.Sign Class.Foreign))
+classOf b = cond (isBlank b) Class.Blank (cond (isAlphanumeric b) Class.Alphanumeric (cond (isSign b) Class.Sign Class.Foreign))

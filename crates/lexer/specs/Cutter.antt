@@ -1,11 +1,11 @@
 -- What is computed: the cutter, from the left, one byte after the other. Assumes nothing.
 use mathlib.Core.Path.{_≡_}
-use mathlib.Core.Bool.{Bool, true, false}
+use mathlib.Core.Bool.{Bool, true, false, cond}
 use mathlib.Core.List.{List, [], _∷_}
 use Prim.Native.Nat.{ℕ, suc, _+_, _-_, _<_}
 use lib.Dec.{ltb}
 use lib.ListN.{length, take, getD}
-use Rattle.lexer.specs.Class.{pick, classOf}
+use Rattle.lexer.specs.Class.{classOf}
 use Rattle.lexer.specs.Token.{Token, tokenOf}
 use Rattle.lexer.specs.Spelling.{Meaning, token, measured, Spelling, signs, starts, runKind}
 use Rattle.lexer.specs.Cutting.{Cutting, tokens, refused, first, Match, nothing, match}
@@ -32,12 +32,12 @@ pub record ClassTable (table : List ℕ) : Type 0 where
 
 abbrev pub longer : Spelling → Match → Match
 longer x nothing = match x
-longer x (match y) = pick (ltb (length (x .bytes)) (length (y .bytes))) (match y) (match x)
+longer x (match y) = cond (ltb (length (x .bytes)) (length (y .bytes))) (match y) (match x)
 
 -- the longest of the spellings with which the text starts
 unfoldable pub longest : List Spelling → List ℕ → Match
 longest [] s = nothing
-longest (x ∷ xs) s = pick (starts (x .bytes) s) (longer x (longest xs s)) (longest xs s)
+longest (x ∷ xs) s = cond (starts (x .bytes) s) (longer x (longest xs s)) (longest xs s)
 
 abbrev pub meaningPiece : Meaning → ℕ → Piece
 meaningPiece (token k) n = Piece.Token k n
@@ -61,10 +61,10 @@ inRun Class.Foreign = false
 -- how long the run is with which the text starts, 0 for none
 unfoldable pub runLength : List ℕ → ℕ
 runLength [] = 0
-runLength (b ∷ s) = pick (inRun (classOf b)) (suc (runLength s)) 0
+runLength (b ∷ s) = cond (inRun (classOf b)) (suc (runLength s)) 0
 
 unfoldable pub runPiece : List ℕ → Piece
-runPiece s = pick (ltb 16 (runLength s)) Piece.LongName (Piece.Token (runKind (take (runLength s) s)) (runLength s))
+runPiece s = cond (ltb 16 (runLength s)) Piece.LongName (Piece.Token (runKind (take (runLength s) s)) (runLength s))
 
 -- ---- the text
 

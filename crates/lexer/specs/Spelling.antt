@@ -1,11 +1,10 @@
 -- What is meant: how signs and constants are spelled. Assumes nothing.
-use mathlib.Core.Bool.{Bool, true, false, _&&_}
+use mathlib.Core.Bool.{Bool, true, false, _&&_, cond}
 use mathlib.Core.List.{List, [], _∷_}
 use Prim.Native.Nat.{ℕ}
 use Prim.Native.String.{String}
 use lib.Dec.{eqb}
 use Rattle.lexer.specs.Text.{bytes, byte}
-use Rattle.lexer.specs.Class.{pick}
 use Rattle.lexer.specs.declared.Kind.{Kind}
 use Rattle.lexer.specs.declared.Kind.the-variants as Kind
 
@@ -52,11 +51,11 @@ starts (x ∷ xs) (b ∷ s) = eqb b x && starts xs s
 -- "The runs T, F, C, 0 and 1, alone, are the two formula constants, the contact sign and the two term constants"
 unfoldable pub constantKind : ℕ → Kind
 constantKind b =
-    pick (eqb b (byte "T")) Kind.Truth
-    (pick (eqb b (byte "F")) Kind.Falsity
-    (pick (eqb b (byte "C")) Kind.Contact
-    (pick (eqb b (byte "0")) Kind.Zero
-    (pick (eqb b (byte "1")) Kind.One Kind.Name))))
+    cond (eqb b (byte "T")) Kind.Truth
+    (cond (eqb b (byte "F")) Kind.Falsity
+    (cond (eqb b (byte "C")) Kind.Contact
+    (cond (eqb b (byte "0")) Kind.Zero
+    (cond (eqb b (byte "1")) Kind.One Kind.Name))))
 
 -- "every other run is a name, so "01" and "Ta" are names"
 abbrev pub runKind : List ℕ → Kind

@@ -1,10 +1,10 @@
 -- What is computed step by step: the sign by its first three bytes, and the arrays filled token by token. Assumes nothing.
+use mathlib.Core.Bool.{cond}
 use mathlib.Core.List.{List, [], _∷_}
 use Prim.Native.Nat.{ℕ, _+_}
 use lib.Dec.{eqb}
 use lib.ListN.{set, replicate}
 use Rattle.lexer.specs.Text.{byte}
-use Rattle.lexer.specs.Class.{pick}
 use Rattle.lexer.specs.Token.{Token}
 use Rattle.lexer.specs.Cutting.{Cutting, tokens, refused}
 use Rattle.lexer.specs.Arrays.{codeOf}
@@ -20,31 +20,31 @@ use Rattle.lexer.specs.declared.Lexed.{Lexed}
 -- ---- the sign that opens with a byte a, where b and c stand after it
 
 abbrev pub minusSign : ℕ → Piece
-minusSign b = pick (eqb b (byte ">")) (Piece.Token Kind.Implies 2) (Piece.Token Kind.Minus 1)
+minusSign b = cond (eqb b (byte ">")) (Piece.Token Kind.Implies 2) (Piece.Token Kind.Minus 1)
 
 abbrev pub lessSign : ℕ → ℕ → Piece
 lessSign b c =
-    pick (eqb b (byte "=")) (pick (eqb c (byte "m")) Piece.Measured (Piece.Token Kind.Part 2))
-    (pick (eqb b (byte "-")) (pick (eqb c (byte ">")) (Piece.Token Kind.Iff 3) Piece.Foreign) Piece.Foreign)
+    cond (eqb b (byte "=")) (cond (eqb c (byte "m")) Piece.Measured (Piece.Token Kind.Part 2))
+    (cond (eqb b (byte "-")) (cond (eqb c (byte ">")) (Piece.Token Kind.Iff 3) Piece.Foreign) Piece.Foreign)
 
 abbrev pub equalsSign : ℕ → ℕ → Piece
 equalsSign b c =
-    pick (eqb b (byte "0")) (Piece.Token Kind.IsZero 2)
-    (pick (eqb b (byte " ")) (pick (eqb c (byte "0")) (Piece.Token Kind.IsZero 3) Piece.Foreign) Piece.Foreign)
+    cond (eqb b (byte "0")) (Piece.Token Kind.IsZero 2)
+    (cond (eqb b (byte " ")) (cond (eqb c (byte "0")) (Piece.Token Kind.IsZero 3) Piece.Foreign) Piece.Foreign)
 
 unfoldable pub signOf : ℕ → ℕ → ℕ → Piece
 signOf a b c =
-    pick (eqb a (byte "(")) (Piece.Token Kind.Open 1)
-    (pick (eqb a (byte ")")) (Piece.Token Kind.Close 1)
-    (pick (eqb a (byte ",")) (Piece.Token Kind.Comma 1)
-    (pick (eqb a (byte "*")) (Piece.Token Kind.Times 1)
-    (pick (eqb a (byte "+")) (Piece.Token Kind.Plus 1)
-    (pick (eqb a (byte "&")) (Piece.Token Kind.And 1)
-    (pick (eqb a (byte "|")) (Piece.Token Kind.Or 1)
-    (pick (eqb a (byte "~")) (Piece.Token Kind.Not 1)
-    (pick (eqb a (byte "-")) (minusSign b)
-    (pick (eqb a (byte "<")) (lessSign b c)
-    (pick (eqb a (byte "=")) (equalsSign b c) Piece.Foreign))))))))))
+    cond (eqb a (byte "(")) (Piece.Token Kind.Open 1)
+    (cond (eqb a (byte ")")) (Piece.Token Kind.Close 1)
+    (cond (eqb a (byte ",")) (Piece.Token Kind.Comma 1)
+    (cond (eqb a (byte "*")) (Piece.Token Kind.Times 1)
+    (cond (eqb a (byte "+")) (Piece.Token Kind.Plus 1)
+    (cond (eqb a (byte "&")) (Piece.Token Kind.And 1)
+    (cond (eqb a (byte "|")) (Piece.Token Kind.Or 1)
+    (cond (eqb a (byte "~")) (Piece.Token Kind.Not 1)
+    (cond (eqb a (byte "-")) (minusSign b)
+    (cond (eqb a (byte "<")) (lessSign b c)
+    (cond (eqb a (byte "=")) (equalsSign b c) Piece.Foreign))))))))))
 
 -- ---- the arrays
 
@@ -70,7 +70,7 @@ unfoldable pub refusal : LexAnswer → Lexed
 refusal a = answered a none
 
 unfoldable pub finish : Tokens → Lexed
-finish t = answered (pick (eqb (t .n) 0) LexAnswer.NoToken LexAnswer.Tokens) t
+finish t = answered (cond (eqb (t .n) 0) LexAnswer.NoToken LexAnswer.Tokens) t
 
 -- the answer where t is filled already and the rest of the text is cut as r
 unfoldable pub resume : Tokens → Cutting → Lexed

@@ -4,7 +4,7 @@ use Prim.Native.Nat.{ℕ, suc, _+_, _*_, _-_, _≤_, _<_}
 use native.Mathlib.Omega.{arith}
 use mathlib.Core.Path.{_≡_, refl, sym, ap, subst, _∙_}
 use mathlib.Core.List.{List, [], _∷_, _++_}
-use mathlib.Core.Bool.{Bool, true, false, not}
+use mathlib.Core.Bool.{Bool, true, false, not, cond}
 use lib.Dec.{eqb, ltb}
 use lib.ListN.{length, drop, set, replicate, length-drop, drop-of-length-le, List·getD-eq-default}
 use borrow.Author.Tests.{eqb-true, eqb-false, ltb-true, ltb-false}
@@ -13,7 +13,7 @@ use Rattle.formula.specs.Sign.{joinsTerms}
 use Rattle.formula.specs.Formula.{Name}
 use Rattle.syntax.specs.Symbol.{Leaf, Relation, leaf, binary, constant, relation, contact, part}
 use Rattle.syntax.specs.Machine.{Sym, Frame, inParenthesis, afterMinus, afterTilde, afterBinary, firstOf, secondOf, rankOf, allow, same, State, want, have, call, Popped, guard, join, step, Result, run, reading}
-use Rattle.syntax.specs.Reader.{code, codes, kindAt, top, bindingOf, goesAt, pick, followsOf, Holds, Goes, Stops, Sorted, Within, Inside, Room, expectedOf, endedOf, endedIn, relatedOf, relatedIn, zeroedOf, zeroedIn, Asked, Said, MoreAsked, MoreSaid, ParenthesisSaid, RelationAsked, RelationSaid, startOf, Parsed, ParseSaid}
+use Rattle.syntax.specs.Reader.{code, codes, kindAt, top, bindingOf, goesAt, followsOf, Holds, Goes, Stops, Sorted, Within, Inside, Room, expectedOf, endedOf, endedIn, relatedOf, relatedIn, zeroedOf, zeroedIn, Asked, Said, MoreAsked, MoreSaid, ParenthesisSaid, RelationAsked, RelationSaid, startOf, Parsed, ParseSaid}
 use Rattle.syntax.specs.declared.Read.{Read}
 use Rattle.syntax.specs.declared.Read.the-variants.{Value, Refused}
 use Rattle.syntax.proofs.Laws.{true≢false, pop-keep}
@@ -93,7 +93,7 @@ binding-goes : (t : Bool) (c : ℕ) → bindingOf t c ≤ goesAt t c
 unfolding goesAt
 binding-goes t c = by-test (eqb c 10) refl
   where
-    by-test : (b : Bool) → eqb c 10 ≡ b → bindingOf t c ≤ pick b (pick t 4 0) (bindingOf t c)
+    by-test : (b : Bool) → eqb c 10 ≡ b → bindingOf t c ≤ cond b (cond t 4 0) (bindingOf t c)
     by-test true q = let z : bindingOf t c ≡ 0 = ap (bindingOf t) (eqb-true c 10 q) ∙ binding-zero t in omega arith
     by-test false q = omega arith
 
@@ -101,7 +101,7 @@ goes-binding : (t : Bool) (c k : ℕ) → bindingOf t c ≤ k → (k < 4 → goe
 unfolding goesAt
 goes-binding t c k h s = by-test t (eqb c 10) (ltb k 4) refl s h
   where
-    by-test : (v b d : Bool) → ltb k 4 ≡ d → (k < 4 → pick b (pick v 4 0) (bindingOf t c) ≤ 3) → bindingOf t c ≤ k → pick b (pick v 4 0) (bindingOf t c) ≤ k
+    by-test : (v b d : Bool) → ltb k 4 ≡ d → (k < 4 → cond b (cond v 4 0) (bindingOf t c) ≤ 3) → bindingOf t c ≤ k → cond b (cond v 4 0) (bindingOf t c) ≤ k
     by-test v false d q l m = m
     by-test false true d q l m = omega arith
     by-test true true true q l m = absurd (let z : 4 ≤ 3 = l (ltb-true k 4 q) in let y : ⊥ = omega arith in y)

@@ -6,7 +6,7 @@ use native.Mathlib.Numerals.{add-one}
 use native.Mathlib.Omega.{arith}
 use mathlib.Core.Path.{_≡_, refl, sym, ap, _∙_}
 use mathlib.Core.List.{List, [], _∷_, _++_}
-use mathlib.Core.Bool.{Bool, true, false}
+use mathlib.Core.Bool.{Bool, true, false, cond}
 use lib.Dec.{eqb}
 use lib.ListN.{length, getD, drop}
 use Rattle.formula.specs.declared.Sign.{Sign}
@@ -16,7 +16,7 @@ use Rattle.formula.specs.Formula.{Name}
 use Rattle.syntax.specs.Symbol.{Leaf, Relation, leaf, minus, tilde, opening, closing, comma, isZero, binary, constant, relation, contact, part}
 use Rattle.syntax.specs.Machine.{Sym, Frame, rankOf, allow, loosest, same, State, want, have, call, dead, Popped, shut, close, zeroed, parted, step, refused, done, run, guard}
 use Rattle.syntax.specs.Machine as machine
-use Rattle.syntax.specs.Reader.{code, codes, kindAt, top, goes, goesOn, bindingOf, goesAt, pick}
+use Rattle.syntax.specs.Reader.{code, codes, kindAt, top, goes, goesOn, bindingOf, goesAt}
 use Rattle.syntax.proofs.Laws.{run-dead, pop-keep, goes-formula}
 
 -- the kind of what stands first, and what stands after it
@@ -174,14 +174,14 @@ binary-first t (x ∷ l) h =
 
 -- ---- what goes on a value, by its kind alone
 
-pick-holds : (P : ℕ → Type 0) (b : Bool) (x y : ℕ) → P x → P y → P (pick b x y)
-pick-holds P true x y h k = h
-pick-holds P false x y h k = k
+cond-holds : (P : ℕ → Type 0) (b : Bool) (x y : ℕ) → P x → P y → P (cond b x y)
+cond-holds P true x y h k = h
+cond-holds P false x y h k = k
 
 binding-holds : (P : ℕ → Type 0) (t : Bool) (c : ℕ) → ((b : Sign) → P (goes t (binary b))) → P 0 → P (bindingOf t c)
 unfolding bindingOf
 binding-holds P t c h z =
-    pick-holds P (eqb c 0) _ _ (h Implies) (pick-holds P (eqb c 1) _ _ (h Iff) (pick-holds P (eqb c 2) _ _ (h Or) (pick-holds P (eqb c 3) _ _ (h And) (pick-holds P (eqb c 4) _ _ (h Plus) (pick-holds P (eqb c 5) _ _ (h Times) z)))))
+    cond-holds P (eqb c 0) _ _ (h Implies) (cond-holds P (eqb c 1) _ _ (h Iff) (cond-holds P (eqb c 2) _ _ (h Or) (cond-holds P (eqb c 3) _ _ (h And) (cond-holds P (eqb c 4) _ _ (h Plus) (cond-holds P (eqb c 5) _ _ (h Times) z)))))
 
 term-goes : (b : Sign) → (goes true (binary b) ≤ 6) × (0 < goes true (binary b) → 5 ≤ goes true (binary b))
 term-goes Implies = (omega arith, λ h. omega arith)

@@ -3,7 +3,7 @@ use Prim.Native.Nat.{ℕ, suc, _+_, _≤_, _<_}
 use native.Mathlib.Omega.{arith}
 use mathlib.Core.Path.{_≡_, refl, sym, ap, subst, _∙_}
 use mathlib.Core.List.{List, [], _∷_}
-use mathlib.Core.Bool.{Bool, true, false, Bool·beq}
+use mathlib.Core.Bool.{Bool, true, false, Bool·beq, cond}
 use lib.Dec.{ltb}
 use lib.ListN.{length, getD, set}
 use borrow.Author.Tests.{eq-eqb, ne-eqb}
@@ -12,7 +12,7 @@ use Rattle.formula.specs.declared.Sign.the-variants.{Implies, Iff, Or, And, Plu
 use Rattle.formula.specs.Sign.{levelOf, joinsTerms}
 use Rattle.syntax.specs.Symbol.{binary}
 use Rattle.syntax.specs.Machine.{same}
-use Rattle.syntax.specs.Reader.{kindAt, goes, bindingOf, pick, followsOf, Inside, Room, expectedOf, endedOf, endedIn, relatedOf, relatedIn, zeroedOf, zeroedIn}
+use Rattle.syntax.specs.Reader.{kindAt, goes, bindingOf, followsOf, Inside, Room, expectedOf, endedOf, endedIn, relatedOf, relatedIn, zeroedOf, zeroedIn}
 use Rattle.syntax.specs.declared.Read.{Read}
 use Rattle.syntax.specs.declared.Read.the-variants.{Value, Refused}
 use Rattle.syntax.proofs.Laws.{true≢false}
@@ -102,10 +102,10 @@ expected-refused ks c r p e = sym (ap (expectedOf ks c) e)
 
 module _ (ks : List ℕ) (c : ℕ) (r : Read) (t : Bool) (p n : ℕ) (e : r ≡ Value t p n) where
   pub expected-yes : kindAt ks p ≡ c → Value t (p + 1) n ≡ expectedOf ks c r
-  expected-yes h = sym (ap (expectedOf ks c) e ∙ ap (λ (b : Bool). pick b (Value t (p + 1) n) (Refused p)) (eq-eqb (kindAt ks p) c h))
+  expected-yes h = sym (ap (expectedOf ks c) e ∙ ap (λ (b : Bool). cond b (Value t (p + 1) n) (Refused p)) (eq-eqb (kindAt ks p) c h))
 
   pub expected-no : (kindAt ks p ≡ c → ⊥) → Refused p ≡ expectedOf ks c r
-  expected-no h = sym (ap (expectedOf ks c) e ∙ ap (λ (b : Bool). pick b (Value t (p + 1) n) (Refused p)) (ne-eqb (kindAt ks p) c h))
+  expected-no h = sym (ap (expectedOf ks c) e ∙ ap (λ (b : Bool). cond b (Value t (p + 1) n) (Refused p)) (ne-eqb (kindAt ks p) c h))
 
 -- ---- ended and related
 
@@ -116,10 +116,10 @@ same-of false true b h = h
 same-of false false b h = h
 
 module _ (term : Bool) (c : ℕ) (A : List ℕ) (r : Read) (t : Bool) (p n : ℕ) (e : r ≡ Value t p n) where
-  ended-as : (b : Bool) → same t term ≡ b → (endedOf term r ≡ pick b (Value t p (n + 1)) (Refused p)) × (endedIn term c r A ≡ pick b (set A n c) A)
+  ended-as : (b : Bool) → same t term ≡ b → (endedOf term r ≡ cond b (Value t p (n + 1)) (Refused p)) × (endedIn term c r A ≡ cond b (set A n c) A)
   ended-as b h = (
-    ap (endedOf term) e ∙ ap (λ (x : Bool). pick x (Value t p (n + 1)) (Refused p)) h,
-    ap (λ (q : Read). endedIn term c q A) e ∙ ap (λ (x : Bool). pick x (set A n c) A) h,
+    ap (endedOf term) e ∙ ap (λ (x : Bool). cond x (Value t p (n + 1)) (Refused p)) h,
+    ap (λ (q : Read). endedIn term c q A) e ∙ ap (λ (x : Bool). cond x (set A n c) A) h,
   )
 
   pub ended-yes : Bool·beq t term ≡ true → (Value t p (n + 1) ≡ endedOf term r) × (set A n c ≡ endedIn term c r A)
@@ -149,15 +149,15 @@ module _ (ks : List ℕ) (A : List ℕ) (r : Read) where
   pub zeroed-yes : (t : Bool) (p n : ℕ) → r ≡ Value t p n → t ≡ true → kindAt ks p ≡ 10 → (Value false (p + 1) (n + 1) ≡ zeroedOf ks r) × (set A n 10 ≡ zeroedIn ks r A)
   zeroed-yes t p n e h k =
       let s : (zeroedOf ks r ≡ zeroedOf ks (Value true p n)) × (zeroedIn ks r A ≡ zeroedIn ks (Value true p n) A) = zeroed-as (Value true p n) (of-term t p n e h) in (
-        sym (s .0 ∙ ap (λ (b : Bool). pick b (Value false (p + 1) (n + 1)) (Value true p n)) (eq-eqb (kindAt ks p) 10 k)),
-        sym (s .1 ∙ ap (λ (b : Bool). pick b (set A n 10) A) (eq-eqb (kindAt ks p) 10 k)),
+        sym (s .0 ∙ ap (λ (b : Bool). cond b (Value false (p + 1) (n + 1)) (Value true p n)) (eq-eqb (kindAt ks p) 10 k)),
+        sym (s .1 ∙ ap (λ (b : Bool). cond b (set A n 10) A) (eq-eqb (kindAt ks p) 10 k)),
       )
 
   pub zeroed-no : (t : Bool) (p n : ℕ) → r ≡ Value t p n → t ≡ true → (kindAt ks p ≡ 10 → ⊥) → (Value t p n ≡ zeroedOf ks r) × (A ≡ zeroedIn ks r A)
   zeroed-no t p n e h k =
       let s : (zeroedOf ks r ≡ zeroedOf ks (Value true p n)) × (zeroedIn ks r A ≡ zeroedIn ks (Value true p n) A) = zeroed-as (Value true p n) (of-term t p n e h) in (
-        sym e ∙ of-term t p n e h ∙ sym (s .0 ∙ ap (λ (b : Bool). pick b (Value false (p + 1) (n + 1)) (Value true p n)) (ne-eqb (kindAt ks p) 10 k)),
-        sym (s .1 ∙ ap (λ (b : Bool). pick b (set A n 10) A) (ne-eqb (kindAt ks p) 10 k)),
+        sym e ∙ of-term t p n e h ∙ sym (s .0 ∙ ap (λ (b : Bool). cond b (Value false (p + 1) (n + 1)) (Value true p n)) (ne-eqb (kindAt ks p) 10 k)),
+        sym (s .1 ∙ ap (λ (b : Bool). cond b (set A n 10) A) (ne-eqb (kindAt ks p) 10 k)),
       )
 
   pub zeroed-formula : (t : Bool) (p n : ℕ) → r ≡ Value t p n → t ≡ false → (Value t p n ≡ zeroedOf ks r) × (A ≡ zeroedIn ks r A)

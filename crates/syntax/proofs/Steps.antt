@@ -5,7 +5,7 @@ use Prim.Native.Nat.{ℕ, suc, _+_, _-_, _≤_, _<_}
 use native.Mathlib.Omega.{arith}
 use mathlib.Core.Path.{_≡_, refl, sym, ap, subst, _∙_}
 use mathlib.Core.List.{List, [], _∷_, _++_}
-use mathlib.Core.Bool.{Bool, true, false, not}
+use mathlib.Core.Bool.{Bool, true, false, not, cond}
 use lib.Dec.{eqb}
 use lib.ListN.{length, drop, set, replicate, length-append}
 use lib.Seq.{set-at, append-snoc}
@@ -13,7 +13,7 @@ use borrow.Author.Tests.{eqb-true, eqb-false, ne-eqb}
 use Rattle.formula.specs.declared.Sign.the-variants.{Implies, Iff, Or, And, Plus, Times}
 use Rattle.syntax.specs.Symbol.{Relation, isZero, relation}
 use Rattle.syntax.specs.Machine.{Sym, Frame, inParenthesis, afterMinus, afterTilde, afterBinary, firstOf, secondOf, need, signOf, allow, loosest, want, have, dead, Popped, guard, shut, close, zeroed, parted, Result, refused, run}
-use Rattle.syntax.specs.Reader.{code, codes, kindAt, top, goesOn, bindingOf, goesAt, pick, Holds, Goes, Stops, Sorted, Within, Inside, Room, expectedOf, endedOf, endedIn, relatedOf, relatedIn, zeroedOf, zeroedIn, startOf}
+use Rattle.syntax.specs.Reader.{code, codes, kindAt, top, goesOn, bindingOf, goesAt, Holds, Goes, Stops, Sorted, Within, Inside, Room, expectedOf, endedOf, endedIn, relatedOf, relatedIn, zeroedOf, zeroedIn, startOf}
 use Rattle.syntax.specs.declared.Read.{Read}
 use Rattle.syntax.specs.declared.Read.the-variants.{Value, Refused}
 use Rattle.syntax.proofs.Laws.{true≢false, pop-keep, Waits, feed}
@@ -62,19 +62,19 @@ sorted-formula w (Refused p) h = tt
 
 pub goes-false : (c : ℕ) → goesAt false c ≤ 3
 unfolding goesAt
-goes-false c = by-pick (eqb c 10)
+goes-false c = by-cond (eqb c 10)
   where
-    by-pick : (b : Bool) → pick b 0 (bindingOf false c) ≤ 3
-    by-pick true = omega arith
-    by-pick false = binding-formula c
+    by-cond : (b : Bool) → cond b 0 (bindingOf false c) ≤ 3
+    by-cond true = omega arith
+    by-cond false = binding-formula c
 
 pub goes-last : (t : Bool) (c : ℕ) → goesAt t c ≤ 6
 unfolding goesAt
-goes-last true c = by-pick (eqb c 10)
+goes-last true c = by-cond (eqb c 10)
   where
-    by-pick : (b : Bool) → pick b 4 (bindingOf true c) ≤ 6
-    by-pick true = omega arith
-    by-pick false = binding-term c .0
+    by-cond : (b : Bool) → cond b 4 (bindingOf true c) ≤ 6
+    by-cond true = omega arith
+    by-cond false = binding-term c .0
 goes-last false c = omega (arith, goes-false c)
 
 pub stops-last : (ks : List ℕ) (r : Read) → Stops ks 6 r
@@ -133,7 +133,7 @@ module _ (xs : List Sym) (ks : List ℕ) (e : codes xs ≡ ks) (R : Result) wher
       barred true q h = absurd (let y : ⊥ = omega arith in y)
       barred false q h = a ∙ q
 
-      by-test : (b : Bool) → eqb (kindAt ks p) 9 ≡ b → Goes xs R K (pick b (Value t (p + 1) n) (Refused p)) A
+      by-test : (b : Bool) → eqb (kindAt ks p) 9 ≡ b → Goes xs R K (cond b (Value t (p + 1) n) (Refused p)) A
       by-test true q = (g .0, g .1, g .2 ∙ at-sign xs ks e p 9 (have t (inParenthesis ∷ K) (g .0)) (eqb-true (kindAt ks p) 9 q) (omega arith) ∙ ap (λ (z : Popped). run (drop (p + 1) xs) (p + 1) (close t z p)) (pop-keep (loosest t) (inParenthesis ∷ K) (g .0) (omega arith)))
       by-test false q = g .2 ∙ rejected (drop p xs) t (startOf w) p (inParenthesis ∷ K) (g .0) (goes-at xs ks e p t (startOf w) s) (unclosed w refl) (omega arith) (λ h. absurd (eqb-false (kindAt ks p) 9 q (kind-at xs ks e p ∙ h))) (λ h. refl) (barred w refl) (λ h z. refl)
   closed-goes w K (Refused p) A a k s g = g
@@ -143,7 +143,7 @@ module _ (xs : List Sym) (ks : List ℕ) (e : codes xs ≡ ks) (R : Result) wher
   parted-goes d K (Value false p n) A k s g = absurd (true≢false (sym (k refl)))
   parted-goes d K (Value true p n) A k s g = by-test (eqb (kindAt ks p) 11) refl
     where
-      by-test : (b : Bool) → eqb (kindAt ks p) 11 ≡ b → Turns xs R d K (pick b (Value true (p + 1) n) (Refused p)) A
+      by-test : (b : Bool) → eqb (kindAt ks p) 11 ≡ b → Turns xs R d K (cond b (Value true (p + 1) n) (Refused p)) A
       by-test true q = (g .0, g .1, g .2 ∙ at-sign xs ks e p 11 (have true (firstOf d ∷ K) (g .0)) (eqb-true (kindAt ks p) 11 q) (omega arith))
       by-test false q = g .2 ∙ rejected (drop p xs) true 4 p (firstOf d ∷ K) (g .0) (goes-at xs ks e p true 4 s) (omega arith) (omega arith) (λ h. refl) (λ h. absurd (eqb-false (kindAt ks p) 11 q (kind-at xs ks e p ∙ h))) (λ h. refl) (λ h z. absurd (true≢false z))
   parted-goes d K (Refused p) A k s g = g
@@ -153,7 +153,7 @@ module _ (xs : List Sym) (ks : List ℕ) (e : codes xs ≡ ks) (R : Result) wher
   related-goes d c K (Value false p n) A u k s m g = absurd (true≢false (sym (k refl)))
   related-goes d c K (Value true p n) A u k s m g = by-test (eqb (kindAt ks p) 9) refl
     where
-      by-test : (b : Bool) → eqb (kindAt ks p) 9 ≡ b → Goes xs R K (relatedOf (pick b (Value true (p + 1) n) (Refused p))) (relatedIn c (pick b (Value true (p + 1) n) (Refused p)) A)
+      by-test : (b : Bool) → eqb (kindAt ks p) 9 ≡ b → Goes xs R K (relatedOf (cond b (Value true (p + 1) n) (Refused p))) (relatedIn c (cond b (Value true (p + 1) n) (Refused p)) A)
       by-test true q = (g .0 ++ relation d ∷ [], subst (λ (v : ℕ). Holds (set A n v) (n + 1) (g .0 ++ relation d ∷ [])) u (holds-one A n (g .0) (relation d) (g .1) m), g .2 ∙ at-sign xs ks e p 9 (have true (secondOf d ∷ K) (g .0)) (eqb-true (kindAt ks p) 9 q) (omega arith))
       by-test false q = g .2 ∙ rejected (drop p xs) true 4 p (secondOf d ∷ K) (g .0) (goes-at xs ks e p true 4 s) (omega arith) (omega arith) (λ h. absurd (eqb-false (kindAt ks p) 9 q (kind-at xs ks e p ∙ h))) (λ h. refl) (λ h. refl) (λ h z. absurd (true≢false z))
   related-goes d c K (Refused p) A u k s m g = g
@@ -162,7 +162,7 @@ module _ (xs : List Sym) (ks : List ℕ) (e : codes xs ≡ ks) (R : Result) wher
   pub zeroed-goes : (K : List Frame) (r : Read) (A : List ℕ) → allow K ≡ true → top K ≤ 4 → length ks ≤ 256 → Inside (length ks) r → Goes xs R K r A → Goes xs R K (zeroedOf ks r) (zeroedIn ks r A)
   zeroed-goes K (Value true p n) A a h m i g = by-test (eqb (kindAt ks p) 10) refl
     where
-      by-test : (b : Bool) → eqb (kindAt ks p) 10 ≡ b → Goes xs R K (pick b (Value false (p + 1) (n + 1)) (Value true p n)) (pick b (set A n 10) A)
+      by-test : (b : Bool) → eqb (kindAt ks p) 10 ≡ b → Goes xs R K (cond b (Value false (p + 1) (n + 1)) (Value true p n)) (cond b (set A n 10) A)
       by-test true q =
           let k : kindAt ks p ≡ 10 = eqb-true (kindAt ks p) 10 q in
           let l : p < length ks = kind-inside ks p (omega arith) in (
@@ -203,7 +203,7 @@ ended-within l a m term (Refused p) w = tt
 pub expected-sorted : (ks : List ℕ) (c : ℕ) (w : Bool) (r : Read) → Sorted w r → Sorted w (expectedOf ks c r)
 expected-sorted ks c w (Value t p n) s = by-test (eqb (kindAt ks p) c)
   where
-    by-test : (b : Bool) → Sorted w (pick b (Value t (p + 1) n) (Refused p))
+    by-test : (b : Bool) → Sorted w (cond b (Value t (p + 1) n) (Refused p))
     by-test true = s
     by-test false = tt
 expected-sorted ks c w (Refused p) s = tt
@@ -211,7 +211,7 @@ expected-sorted ks c w (Refused p) s = tt
 pub expected-within : (ks : List ℕ) (c a m : ℕ) (r : Read) → c < 19 → Within (length ks) a m r → Within (length ks) a m (expectedOf ks c r)
 expected-within ks c a m (Value t p n) h w = by-test (eqb (kindAt ks p) c) refl
   where
-    by-test : (b : Bool) → eqb (kindAt ks p) c ≡ b → Within (length ks) a m (pick b (Value t (p + 1) n) (Refused p))
+    by-test : (b : Bool) → eqb (kindAt ks p) c ≡ b → Within (length ks) a m (cond b (Value t (p + 1) n) (Refused p))
     by-test true q =
         let k : kindAt ks p ≡ c = eqb-true (kindAt ks p) c q in
         let l : p < length ks = kind-inside ks p (omega arith) in
@@ -222,7 +222,7 @@ expected-within ks c a m (Refused p) h w = tt
 pub zeroed-within : (ks : List ℕ) (a m : ℕ) (r : Read) → Within (length ks) a m r → Within (length ks) a m (zeroedOf ks r)
 zeroed-within ks a m (Value true p n) w = by-test (eqb (kindAt ks p) 10) refl
   where
-    by-test : (b : Bool) → eqb (kindAt ks p) 10 ≡ b → Within (length ks) a m (pick b (Value false (p + 1) (n + 1)) (Value true p n))
+    by-test : (b : Bool) → eqb (kindAt ks p) 10 ≡ b → Within (length ks) a m (cond b (Value false (p + 1) (n + 1)) (Value true p n))
     by-test true q =
         let k : kindAt ks p ≡ 10 = eqb-true (kindAt ks p) 10 q in
         let l : p < length ks = kind-inside ks p (omega arith) in
@@ -238,16 +238,16 @@ gap (suc m) h l = absurd (let z : 5 ≤ suc m = h (omega arith) in let y : ⊥ =
 -- a term on which neither =0 nor a binary sign of terms goes
 goes-no-zero : (c : ℕ) → (c ≡ 10 → ⊥) → goesAt true c ≤ 4 → goesAt true c ≤ 3
 unfolding goesAt
-goes-no-zero c h s = by-pick (eqb c 10) (ne-eqb c 10 h) s
+goes-no-zero c h s = by-cond (eqb c 10) (ne-eqb c 10 h) s
   where
-    by-pick : (b : Bool) → b ≡ false → pick b 4 (bindingOf true c) ≤ 4 → pick b 4 (bindingOf true c) ≤ 3
-    by-pick true q l = absurd (true≢false q)
-    by-pick false q l = gap (bindingOf true c) (binding-term c .1) l
+    by-cond : (b : Bool) → b ≡ false → cond b 4 (bindingOf true c) ≤ 4 → cond b 4 (bindingOf true c) ≤ 3
+    by-cond true q l = absurd (true≢false q)
+    by-cond false q l = gap (bindingOf true c) (binding-term c .1) l
 
 pub zeroed-stops : (ks : List ℕ) (r : Read) → Stops ks 4 r → Stops ks 3 (zeroedOf ks r)
 zeroed-stops ks (Value true p n) s = by-test (eqb (kindAt ks p) 10) refl
   where
-    by-test : (b : Bool) → eqb (kindAt ks p) 10 ≡ b → Stops ks 3 (pick b (Value false (p + 1) (n + 1)) (Value true p n))
+    by-test : (b : Bool) → eqb (kindAt ks p) 10 ≡ b → Stops ks 3 (cond b (Value false (p + 1) (n + 1)) (Value true p n))
     by-test true q = goes-false (kindAt ks (p + 1))
     by-test false q = goes-no-zero (kindAt ks p) (eqb-false (kindAt ks p) 10 q) s
 zeroed-stops ks (Value false p n) s = goes-false (kindAt ks p)

@@ -1,6 +1,6 @@
 -- What the recursive readers are asked and answer, over the machine: a reader lent the kinds of the tokens answers how the
 -- machine goes on, whatever frames wait and whatever order is written before. Assumes nothing.
-use mathlib.Core.Bool.{Bool, true, false}
+use mathlib.Core.Bool.{Bool, true, false, cond}
 use mathlib.Core.List.{List, [], _∷_, _++_}
 use mathlib.Core.Path.{_≡_}
 use Prim.Native.Nat.{ℕ, suc, _+_, _-_, _≤_, _<_}
@@ -64,22 +64,18 @@ abbrev pub goesOn : Bool → List Sym → ℕ
 goesOn t [] = 0
 goesOn t (x ∷ l) = goes t x
 
-abbrev pub pick : {A : Type 0} → Bool → A → A → A
-pick true a b = a
-pick false a b = b
-
 -- the same of a kind, for binary signs only
 unfoldable pub bindingOf : Bool → ℕ → ℕ
 bindingOf t c =
-    pick (eqb c 0) (goes t (binary Implies))
-    (pick (eqb c 1) (goes t (binary Iff))
-    (pick (eqb c 2) (goes t (binary Or))
-    (pick (eqb c 3) (goes t (binary And))
-    (pick (eqb c 4) (goes t (binary Plus)) (pick (eqb c 5) (goes t (binary Times)) 0)))))
+    cond (eqb c 0) (goes t (binary Implies))
+    (cond (eqb c 1) (goes t (binary Iff))
+    (cond (eqb c 2) (goes t (binary Or))
+    (cond (eqb c 3) (goes t (binary And))
+    (cond (eqb c 4) (goes t (binary Plus)) (cond (eqb c 5) (goes t (binary Times)) 0)))))
 
 -- the same with =0
 unfoldable pub goesAt : Bool → ℕ → ℕ
-goesAt t c = pick (eqb c 10) (pick t 4 0) (bindingOf t c)
+goesAt t c = cond (eqb c 10) (cond t 4 0) (bindingOf t c)
 
 -- ---- answers
 
@@ -126,16 +122,16 @@ followsOf ks k (Refused p) = false
 
 -- a value with the kind c after it
 abbrev pub expectedOf : List ℕ → ℕ → Read → Read
-expectedOf ks c (Value t p n) = pick (eqb (kindAt ks p) c) (Value t (p + 1) n) (Refused p)
+expectedOf ks c (Value t p n) = cond (eqb (kindAt ks p) c) (Value t (p + 1) n) (Refused p)
 expectedOf ks c (Refused p) = Refused p
 
 -- a sign after its last value, which must be of the sort that is wanted
 abbrev pub endedOf : Bool → Read → Read
-endedOf term (Value t p n) = pick (same t term) (Value t p (n + 1)) (Refused p)
+endedOf term (Value t p n) = cond (same t term) (Value t p (n + 1)) (Refused p)
 endedOf term (Refused p) = Refused p
 
 abbrev pub endedIn : Bool → ℕ → Read → List ℕ → List ℕ
-endedIn term c (Value t p n) A = pick (same t term) (set A n c) A
+endedIn term c (Value t p n) A = cond (same t term) (set A n c) A
 endedIn term c (Refused p) A = A
 
 -- C or <= after its second term
@@ -149,12 +145,12 @@ relatedIn c (Refused p) A = A
 
 -- =0 after a term
 abbrev pub zeroedOf : List ℕ → Read → Read
-zeroedOf ks (Value true p n) = pick (eqb (kindAt ks p) 10) (Value false (p + 1) (n + 1)) (Value true p n)
+zeroedOf ks (Value true p n) = cond (eqb (kindAt ks p) 10) (Value false (p + 1) (n + 1)) (Value true p n)
 zeroedOf ks (Value false p n) = Value false p n
 zeroedOf ks (Refused p) = Refused p
 
 abbrev pub zeroedIn : List ℕ → Read → List ℕ → List ℕ
-zeroedIn ks (Value true p n) A = pick (eqb (kindAt ks p) 10) (set A n 10) A
+zeroedIn ks (Value true p n) A = cond (eqb (kindAt ks p) 10) (set A n 10) A
 zeroedIn ks (Value false p n) A = A
 zeroedIn ks (Refused p) A = A
 
