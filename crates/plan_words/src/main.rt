@@ -320,8 +320,8 @@ fn document_plans() {
     show(&[0x1000_0101, 0x2000_0000, 0x4000_0002]);
 }
 
-// Plans of each number of names, and contacts in their order.
-fn more_plans() {
+// Plans of one and two names, and contacts in their order.
+fn few_names() {
     show(&[0x1000_0101, 0x2000_0001, 0x4000_0002]);
     show(&[0x1000_0102, 0x2000_0000, 0x2000_0001, 0x4000_0003]);
     show(
@@ -333,6 +333,21 @@ fn more_plans() {
             0x4000_0004,
         ],
     );
+    show(
+        &[
+            0x1000_0203,
+            0x2000_0000,
+            0x2000_0001,
+            0x2000_0003,
+            0x3000_0002,
+            0x3000_0102,
+            0x4000_0006,
+        ],
+    );
+}
+
+// Every two of four points in contact.
+fn every_contact() {
     show(
         &[
             0x1000_0204,
@@ -349,17 +364,10 @@ fn more_plans() {
             0x4000_000B,
         ],
     );
-    show(
-        &[
-            0x1000_0203,
-            0x2000_0000,
-            0x2000_0001,
-            0x2000_0003,
-            0x3000_0002,
-            0x3000_0102,
-            0x4000_0006,
-        ],
-    );
+}
+
+// Plans of three to six names.
+fn many_names() {
     show(&[0x1000_0301, 0x2000_0007, 0x4000_0002]);
     show(
         &[
@@ -455,13 +463,21 @@ fn points_to_come() {
     show(&[0x1000_0001, 0x2000_0000]);
 }
 
-// Contacts: equal positions, the larger first, out of range, not rising, twice, an unnamed bit, another kind.
+// Contacts: equal positions, the larger first, out of range, a first point alone, words that end.
 fn contacts() {
     show(&[0x1000_0202, 0x2000_0001, 0x2000_0002, 0x3000_0000]);
     show(&[0x1000_0202, 0x2000_0001, 0x2000_0002, 0x3000_0100]);
     show(&[0x1000_0202, 0x2000_0001, 0x2000_0002, 0x3000_0101]);
     show(&[0x1000_0202, 0x2000_0001, 0x2000_0002, 0x3000_0002]);
     show(&[0x1000_0202, 0x2000_0001, 0x2000_0002, 0x3000_0102]);
+    show(&[0x1000_0201, 0x2000_0001, 0x3000_0000]);
+    show(&[0x1000_0201, 0x2000_0001, 0x3000_0001]);
+    show(&[0x1000_0202, 0x2000_0001, 0x2000_0002]);
+    show(&[0x1000_0202, 0x2000_0001, 0x2000_0002, 0x3000_0001]);
+}
+
+// Contacts: twice, not rising.
+fn contact_order() {
     show(
         &[
             0x1000_0202,
@@ -501,15 +517,15 @@ fn contacts() {
             0x3000_0102,
         ],
     );
+}
+
+// Contacts: an unnamed bit, another kind.
+fn contact_bits() {
     show(&[0x1000_0202, 0x2000_0001, 0x2000_0002, 0x3001_0001]);
     show(&[0x1000_0202, 0x2000_0001, 0x2000_0002, 0x3800_0001]);
     show(&[0x1000_0202, 0x2000_0001, 0x2000_0002, 0x2000_0003]);
     show(&[0x1000_0202, 0x2000_0001, 0x2000_0002, 0x1000_0202]);
     show(&[0x1000_0202, 0x2000_0001, 0x2000_0002, 0x0000_0000]);
-    show(&[0x1000_0201, 0x2000_0001, 0x3000_0000]);
-    show(&[0x1000_0201, 0x2000_0001, 0x3000_0001]);
-    show(&[0x1000_0202, 0x2000_0001, 0x2000_0002]);
-    show(&[0x1000_0202, 0x2000_0001, 0x2000_0002, 0x3000_0001]);
 }
 
 // The last word: a wrong count, words after it.
@@ -552,10 +568,14 @@ fn last_words() {
 
 fn main() {
     document_plans();
-    more_plans();
+    few_names();
+    every_contact();
+    many_names();
     first_words();
     points_to_come();
     contacts();
+    contact_order();
+    contact_bits();
     last_words();
     buffers();
     largest();
