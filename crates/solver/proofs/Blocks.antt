@@ -1,0 +1,202 @@
+-- The rows under a row by number: the values of their atoms are the row's and the bits of the number, the lower half has the next atom
+-- true and the upper half false, and each row has a number. Assumes nothing.
+use mathlib.Core.Bool.{Bool, true, false, not, _&&_, and-true, and-false}
+use mathlib.Core.Path.{_≡_, refl, sym, ap, ap₂, _∙_, fun-ext}
+use mathlib.Core.Logic.{⊎-elim}
+use mathlib.Core.List.{List, [], _∷_, _++_, map, append-assoc}
+use Prim.Native.Nat.{ℕ, zero, suc, _+_, _-_, _/_, _%_, _^_, _≤_, _<_}
+use native.Mathlib.Nat.{pow-suc}
+use native.Mathlib.Omega.{arith}
+use lib.Dec.{eqb, ltb}
+use lib.ListN.{length, getD, replicate, set, length-append, List·getD-append}
+use lib.Seq.{getD-append-add, getD-set-same, getD-set-other}
+use borrow.Author.Tests.{lt-ltb, le-ltb}
+use Rattle.formula.specs.Formula.{Form}
+use Rattle.evalset.specs.declared.EvalSet.{EvalSet}
+use Rattle.evalset.specs.Bit.{bit}
+use Rattle.evalset.specs.Sets.{most, mem, meetOf, minusOf, belowOf, shiftOf}
+use Rattle.evalset.proofs.Bits.{bit-none, bit-zero, bit-suc, bit-above}
+use Rattle.evalset.proofs.Bounded.{side}
+use Rattle.evalset.proofs.Members.{names-room, below-few}
+use Rattle.contact.specs.Row.{is, unknown}
+use Rattle.contact.specs.Tableau.{refutes}
+use Rattle.kleene.specs.declared.Two.{Two}
+use Rattle.kleene.specs.Rails.{duo, sure, duoOf, duoAt, twoAt}
+use Rattle.search.specs.Rows.{rowBits}
+use Rattle.search.proofs.Rows.{row-length}
+use Rattle.solver.specs.Coded.{Coded, RefutedSays}
+use Rattle.solver.specs.Tree.{extended, decidedAt, candidatesOf}
+
+-- ---- the values of the atoms
+
+known-in : (row : List Bool) (i : ℕ) → i < length row → getD (map is row) i unknown ≡ is (getD row i false)
+known-in [] i l = absurd (omega arith)
+known-in (b ∷ row) zero l = refl
+known-in (b ∷ row) (suc i) l = known-in row i (omega arith)
+
+known-out : (row : List Bool) (i : ℕ) → length row ≤ i → getD (map is row) i unknown ≡ unknown
+known-out [] i l = refl
+known-out (b ∷ row) zero l = absurd (omega arith)
+known-out (b ∷ row) (suc i) l = known-out row i (omega arith)
+
+row-at : (k p i : ℕ) → i < k → getD (rowBits k p) i false ≡ not (bit p (k - 1 - i))
+unfolding rowBits
+row-at zero p i h = absurd (omega arith)
+row-at (suc k) p zero h =
+    let z : k ≡ suc k - 1 - 0 = omega arith in
+    ap (λ (j : ℕ). not (bit p j)) z
+row-at (suc k) p (suc i) h =
+    let z : k - 1 - i ≡ suc k - 1 - suc i = omega arith in
+    row-at k p i (omega arith) ∙ ap (λ (j : ℕ). not (bit p j)) z
+
+not-not : (b : Bool) → not (not b) ≡ b
+not-not true = refl
+not-not false = refl
+
+module _ (k d row e i : ℕ) where
+  block-length : length (rowBits k row ++ rowBits d e) ≡ k + d
+  block-length = length-append (rowBits k row) (rowBits d e) ∙ ap₂ _+_ (row-length k row) (row-length d e)
+
+  -- of the row itself
+  pub leaf-first : i < k → decidedAt k row d e i ≡ sure (getD (rowBits k row) i false)
+  leaf-first l =
+      ap duoOf (known-in (rowBits k row ++ rowBits d e) i (omega (arith, block-length)))
+      ∙ ap sure (List·getD-append (rowBits k row) (rowBits d e) false i (omega (arith, row-length k row)))
+
+  -- of the block
+  pub leaf-second : k ≤ i → i < k + d → decidedAt k row d e i ≡ duo (not (bit e (k + d - 1 - i))) (bit e (k + d - 1 - i))
+  leaf-second l m =
+      let z : i ≡ length (rowBits k row) + (i - k) = omega (arith, row-length k row) in
+      let y : d - 1 - (i - k) ≡ k + d - 1 - i = omega arith in
+      ap duoOf (known-in (rowBits k row ++ rowBits d e) i (omega (arith, block-length)))
+      ∙ ap sure (ap (λ (x : ℕ). getD (rowBits k row ++ rowBits d e) x false) z
+      ∙ getD-append-add (rowBits k row) (rowBits d e) (i - k) false
+      ∙ row-at d e (i - k) (omega arith) ∙ ap (λ (x : ℕ). not (bit e x)) y)
+      ∙ ap (duo (not (bit e (k + d - 1 - i)))) (not-not (bit e (k + d - 1 - i)))
+
+  -- and those past it
+  pub leaf-past : k + d ≤ i → decidedAt k row d e i ≡ duo false false
+  leaf-past l = ap duoOf (known-out (rowBits k row ++ rowBits d e) i (omega (arith, block-length)))
+
+-- ---- an array of rails
+
+pub nil-at : (n i : ℕ) (x : Two) (e : ℕ) → duoAt x e ≡ duo false false → twoAt (replicate n x) i e ≡ duo false false
+unfolding twoAt duoAt mem
+nil-at zero i x e h = ap₂ duo (bit-none e) (bit-none e)
+nil-at (suc n) zero x e h = h
+nil-at (suc n) (suc i) x e h = nil-at n i x e h
+
+pub two-same : (out : List Two) (n : ℕ) (r : Two) (e : ℕ) → n < length out → twoAt (set out n r) n e ≡ duoAt r e
+unfolding twoAt
+two-same out n r e l = ap (λ (s : Two). duoAt s e) (getD-set-same out n r _ l)
+
+pub two-other : (out : List Two) (m n : ℕ) (r : Two) (e : ℕ) → (n ≡ m → ⊥) → twoAt (set out m r) n e ≡ twoAt out n e
+unfolding twoAt
+two-other out m n r e l = ap (λ (s : Two). duoAt s e) (getD-set-other out m n r _ l)
+
+-- ---- the halves
+
+bit-low : (m e j : ℕ) → j < m → bit (2 ^ m + e) j ≡ bit e j
+bit-low zero e j l = absurd (omega arith)
+bit-low (suc m) e zero l =
+    let z : (2 ^ suc m + e) % 2 ≡ e % 2 = omega (arith, pow-suc 2 m) in
+    bit-zero (2 ^ suc m + e) ∙ ap (λ (x : ℕ). eqb x 1) z ∙ sym (bit-zero e)
+bit-low (suc m) e (suc j) l =
+    let z : (2 ^ suc m + e) / 2 ≡ 2 ^ m + e / 2 = omega (arith, pow-suc 2 m) in
+    bit-suc (2 ^ suc m + e) j ∙ ap (λ (x : ℕ). bit x j) z ∙ bit-low m (e / 2) j (omega arith) ∙ sym (bit-suc e j)
+
+bit-top : (m e : ℕ) → e < 2 ^ m → bit (2 ^ m + e) m ≡ true
+bit-top zero e l =
+    let z : (2 ^ 0 + e) % 2 ≡ 1 = omega arith in
+    bit-zero (2 ^ 0 + e) ∙ ap (λ (x : ℕ). eqb x 1) z
+bit-top (suc m) e l =
+    let z : (2 ^ suc m + e) / 2 ≡ 2 ^ m + e / 2 = omega (arith, pow-suc 2 m) in
+    bit-suc (2 ^ suc m + e) m ∙ ap (λ (x : ℕ). bit x m) z ∙ bit-top m (e / 2) (omega (arith, pow-suc 2 m))
+
+row-high : (k m e : ℕ) → k ≤ m → rowBits k (2 ^ m + e) ≡ rowBits k e
+unfolding rowBits
+row-high zero m e l = refl
+row-high (suc k) m e l = ap₂ _∷_ (ap not (bit-low m e k (omega arith))) (row-high k m e (omega arith))
+
+row-lower : (j e : ℕ) → e < 2 ^ j → rowBits (suc j) e ≡ true ∷ rowBits j e
+unfolding rowBits
+row-lower j e l = ap (λ (b : Bool). not b ∷ rowBits j e) (bit-above j e j l (omega arith))
+
+row-upper : (j e : ℕ) → e < 2 ^ j → rowBits (suc j) (2 ^ j + e) ≡ false ∷ rowBits j e
+unfolding rowBits
+row-upper j e l = ap₂ (λ (b : Bool) (r : List Bool). not b ∷ r) (bit-top j e l) (row-high j j e (omega arith))
+
+-- each row of d atoms has a number
+pub number : (d : ℕ) (row : List Bool) → length row ≡ d → (e : ℕ) × (e < 2 ^ d) × (rowBits d e ≡ row)
+unfolding rowBits
+number zero [] l = (0, omega arith, refl)
+number zero (b ∷ row) l = absurd (omega arith)
+number (suc d) [] l = absurd (omega arith)
+number (suc d) (true ∷ row) l =
+    let w = number d row (omega arith) in
+    (w .0, omega (arith, w .1, pow-suc 2 d), row-lower d (w .0) (w .1) ∙ ap (λ (r : List Bool). true ∷ r) (w .2))
+number (suc d) (false ∷ row) l =
+    let w = number d row (omega arith) in
+    (2 ^ d + w .0, omega (arith, w .1, pow-suc 2 d), row-upper d (w .0) (w .1) ∙ ap (λ (r : List Bool). false ∷ r) (w .2))
+
+module _ (rules : List (Form ℕ)) (row : List Bool) (j : ℕ) where
+  -- not refuted
+  abbrev open-at : List Bool → Bool
+  open-at r = not (refutes rules (map is r))
+
+  pub lower-half : j ≤ most → meetOf (candidatesOf rules row (suc j)) (belowOf j) ≡ candidatesOf rules (row ++ true ∷ []) j
+  unfolding candidatesOf
+  lower-half few = fun-ext (λ e. ap (λ (b : Bool). (ltb e (2 ^ suc j) && open-at (row ++ rowBits (suc j) e)) && b) (below-few j few e)
+      ∙ ⊎-elim (low e) (high e) (side e (2 ^ j)))
+    where
+      low : (e : ℕ) → e < 2 ^ j → ((ltb e (2 ^ suc j) && open-at (row ++ rowBits (suc j) e)) && ltb e (2 ^ j))
+          ≡ (ltb e (2 ^ j) && open-at ((row ++ true ∷ []) ++ rowBits j e))
+      low e l =
+          ap₂ (λ (a b : Bool). (a && open-at (row ++ rowBits (suc j) e)) && b) (lt-ltb e (2 ^ suc j) (omega (arith, pow-suc 2 j)))
+          (lt-ltb e (2 ^ j) l)
+          ∙ and-true (open-at (row ++ rowBits (suc j) e))
+          ∙ ap open-at (ap (λ (r : List Bool). row ++ r) (row-lower j e l) ∙ sym (append-assoc row (true ∷ []) (rowBits j e)))
+          ∙ sym (ap (λ (a : Bool). a && open-at ((row ++ true ∷ []) ++ rowBits j e)) (lt-ltb e (2 ^ j) l))
+
+      high : (e : ℕ) → 2 ^ j ≤ e → ((ltb e (2 ^ suc j) && open-at (row ++ rowBits (suc j) e)) && ltb e (2 ^ j))
+          ≡ (ltb e (2 ^ j) && open-at ((row ++ true ∷ []) ++ rowBits j e))
+      high e l =
+          ap (λ (b : Bool). (ltb e (2 ^ suc j) && open-at (row ++ rowBits (suc j) e)) && b) (le-ltb e (2 ^ j) l)
+          ∙ and-false (ltb e (2 ^ suc j) && open-at (row ++ rowBits (suc j) e))
+          ∙ sym (ap (λ (a : Bool). a && open-at ((row ++ true ∷ []) ++ rowBits j e)) (le-ltb e (2 ^ j) l))
+
+  pub upper-half : shiftOf (candidatesOf rules row (suc j)) j ≡ candidatesOf rules (row ++ false ∷ []) j
+  unfolding candidatesOf
+  upper-half = fun-ext (λ e. ⊎-elim (low e) (high e) (side e (2 ^ j)))
+    where
+      low : (e : ℕ) → e < 2 ^ j → (ltb (2 ^ j + e) (2 ^ suc j) && open-at (row ++ rowBits (suc j) (2 ^ j + e)))
+          ≡ (ltb e (2 ^ j) && open-at ((row ++ false ∷ []) ++ rowBits j e))
+      low e l =
+          ap₂ _&&_ (lt-ltb (2 ^ j + e) (2 ^ suc j) (omega (arith, pow-suc 2 j)) ∙ sym (lt-ltb e (2 ^ j) l))
+          (ap open-at (ap (λ (r : List Bool). row ++ r) (row-upper j e l) ∙ sym (append-assoc row (false ∷ []) (rowBits j e))))
+
+      high : (e : ℕ) → 2 ^ j ≤ e → (ltb (2 ^ j + e) (2 ^ suc j) && open-at (row ++ rowBits (suc j) (2 ^ j + e)))
+          ≡ (ltb e (2 ^ j) && open-at ((row ++ false ∷ []) ++ rowBits j e))
+      high e l =
+          ap (λ (a : Bool). a && open-at (row ++ rowBits (suc j) (2 ^ j + e)))
+          (le-ltb (2 ^ j + e) (2 ^ suc j) (omega (arith, pow-suc 2 j)))
+          ∙ sym (ap (λ (a : Bool). a && open-at ((row ++ false ∷ []) ++ rowBits j e)) (le-ltb e (2 ^ j) l))
+
+-- ---- the candidates by one run
+
+module _ (many : ℕ) (code ends : List ℕ) (rules : List (Form ℕ)) (leaves : List Two) (row k d : ℕ) (few : d ≤ most)
+    (coded : Coded many code ends rules) (are : (i e : ℕ) → e < 2 ^ d → twoAt leaves i e ≡ decidedAt k row d e i)
+    (no : EvalSet) (says : RefutedSays code ends leaves no) where
+  pub open-rows : minusOf (belowOf d) (mem no) ≡ candidatesOf rules (rowBits k row) d
+  unfolding candidatesOf RefutedSays
+  open-rows = fun-ext (λ e. ap (λ (b : Bool). b && not (mem no e)) (below-few d few e) ∙ ⊎-elim (low e) (high e) (side e (2 ^ d)))
+    where
+      low : (e : ℕ) → e < 2 ^ d → (ltb e (2 ^ d) && not (mem no e)) ≡ (ltb e (2 ^ d) && not (refutes rules (extended (rowBits k row) d e)))
+      low e l =
+          ap (λ (b : Bool). ltb e (2 ^ d) && not b)
+          (says many rules coded e (omega (arith, names-room d few)) (extended (rowBits k row) d e) (λ i. are i e l))
+
+      high : (e : ℕ) → 2 ^ d ≤ e → (ltb e (2 ^ d) && not (mem no e)) ≡ (ltb e (2 ^ d) && not (refutes rules (extended (rowBits k row) d e)))
+      high e l =
+          ap (λ (b : Bool). b && not (mem no e)) (le-ltb e (2 ^ d) l)
+          ∙ sym (ap (λ (b : Bool). b && not (refutes rules (extended (rowBits k row) d e))) (le-ltb e (2 ^ d) l))

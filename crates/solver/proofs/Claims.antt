@@ -1,0 +1,75 @@
+-- The claims of this crate, each with the file that proves it: the code of rules can be run, a run leaves the rows that no rule
+-- refutes, and the answer of the search is the first row. A function's contract is what is assumed of its result here, under its
+-- name in specs/. Assumes nothing.
+use mathlib.Core.Bool.{Bool, true, not, _&&_}
+use mathlib.Core.Path.{_≡_, sym, ap, _∙_}
+use mathlib.Core.List.{List, [], _∷_}
+use Prim.Native.Nat.{ℕ, _^_, _≤_, _<_}
+use borrow.Author.Tests.{lt-ltb}
+use Rattle.formula.specs.Formula.{Atom, Form, Formula}
+use Rattle.evalset.specs.declared.EvalSet.{EvalSet}
+use Rattle.evalset.specs.Sets.{mem}
+use Rattle.evalset.proofs.Bounded.{each}
+use Rattle.contact.specs.Meaning.{Floor, meetsAll}
+use Rattle.contact.specs.Numbering.{allAtoms, numberedAtoms}
+use Rattle.contact.specs.Plan.{firstRow}
+use Rattle.contact.specs.Tableau.{refutes}
+use Rattle.contact.proofs.Answer.{IsFirstRow}
+use Rattle.contact.proofs.Claims as contact
+use Rattle.search.specs.declared.Sheet.{Sheet}
+use Rattle.search.specs.Rows.{rowBits}
+use Rattle.search.specs.Compiled.{limit}
+use Rattle.solver.specs.declared.Row.{Row}
+use Rattle.solver.specs.declared.Row.the-variants.{At, Nothing}
+use Rattle.solver.specs.Coded.{Coded}
+use Rattle.solver.specs.Tree.{extended, candidatesOf, CandidatesSay, ComesFrom, Searchable, rowsOf, FirstRowSays}
+use Rattle.solver.proofs.Codes.{coded-safe}
+
+-- ---- the code (Codes)
+
+-- first_row may be called with the codes of rules and a sheet of at most 16 atoms
+pub searchable : {code ends : List ℕ} {sheet : Sheet} {atoms : List (Atom ℕ)} {rules : List (Form ℕ)}
+    → ComesFrom code ends sheet atoms rules → sheet .atoms ≤ limit → Searchable code ends sheet
+searchable {code} {ends} {sheet} {atoms} {rules} g l =
+    record { safe = coded-safe (sheet .atoms) code 0 ends rules l (g .coded); atoms-fit = l }
+
+-- ---- the candidates (Blocks)
+
+-- of the rows with d atoms more, those are left that no rule refutes
+pub left-open : (many : ℕ) (code ends : List ℕ) (rules : List (Form ℕ)) (row k d : ℕ) (r : EvalSet) → CandidatesSay code ends row k d r
+    → Coded many code ends rules → (e : ℕ) → e < 2 ^ d → mem r e ≡ not (refutes rules (extended (rowBits k row) d e))
+unfolding CandidatesSay candidatesOf
+left-open many code ends rules row k d r says h e l =
+    each (says many rules h) e ∙ ap (λ (b : Bool). b && not (refutes rules (extended (rowBits k row) d e))) (lt-ltb e (2 ^ d) l)
+
+-- ---- the answer (Branches)
+
+module _ (code ends : List ℕ) (sheet : Sheet) (r : Row) (says : FirstRowSays code ends sheet r) where
+  -- the search's answer is the first row of the atoms and rules that the code and the sheet come from
+  pub answer-is : (atoms : List (Atom ℕ)) (rules : List (Form ℕ)) → ComesFrom code ends sheet atoms rules
+      → rowsOf (sheet .atoms) r ≡ firstRow (sheet .names) atoms rules
+  unfolding FirstRowSays
+  answer-is = says
+
+  -- where it is a number, the row with that number
+  pub answer-found : (atoms : List (Atom ℕ)) (rules : List (Form ℕ)) → ComesFrom code ends sheet atoms rules → (row : ℕ) → r ≡ At row
+      → firstRow (sheet .names) atoms rules ≡ rowBits (sheet .atoms) row ∷ []
+  answer-found atoms rules g row z = sym (answer-is atoms rules g) ∙ ap (rowsOf (sheet .atoms)) z
+
+  -- and else there is none
+  pub answer-none : (atoms : List (Atom ℕ)) (rules : List (Form ℕ)) → ComesFrom code ends sheet atoms rules → r ≡ Nothing
+      → firstRow (sheet .names) atoms rules ≡ []
+  answer-none atoms rules g z = sym (answer-is atoms rules g) ∙ ap (rowsOf (sheet .atoms)) z
+
+  -- so of rules with numbers for names it is a realisable row that makes them true, and no realisable row before it does
+  pub answer-first : (rules : List (Formula ℕ)) → ComesFrom code ends sheet (allAtoms rules) (numberedAtoms rules) → (row : ℕ) → r ≡ At row
+      → IsFirstRow rules (rowBits (sheet .atoms) row)
+  answer-first rules g row z =
+      contact.first-row (sheet .names) rules (g .names-below) (rowBits (sheet .atoms) row)
+      (answer-found (allAtoms rules) (numberedAtoms rules) g row z)
+
+  -- and where there is none, no floor meets them
+  pub answer-no-floor : (rules : List (Formula ℕ)) → ComesFrom code ends sheet (allAtoms rules) (numberedAtoms rules) → r ≡ Nothing
+      → (F : Floor ℕ) → meetsAll F rules ≡ true → ⊥
+  answer-no-floor rules g z =
+      contact.no-plan-exactly (sheet .names) rules (g .names-below) .0 (answer-none (allAtoms rules) (numberedAtoms rules) g z)

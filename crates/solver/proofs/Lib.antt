@@ -1,0 +1,4 @@
+pub mod Codes
+pub mod Blocks
+pub mod Branches
+pub mod Claims

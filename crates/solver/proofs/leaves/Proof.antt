@@ -1,0 +1,101 @@
+-- `solver::leaves` meets its contract: the entries before i have their values, and the others are undecided.
+-- Assumes nothing.
+use mathlib.Core.Path.{_≡_, refl, sym, ap, ap₂, _∙_, subst}
+use mathlib.Core.Logic.{⊎-elim}
+use Prim.Native.Nat.{ℕ, _+_, _-_, _^_, _≤_, _<_}
+use mathlib.Core.Bool.{false}
+use native.Mathlib.Omega.{arith}
+use lib.ListN.{length, set, length-set}
+use Rattle.evalset.specs.declared.EvalSet.{EvalSet}
+use Rattle.evalset.specs.Sets.{mem}
+use Rattle.evalset.proofs.Bounded.{side, each}
+use Rattle.kleene.specs.Rails.{duo, duoAt, twoAt}
+use Rattle.solver.specs.Tree.{decidedAt}
+use Rattle.solver.proofs.Blocks.{leaf-past, nil-at, two-same, two-other}
+use Rattle.solver.proofs.leaves.Statement.{statement}
+use Rattle.solver.proofs.leaves.Tie as tie
+
+abbrev Inv-loop : tie.InvT-loop
+Inv-loop row k d out₀ n i₀ out i =
+    (i ≤ n) × (n ≡ k + d) × (length out ≡ 16) × ((j e : ℕ) → j < i → e < 2 ^ d → twoAt out j e ≡ decidedAt k row d e j)
+    × ((j e : ℕ) → i ≤ j → twoAt out j e ≡ duo false false)
+
+abbrev μ-loop : tie.MeasureT-loop
+μ-loop row k d out₀ n i₀ out i = n - i
+
+empty-requires : tie.Need-empty-requires Inv-loop μ-loop
+empty-requires c κs = tt
+
+rails-requires : tie.Need-rails-requires Inv-loop μ-loop
+rails-requires c κs = tt
+
+add-n : tie.Need-add-n Inv-loop μ-loop
+add-n c = omega arith
+
+loop-holds : tie.Need-loop-holds Inv-loop μ-loop
+unfolding duoAt
+loop-holds c = (
+  omega arith,
+  refl,
+  refl,
+  (λ j e l m. absurd (omega arith)),
+  λ j e l. nil-at 16 j (c .rails .result) e
+      (ap₂ duo (ap (λ (s : EvalSet). mem s e) (c .rails .ensures .0) ∙ each (c .before .empty .ensures) e)
+      (ap (λ (s : EvalSet). mem s e) (c .rails .ensures .1) ∙ each (c .before .empty .ensures) e)),
+)
+
+leaf-requires : tie.Need-leaf-requires Inv-loop μ-loop
+leaf-requires c κs = (c .before .before .before .before .pre .0, c .before .before .before .before .pre .1, omega arith)
+
+mul-out : tie.Need-mul-out Inv-loop μ-loop
+mul-out c = omega arith
+
+array-set-from-out : tie.Need-array-set-from-out Inv-loop μ-loop
+array-set-from-out c = omega (arith, c .before .before .before .before .before .pre .0)
+
+add-i : tie.Need-add-i Inv-loop μ-loop
+add-i c = omega arith
+
+loop-less : tie.Need-loop-less Inv-loop μ-loop
+loop-less c = omega arith
+
+loop-again : tie.Need-loop-again Inv-loop μ-loop
+loop-again c =
+    let k = c .before .before .loop in
+    let a = c .before .before .before .before .before .args in
+    let lt : k .i < length (k .out) = omega (arith, k .inv .2, c .before .before .before .before .before .pre .0) in (
+      omega arith,
+      refl,
+      length-set (k .out) _ _ ∙ k .inv .2,
+      (λ j e l m. ⊎-elim (λ q. two-other (k .out) (k .i) j _ e (λ z. omega arith) ∙ k .inv .3 j e q m)
+          (λ q. let z : k .i ≡ j = omega arith in
+          subst (λ (x : ℕ). twoAt (set (k .out) (k .i) (c .leaf .result)) x e ≡ decidedAt (a .k) (a .row) (a .d) e x) z
+          (two-same (k .out) (k .i) (c .leaf .result) e lt ∙ c .leaf .ensures e m))
+          (side j (k .i))),
+      λ j e l. two-other (k .out) (k .i) j _ e (λ z. omega arith) ∙ k .inv .4 j e (omega arith),
+    )
+
+returns : tie.Need-returns Inv-loop μ-loop
+returns c = λ i e l.
+    let k = c .before .loop in
+    let a = c .before .before .before .before .args in
+    ⊎-elim (λ q. k .inv .3 i e q l)
+    (λ q. k .inv .4 i e q ∙ sym (leaf-past (a .k) (a .d) (a .row) e i (omega arith))) (side i (k .i))
+
+pub leaves-spec : {M : Type 1} → statement M
+leaves-spec =
+    tie.close
+    (tie.spec
+    Inv-loop
+    μ-loop
+    empty-requires
+    rails-requires
+    add-n
+    loop-holds
+    leaf-requires
+    mul-out
+    array-set-from-out
+    add-i
+    loop-less
+    loop-again
+    returns)
