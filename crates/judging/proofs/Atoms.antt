@@ -1,0 +1,62 @@
+-- The value of the sheet's atom on the arrays is that of the rules' atom on the floor of the plan that they hold: the sheet's sets are
+-- the atom's terms, below 2 ^ names, and there plan's laws apply. A store of one value more keeps those before it. Assumes nothing.
+use mathlib.Core.Bool.{Bool}
+use mathlib.Core.Path.{_≡_, ap, _∙_, subst}
+use mathlib.Core.Logic.{⊎-elim}
+use mathlib.Core.List.{List}
+use Prim.Native.Nat.{ℕ, _+_, _^_, _≤_, _<_}
+use native.Mathlib.Omega.{arith}
+use lib.ListN.{length, set}
+use lib.Seq.{getD-set-same, getD-set-other}
+use Rattle.formula.specs.Formula.{Term, Atom}
+use Rattle.evalset.proofs.Bounded.{side}
+use Rattle.contact.specs.Meaning.{partTerm, atomOn}
+use Rattle.kleene.specs.declared.Two.{Two}
+use Rattle.kleene.specs.Rails.{sure, duoAt, twoAt, leafAt}
+use Rattle.search.specs.declared.Sheet.{Sheet}
+use Rattle.search.specs.Compiled.{Stands, AtomIs, atomAt, Compiled}
+use Rattle.plan.specs.declared.PlanArrays.{PlanArrays}
+use Rattle.plan.specs.Words.{Plan, IsPlan}
+use Rattle.plan.specs.Arrays.{Stored}
+use Rattle.plan.proofs.Floors.{planFloor}
+use Rattle.plan.proofs.Judged.{Means, touches-meant, vacant-meant}
+use Rattle.judging.specs.Values.{atomOf, valueOf, Sure}
+
+-- ---- on the floor
+
+module _ (p : Plan) (h : IsPlan p) (r : PlanArrays) (s : Stored r p) (n : ℕ) (named : p .names ≡ n) where
+  means : (x : ℕ → Bool) (t : Term ℕ) → Stands n x t → Means (p .names) x t
+  means x t g e l = g e (subst (λ (m : ℕ). e < 2 ^ m) named l)
+
+  atom-is : (k : Bool) (x y : ℕ → Bool) (a : Atom ℕ) → AtomIs n k x y a → atomOf r k x y ≡ atomOn (planFloor p h) a
+  atom-is k x y (Atom.contact u t) m =
+      ap (λ (b : Bool). atomOf r b x y) (m .0) ∙ touches-meant p h r s x y u t (means x u (m .1)) (means y t (m .2))
+  atom-is k x y (Atom.part u t) m =
+      ap (λ (b : Bool). atomOf r b x y) (m .0) ∙ vacant-meant p h r s x (partTerm u t) (means x (partTerm u t) (m .1))
+  atom-is k x y (Atom.empty t) m =
+      ap (λ (b : Bool). atomOf r b x y) (m .0) ∙ vacant-meant p h r s x t (means x t (m .1))
+
+pub value-is : (p : Plan) (h : IsPlan p) (r : PlanArrays) → Stored r p → (sheet : Sheet) (atoms : List (Atom ℕ)) → Compiled sheet atoms
+    → p .names ≡ sheet .names → (i : ℕ) → i < length atoms → valueOf r sheet i ≡ atomOn (planFloor p h) (atomAt atoms i)
+unfolding valueOf
+value-is p h r s sheet atoms c q i l = atom-is p h r s (sheet .names) q _ _ _ (atomAt atoms i) (c .atom-is i l)
+
+-- ---- one value more
+
+pub sure-none : (leaves : List Two) (w : ℕ → Bool) → Sure leaves 0 w
+unfolding Sure
+sure-none leaves w i l = absurd (omega arith)
+
+pub sure-more : (leaves : List Two) (n : ℕ) (w : ℕ → Bool) (r : Two) → n < length leaves → Sure leaves n w → duoAt r 0 ≡ sure (w n)
+    → Sure (set leaves n r) (n + 1) w
+unfolding Sure twoAt
+sure-more leaves n w r l h e i b = ⊎-elim before here (side i n)
+  where
+    before : i < n → leafAt (set leaves n r) 0 i ≡ sure (w i)
+    before k = ap (λ (t : Two). duoAt t 0) (getD-set-other leaves n i r _ (λ q. omega arith)) ∙ h i k
+
+    here : n ≤ i → leafAt (set leaves n r) 0 i ≡ sure (w i)
+    here k =
+        let z : n ≡ i = omega arith in
+        subst (λ (j : ℕ). leafAt (set leaves n r) 0 j ≡ sure (w j)) z
+        (ap (λ (t : Two). duoAt t 0) (getD-set-same leaves n r _ l) ∙ e)

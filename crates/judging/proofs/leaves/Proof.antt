@@ -1,0 +1,96 @@
+-- `judging::leaves` meets its contract: the atoms passed have their values. Assumes nothing.
+use mathlib.Core.Path.{_≡_, refl, ap, _∙_, subst}
+use Prim.Native.Nat.{ℕ, _-_, _≤_}
+use native.Mathlib.Omega.{arith}
+use lib.ListN.{length, length-set}
+use borrow.Author.Needs.{needs}
+use Rattle.evalset.specs.Sets.{room, memAt}
+use Rattle.kleene.specs.Rails.{sure}
+use Rattle.judging.specs.Values.{valueOf, Sure, LeavesSay}
+use Rattle.judging.proofs.Atoms.{sure-none, sure-more}
+use Rattle.judging.proofs.leaves.Statement.{statement}
+use Rattle.judging.proofs.leaves.Tie as tie
+
+abbrev Inv-loop : tie.InvT-loop
+Inv-loop plan sheet n out₀ i₀ out i = (i ≤ n) × (length out ≡ 16) × Sure out i (valueOf plan sheet)
+
+abbrev μ-loop : tie.MeasureT-loop
+μ-loop plan sheet n out₀ i₀ out i = n - i
+
+leaf-requires : tie.Need-leaf-requires Inv-loop μ-loop
+leaf-requires c κs = search needs
+
+loop-holds : tie.Need-loop-holds Inv-loop μ-loop
+loop-holds c = (omega arith, refl, sure-none _ _)
+
+element-copy-out-contact : tie.Need-element-copy-out-contact Inv-loop μ-loop
+element-copy-out-contact c = omega arith
+
+mul-x : tie.Need-mul-x Inv-loop μ-loop
+mul-x c = omega arith
+
+element-copy-out-x : tie.Need-element-copy-out-x Inv-loop μ-loop
+element-copy-out-x c = omega arith
+
+mul-y : tie.Need-mul-y Inv-loop μ-loop
+mul-y c = omega arith
+
+element-copy-out-y : tie.Need-element-copy-out-y Inv-loop μ-loop
+element-copy-out-y c = omega arith
+
+atom-value-requires : tie.Need-atom-value-requires Inv-loop μ-loop
+atom-value-requires c κs = search needs
+
+leaf-requires-2 : tie.Need-leaf-requires-2 Inv-loop μ-loop
+leaf-requires-2 c κs = search needs
+
+mul-out : tie.Need-mul-out Inv-loop μ-loop
+mul-out c = omega arith
+
+array-set-from-out : tie.Need-array-set-from-out Inv-loop μ-loop
+array-set-from-out c = omega arith
+
+add-i : tie.Need-add-i Inv-loop μ-loop
+add-i c = omega arith
+
+loop-less : tie.Need-loop-less Inv-loop μ-loop
+loop-less c = omega arith
+
+loop-again : tie.Need-loop-again Inv-loop μ-loop
+unfolding valueOf memAt room
+loop-again c =
+    let k = c .before .before .before .before .before .before .loop in (
+      omega arith,
+      length-set (k .out) (k .i) _ ∙ k .inv .1,
+      sure-more (k .out) (k .i) _ _ (omega arith) (k .inv .2) (c .leaf2 .ensures 0 (omega arith) ∙ ap sure (c .before .atom-value .ensures)),
+    )
+
+returns : tie.Need-returns Inv-loop μ-loop
+unfolding LeavesSay
+returns c =
+    let k = c .before .loop in
+    let a = c .before .before .before .args in
+    let z : k .i ≡ a .t2 .atoms = omega arith in
+    subst (λ (n : ℕ). Sure (k .out) n (valueOf (a .plan) (a .t2))) z (k .inv .2)
+
+pub leaves-spec : {M : Type 1} → statement M
+leaves-spec =
+    tie.close
+    (tie.spec
+    Inv-loop
+    μ-loop
+    leaf-requires
+    loop-holds
+    element-copy-out-contact
+    mul-x
+    element-copy-out-x
+    mul-y
+    element-copy-out-y
+    atom-value-requires
+    leaf-requires-2
+    mul-out
+    array-set-from-out
+    add-i
+    loop-less
+    loop-again
+    returns)

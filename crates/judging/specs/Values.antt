@@ -1,0 +1,65 @@
+-- The values of atoms on a plan that arrays hold, the judgement of numbered rules whose atoms have given values, and what the
+-- private functions ensure. Assumes nothing.
+use mathlib.Core.Path.{_≡_}
+use mathlib.Core.Bool.{Bool, true, false, cond}
+use mathlib.Core.List.{List, [], _∷_}
+use Prim.Native.Nat.{ℕ, suc, _<_}
+use Rattle.formula.specs.Formula.{Form}
+use Rattle.formula.specs.Names.{atomsOf}
+use Rattle.evalset.specs.Search.{In}
+use Rattle.evalset.specs.Sets.{memAt}
+use Rattle.contact.specs.Meaning.{value}
+use Rattle.kleene.specs.declared.Two.{Two}
+use Rattle.kleene.specs.Code.{postfix}
+use Rattle.kleene.specs.Rails.{sure, leafAt}
+use Rattle.search.specs.declared.Sheet.{Sheet}
+use Rattle.search.specs.Compiled.{isContact}
+use Rattle.plan.specs.declared.PlanArrays.{PlanArrays}
+use Rattle.plan.specs.Arrays.{touchesOf, vacantOf}
+use Rattle.plan.specs.Judging.{Judgement, yes, unmet}
+use Rattle.solver.specs.Coded.{part, Coded}
+use Rattle.judging.specs.declared.Judged.{Judged}
+use Rattle.judging.specs.declared.Judged.the-variants.{Yes, Unmet}
+
+-- a judgement as the code answers it
+abbrev pub judgedOf : Judgement → Judged
+judgedOf yes = Yes
+judgedOf (unmet k) = Unmet k
+
+-- ---- atoms
+
+-- the value of an atom on the plan: whether it is a contact, and its sets
+abbrev pub atomOf : PlanArrays → Bool → (ℕ → Bool) → (ℕ → Bool) → Bool
+atomOf plan true x y = touchesOf plan x y
+atomOf plan false x y = vacantOf plan x
+
+-- that of the sheet's atom i
+unfoldable pub valueOf : PlanArrays → Sheet → ℕ → Bool
+valueOf plan sheet i = atomOf plan (isContact sheet i) (memAt (sheet .xs) i) (memAt (sheet .ys) i)
+
+-- at evaluation 0, by which rules are judged, the atoms below n are surely what w says
+unfoldable pub Sure : List Two → ℕ → (ℕ → Bool) → Type 0
+Sure leaves n w = (i : ℕ) → i < n → leafAt leaves 0 i ≡ sure (w i)
+
+-- the atoms of the sheet have their values on the plan
+unfoldable pub LeavesSay : PlanArrays → Sheet → List Two → Type 0
+LeavesSay plan sheet leaves = Sure leaves (sheet .atoms) (valueOf plan sheet)
+
+-- ---- rules
+
+-- the value of the rule whose code this part is
+unfoldable pub RuleSays : List ℕ → ℕ → ℕ → List Two → Bool → Type 0
+RuleSays code from end leaves r =
+    (rule : Form ℕ) → part code from end ≡ postfix rule → (w : ℕ → Bool) → ((i : ℕ) → In i (atomsOf rule) → leafAt leaves 0 i ≡ sure (w i))
+    → r ≡ value w rule
+
+-- numbered rules judged by the values of their atoms; the first has number k
+abbrev pub judgeNumbers : ℕ → (ℕ → Bool) → List (Form ℕ) → Judgement
+judgeNumbers k w [] = yes
+judgeNumbers k w (f ∷ rules) = let r = judgeNumbers (suc k) w rules in cond (value w f) r (unmet k)
+
+-- the judgement of the rules of this code
+unfoldable pub UnmetSays : List ℕ → List ℕ → List Two → Judged → Type 0
+UnmetSays code ends leaves r =
+    (many : ℕ) (rules : List (Form ℕ)) → Coded many code ends rules → (w : ℕ → Bool) → Sure leaves many w
+    → r ≡ judgedOf (judgeNumbers 1 w rules)
