@@ -90,8 +90,8 @@ fn first_unmet(code: &[u8], ends: &[usize], atoms: [Two; 16]) -> Judged
     Judged::Yes
 }
 
-// Judges the plan by the rules of this code, whose atoms the sheet has. Only our own crates call it, with a sheet of at most 16
-// atoms and the code of rules of at most 256 signs, which can be run.
+// Judges the plan by the rules of this code, whose atoms the sheet has. Only our own crates call it: `Runs` asks that the sheet has at
+// most 16 atoms and that each part of the code is safe to run, as the codes of rules of at most 256 signs are (`prepared-runs`).
 pub fn judge_plan(plan: PlanArrays, sheet: Sheet, code: &[u8], ends: &[usize]) -> Judged
     requires { ⌜ Runs sheet (now code) (now ends) ⌝ }
     ensures { λ r. ⌜ JudgesSay plan sheet (now (code .entry)) (now (ends .entry)) r ⌝ }
