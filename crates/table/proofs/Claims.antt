@@ -1,0 +1,84 @@
+-- What is proved of the table, for whoever builds on it: it is that of the standing rules whatever calls were made, and each call is
+-- answered by the first row of the table of calls that applies. Each claim cites the file that proves it. Assumes nothing.
+use Prim.Native.Nat.{ℕ}
+use mathlib.Core.Path.{_≡_}
+use mathlib.Core.Logic.{_↔_}
+use mathlib.Core.List.{List, [], _∷_, _++_}
+use Rattle.table.specs.declared.Table.{Table}
+use Rattle.table.specs.declared.AddAnswer.{AddAnswer}
+use Rattle.table.specs.declared.AddAnswer.the-variants as AddAnswer
+use Rattle.table.specs.declared.AddResult.{AddResult}
+use Rattle.table.specs.declared.WithdrawAnswer.{WithdrawAnswer}
+use Rattle.table.specs.declared.WithdrawResult.{WithdrawResult}
+use Rattle.table.specs.declared.LoadAnswer.{LoadAnswer}
+use Rattle.table.specs.declared.LoadResult.{LoadResult}
+use Rattle.table.specs.Store.{Text, tableOf, rulesOf}
+use Rattle.table.specs.Calls.{judgeAdd, judgeWithdraw, judgeLoad, CanStand, FromUs, Adds, Withdraws, Loads}
+use Rattle.table.specs.Rows.{AddRow, WithdrawRow, LoadRow}
+use Rattle.table.specs.Runs.{Call, add, withdraw, load, step, run, after, Faithful}
+use Rattle.table.proofs.Stored as Stored
+use Rattle.table.proofs.Standing as Standing
+use Rattle.table.proofs.Running as Running
+use Rattle.table.proofs.Rows as Rows
+use Rattle.table.proofs.LoadRows as LoadRows
+
+-- ---- tables and lists
+
+-- a table gives back the list that it was made of, of any length
+pub rules-back : (rs : List Text) → rulesOf (tableOf rs) ≡ rs
+rules-back = Stored.rules-table
+
+-- the table of a list that can stand may be passed to every call
+pub may-stand : (rs : List Text) → CanStand rs → FromUs (tableOf rs)
+may-stand = Stored.from-us-table
+
+-- where rs can stand, a text is added exactly if it can stand behind them
+pub added-exactly : (rs : List Text) (s : Text) → CanStand rs → (judgeAdd rs s ≡ AddAnswer.Added) ↔ CanStand (rs ++ s ∷ [])
+added-exactly rs s h = (Standing.stand-more rs s h, Standing.stand-added rs s)
+
+-- ---- calls
+
+-- a call of the code is a step of a list of calls
+pub add-steps : (t : Table) (s : Text) (r : AddResult) → Adds t s r → r .table ≡ step t (add s)
+add-steps = Running.by-add
+
+pub withdraw-steps : (t : Table) (k : ℕ) (r : WithdrawResult) → Withdraws t k r → r .table ≡ step t (withdraw k)
+withdraw-steps = Running.by-withdraw
+
+pub load-steps : (t : Table) (f : Text) (r : LoadResult) → Loads t f r → r .table ≡ step t (load f)
+load-steps = Running.by-load
+
+-- every call maps the table of a list to the table of the list after it
+pub call-maps : (rs : List Text) (c : Call) → step (tableOf rs) c ≡ tableOf (after rs c)
+call-maps = Running.step-table
+
+-- ---- demand 3, for tables
+
+-- after every list of calls the table is that of the standing rules, added in order to the empty table with no refusal
+pub same-table : (cs : List Call) → Faithful cs
+same-table = Running.faithful
+
+-- a table came from us exactly if it is the table after some list of calls
+pub from-us-exactly : (t : Table) → FromUs t ↔ ((cs : List Call) × (t ≡ run cs))
+from-us-exactly = Running.from-us-runs
+
+-- ---- answers
+
+-- add is answered by the first row that applies, and by no other
+pub add-answered : (rs : List Text) (s : Text) → CanStand rs → AddRow rs s (judgeAdd rs s)
+add-answered = Rows.add-row
+
+pub add-answered-only : (rs : List Text) (s : Text) → CanStand rs → (a : AddAnswer) → AddRow rs s a → a ≡ judgeAdd rs s
+add-answered-only = Rows.add-row-only
+
+pub withdraw-answered : (rs : List Text) (k : ℕ) → WithdrawRow rs k (judgeWithdraw rs k)
+withdraw-answered = Rows.withdraw-row
+
+pub withdraw-answered-only : (rs : List Text) (k : ℕ) (a : WithdrawAnswer) → WithdrawRow rs k a → a ≡ judgeWithdraw rs k
+withdraw-answered-only = Rows.withdraw-row-only
+
+pub load-answered : (f : Text) → LoadRow f (judgeLoad f)
+load-answered = LoadRows.load-row
+
+pub load-answered-only : (f : Text) (a : LoadAnswer) → LoadRow f a → a ≡ judgeLoad f
+load-answered-only = LoadRows.load-row-only

@@ -1,0 +1,99 @@
+-- What a table from us holds, by its number of rules and by line, and a line put last: its lines are those of its texts, then empty ones. Assumes nothing.
+use Prim.Native.Nat.{ℕ, zero, suc, _+_, _-_, _<_}
+use mathlib.Core.Path.{_≡_, refl, sym, ap, _∙_}
+use mathlib.Core.List.{List, [], _∷_, _++_, map}
+use native.Mathlib.Omega.{arith}
+use lib.ListN.{length, take, drop, getD, set, replicate, length-map, List·getD-append, length-append}
+use lib.Seq.{set-at, append-snoc}
+use Rattle.table.specs.declared.Line.{Line}
+use Rattle.table.specs.declared.Table.{Table}
+use Rattle.table.specs.Store.{Text, tableOf, rulesOf, lineOf}
+use Rattle.table.specs.Calls.{FromUs}
+
+-- the lines of a table with rs: those of rs, then empty ones
+abbrev pub linesWith : List Text → List Line
+linesWith rs = map lineOf rs ++ replicate (16 - length rs) (lineOf [])
+
+-- what the logic takes for an element past the end
+abbrev pub none : Line
+none = record { bytes = []; len = 0 }
+
+module _ (t : Table) (v : FromUs t) where
+  pub count-is : t .count ≡ length (rulesOf t)
+  unfolding tableOf
+  count-is = ap (λ (u : Table). u .count) (v .same)
+
+  pub lines-are : t .lines ≡ linesWith (rulesOf t)
+  unfolding tableOf
+  lines-are = ap (λ (u : Table). u .lines) (v .same)
+
+-- the i-th line of such a table, whatever stands past the end
+pub line-at : (rs : List Text) (i : ℕ) (d : Line) → i < length rs → getD (linesWith rs) i d ≡ lineOf (getD rs i [])
+line-at rs i d h =
+    List·getD-append (map lineOf rs) _ d i (simp length-map h)
+    ∙ map-at rs i d h
+  where
+    map-at : (rs : List Text) (i : ℕ) (d : Line) → i < length rs → getD (map lineOf rs) i d ≡ lineOf (getD rs i [])
+    map-at [] i d h = absurd (omega arith)
+    map-at (r ∷ rs) zero d h = refl
+    map-at (r ∷ rs) (suc i) d h = map-at rs i d (omega arith)
+
+pub line-len : (s : Text) → lineOf s .len ≡ length s
+unfolding lineOf
+line-len s = refl
+
+module _ (t : Table) (v : FromUs t) (i : ℕ) (d : Line) (h : i < t .count) where
+  in-rules : i < length (rulesOf t)
+  in-rules = omega (arith, count-is t v)
+
+  pub line-is : getD (t .lines) i d ≡ lineOf (getD (rulesOf t) i [])
+  line-is = ap (λ (ls : List Line). getD ls i d) (lines-are t v) ∙ line-at (rulesOf t) i d in-rules
+
+-- lists with a padded end
+module _ {A : Type 0} where
+  -- a store at the first place of the padding
+  pub set-pad : (p : List A) (z a : A) (k n : ℕ) → length p ≡ n → 0 < k → set (p ++ replicate k z) n a ≡ p ++ a ∷ [] ++ replicate (k - 1) z
+  set-pad p z a k n e h =
+      let f : k ≡ suc (k - 1) = omega arith in
+      ap (λ (j : ℕ). set (p ++ replicate j z) n a) f
+      ∙ set-at p z (replicate (k - 1) z) a n e
+      ∙ sym (append-snoc p a (replicate (k - 1) z))
+
+module _ {A B : Type 0} (f : A → B) where
+  pub map-append : (l m : List A) → map f (l ++ m) ≡ map f l ++ map f m
+  map-append [] m = refl
+  map-append (x ∷ l) m = ap {B = List B} (λ r. f x ∷ r) (map-append l m)
+
+  pub map-take : (n : ℕ) (l : List A) → map f (take n l) ≡ take n (map f l)
+  map-take zero l = refl
+  map-take (suc n) [] = refl
+  map-take (suc n) (x ∷ l) = ap {B = List B} (λ r. f x ∷ r) (map-take n l)
+
+  pub map-drop : (n : ℕ) (l : List A) → map f (drop n l) ≡ drop n (map f l)
+  map-drop zero l = refl
+  map-drop (suc n) [] = refl
+  map-drop (suc n) (x ∷ l) = map-drop n l
+
+-- a text put last
+abbrev pub tableWith : List Line → ℕ → Table
+tableWith ls n = record { lines = ls; count = n }
+
+pub put-last : (rs : List Text) (s : Text) → length rs < 16 → tableWith (set (linesWith rs) (length rs) (lineOf s)) (length rs + 1) ≡ tableOf (rs ++ s ∷ [])
+unfolding tableOf
+put-last rs s h =
+    let n : length (rs ++ s ∷ []) ≡ length rs + 1 = length-append rs (s ∷ []) in
+    let m : 16 - length rs - 1 ≡ 16 - length (rs ++ s ∷ []) = omega (arith, n) in
+    let e : set (linesWith rs) (length rs) (lineOf s) ≡ linesWith (rs ++ s ∷ [])
+    = set-pad (map lineOf rs) (lineOf []) (lineOf s) (16 - length rs) (length rs) (length-map rs lineOf) (omega arith)
+    ∙ ap (λ (k : ℕ). map lineOf rs ++ lineOf s ∷ [] ++ replicate k (lineOf [])) m
+    ∙ ap (λ (ls : List Line). ls ++ replicate (16 - length (rs ++ s ∷ [])) (lineOf [])) (sym (map-append lineOf rs (s ∷ []))) in
+    ap (λ (ls : List Line). tableWith ls (length rs + 1)) e ∙ ap (λ (k : ℕ). tableWith (linesWith (rs ++ s ∷ [])) k) (sym n)
+
+-- the table that put_last leaves
+pub put-table : (t : Table) (s : Text) (l : Line) → FromUs t → l ≡ lineOf s → t .count < 16
+    → tableWith (set (t .lines) (t .count) l) (t .count + 1) ≡ tableOf (rulesOf t ++ s ∷ [])
+put-table t s l v e h =
+    ap (λ (ls : List Line). tableWith (set ls (t .count) l) (t .count + 1)) (lines-are t v)
+    ∙ ap (λ (n : ℕ). tableWith (set (linesWith (rulesOf t)) n l) (n + 1)) (count-is t v)
+    ∙ ap (λ (m : Line). tableWith (set (linesWith (rulesOf t)) (length (rulesOf t)) m) (length (rulesOf t) + 1)) e
+    ∙ put-last (rulesOf t) s (omega (arith, count-is t v))

@@ -1,0 +1,16 @@
+pub mod Fewer
+pub mod Stored
+pub mod Standing
+pub mod Running
+pub mod Held
+pub mod Shift
+pub mod Scan
+pub mod Results
+pub mod Atoms
+pub mod Drafting
+pub mod Told
+pub mod Recount
+pub mod Loading
+pub mod Rows
+pub mod LoadRows
+pub mod Claims

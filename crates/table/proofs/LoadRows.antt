@@ -1,0 +1,188 @@
+-- Load is answered by the row of the table of calls that applies first, and by no other: the lines before one that is refused are
+-- passed, each added behind those before it. Assumes nothing.
+use Prim.Native.Nat.{ℕ, suc, _+_, _≤_}
+use mathlib.Core.Path.{_≡_, refl, sym, ap, subst, _∙_}
+use mathlib.Core.Logic.{_⊎_, inl, inr, ⊎-elim}
+use mathlib.Core.Bool.{Bool, true, false, cond}
+use mathlib.Core.List.{List, [], _∷_, _++_, append-assoc, append-nil}
+use native.Mathlib.Omega.{arith}
+use lib.ListN.{length, length-append}
+use lib.Dec.{ltb}
+use borrow.Author.Tests.{ltb-true, ltb-false, le-ltb}
+use Rattle.evalset.proofs.Search.{cases}
+use Rattle.table.specs.declared.AddAnswer.{AddAnswer}
+use Rattle.table.specs.declared.AddAnswer.the-variants as AddAnswer
+use Rattle.table.specs.declared.LoadAnswer.{LoadAnswer}
+use Rattle.table.specs.declared.LoadAnswer.the-variants as LoadAnswer
+use Rattle.table.specs.Store.{Text}
+use Rattle.table.specs.Calls.{judgeAdd, linesOf, blankLine, filled, judgeLines, isNone, judgeLoad, CanStand}
+use Rattle.table.specs.Rows.{RefusedLine, LoadRow, long, blank, line, loads}
+use Rattle.table.proofs.Standing.{NotAdded, added-or, stand-none, stand-first, stand-more, stand-added}
+use Rattle.table.proofs.Loading.{judge-blank, judge-added, judge-refused, filled-blank, filled-more, too-long}
+use Rattle.table.proofs.Rows.{add-row, add-row-only}
+
+-- ---- lines that are not blank
+
+filled-append : (a b : List Text) → filled (a ++ b) ≡ filled a ++ filled b
+unfolding filled
+filled-append [] b = refl
+filled-append (l ∷ a) b = go (blankLine l) (filled-append a b)
+  where
+    go : (t : Bool) → filled (a ++ b) ≡ filled a ++ filled b → cond t (filled (a ++ b)) (l ∷ filled (a ++ b)) ≡ cond t (filled a) (l ∷ filled a) ++ filled b
+    go true e = e
+    go false e = ap (λ (ls : List Text). l ∷ ls) e
+
+no-lines : filled [] ≡ []
+unfolding filled
+no-lines = refl
+
+one-blank : (done : List Text) (l : Text) → blankLine l ≡ true → filled (done ++ l ∷ []) ≡ filled done
+one-blank done l e = filled-append done (l ∷ []) ∙ ap (λ (ls : List Text). filled done ++ ls) (filled-blank l [] e ∙ no-lines) ∙ append-nil (filled done)
+
+one-filled : (done : List Text) (l : Text) → blankLine l ≡ false → filled (done ++ l ∷ []) ≡ filled done ++ l ∷ []
+one-filled done l e = filled-append done (l ∷ []) ∙ ap (λ (ls : List Text). filled done ++ ls) (filled-more l [] e ∙ ap (λ (ls : List Text). l ∷ ls) no-lines)
+
+-- ---- how the lines behind others are judged
+
+-- all of them added, or one refused
+abbrev Judged : List Text → List Text → Type 0
+Judged done ls =
+    ((judgeLines (length done + 1) (filled done) ls ≡ LoadAnswer.Loaded) × CanStand (filled (done ++ ls)))
+    ⊎ ((n : ℕ) × (a : AddAnswer) × (judgeLines (length done + 1) (filled done) ls ≡ LoadAnswer.Line n a) × RefusedLine (done ++ ls) n a)
+
+-- the line l taken over to those that are done
+over : (done : List Text) (l : Text) (ls : List Text) → judgeLines (length done + 1) (filled done) (l ∷ ls) ≡ judgeLines (length (done ++ l ∷ []) + 1) (filled (done ++ l ∷ [])) ls
+    → Judged (done ++ l ∷ []) ls → Judged done (l ∷ ls)
+over done l ls e =
+    ⊎-elim
+    (λ r. inl (e ∙ r .0, subst (λ (x : List Text). CanStand (filled x)) (append-assoc done (l ∷ []) ls) (r .1)))
+    (λ r. inr (r .0, r .1, e ∙ r .2, subst (λ (x : List Text). RefusedLine x (r .0) (r .1)) (append-assoc done (l ∷ []) ls) (r .3)))
+
+one-more : (done : List Text) (l : Text) → length done + 1 + 1 ≡ length (done ++ l ∷ []) + 1
+one-more done l = omega (arith, length-append done (l ∷ []))
+
+-- one line, where those behind it are judged
+module _ (done : List Text) (l : Text) (ls : List Text) (h : CanStand (filled done)) (behind : CanStand (filled (done ++ l ∷ [])) → Judged (done ++ l ∷ []) ls) where
+  skip : blankLine l ≡ true → Judged done (l ∷ ls)
+  skip b =
+      over done l ls
+      (judge-blank (length done + 1) (filled done) l ls b
+      ∙ ap (λ (k : ℕ). judgeLines k (filled done) ls) (one-more done l)
+      ∙ ap (λ (rs : List Text). judgeLines (length (done ++ l ∷ []) + 1) rs ls) (sym (one-blank done l b)))
+      (behind (subst CanStand (sym (one-blank done l b)) h))
+
+  take-over : blankLine l ≡ false → judgeAdd (filled done) l ≡ AddAnswer.Added → Judged done (l ∷ ls)
+  take-over b e =
+      over done l ls
+      (judge-added (length done + 1) (filled done) l ls b e
+      ∙ ap (λ (k : ℕ). judgeLines k (filled done ++ l ∷ []) ls) (one-more done l)
+      ∙ ap (λ (rs : List Text). judgeLines (length (done ++ l ∷ []) + 1) rs ls) (sym (one-filled done l b)))
+      (behind (subst CanStand (sym (one-filled done l b)) (stand-more (filled done) l h e)))
+
+  refuse : blankLine l ≡ false → NotAdded (judgeAdd (filled done) l) → Judged done (l ∷ ls)
+  refuse b m =
+      inr (
+        length done + 1,
+        judgeAdd (filled done) l,
+        judge-refused (length done + 1) (filled done) l ls (judgeAdd (filled done) l) b refl m,
+        record { before = done; text = l; later = ls; split = refl; number = refl; filled-text = b; added = h; row = add-row (filled done) l h; refused = m },
+      )
+
+  judged-line : Judged done (l ∷ ls)
+  judged-line = cases (blankLine l) skip (λ b. ⊎-elim (take-over b) (refuse b) (added-or (judgeAdd (filled done) l)))
+
+judged : (ls done : List Text) → CanStand (filled done) → Judged done ls
+unfolding judgeLines
+judged [] done h = inl (refl, subst (λ (x : List Text). CanStand (filled x)) (sym (append-nil done)) h)
+judged (l ∷ ls) done h = judged-line done l ls h (judged ls (done ++ l ∷ []))
+
+-- ---- the answer is that of a row
+
+some-or : (ls : List Text) → ((isNone ls ≡ true) × (ls ≡ [])) ⊎ ((isNone ls ≡ false) × (ls ≡ [] → ⊥))
+some-or [] = inl (refl, refl)
+some-or (l ∷ ls) = inr (refl, λ e. let z : _≡_ {A = ℕ} 0 1 = cc in omega arith)
+
+module _ (f : Text) where
+  all-blank : length f ≤ 8192 → isNone (filled (linesOf f)) ≡ true → judgeLoad f ≡ LoadAnswer.AllBlank
+  unfolding judgeLoad
+  all-blank h e = rw (le-ltb 8192 (length f) h, e)
+
+  by-lines : length f ≤ 8192 → isNone (filled (linesOf f)) ≡ false → judgeLoad f ≡ judgeLines 1 [] (linesOf f)
+  unfolding judgeLoad
+  by-lines h e = rw (le-ltb 8192 (length f) h, e)
+
+  first-lines : judgeLines 1 (filled []) (linesOf f) ≡ judgeLines 1 [] (linesOf f)
+  first-lines = ap (λ (rs : List Text). judgeLines 1 rs (linesOf f)) no-lines
+
+  load-lines : length f ≤ 8192 → isNone (filled (linesOf f)) ≡ false → (filled (linesOf f) ≡ [] → ⊥) → LoadRow f (judgeLoad f)
+  load-lines h e n =
+      ⊎-elim
+      (λ r. subst (LoadRow f) (sym (by-lines h e ∙ sym first-lines ∙ r .0)) (loads h n (r .1)))
+      (λ r. subst (LoadRow f) (sym (by-lines h e ∙ sym first-lines ∙ r .2)) (line h (r .3)))
+      (judged (linesOf f) [] (subst CanStand (sym no-lines) stand-none))
+
+  pub load-row : LoadRow f (judgeLoad f)
+  load-row =
+      cases (ltb 8192 (length f))
+      (λ t. subst (LoadRow f) (sym (too-long f (ltb-true _ _ t))) (long (ltb-true _ _ t)))
+      (λ t. ⊎-elim
+      (λ e. subst (LoadRow f) (sym (all-blank (ltb-false _ _ t) (e .0))) (blank (ltb-false _ _ t) (e .1)))
+      (λ e. load-lines (ltb-false _ _ t) (e .0) (e .1))
+      (some-or (filled (linesOf f))))
+
+-- ---- and a row gives no other answer
+
+-- lines that can stand are passed
+passed : (before : List Text) (n : ℕ) (rs rest : List Text) → CanStand (rs ++ filled before)
+    → judgeLines n rs (before ++ rest) ≡ judgeLines (n + length before) (rs ++ filled before) rest
+unfolding filled
+passed [] n rs rest h =
+    let z : n ≡ n + 0 = omega arith in
+    ap (λ (k : ℕ). judgeLines k rs rest) z ∙ ap (λ (x : List Text). judgeLines (n + 0) x rest) (sym (append-nil rs))
+passed (l ∷ before) n rs rest h = go (blankLine l) refl h (passed before (n + 1) rs rest) (passed before (n + 1) (rs ++ l ∷ []) rest)
+  where
+    z : n + 1 + length before ≡ n + suc (length before)
+    z = omega arith
+
+    go : (b : Bool) → blankLine l ≡ b → CanStand (rs ++ cond b (filled before) (l ∷ filled before))
+        → (CanStand (rs ++ filled before) → judgeLines (n + 1) rs (before ++ rest) ≡ judgeLines (n + 1 + length before) (rs ++ filled before) rest)
+        → (CanStand ((rs ++ l ∷ []) ++ filled before)
+        → judgeLines (n + 1) (rs ++ l ∷ []) (before ++ rest) ≡ judgeLines (n + 1 + length before) ((rs ++ l ∷ []) ++ filled before) rest)
+        → judgeLines n rs (l ∷ before ++ rest) ≡ judgeLines (n + suc (length before)) (rs ++ cond b (filled before) (l ∷ filled before)) rest
+    go true e k skip more = judge-blank n rs l (before ++ rest) e ∙ skip k ∙ ap (λ (m : ℕ). judgeLines m (rs ++ filled before) rest) z
+    go false e k skip more =
+        let s : CanStand ((rs ++ l ∷ []) ++ filled before) = subst CanStand (sym (append-assoc rs (l ∷ []) (filled before))) k in
+        judge-added n rs l (before ++ rest) e (stand-added rs l (stand-first (rs ++ l ∷ []) (filled before) s))
+        ∙ more s
+        ∙ ap (λ (x : List Text). judgeLines (n + 1 + length before) x rest) (append-assoc rs (l ∷ []) (filled before))
+        ∙ ap (λ (m : ℕ). judgeLines m (rs ++ l ∷ filled before) rest) z
+
+some-line : (before : List Text) (l : Text) (later : List Text) → blankLine l ≡ false → isNone (filled (before ++ l ∷ later)) ≡ false
+some-line before l later e =
+    ap isNone (filled-append before (l ∷ later) ∙ ap (λ (x : List Text). filled before ++ x) (filled-more l later e)) ∙ go (filled before)
+  where
+    go : (x : List Text) → isNone (x ++ l ∷ filled later) ≡ false
+    go [] = refl
+    go (y ∷ x) = refl
+
+refused-first : (ls : List Text) (n : ℕ) (a : AddAnswer) → RefusedLine ls n a → judgeLines 1 [] ls ≡ LoadAnswer.Line n a
+refused-first ls n a r =
+    let z : 1 + length (r .before) ≡ n = omega (arith, r .number) in
+    ap (judgeLines 1 []) (r .split)
+    ∙ passed (r .before) 1 [] (r .text ∷ r .later) (r .added)
+    ∙ judge-refused (1 + length (r .before)) (filled (r .before)) (r .text) (r .later) a (r .filled-text) (sym (add-row-only (filled (r .before)) (r .text) (r .added) a (r .row))) (r .refused)
+    ∙ ap (λ (k : ℕ). LoadAnswer.Line k a) z
+
+all-added : (ls : List Text) → CanStand (filled ls) → judgeLines 1 [] ls ≡ LoadAnswer.Loaded
+unfolding judgeLines
+all-added ls h = ap (judgeLines 1 []) (sym (append-nil ls)) ∙ passed ls 1 [] [] h
+
+pub load-row-only : (f : Text) (a : LoadAnswer) → LoadRow f a → a ≡ judgeLoad f
+load-row-only f a (long h) = sym (too-long f h)
+load-row-only f a (blank h e) = sym (all-blank f h (ap isNone e))
+load-row-only f a (line {n = n} {a = b} h r) =
+    sym
+    (by-lines f h (ap (λ (ls : List Text). isNone (filled ls)) (r .split) ∙ some-line (r .before) (r .text) (r .later) (r .filled-text))
+    ∙ refused-first (linesOf f) n b r)
+load-row-only f a (loads h n k) =
+    sym (by-lines f h (⊎-elim (λ e. absurd (n (e .1))) (λ e. e .0) (some-or (filled (linesOf f)))) ∙ all-added (linesOf f) k)

@@ -1,0 +1,98 @@
+-- Whatever list of calls was made, the table is that of the standing rules alone: each call maps the table of a list to the table of
+-- the list after it, and a list that can stand is added text by text with no refusal. Assumes nothing.
+use Prim.Native.Nat.{ℕ}
+use mathlib.Core.Path.{_≡_, refl, sym, ap, subst, _∙_}
+use mathlib.Core.Logic.{_↔_}
+use mathlib.Core.List.{List, [], _∷_, _++_, append-assoc, append-nil}
+use Rattle.table.specs.declared.Table.{Table}
+use Rattle.table.specs.declared.AddAnswer.{AddAnswer}
+use Rattle.table.specs.declared.AddAnswer.the-variants as AddAnswer
+use Rattle.table.specs.declared.AddResult.{AddResult}
+use Rattle.table.specs.declared.WithdrawResult.{WithdrawResult}
+use Rattle.table.specs.declared.LoadResult.{LoadResult}
+use Rattle.table.specs.Store.{Text, tableOf, rulesOf}
+use Rattle.table.specs.Calls.{CanStand, FromUs, Adds, Withdraws, Loads, judgeAdd, added, withdrawn, loaded}
+use Rattle.table.specs.Runs.{Call, add, withdraw, load, ask, step, runFrom, run, after, standingFrom, standing, adds, NoneRefused, Faithful}
+use Rattle.table.proofs.Stored.{rules-table, from-us-table}
+use Rattle.table.proofs.Standing.{stand-none, stand-first, stand-added, stand-add, stand-withdraw, stand-load, added-taken}
+
+-- a call of the code is a step
+pub by-add : (t : Table) (s : Text) (r : AddResult) → Adds t s r → r .table ≡ step t (add s)
+unfolding step
+by-add t s r h = ap (λ (x : AddResult). x .table) (h .result)
+
+pub by-withdraw : (t : Table) (k : ℕ) (r : WithdrawResult) → Withdraws t k r → r .table ≡ step t (withdraw k)
+unfolding step
+by-withdraw t k r h = ap (λ (x : WithdrawResult). x .table) (h .result)
+
+pub by-load : (t : Table) (f : Text) (r : LoadResult) → Loads t f r → r .table ≡ step t (load f)
+unfolding step
+by-load t f r h = ap (λ (x : LoadResult). x .table) (h .result)
+
+-- one call, from the table of a list
+pub step-table : (rs : List Text) (c : Call) → step (tableOf rs) c ≡ tableOf (after rs c)
+unfolding step after added withdrawn loaded
+step-table rs (add s) = rw rules-table
+step-table rs (withdraw k) = rw rules-table
+step-table rs (load f) = rw rules-table
+step-table rs (ask buf) = refl
+
+stand-after : (rs : List Text) (c : Call) → CanStand rs → CanStand (after rs c)
+unfolding after
+stand-after rs (add s) h = stand-add rs s h
+stand-after rs (withdraw k) h = stand-withdraw rs k h
+stand-after rs (load f) h = stand-load rs f h
+stand-after rs (ask buf) h = h
+
+-- a list of calls
+pub run-table : (cs : List Call) (rs : List Text) → runFrom (tableOf rs) cs ≡ tableOf (standingFrom rs cs)
+unfolding runFrom standingFrom
+run-table [] rs = refl
+run-table (c ∷ cs) rs = rw step-table (run-table cs (after rs c))
+
+pub stand-run : (cs : List Call) (rs : List Text) → CanStand rs → CanStand (standingFrom rs cs)
+unfolding standingFrom
+stand-run [] rs h = h
+stand-run (c ∷ cs) rs h = stand-run cs (after rs c) (stand-after rs c h)
+
+-- a list that can stand is added without a refusal
+next-added : (rs : List Text) (s : Text) (ss : List Text) → CanStand (rs ++ s ∷ ss) → judgeAdd rs s ≡ AddAnswer.Added
+next-added rs s ss h = stand-added rs s (stand-first (rs ++ s ∷ []) ss (subst CanStand (sym (append-assoc rs (s ∷ []) ss)) h))
+
+after-next : (rs : List Text) (s : Text) → judgeAdd rs s ≡ AddAnswer.Added → after rs (add s) ≡ rs ++ s ∷ []
+unfolding after
+after-next rs s e = added-taken rs s e
+
+pub adds-standing : (ss rs : List Text) → CanStand (rs ++ ss) → standingFrom rs (adds ss) ≡ rs ++ ss
+unfolding standingFrom adds
+adds-standing [] rs h = sym (append-nil rs)
+adds-standing (s ∷ ss) rs h =
+    ap (λ (x : List Text). standingFrom x (adds ss)) (after-next rs s (next-added rs s ss h))
+    ∙ adds-standing ss (rs ++ s ∷ []) (rw append-assoc h)
+    ∙ append-assoc rs (s ∷ []) ss
+
+pub none-refused : (ss rs : List Text) → CanStand (rs ++ ss) → NoneRefused (tableOf rs) ss
+unfolding added
+none-refused [] rs h = tt
+none-refused (s ∷ ss) rs h =
+    let e = next-added rs s ss h in
+    (rw rules-table e, rw (step-table, after-next rs s e) (none-refused ss (rs ++ s ∷ []) (rw append-assoc h)))
+
+pub faithful : (cs : List Call) → Faithful cs
+unfolding run standing
+faithful cs =
+    let h : CanStand (standingFrom [] cs) = stand-run cs [] stand-none in
+    record {
+      from-us = subst FromUs (sym (run-table cs [])) (from-us-table _ h);
+      holds = ap rulesOf (run-table cs []) ∙ rules-table (standingFrom [] cs);
+      table = run-table cs [] ∙ ap tableOf (sym (adds-standing (standingFrom [] cs) [] h)) ∙ sym (run-table (adds (standing cs)) []);
+      taken = none-refused (standing cs) [] h;
+    }
+
+-- the tables from us are those after a list of calls
+pub from-us-runs : (t : Table) → FromUs t ↔ ((cs : List Call) × (t ≡ run cs))
+unfolding run
+from-us-runs t = (
+  λ v. (adds (rulesOf t), v .same ∙ ap tableOf (sym (adds-standing (rulesOf t) [] (v .standing))) ∙ sym (run-table (adds (rulesOf t)) [])),
+  λ r. subst FromUs (sym (r .1)) (faithful (r .0) .from-us),
+)

@@ -1,0 +1,108 @@
+-- One turn of each scan over a slice: what a definition by clauses says of the rest of the list from a place on: a list from a place on is its element there and the rest. Assumes nothing.
+use Prim.Native.Nat.{ℕ, suc, _+_, _-_, _≤_, _<_}
+use mathlib.Core.Path.{_≡_, refl, sym, ap, _∙_}
+use mathlib.Core.List.{List, [], _∷_, _++_, append-assoc, append-nil}
+use mathlib.Core.Bool.{Bool, true, false, cond}
+use native.Mathlib.Omega.{arith}
+use native.Mathlib.Numerals.{add-one}
+use lib.ListN.{length, take, drop, getD, set, replicate, drop-of-length-le, length-drop}
+use lib.Seq.{drop-cons, getD-drop, set-at, take-suc, append-snoc, length-take-le}
+use lib.Dec.{eqb}
+use borrow.Author.Tests.{eq-eqb, ne-eqb, le-leb, lt-leb}
+use Rattle.table.specs.Store.{Text}
+use Rattle.table.specs.Calls.{blankByte, blankLine, linesOf, linesFrom, onFirst}
+use Rattle.table.specs.Drafts.{isAtom, atomPlaces}
+
+-- the rest from a place on: its byte and the rest from the next
+pub rest : (s : Text) (i : ℕ) → i < length s → drop i s ≡ getD s i 0 ∷ drop (i + 1) s
+rest s i h = rw (add-one, drop-cons s i 0)
+
+pub no-rest : (s : Text) (i : ℕ) → length s ≤ i → drop i s ≡ []
+no-rest s i h = drop-of-length-le s h
+
+module _ (s : Text) (i : ℕ) (h : i < length s) where
+  pub blank-next : blankByte (getD s i 0) ≡ true → blankLine (drop i s) ≡ blankLine (drop (i + 1) s)
+  unfolding blankLine
+  blank-next k = rw (rest s i h, k)
+
+  pub blank-not : blankByte (getD s i 0) ≡ false → blankLine (drop i s) ≡ false
+  unfolding blankLine
+  blank-not k = rw (rest s i h, k)
+
+  pub atoms-here : isAtom (getD s i 0) ≡ true → atomPlaces (drop i s) ≡ suc (atomPlaces (drop (i + 1) s))
+  unfolding atomPlaces
+  atoms-here k = rw (rest s i h, k)
+
+  pub atoms-next : isAtom (getD s i 0) ≡ false → atomPlaces (drop i s) ≡ atomPlaces (drop (i + 1) s)
+  unfolding atomPlaces
+  atoms-next k = rw (rest s i h, k)
+
+pub blank-end : (s : Text) (i : ℕ) → length s ≤ i → blankLine (drop i s) ≡ true
+unfolding blankLine
+blank-end s i h = rw (no-rest s i h)
+
+pub atoms-end : (s : Text) (i : ℕ) → length s ≤ i → atomPlaces (drop i s) ≡ 0
+unfolding atomPlaces
+atoms-end s i h = rw (no-rest s i h)
+
+-- a turn of the loop that copies a text into zeros, m places in all
+pub copy-next : (m : ℕ) (s : Text) (i : ℕ) → i < length s → i < m
+    → set (take i s ++ replicate (m - i) 0) i (getD s i 0) ≡ take (i + 1) s ++ replicate (m - (i + 1)) 0
+copy-next m s i h k =
+    let e : m - i ≡ suc (m - (i + 1)) = omega arith in
+    let f : set (take i s ++ 0 ∷ replicate (m - (i + 1)) 0) i (getD s i 0) ≡ take i s ++ getD s i 0 ∷ replicate (m - (i + 1)) 0
+    = set-at (take i s) 0 (replicate (m - (i + 1)) 0) (getD s i 0) i (length-take-le i s (omega arith)) in
+    ap (λ (n : ℕ). set (take i s ++ replicate n 0) i (getD s i 0)) e
+    ∙ f
+    ∙ sym (append-snoc (take i s) (getD s i 0) (replicate (m - (i + 1)) 0))
+    ∙ ap (λ (l : List ℕ). l ++ replicate (m - (i + 1)) 0) (sym (take-suc s i 0 h) ∙ ap (λ (n : ℕ). take n s) (sym (add-one i)))
+
+-- the lines of a rest, with p in front of the first
+abbrev pub onHead : Text → List Text → List Text
+onHead p [] = p ∷ []
+onHead p (l ∷ ls) = (p ++ l) ∷ ls
+
+pub head-none : (s : Text) → onHead [] (linesOf s) ≡ linesOf s
+unfolding linesOf onFirst
+head-none [] = refl
+head-none (b ∷ s) = go (eqb b 10) (linesOf s)
+  where
+    go : (t : Bool) (ls : List Text) → onHead [] (cond t ([] ∷ ls) (onFirst b ls)) ≡ cond t ([] ∷ ls) (onFirst b ls)
+    go true ls = refl
+    go false [] = refl
+    go false (l ∷ ls) = refl
+
+head-more : (p : Text) (b : ℕ) (ls : List Text) → onHead p (onFirst b ls) ≡ onHead (p ++ b ∷ []) ls
+unfolding onFirst
+head-more p b [] = refl
+head-more p b (l ∷ ls) = rw append-assoc
+
+module _ (f : Text) (at i : ℕ) (low : at ≤ i) where
+  part-more : i < length f → take (i - at) (drop at f) ++ getD f i 0 ∷ [] ≡ take (i + 1 - at) (drop at f)
+  part-more h =
+      let e : i + 1 - at ≡ suc (i - at) = omega arith in
+      let k : at + (i - at) ≡ i = omega arith in
+      let g : i - at < length (drop at f) = simp length-drop (omega arith) in
+      sym (ap (λ (n : ℕ). take n (drop at f)) e ∙ take-suc (drop at f) (i - at) 0 g ∙ ap (λ (b : ℕ). take (i - at) (drop at f) ++ b ∷ []) (getD-drop at f (i - at) 0 ∙ ap (λ (n : ℕ). getD f n 0) k))
+
+  pub lines-next : i < length f → (getD f i 0 ≡ 10 → ⊥)
+      → onHead (take (i - at) (drop at f)) (linesOf (drop i f)) ≡ onHead (take (i + 1 - at) (drop at f)) (linesOf (drop (i + 1) f))
+  unfolding linesOf
+  lines-next h n =
+      rw (rest f i h, ne-eqb (getD f i 0) 10 n)
+      (head-more (take (i - at) (drop at f)) (getD f i 0) (linesOf (drop (i + 1) f))
+      ∙ ap (λ (p : Text). onHead p (linesOf (drop (i + 1) f))) (part-more h))
+
+  pub lines-cut : i < length f → getD f i 0 ≡ 10
+      → onHead (take (i - at) (drop at f)) (linesOf (drop i f)) ≡ take (i - at) (drop at f) ∷ linesFrom f (i + 1)
+  unfolding linesOf linesFrom
+  lines-cut h e =
+      let k : i + 1 ≤ length f = omega arith in
+      rw (rest f i h, eq-eqb (getD f i 0) 10 e, le-leb (i + 1) (length f) k, append-nil)
+
+  pub lines-last : i ≡ length f → onHead (take (i - at) (drop at f)) (linesOf (drop i f)) ≡ take (i - at) (drop at f) ∷ linesFrom f (i + 1)
+  unfolding linesOf linesFrom
+  lines-last e =
+      let k : length f < i + 1 = omega arith in
+      let m : length f ≤ i = omega arith in
+      rw (no-rest f i m, lt-leb (i + 1) (length f) k, append-nil)

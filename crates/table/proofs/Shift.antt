@@ -1,0 +1,120 @@
+-- Lines moved down by one place: a turn of withdraw's loop, and the table that it leaves: each line takes the place before it, and the last one is cleared. Assumes nothing.
+use Prim.Native.Nat.{ℕ, suc, _+_, _-_, _≤_, _<_}
+use mathlib.Core.Path.{_≡_, sym, ap, _∙_}
+use mathlib.Core.List.{List, [], _∷_, _++_, map}
+use native.Mathlib.Omega.{arith}
+use lib.ListN.{length, take, drop, getD, set, replicate, length-map, length-append, length-take, length-drop, length-replicate}
+use lib.Seq.{paste, paste-zero, paste-suc, drop-paste, getD-drop, drop-cons, set-at, take-at, drop-at, take-append-le, drop-append-le}
+use Rattle.table.specs.declared.Line.{Line}
+use Rattle.table.specs.declared.Table.{Table}
+use Rattle.table.specs.Store.{Text, tableOf, rulesOf, lineOf}
+use Rattle.table.specs.Calls.{without, FromUs}
+use Rattle.table.proofs.Held.{count-is, lines-are, linesWith, tableWith, map-append, map-take, map-drop}
+
+-- the lines after those from k up to i have moved down
+abbrev pub moved : List Line → ℕ → ℕ → List Line
+moved ls k i = paste ls (k - 1) (drop k ls) (i - k)
+
+module _ (ls : List Line) (k i : ℕ) (d : Line) (pos : 1 ≤ k) (low : k ≤ i) (h : i < length ls) where
+  reads : getD (moved ls k i) i d ≡ getD (drop k ls) (i - k) d
+  reads =
+      let a : k - 1 + (i - k) + 1 ≡ i = omega arith in
+      let b : k + (i - k) ≡ i = omega arith in
+      ap (λ (n : ℕ). getD (moved ls k i) n d) (sym a)
+      ∙ sym (getD-drop (k - 1 + (i - k)) (moved ls k i) 1 d)
+      ∙ ap (λ (l : List Line). getD l 1 d) (drop-paste ls (k - 1) (drop k ls) (i - k) (omega arith) (simp length-drop (omega arith)))
+      ∙ getD-drop (k - 1 + (i - k)) ls 1 d
+      ∙ ap (λ (n : ℕ). getD ls n d) (a ∙ sym b)
+      ∙ sym (getD-drop k ls (i - k) d)
+
+  pub moved-next : set (moved ls k i) (i - 1) (getD (moved ls k i) i d) ≡ moved ls k (i + 1)
+  moved-next =
+      let a : i - 1 ≡ k - 1 + (i - k) = omega arith in
+      let b : suc (i - k) ≡ i + 1 - k = omega arith in
+      ap (λ (x : Line). set (moved ls k i) (i - 1) x) reads
+      ∙ ap (λ (n : ℕ). set (moved ls k i) n (getD (drop k ls) (i - k) d)) a
+      ∙ paste-suc ls (k - 1) (drop k ls) (i - k) d (omega arith) (simp length-drop (omega arith))
+      ∙ ap (λ (n : ℕ). paste ls (k - 1) (drop k ls) n) b
+
+pub moved-none : (ls : List Line) (k : ℕ) → ls ≡ moved ls k k
+moved-none ls k =
+    let e : 0 ≡ k - k = omega arith in
+    paste-zero ls (k - 1) (drop k ls) ∙ ap (λ (n : ℕ). paste ls (k - 1) (drop k ls) n) e
+
+module _ (rs : List Text) (k : ℕ) (pos : 1 ≤ k) (high : k ≤ length rs) (few : length rs ≤ 16) where
+  left-length : length (without rs (k - 1)) ≡ length rs - 1
+  unfolding without
+  left-length = simp (length-append, length-take, length-drop) (omega arith)
+
+  left-lines : map lineOf (without rs (k - 1)) ≡ take (k - 1) (map lineOf rs) ++ drop k (map lineOf rs)
+  unfolding without
+  left-lines =
+      let e : suc (k - 1) ≡ k = omega arith in
+      map-append lineOf (take (k - 1) rs) (drop (suc (k - 1)) rs)
+      ∙ ap (λ (l : List Line). l ++ map lineOf (drop (suc (k - 1)) rs)) (map-take lineOf (k - 1) rs)
+      ∙ ap (λ (n : ℕ). take (k - 1) (map lineOf rs) ++ map lineOf (drop n rs)) e
+      ∙ ap (λ (l : List Line). take (k - 1) (map lineOf rs) ++ l) (map-drop lineOf k rs)
+
+  -- what stays of the lines of rs, without the last
+  kept : List Line
+  kept = take (k - 1) (map lineOf rs) ++ drop k (map lineOf rs)
+
+  kept-length : length kept ≡ length rs - 1
+  unfolding kept
+  kept-length = ap length (sym left-lines) ∙ length-map (without rs (k - 1)) lineOf ∙ left-length
+
+  kept-lines : kept ≡ map lineOf (without rs (k - 1))
+  unfolding kept
+  kept-lines = sym left-lines
+
+  moved-all : moved (linesWith rs) k (length rs)
+      ≡ kept ++ getD (linesWith rs) (length rs - 1) (lineOf []) ∷ replicate (16 - length rs) (lineOf [])
+  unfolding kept
+  moved-all =
+      let m : List Line = map lineOf rs in
+      let pad : List Line = replicate (16 - length rs) (lineOf []) in
+      let n : length m ≡ length rs = length-map rs lineOf in
+      let a : take (k - 1) (m ++ pad) ≡ take (k - 1) m = take-append-le (k - 1) m pad (omega (arith, n)) in
+      let d : length (drop k m) ≡ length rs - k = length-drop k m ∙ ap (λ (j : ℕ). j - k) n in
+      let b : take (length rs - k) (drop k (m ++ pad)) ≡ drop k m
+      = ap (λ (l : List Line). take (length rs - k) l) (drop-append-le k m pad (omega (arith, n))) ∙ take-at (drop k m) pad (length rs - k) d in
+      let f : k - 1 + (length rs - k) ≡ length rs - 1 = omega arith in
+      let g : suc (length rs - 1) ≡ length rs = omega arith in
+      let q : length (m ++ pad) ≡ length rs + (16 - length rs) = length-append m pad ∙ ap (λ (j : ℕ). j + length pad) n ∙ ap (λ (j : ℕ). length rs + j) (length-replicate (16 - length rs) (lineOf [])) in
+      let z : Line = getD (m ++ pad) (length rs - 1) (lineOf []) in
+      let r : drop (length rs - 1) (m ++ pad) ≡ z ∷ pad
+      = drop-cons (m ++ pad) (length rs - 1) (lineOf []) (omega (arith, q)) ∙ ap (λ (j : ℕ). z ∷ drop j (m ++ pad)) g ∙ ap {B = List Line} (λ (l : List Line). z ∷ l) (drop-at m pad (length rs) n) in
+      ap (λ (l : List Line). l ++ take (length rs - k) (drop k (m ++ pad)) ++ drop (k - 1 + (length rs - k)) (m ++ pad)) a
+      ∙ ap (λ (l : List Line). take (k - 1) m ++ l ++ drop (k - 1 + (length rs - k)) (m ++ pad)) b
+      ∙ ap (λ (j : ℕ). take (k - 1) m ++ drop k m ++ drop j (m ++ pad)) f
+      ∙ ap (λ (l : List Line). take (k - 1) m ++ drop k m ++ l) r
+
+  pub taken-out : tableWith (set (moved (linesWith rs) k (length rs)) (length rs - 1) (lineOf [])) (length rs - 1) ≡ tableOf (without rs (k - 1))
+  unfolding tableOf
+  taken-out =
+      let w : List Text = without rs (k - 1) in
+      let pad : List Line = replicate (16 - length rs) (lineOf []) in
+      let e : suc (16 - length rs) ≡ 16 - length w = omega (arith, left-length) in
+      let f : set (moved (linesWith rs) k (length rs)) (length rs - 1) (lineOf []) ≡ linesWith w
+      = ap (λ (l : List Line). set l (length rs - 1) (lineOf [])) moved-all
+      ∙ set-at kept (getD (linesWith rs) (length rs - 1) (lineOf [])) pad (lineOf []) (length rs - 1) kept-length
+      ∙ ap (λ (l : List Line). l ++ lineOf [] ∷ pad) kept-lines
+      ∙ ap (λ (j : ℕ). map lineOf w ++ replicate j (lineOf [])) e in
+      ap (λ (l : List Line). tableWith l (length rs - 1)) f ∙ ap (λ (j : ℕ). tableWith (linesWith w) j) (sym left-length)
+
+-- what withdraw leaves where it is not refused
+pub left-table : (t : Table) (k : ℕ) (ls : List Line) → FromUs t → 1 ≤ k → k ≤ t .count → ls ≡ moved (t .lines) k (t .count)
+    → tableWith (set ls (t .count - 1) (lineOf [])) (t .count - 1) ≡ tableOf (without (rulesOf t) (k - 1))
+left-table t k ls v pos high e =
+    ap (λ (l : List Line). tableWith (set l (t .count - 1) (lineOf [])) (t .count - 1)) e
+    ∙ ap (λ (l : List Line). tableWith (set (moved l k (t .count)) (t .count - 1) (lineOf [])) (t .count - 1)) (lines-are t v)
+    ∙ ap (λ (n : ℕ). tableWith (set (moved (linesWith (rulesOf t)) k n) (n - 1) (lineOf [])) (n - 1)) (count-is t v)
+    ∙ taken-out (rulesOf t) k pos (omega (arith, count-is t v)) (v .standing .few)
+
+pub lines-length : (t : Table) → FromUs t → length (t .lines) ≡ 16
+lines-length t v =
+    ap length (lines-are t v)
+    ∙ length-append (map lineOf (rulesOf t)) (replicate (16 - length (rulesOf t)) (lineOf []))
+    ∙ ap (λ (n : ℕ). n + length (replicate (16 - length (rulesOf t)) (lineOf []))) (length-map (rulesOf t) lineOf)
+    ∙ ap (λ (n : ℕ). length (rulesOf t) + n) (length-replicate (16 - length (rulesOf t)) (lineOf []))
+    ∙ omega (arith, v .standing .few)

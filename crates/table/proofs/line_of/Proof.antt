@@ -1,0 +1,73 @@
+-- The invariant: the bytes are those of the text that were passed, then zeros. Assumes nothing.
+use borrow.Author.Needs.{needs}
+use Prim.Native.Nat.{ℕ, _-_, _≤_}
+use mathlib.Core.Path.{_≡_, ap, _∙_}
+use mathlib.Core.List.{List, _++_}
+use lib.ListN.{length, take, getD, set, replicate}
+use lib.Seq.{take-length}
+use Rattle.table.specs.declared.Line.{Line}
+use Rattle.table.specs.Store.{lineOf}
+use Rattle.table.proofs.Scan.{copy-next}
+use native.Mathlib.Omega.{arith}
+use Rattle.table.proofs.line_of.Statement.{statement}
+use Rattle.table.proofs.line_of.Tie as tie
+
+abbrev Inv-loop : tie.InvT-loop
+Inv-loop text bytes₀ i₀ bytes i = (i ≤ length text) × (bytes ≡ take i text ++ replicate (256 - i) 0)
+
+abbrev μ-loop : tie.MeasureT-loop
+μ-loop text bytes₀ i₀ bytes i = length text - i
+
+abbrev lineWith : List ℕ → ℕ → Line
+lineWith b n = record { bytes = b; len = n }
+
+zeros-requires : tie.Need-zeros-requires Inv-loop μ-loop
+zeros-requires c κs = search needs
+
+loop-holds : tie.Need-loop-holds Inv-loop μ-loop
+loop-holds c = (omega arith, c .zeros .ensures)
+
+shared-slice-read-bytes : tie.Need-shared-slice-read-bytes Inv-loop μ-loop
+shared-slice-read-bytes c = search needs
+
+array-write-bytes : tie.Need-array-write-bytes Inv-loop μ-loop
+array-write-bytes c = omega arith
+
+add-i : tie.Need-add-i Inv-loop μ-loop
+add-i c = omega arith
+
+loop-less : tie.Need-loop-less Inv-loop μ-loop
+loop-less c = omega arith
+
+loop-again : tie.Need-loop-again Inv-loop μ-loop
+loop-again c =
+    let s = c .before .before .before .before .before .args .text .now in
+    let i = c .before .before .loop .i in (
+      omega arith,
+      ap (λ (b : List ℕ). set b i (getD s i 0)) (c .before .before .loop .inv .1)
+          ∙ copy-next 256 s i (c .before .loop-test .taken) (omega arith),
+    )
+
+returns : tie.Need-returns Inv-loop μ-loop
+unfolding lineOf
+returns c =
+    let s = c .before .before .before .before .args .text .now in
+    let i = c .before .loop .i in
+    let e : i ≡ length s = omega arith in
+    ap (λ (b : List ℕ). lineWith b (length s))
+    (c .before .loop .inv .1 ∙ ap (λ (n : ℕ). take n s ++ replicate (256 - n) 0) e ∙ ap (λ (l : List ℕ). l ++ replicate (256 - length s) 0) (take-length s))
+
+pub line-of-spec : {M : Type 1} → statement M
+line-of-spec =
+    tie.close
+    (tie.spec
+    Inv-loop
+    μ-loop
+    zeros-requires
+    loop-holds
+    shared-slice-read-bytes
+    array-write-bytes
+    add-i
+    loop-less
+    loop-again
+    returns)

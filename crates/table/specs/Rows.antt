@@ -1,0 +1,67 @@
+-- What is meant by an answer: the row of the table of calls that applies first, "checked from the top down". No algorithm.
+-- Assumes nothing.
+use Prim.Native.Nat.{ℕ, _+_, _≤_, _<_}
+use mathlib.Core.Path.{_≡_}
+use mathlib.Core.Logic.{_⊎_}
+use mathlib.Core.Bool.{false}
+use mathlib.Core.List.{List, [], _∷_, _++_}
+use lib.ListN.{length}
+use Rattle.formula.specs.Formula.{Formula, Name}
+use Rattle.formula.specs.Names.{atomNames}
+use Rattle.syntax.specs.RuleText.{IsRule, Answers}
+use Rattle.syntax.specs.declared.RuleAnswer.{RuleAnswer}
+use Rattle.syntax.specs.declared.RuleAnswer.the-variants as RuleAnswer
+use Rattle.evalset.specs.Search.{gather}
+use Rattle.contact.specs.Numbering.{allAtoms}
+use Rattle.names.specs.Gather.{placesOf, ruleTokens}
+use Rattle.names.specs.Seventh.{SeventhAt}
+use Rattle.table.specs.declared.AddAnswer.{AddAnswer}
+use Rattle.table.specs.declared.AddAnswer.the-variants as AddAnswer
+use Rattle.table.specs.declared.WithdrawAnswer.{WithdrawAnswer}
+use Rattle.table.specs.declared.WithdrawAnswer.the-variants as WithdrawAnswer
+use Rattle.table.specs.declared.LoadAnswer.{LoadAnswer}
+use Rattle.table.specs.declared.LoadAnswer.the-variants as LoadAnswer
+use Rattle.table.specs.Store.{Text}
+use Rattle.table.specs.Calls.{formulasOf, namesIn, atomsIn, readAnswer, linesOf, blankLine, filled, CanStand}
+
+-- add's text s where the texts rs stand
+pub data AddRow (rs : List Text) (s : Text) : AddAnswer → Type 0 where
+  -- 2, 1, 3, 4, 5 and 6: the text is no rule
+  unread : {a : RuleAnswer} {b : AddAnswer} → Answers s a → (a ≡ RuleAnswer.Formula → ⊥) → b ≡ readAnswer a → AddRow rs s b
+  -- 9: "16 rules stand"
+  full : {f : Formula Name} → IsRule s f → 16 ≤ length rs → AddRow rs s AddAnswer.TableFull
+  -- 7: "a seventh name", at "that name's first byte"
+  seventh : {f : Formula Name} {p : ℕ} → IsRule s f → length rs < 16 → SeventhAt (gather atomNames (allAtoms (formulasOf rs))) (placesOf s (ruleTokens s)) p
+      → AddRow rs s (AddAnswer.SeventhName p)
+  -- 8: "more than 16 atoms in all"
+  many : {f : Formula Name} → IsRule s f → length rs < 16 → length (namesIn (rs ++ s ∷ [])) ≤ 6 → 16 < atomsIn (rs ++ s ∷ []) → AddRow rs s AddAnswer.TooManyAtoms
+  -- "No refusal comes in another case."
+  stands : {f : Formula Name} → IsRule s f → length rs < 16 → length (namesIn (rs ++ s ∷ [])) ≤ 6 → atomsIn (rs ++ s ∷ []) ≤ 16 → AddRow rs s AddAnswer.Added
+
+-- withdraw k where the texts rs stand
+pub data WithdrawRow (rs : List Text) (k : ℕ) : WithdrawAnswer → Type 0 where
+  -- 10: "k is 0 or above the number of rules"
+  none : (k ≡ 0) ⊎ (length rs < k) → WithdrawRow rs k (WithdrawAnswer.NoSuchRule k)
+  taken : 0 < k → k ≤ length rs → WithdrawRow rs k WithdrawAnswer.Withdrawn
+
+-- "The first refused line ends the load": the lines before it that are not blank are added to an empty list
+pub record RefusedLine (ls : List Text) (n : ℕ) (a : AddAnswer) : Type 0 where
+  pub before : List Text
+  pub text : Text
+  pub later : List Text
+  pub split : ls ≡ before ++ text ∷ later
+  -- "line (from 1, blank ones counted)"
+  pub number : n ≡ length before + 1
+  pub filled-text : blankLine text ≡ false
+  pub added : CanStand (filled before)
+  pub row : AddRow (filled before) text a
+  pub refused : a ≡ AddAnswer.Added → ⊥
+
+-- load's file
+pub data LoadRow (f : Text) : LoadAnswer → Type 0 where
+  -- 15: "more than 8,192 bytes"
+  long : 8192 < length f → LoadRow f LoadAnswer.FileTooLong
+  -- 1: "every line blank, or no byte"
+  blank : length f ≤ 8192 → filled (linesOf f) ≡ [] → LoadRow f LoadAnswer.AllBlank
+  line : {n : ℕ} {a : AddAnswer} → length f ≤ 8192 → RefusedLine (linesOf f) n a → LoadRow f (LoadAnswer.Line n a)
+  loads : length f ≤ 8192 → (filled (linesOf f) ≡ [] → ⊥) → CanStand (filled (linesOf f)) → LoadRow f LoadAnswer.Loaded

@@ -1,0 +1,26 @@
+-- The table as a function of the list of standing texts, and the list that a table holds. "Each entry is the rule's text as it
+-- came." Assumes nothing.
+use Prim.Native.Nat.{ℕ, _-_}
+use mathlib.Core.List.{List, [], _++_, map}
+use lib.ListN.{length, take, replicate}
+use Rattle.table.specs.declared.Line.{Line}
+use Rattle.table.specs.declared.Table.{Table}
+
+-- a text is its bytes
+abbrev pub Text : Type 0
+Text = List ℕ
+
+-- a text in a line, zeros after it
+unfoldable pub lineOf : Text → Line
+lineOf s = record { bytes = s ++ replicate (256 - length s) 0; len = length s }
+
+-- the lines of the texts, empty ones after them: nothing else is held
+unfoldable pub tableOf : List Text → Table
+tableOf rs = record { lines = map lineOf rs ++ replicate (16 - length rs) (lineOf []); count = length rs }
+
+-- read back
+unfoldable pub textOf : Line → Text
+textOf l = take (l .len) (l .bytes)
+
+unfoldable pub rulesOf : Table → List Text
+rulesOf t = map textOf (take (t .count) (t .lines))

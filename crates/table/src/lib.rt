@@ -1,0 +1,461 @@
+// The rule table: document 01, 'Calls, checked from the top down'. It holds nothing but the texts of the
+// standing rules, in canonical form; names, atoms and formulas are found from the texts whenever a call
+// needs them. The table goes into a call and comes back from it. The one requires is that it came from
+// `Table::empty` or from a call. What each call gives is in specs/Calls.antt, what its answers mean in
+// specs/Rows.antt, document 01's numbers are in specs/Numbers.antt, and what is proved of lists of calls
+// is in proofs/Claims.antt.
+ghost use mathlib.Core.Path.{_≡_};
+ghost use mathlib.Core.List.{List, [], _∷_, _++_};
+ghost use Prim.Native.Nat.{ℕ, _+_, _-_, _≤_, _<_};
+ghost use lib.ListN.{length, take, drop, replicate};
+ghost use Rattle.syntax.specs.Rule.{ruleOf};
+ghost use Rattle.table.specs.Store.{lineOf, tableOf, rulesOf};
+ghost use Rattle.table.specs.Calls.{readAnswer, namesAnswer, judgeText, blankByte, blankLine, linesOf, linesFrom, FromUs, Adds, Withdraws, Loads};
+ghost use Rattle.table.specs.declared.AddAnswer.the-variants as AddAnswer;
+ghost use Rattle.table.specs.Drafts.{WasRead, isAtom, atomPlaces, draftOf, draftedOf, Drafts, loadResult};
+use lexer::Class;
+use names::Names;
+use names::NamesAnswer;
+use syntax::Rule;
+use syntax::RuleAnswer;
+
+// How many rules and atoms there may be, and how many bytes a file may have.
+const RULES: usize = 16;
+
+const ATOMS: usize = 16;
+
+const FILE: usize = 8192;
+
+// The byte at which a file is split.
+const LINE_END: u8 = 10;
+
+// The kinds of tokens that are atoms, by the lexer's numbers.
+const IS_ZERO: u8 = 10;
+
+const CONTACT: u8 = 14;
+
+const PART: u8 = 15;
+
+// A text, zeros after its bytes.
+struct Line {
+    bytes: [u8; 256],
+    len: usize,
+}
+
+// The lines of the standing rules in order; the lines past them are empty.
+pub struct Table {
+    lines: [Line; 16],
+    count: usize,
+}
+
+// How add answers. What is refused carries its place where it has one.
+pub enum AddAnswer {
+    Added,
+    TooLong,
+    NoToken,
+    ForeignByte(usize),
+    LongName(usize),
+    Measured(usize),
+    GrammarAt(usize),
+    TableFull,
+    SeventhName(usize),
+    TooManyAtoms,
+}
+
+// What add hands back.
+pub struct AddResult {
+    pub table: Table,
+    pub answer: AddAnswer,
+}
+
+// How withdraw answers; a refusal carries the number that was passed.
+pub enum WithdrawAnswer {
+    Withdrawn,
+    NoSuchRule(usize),
+}
+
+// What withdraw hands back.
+pub struct WithdrawResult {
+    pub table: Table,
+    pub answer: WithdrawAnswer,
+}
+
+// How load answers; a refused line carries its number, from 1, and how its text was answered.
+pub enum LoadAnswer {
+    Loaded,
+    FileTooLong,
+    AllBlank,
+    Line { line: usize, answer: AddAnswer },
+}
+
+// What load hands back.
+pub struct LoadResult {
+    pub table: Table,
+    pub answer: LoadAnswer,
+}
+
+// The table so far, with the names and the number of atoms of its rules.
+struct Draft {
+    table: Table,
+    names: Names,
+    atoms: usize,
+}
+
+// A draft after a text was put to it, and how the text was answered.
+struct Drafted {
+    draft: Draft,
+    answer: AddAnswer,
+}
+
+// An array with nothing in it.
+fn zeros() -> [u8; 256]
+    ensures { λ r. ⌜ r ≡ replicate 256 0 ⌝ }
+{
+    [0u8; 256]
+}
+
+// A line with nothing in it.
+fn no_line() -> Line
+    ensures { λ r. ⌜ r ≡ lineOf [] ⌝ }
+{
+    let bytes = zeros();
+    Line { bytes, len: 0 }
+}
+
+// A text in a line.
+fn line_of(text: &[u8]) -> Line
+    requires { ⌜ length (now text) ≤ 256 ⌝ }
+    ensures { λ r. ⌜ r ≡ lineOf (now (text .entry)) ⌝ }
+{
+    let mut bytes = zeros();
+    let mut i: usize = 0;
+    while i < text.len() {
+        bytes[i] = text[i];
+        i += 1;
+    }
+    let len = text.len();
+    Line { bytes, len }
+}
+
+// Whether a byte is blank: its class decides.
+fn blank_byte(b: u8) -> bool
+    ensures { λ r. ⌜ r ≡ blankByte b ⌝ }
+{
+    let k = lexer::class_of(b);
+    match k {
+        Class::Blank => true,
+        Class::Alphanumeric => false,
+        Class::Sign => false,
+        Class::Foreign => false,
+    }
+}
+
+// Whether every byte of a line is blank.
+fn blank_line(text: &[u8]) -> bool
+    ensures { λ r. ⌜ r ≡ blankLine (now (text .entry)) ⌝ }
+{
+    let mut i: usize = 0;
+    while i < text.len() {
+        let b = blank_byte(text[i]);
+        if !b {
+            return false;
+        }
+        i += 1;
+    }
+    true
+}
+
+// The end of the line that starts at a place.
+fn line_end(file: &[u8], from: usize) -> usize
+    requires { ⌜ from ≤ length (now file) ⌝ }
+    ensures { λ r. ⌜ (from ≤ r) × (r ≤ length (now (file .entry)))
+        × (linesOf (drop from (now (file .entry))) ≡ take (r - from) (drop from (now (file .entry))) ∷ linesFrom (now (file .entry)) (r + 1)) ⌝ }
+{
+    let mut i = from;
+    while i < file.len() {
+        if file[i] == LINE_END {
+            return i;
+        }
+        i += 1;
+    }
+    i
+}
+
+// The reader's answer as add's.
+fn read_answer(a: RuleAnswer) -> AddAnswer
+    ensures { λ r. ⌜ r ≡ readAnswer a ⌝ }
+{
+    match a {
+        RuleAnswer::Formula => AddAnswer::Added,
+        RuleAnswer::TooLong => AddAnswer::TooLong,
+        RuleAnswer::NoToken => AddAnswer::NoToken,
+        RuleAnswer::ForeignByte(i) => AddAnswer::ForeignByte(i),
+        RuleAnswer::LongName(i) => AddAnswer::LongName(i),
+        RuleAnswer::Measured(i) => AddAnswer::Measured(i),
+        RuleAnswer::GrammarAt(i) => AddAnswer::GrammarAt(i),
+    }
+}
+
+// The answer for the names as add's.
+fn names_answer(a: NamesAnswer) -> AddAnswer
+    ensures { λ r. ⌜ r ≡ namesAnswer a ⌝ }
+{
+    match a {
+        NamesAnswer::Enough => AddAnswer::Added,
+        NamesAnswer::SeventhName(i) => AddAnswer::SeventhName(i),
+    }
+}
+
+// Whether a token of this kind is an atom's sign.
+fn is_atom(kind: u8) -> bool
+    ensures { λ r. ⌜ r ≡ isAtom kind ⌝ }
+{
+    match kind {
+        IS_ZERO => true,
+        CONTACT => true,
+        PART => true,
+        _ => false,
+    }
+}
+
+// How many of these kinds are atoms' signs.
+fn atom_places(kinds: &[u8]) -> usize
+    ensures { λ r. ⌜ r ≡ atomPlaces (now (kinds .entry)) ⌝ }
+{
+    let mut n: usize = 0;
+    let mut i: usize = 0;
+    while i < kinds.len() {
+        let a = is_atom(kinds[i]);
+        if a {
+            n += 1;
+        }
+        i += 1;
+    }
+    n
+}
+
+// The number of atoms of a rule.
+fn atoms_of(rule: Rule) -> usize
+    requires { ⌜ WasRead rule ⌝ }
+    ensures { λ r. ⌜ (r ≡ atomPlaces (take (rule .len) (rule .order))) × (r ≤ 256) ⌝ }
+{
+    let order = rule.order;
+    let len = rule.len;
+    atom_places(&order[..len])
+}
+
+// A text put last.
+fn put_last(table: Table, text: &[u8]) -> Table
+    requires { ⌜ FromUs table × (table .count < 16) × (length (now text) ≤ 256) ⌝ }
+    ensures { λ r. ⌜ r ≡ tableOf (rulesOf table ++ now (text .entry) ∷ []) ⌝ }
+{
+    let line = line_of(text);
+    let count = table.count;
+    let mut next = table;
+    next.lines[count] = line;
+    next.count = count + 1;
+    next
+}
+
+// The draft in which no rule stands.
+fn no_draft() -> Draft
+    ensures { λ r. ⌜ r ≡ draftOf [] ⌝ }
+{
+    let table = Table::empty();
+    let names = names::no_names();
+    Draft {
+        table,
+        names,
+        atoms: 0,
+    }
+}
+
+// The draft with a rule put last that was read from its text, or the same draft and why there is no room.
+fn with_rule(d: Draft, text: &[u8], rule: Rule) -> Drafted
+    requires { ⌜ Drafts d × (rule ≡ ruleOf (now text)) × (judgeText (now text) ≡ AddAnswer.Added) ⌝ }
+    ensures { λ r. ⌜ r ≡ draftedOf (rulesOf (d .table)) (now (text .entry)) ⌝ }
+{
+    let table = d.table;
+    if RULES <= table.count {
+        let answer = AddAnswer::TableFull;
+        return Drafted { draft: d, answer };
+    }
+    let known = d.names;
+    let g = names::gather(text, rule, known);
+    let enough = g.answer;
+    let named = names_answer(enough);
+    let AddAnswer::Added = named else {
+        return Drafted {
+            draft: d,
+            answer: named,
+        };
+    };
+    let names = g.names;
+    let here = atoms_of(rule);
+    let atoms = d.atoms + here;
+    if ATOMS < atoms {
+        let answer = AddAnswer::TooManyAtoms;
+        return Drafted { draft: d, answer };
+    }
+    let table = put_last(table, text);
+    let draft = Draft {
+        table,
+        names,
+        atoms,
+    };
+    Drafted {
+        draft,
+        answer: named,
+    }
+}
+
+// The draft with a text put last, or the same draft and why the text is refused.
+fn with_text(d: Draft, text: &[u8]) -> Drafted
+    requires { ⌜ Drafts d ⌝ }
+    ensures { λ r. ⌜ r ≡ draftedOf (rulesOf (d .table)) (now (text .entry)) ⌝ }
+{
+    let rule = syntax::read_rule(text);
+    let found = rule.answer;
+    let read = read_answer(found);
+    let AddAnswer::Added = read else {
+        return Drafted {
+            draft: d,
+            answer: read,
+        };
+    };
+    with_rule(d, text, rule)
+}
+
+// A table, with load's answer.
+fn kept(table: Table, answer: LoadAnswer) -> LoadResult
+    ensures { λ r. ⌜ r ≡ loadResult table answer ⌝ }
+{
+    LoadResult { table, answer }
+}
+
+impl Table {
+    // The table in which no rule stands.
+    pub fn empty() -> Table
+        ensures { λ r. ⌜ (r ≡ tableOf []) × FromUs r ⌝ }
+    {
+        let line = no_line();
+        let lines = [line; 16];
+        Table { lines, count: 0 }
+    }
+
+    // The names and the number of atoms of the standing rules, found from their texts.
+    fn to_draft(self) -> Draft
+        requires { ⌜ FromUs self ⌝ }
+        ensures { λ r. ⌜ r ≡ draftOf (rulesOf self) ⌝ }
+    {
+        let rules = self.count;
+        let mut names = names::no_names();
+        let mut atoms: usize = 0;
+        let mut i: usize = 0;
+        while i < rules {
+            let line = self.lines[i];
+            let len = line.len;
+            let bytes = line.bytes;
+            let text = &bytes[..len];
+            let rule = syntax::read_rule(text);
+            let g = names::gather(text, rule, names);
+            names = g.names;
+            let here = atoms_of(rule);
+            atoms += here;
+            i += 1;
+        }
+        Draft {
+            table: self,
+            names,
+            atoms,
+        }
+    }
+
+    // The table with a rule put last, its text as it came. A refused text leaves the table as it was; the
+    // answer says why, by the first line of the table of calls that applies.
+    pub fn add(self, text: &[u8]) -> AddResult
+        requires { ⌜ FromUs self ⌝ }
+        ensures { λ r. ⌜ Adds self (now (text .entry)) r ⌝ }
+    {
+        let d = self.to_draft();
+        let r = with_text(d, text);
+        let next = r.draft;
+        let table = next.table;
+        let answer = r.answer;
+        AddResult { table, answer }
+    }
+
+    // The table without its k-th rule, from 1: later rules move down and the freed line is cleared. Where
+    // there is no such rule the table comes back as it was, and the answer carries k.
+    pub fn withdraw(self, k: usize) -> WithdrawResult
+        requires { ⌜ FromUs self ⌝ }
+        ensures { λ r. ⌜ Withdraws self k r ⌝ }
+    {
+        let count = self.count;
+        if k <= 0 {
+            return WithdrawResult {
+                table: self,
+                answer: WithdrawAnswer::NoSuchRule(k),
+            };
+        }
+        if count < k {
+            return WithdrawResult {
+                table: self,
+                answer: WithdrawAnswer::NoSuchRule(k),
+            };
+        }
+        let mut table = self;
+        let mut i = k;
+        while i < count {
+            let line = table.lines[i];
+            table.lines[i - 1] = line;
+            i += 1;
+        }
+        let none = no_line();
+        table.lines[count - 1] = none;
+        table.count = count - 1;
+        WithdrawResult {
+            table,
+            answer: WithdrawAnswer::Withdrawn,
+        }
+    }
+
+    // The table of a file's lines that are not blank, each added in turn to an empty one. The first line
+    // that is refused ends the load: the old table comes back, and the answer has the line and why.
+    pub fn load(self, file: &[u8]) -> LoadResult
+        requires { ⌜ FromUs self ⌝ }
+        ensures { λ r. ⌜ Loads self (now (file .entry)) r ⌝ }
+    {
+        if FILE < file.len() {
+            return kept(self, LoadAnswer::FileTooLong);
+        }
+        let mut draft = no_draft();
+        let mut line: usize = 0;
+        let mut from: usize = 0;
+        while from <= file.len() {
+            let end = line_end(file, from);
+            line += 1;
+            let text = &file[from..end];
+            if !blank_line(text) {
+                let result = with_text(draft, text);
+                let answer = result.answer;
+                let AddAnswer::Added = answer else {
+                    return LoadResult {
+                        table: self,
+                        answer: LoadAnswer::Line { line, answer },
+                    };
+                };
+                draft = result.draft;
+            }
+            from = end + 1;
+        }
+        let table = draft.table;
+        if table.count <= 0 {
+            return kept(self, LoadAnswer::AllBlank);
+        }
+        LoadResult {
+            table,
+            answer: LoadAnswer::Loaded,
+        }
+    }
+}
