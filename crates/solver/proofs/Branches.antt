@@ -17,7 +17,7 @@ use Rattle.formula.specs.Formula.{Atom, Form}
 use Rattle.evalset.specs.declared.EvalSet.{EvalSet}
 use Rattle.evalset.specs.Search.{In, any, first, orElse, below}
 use Rattle.evalset.specs.Sets.{room, most, mem, meetOf, belowOf, shiftOf}
-use Rattle.evalset.proofs.Search.{clash, untrue, both, and-intro, or-right, map-elim, map-append, any-elim, none-elim, none-intro, below-intro, first-none, first-append}
+use Rattle.evalset.proofs.Search.{clash, untrue, both, and-intro, map-elim, map-append, any-elim, none-elim, none-intro, below-intro, first-none, first-append}
 use Rattle.evalset.proofs.Bounded.{each}
 use Rattle.evalset.proofs.Members.{names-room}
 use Rattle.contact.specs.Numbering.{allAtoms}
@@ -25,7 +25,7 @@ use Rattle.contact.specs.Row.{is, Extends, rulesTrue}
 use Rattle.contact.specs.Plan.{rowMarks, check, rows, good, firstRow}
 use Rattle.contact.specs.Tableau.{refutes, closes}
 use Rattle.contact.proofs.Answer.{rows-elim}
-use Rattle.contact.proofs.Searching.{refutes-sound, closes-sound, closes-exact}
+use Rattle.contact.proofs.Searching.{refutes-sound, closes-exact}
 use Rattle.search.specs.declared.Sheet.{Sheet}
 use Rattle.search.specs.declared.State.{State}
 use Rattle.search.specs.Rows.{rowBits}
@@ -37,6 +37,7 @@ use Rattle.solver.specs.declared.Row.the-variants.{At, Nothing}
 use Rattle.solver.specs.Coded.{Coded}
 use Rattle.solver.specs.Tree.{candidatesOf, CandidatesSay, ParentPasses, PassesSays, ComesFrom, Searchable, Node, under, rowsOf, UnderSays, FirstRowSays}
 use Rattle.solver.proofs.Codes.{coded-numbers}
+use Rattle.solver.proofs.Fewer.{check-prefix}
 use Rattle.solver.proofs.Blocks.{number, lower-half, upper-half}
 
 -- ---- the rows under a row
@@ -124,14 +125,16 @@ module _ (code ends : List ℕ) (sheet : Sheet) (s : State) (row k j : ℕ) (can
 
   -- the check fails
   pub under-closed : PassesSays sheet s row k false → UnderSays code ends sheet s row k j cand Nothing
-  unfolding UnderSays PassesSays closes
+  unfolding UnderSays PassesSays good
   under-closed h = λ atoms rules g f p q.
       let b = rowBits k row in
       let fails : check (sheet .names) (rowMarks atoms b) ≡ false =
       sym (h atoms (g .compiled) (omega (arith, n .within, g .compiled .counted)) f p) in
       sym (none-good (good (sheet .names) atoms rules) b (sheet .atoms - k)
-      (λ ext l. closes-sound (sheet .names) atoms rules (g .names-below) (map is b)
-      (or-right (refutes rules (map is b)) _ (ap not fails)) (b ++ ext) (extends-prefix b ext)))
+      (λ ext l. untrue _
+      (λ t. clash
+      (check-prefix (sheet .names) atoms b ext (both (rulesTrue rules (b ++ ext)) (check (sheet .names) (rowMarks atoms (b ++ ext))) t .1))
+      fails)))
 
   -- a whole row
   pub under-found : k ≡ sheet .atoms → any (mem cand) (below room) ≡ true → PassesSays sheet s row k true

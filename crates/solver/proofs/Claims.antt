@@ -11,7 +11,7 @@ use Rattle.evalset.specs.declared.EvalSet.{EvalSet}
 use Rattle.evalset.specs.Sets.{mem}
 use Rattle.evalset.proofs.Bounded.{each}
 use Rattle.contact.specs.Meaning.{Floor, meetsAll}
-use Rattle.contact.specs.Numbering.{allAtoms, numberedAtoms}
+use Rattle.contact.specs.Numbering.{allAtoms, numberedAtoms, RulesBelow}
 use Rattle.contact.specs.Plan.{firstRow}
 use Rattle.contact.specs.Tableau.{refutes}
 use Rattle.contact.proofs.Answer.{IsFirstRow}
@@ -61,15 +61,16 @@ module _ (code ends : List ℕ) (sheet : Sheet) (r : Row) (says : FirstRowSays c
       → firstRow (sheet .names) atoms rules ≡ []
   answer-none atoms rules g z = sym (answer-is atoms rules g) ∙ ap (rowsOf (sheet .atoms)) z
 
-  -- so of rules with numbers for names it is a realisable row that makes them true, and no realisable row before it does
-  pub answer-first : (rules : List (Formula ℕ)) → ComesFrom code ends sheet (allAtoms rules) (numberedAtoms rules) → (row : ℕ) → r ≡ At row
+  -- so of rules over the sheet's names it is a realisable row that makes them true, and no realisable row before it does
+  pub answer-first : (rules : List (Formula ℕ)) → RulesBelow (sheet .names) rules
+      → ComesFrom code ends sheet (allAtoms rules) (numberedAtoms rules) → (row : ℕ) → r ≡ At row
       → IsFirstRow rules (rowBits (sheet .atoms) row)
-  answer-first rules g row z =
-      contact.first-row (sheet .names) rules (g .names-below) (rowBits (sheet .atoms) row)
+  answer-first rules names g row z =
+      contact.first-row (sheet .names) rules names (rowBits (sheet .atoms) row)
       (answer-found (allAtoms rules) (numberedAtoms rules) g row z)
 
   -- and where there is none, no floor meets them
-  pub answer-no-floor : (rules : List (Formula ℕ)) → ComesFrom code ends sheet (allAtoms rules) (numberedAtoms rules) → r ≡ Nothing
-      → (F : Floor ℕ) → meetsAll F rules ≡ true → ⊥
-  answer-no-floor rules g z =
-      contact.no-plan-exactly (sheet .names) rules (g .names-below) .0 (answer-none (allAtoms rules) (numberedAtoms rules) g z)
+  pub answer-no-floor : (rules : List (Formula ℕ)) → RulesBelow (sheet .names) rules
+      → ComesFrom code ends sheet (allAtoms rules) (numberedAtoms rules) → r ≡ Nothing → (F : Floor ℕ) → meetsAll F rules ≡ true → ⊥
+  answer-no-floor rules names g z =
+      contact.no-plan-exactly (sheet .names) rules names .0 (answer-none (allAtoms rules) (numberedAtoms rules) g z)

@@ -1,4 +1,5 @@
 pub mod Codes
 pub mod Blocks
+pub mod Fewer
 pub mod Branches
 pub mod Claims

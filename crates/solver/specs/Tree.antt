@@ -7,9 +7,8 @@ use lib.Dec.{ltb}
 use lib.ListN.{length, getD}
 use Rattle.formula.specs.Formula.{Atom, Form}
 use Rattle.evalset.specs.declared.EvalSet.{EvalSet}
-use Rattle.evalset.specs.Search.{In, first}
+use Rattle.evalset.specs.Search.{first}
 use Rattle.evalset.specs.Sets.{most, mem}
-use Rattle.contact.specs.Numbering.{AtomBelow}
 use Rattle.contact.specs.Row.{is, unknown, PartialRow}
 use Rattle.contact.specs.Plan.{rowMarks, check, rows, good, firstRow}
 use Rattle.contact.specs.Tableau.{refutes}
@@ -62,11 +61,10 @@ PassesSays sheet s row k r =
 
 -- ---- the search
 
--- what the code and the sheet come from: atoms over the sheet's names, and rules over these atoms
+-- what the code and the sheet come from: atoms, and rules over their numbers
 pub record ComesFrom (code ends : List ℕ) (sheet : Sheet) (atoms : List (Atom ℕ)) (rules : List (Form ℕ)) : Type 0 where
   pub compiled : Compiled sheet atoms
   pub coded : Coded (sheet .atoms) code ends rules
-  pub names-below : (a : Atom ℕ) → In a atoms → AtomBelow (sheet .names) a
 
 -- the code can be run, and the sheet has no more atoms than there is room for
 pub record Searchable (code ends : List ℕ) (sheet : Sheet) : Type 0 where

@@ -1,9 +1,9 @@
 // The search for the first row (document 01, 'The plan that is given'): depth first, true before false. A branch closes where a
 // rule is false whatever the undecided atoms are, or where no floor gives the decided atoms their values. The rules are run on
 // up to six levels of the tree at once: a set has the rows of a block that are left, and each branch takes its half.
-// Rules come as postfix codes one after another, and where each ends. A requires asks that the code can be run and that indices
-// are in range: our own crates make code and sheet, and `coded-safe` of proofs/Codes.antt meets it for the codes of rules.
-// Assumes nothing.
+// Rules come as postfix codes one after another: rule i is code[ends[i - 1]..ends[i]], the first from 0 on. Contracts speak of
+// all atoms and rules that sheet and code come from (specs/Tree.antt). A requires asks only that the code can be run and that
+// indices are in range. Assumes nothing.
 ghost use mathlib.Core.Path.{_≡_};
 ghost use Prim.Native.Nat.{ℕ, _+_, _≤_, _<_, _^_};
 ghost use Rattle.evalset.specs.Sets.{room, most};
@@ -190,7 +190,8 @@ fn first_under(
     first_under(code, ends, sheet, right, odd, k + 1, i, upper)
 }
 
-// The first realisable row that makes all rules true.
+// "The first realisable row that makes all rules true." Our own crates alone call it, with code and sheet that they made from
+// rules: `searchable` of proofs/Claims.antt meets the requires for these.
 pub fn first_row(code: &[u8], ends: &[usize], sheet: Sheet) -> Row
     requires { ⌜ Searchable (now code) (now ends) sheet ⌝ }
     ensures { λ r. ⌜ FirstRowSays (now (code .entry)) (now (ends .entry)) sheet r ⌝ }

@@ -1,0 +1,74 @@
+-- A row that passes the check passes it without its last atoms: with fewer marks no more is forbidden and no more is separated, so
+-- what was allowed and every witness stay. Assumes nothing.
+use mathlib.Core.Bool.{Bool, true, not, _&&_}
+use mathlib.Core.Path.{_≡_, refl, ap}
+use mathlib.Core.Logic.{⊎-elim}
+use mathlib.Core.List.{List, [], _∷_, _++_}
+use Prim.Native.Nat.{ℕ, _^_}
+use lib.Dec.{ltb}
+use borrow.Author.Tests.{not-true}
+use Rattle.formula.specs.Formula.{Term, Atom}
+use Rattle.evalset.specs.Search.{In, next, any, all}
+use Rattle.evalset.proofs.Search.{clash, both, and-intro, none-in, uncons, at-head, any-intro, any-elim, none-intro, all-intro, all-elim}
+use Rattle.contact.specs.Plan.{at, Mark, touching, apart, vacant, inhabited, rowMarks, evaluations, parts, empties, separated, allowed, fills, partners, leads, served, check}
+
+any-more : {A : Type 0} (p q : A → Bool) (xs : List A) → ((x : A) → p x ≡ true → q x ≡ true) → any p xs ≡ true → any q xs ≡ true
+any-more p q xs h t = let w = any-elim p xs t in any-intro q (w .1) (h (w .0) (w .2))
+
+module _ (n : ℕ) (ms fewer : List Mark) (sub : (m : Mark) → In m fewer → In m ms) where
+  none-fewer : (p : Mark → Bool) → not (any p ms) ≡ true → not (any p fewer) ≡ true
+  none-fewer p h = ap not (none-intro p fewer (λ m i q. clash (any-intro p (sub m i) q) (not-true _ h)))
+
+  unseparated : (e f : ℕ) → not (separated ms e f) ≡ true → not (separated fewer e f) ≡ true
+  unfolding separated
+  unseparated e f h = none-fewer (parts e f) h
+
+  allowed-fewer : (e : ℕ) → allowed n ms e ≡ true → allowed n fewer e ≡ true
+  unfolding allowed
+  allowed-fewer e h =
+      let w = both (ltb e (2 ^ n)) (not (any (empties e) ms) && not (separated ms e e)) h in
+      let v = both (not (any (empties e) ms)) (not (separated ms e e)) (w .1) in
+      and-intro (ltb e (2 ^ n)) _ (w .0) (and-intro (not (any (empties e) fewer)) _ (none-fewer (empties e) (v .0)) (unseparated e e (v .1)))
+
+  fills-fewer : (t : Term ℕ) (e : ℕ) → fills n ms t e ≡ true → fills n fewer t e ≡ true
+  unfolding fills
+  fills-fewer t e h =
+      let w = both (allowed n ms e) (at t e) h in
+      and-intro (allowed n fewer e) _ (allowed-fewer e (w .0)) (w .1)
+
+  partners-fewer : (y : Term ℕ) (p q : ℕ) → partners n ms y p q ≡ true → partners n fewer y p q ≡ true
+  unfolding partners
+  partners-fewer y p q h =
+      let w = both (fills n ms y q) (not (separated ms p q)) h in
+      and-intro (fills n fewer y q) _ (fills-fewer y q (w .0)) (unseparated p q (w .1))
+
+  leads-fewer : (x y : Term ℕ) (p : ℕ) → leads n ms x y p ≡ true → leads n fewer x y p ≡ true
+  unfolding leads
+  leads-fewer x y p h =
+      let w = both (fills n ms x p) (any (partners n ms y p) (evaluations n)) h in
+      and-intro (fills n fewer x p) _ (fills-fewer x p (w .0))
+      (any-more (partners n ms y p) (partners n fewer y p) (evaluations n) (partners-fewer y p) (w .1))
+
+  served-fewer : (m : Mark) → served n ms m ≡ true → served n fewer m ≡ true
+  served-fewer (touching x y) h = any-more (leads n ms x y) (leads n fewer x y) (evaluations n) (leads-fewer x y) h
+  served-fewer (apart x y) h = refl
+  served-fewer (vacant t) h = refl
+  served-fewer (inhabited t) h = any-more (fills n ms t) (fills n fewer t) (evaluations n) (fills-fewer t) h
+
+  check-fewer : check n ms ≡ true → check n fewer ≡ true
+  unfolding check
+  check-fewer h =
+      let w = both (any (allowed n ms) (evaluations n)) (all (served n ms) ms) h in
+      and-intro (any (allowed n fewer) (evaluations n)) _
+      (any-more (allowed n ms) (allowed n fewer) (evaluations n) allowed-fewer (w .0))
+      (all-intro (served n fewer) fewer (λ m i. served-fewer m (all-elim (served n ms) (sub m i) (w .1))))
+
+-- the marks of a row are among those of each row that begins with it
+marks-in : (atoms : List (Atom ℕ)) (row ext : List Bool) (m : Mark) → In m (rowMarks atoms row) → In m (rowMarks atoms (row ++ ext))
+marks-in [] row ext m i = none-in i
+marks-in (a ∷ atoms) [] ext m i = none-in i
+marks-in (a ∷ atoms) (b ∷ row) ext m i = ⊎-elim (λ q. at-head q) (λ j. next (marks-in atoms row ext m j)) (uncons i)
+
+pub check-prefix : (n : ℕ) (atoms : List (Atom ℕ)) (row ext : List Bool)
+    → check n (rowMarks atoms (row ++ ext)) ≡ true → check n (rowMarks atoms row) ≡ true
+check-prefix n atoms row ext h = check-fewer n (rowMarks atoms (row ++ ext)) (rowMarks atoms row) (marks-in atoms row ext) h
