@@ -1,0 +1,257 @@
+-- What a text is compiled to behind the rules before it is what all rules together are compiled to: no number of theirs changes
+-- (Numbers.antt), and their code is kept (Coding.antt). Assumes nothing.
+use mathlib.Core.Path.{_≡_, refl, sym, ap, _∙_, subst}
+use mathlib.Core.List.{List, [], _∷_, _++_, map}
+use Prim.Native.Nat.{ℕ, suc, _+_, _*_, _-_, _≤_, _<_}
+use native.Mathlib.Omega.{arith}
+use native.Mathlib.Numerals.{add-one}
+use lib.ListN.{length, take, set, replicate, length-append, length-map}
+use lib.Seq.{take-at, take-suc-set}
+use Rattle.formula.specs.Formula.{Atom, Form, Formula, Name}
+use Rattle.formula.specs.Names.{atomsOf, formulaNames}
+use Rattle.syntax.specs.Postfix.{postfix}
+use Rattle.syntax.specs.Reader.{codes}
+use Rattle.syntax.specs.Rule.{ruleOf}
+use Rattle.syntax.specs.declared.Rule.{Rule}
+use Rattle.syntax.proofs.Heads.{length-codes}
+use Rattle.syntax.proofs.Claims.{text-read}
+use Rattle.evalset.specs.Search.{In}
+use Rattle.evalset.proofs.Search.{in-right}
+use Rattle.contact.specs.Numbering.{allAtoms, namesOf, mapAtom, mapForm, numberForm, numberFrom, numberedNames, numberedAtoms}
+use Rattle.contact.proofs.Numbered.{all-atoms-map, numbered-map, numbers-below}
+use Rattle.names.specs.declared.Gathered.{Gathered}
+use Rattle.names.specs.Gather.{arraysOf, knownOf, gathered, Gathers}
+use Rattle.names.proofs.Claims.{may-gather, known-from, enoughOf, rule-enough, rule-gathered}
+use Rattle.search.specs.declared.Sheet.{Sheet}
+use Rattle.solver.specs.Coded.{part, PartIs, Coded}
+use Rattle.compile.specs.Code.{written}
+use Rattle.compile.specs.Machine.{State, start}
+use Rattle.compile.specs.Sheet.{CompiledFrom}
+use Rattle.compile.specs.Compiles.{atomsAfter, codeAfter, Given, Asked, Result, Compiles}
+use Rattle.compile.specs.declared.Compiled.{Compiled}
+use Rattle.compile.proofs.Laws.{run-bounds}
+use Rattle.compile.proofs.Claims.{order-compiled, order-read, order-short, code-length}
+use Rattle.sheets.specs.declared.Compiling.{Compiling}
+use Rattle.sheets.specs.Ends.{lastEnd}
+use Rattle.sheets.specs.Counted.{nameCount}
+use Rattle.sheets.specs.Texts.{CompiledRules, OneMore}
+use Rattle.sheets.proofs.Numbers.{numberIn, numbered-names-with, all-atoms-with, numbered-atoms-with}
+use Rattle.sheets.proofs.Coding.{last-few, coded-with, written-first, written-part}
+use Rattle.sheets.proofs.Counting.{count-few, names-counted}
+
+-- ---- counts
+
+numbers-count : {A : Type 0} (k : ℕ) (fs : List (Form A)) → length (numberFrom k fs) ≡ length fs
+numbers-count k [] = refl
+numbers-count k (f ∷ fs) = ap suc (numbers-count (k + length (atomsOf f)) fs)
+
+numbered-count : (rules : List (Formula Name)) → length (numberedAtoms (numberedNames rules)) ≡ length rules
+numbered-count rules = numbers-count 0 (numberedNames rules) ∙ length-map rules (mapForm (mapAtom (numberIn rules)))
+
+atoms-count : (rules : List (Formula Name)) → length (allAtoms (numberedNames rules)) ≡ length (allAtoms rules)
+atoms-count rules = ap length (all-atoms-map (mapAtom (numberIn rules)) rules) ∙ length-map (allAtoms rules) (mapAtom (numberIn rules))
+
+-- a formula's code is no longer than its order
+code-short : (g : Name → ℕ) (f : Formula Name) (atoms : List (Atom ℕ)) → length (codeAfter f atoms) ≤ length (postfix f)
+code-short g f atoms =
+    subst (λ (s : State). length (s .code) ≤ length (postfix f)) (order-compiled g f atoms)
+    (omega (arith, run-bounds g (postfix f) (start atoms) .long))
+
+-- the names of a sheet are none of its atoms' matter
+renumbered : (sheet : Sheet) (n : ℕ) (atoms : List (Atom ℕ)) → CompiledFrom sheet atoms
+    → CompiledFrom (record { names = n; atoms = sheet .atoms; contact = sheet .contact; xs = sheet .xs; ys = sheet .ys }) atoms
+renumbered sheet n atoms h = record { counted = h .counted; few = h .few; contacts = h .contacts; firsts = h .firsts; seconds = h .seconds }
+
+-- ---- the rule behind the rules
+
+module _ (rules : List (Formula Name)) (f : Formula Name) where
+  abbrev all : List (Formula Name)
+  all = rules ++ f ∷ []
+
+  abbrev earlier : List (Atom ℕ)
+  earlier = allAtoms (numberedNames rules)
+
+  -- the rule with numbers for atoms
+  abbrev last : Form ℕ
+  last = numberForm (length earlier) f
+
+  atoms-after : atomsAfter (numberIn all) f earlier ≡ allAtoms (numberedNames all)
+  atoms-after = sym (ap allAtoms (numbered-names-with rules f) ∙ all-atoms-with (numberedNames rules) (mapForm (mapAtom (numberIn all)) f))
+
+  numbers-with : numberedAtoms (numberedNames all) ≡ numberedAtoms (numberedNames rules) ++ last ∷ []
+  numbers-with =
+      numbered-map (mapAtom (numberIn all)) all
+      ∙ numbered-atoms-with rules f
+      ∙ ap (λ (l : List (Form ℕ)). l ++ numberForm (length (allAtoms rules)) f ∷ []) (sym (numbered-map (mapAtom (numberIn rules)) rules))
+      ∙ ap (λ (k : ℕ). numberedAtoms (numberedNames rules) ++ numberForm k f ∷ []) (sym (atoms-count rules))
+
+  last-below : (i : ℕ) → In i (atomsOf last) → i < length (allAtoms (numberedNames all))
+  last-below i h =
+      numbers-below (numberedNames all) i
+      (subst (In i) (sym (ap allAtoms numbers-with ∙ all-atoms-with (numberedAtoms (numberedNames rules)) last))
+      (in-right (allAtoms (numberedAtoms (numberedNames rules))) h))
+
+-- ---- a text behind the texts
+
+module _ (text : List ℕ) (c : Compiling) (code : List ℕ) (rules : List (Formula Name)) (f : Formula Name) (m : OneMore text c code rules f) where
+  abbrev every : List (Formula Name)
+  every = rules ++ f ∷ []
+
+  -- where the rule's code starts
+  abbrev from : ℕ
+  from = lastEnd 0 (take (c .count) (c .ends))
+
+  few-before : length rules < 16
+  few-before = omega (arith, length-append rules (f ∷ []), m .room .rules-fit)
+
+  pub place-free : c .count < 16
+  place-free = omega (arith, few-before, m .so-far .counted)
+
+  pub gather-asked : (rule : Rule) → rule ≡ ruleOf text → Gathers text rule (c .names)
+  gather-asked rule e = may-gather text rule (c .names) (namesOf rules) e (m .so-far .names-are) (m .so-far .fits .names-fit)
+
+  pub gathered-is : gathered text (knownOf (c .names)) ≡ enoughOf (namesOf every) (formulaNames f)
+  gathered-is =
+      let few = m .so-far .fits .names-fit in
+      ap (gathered text) (known-from (c .names) (namesOf rules) (m .so-far .names-are))
+      ∙ rule-gathered rules few text f (m .is-rule) (rule-enough rules few text f (m .is-rule) .1 (m .room .names-fit))
+
+  pub order-is : (rule : Rule) → rule ≡ ruleOf text → take (rule .len) (rule .order) ≡ codes (postfix f)
+  order-is rule e = ap (λ (r : Rule). take (r .len) (r .order)) e ∙ order-read text f (m .is-rule)
+
+  pub used-is : (rule : Rule) → rule ≡ ruleOf text → nameCount (take (rule .len) (rule .order)) ≡ length (formulaNames f)
+  used-is rule e = ap nameCount (order-is rule e) ∙ names-counted f
+
+  numbers-are : (g : Gathered) (used : ℕ) → g ≡ gathered text (knownOf (c .names)) → used ≡ length (formulaNames f)
+      → take used (g .numbers) ≡ map (numberIn every) (formulaNames f)
+  numbers-are g used e u =
+      let ns = map (numberIn every) (formulaNames f) in
+      ap (λ (h : Gathered). take used (h .numbers)) (e ∙ gathered-is)
+      ∙ take-at ns (replicate (256 - length ns) 0) used (length-map (formulaNames f) (numberIn every) ∙ sym u)
+
+  fits-after : length (atomsAfter (numberIn every) f (allAtoms (numberedNames rules))) ≤ 16
+  fits-after = omega (arith, ap length (atoms-after rules f), atoms-count every, m .room .atoms-fit)
+
+  given-for : (order numbers : List ℕ) → order ≡ codes (postfix f) → numbers ≡ map (numberIn every) (formulaNames f)
+      → Given order numbers (c .sheet) f (numberIn every) (allAtoms (numberedNames rules))
+  given-for order numbers e n = record { order-is = e; numbers-are = n; compiled = m .so-far .compiled; few = fits-after }
+
+  from-few : from ≤ 256 * 15
+  from-few =
+      omega (
+        arith,
+        few-before,
+        numbered-count rules,
+        last-few (c .sheet .atoms) code 0 (take (c .count) (c .ends)) (numberedAtoms (numberedNames rules)) (m .so-far .coded),
+      )
+
+  module _ (rule : Rule) (read : rule ≡ ruleOf text) (whole : length (rule .order) ≡ 256) where
+    order-few : length (postfix f) ≤ 256
+    order-few = omega (arith, length-codes (postfix f), order-short text f (m .is-rule) (ap (λ (r : Rule). length (r .order)) (sym read) ∙ whole))
+
+    pub len-is : rule .len ≤ 256
+    len-is = omega (arith, ap (λ (r : Rule). r .len) (read ∙ text-read text f (m .is-rule)), order-few)
+
+    pub used-few : nameCount (take (rule .len) (rule .order)) ≤ 256
+    used-few =
+        omega (
+          arith,
+          count-few (take (rule .len) (rule .order)),
+          ap length (order-is rule read),
+          length-codes (postfix f),
+          order-few,
+        )
+
+    module _ (g : Gathered) (gather-is : g ≡ gathered text (knownOf (c .names))) where
+      abbrev order : List ℕ
+      order = take (rule .len) (rule .order)
+
+      abbrev numbers : List ℕ
+      numbers = take (nameCount order) (g .numbers)
+
+      given-is : Given order numbers (c .sheet) f (numberIn every) (allAtoms (numberedNames rules))
+      given-is = given-for order numbers (order-is rule read) (numbers-are g (nameCount order) gather-is (used-is rule read))
+
+      pub compile-asked : Asked order numbers (c .sheet) from
+      compile-asked =
+          let l : length order ≤ 256 = omega (arith, ap length (order-is rule read), length-codes (postfix f), order-few) in
+          record {
+            formula = f;
+            numbering = numberIn every;
+            atoms = allAtoms (numberedNames rules);
+            given = given-is;
+            short = l;
+            fits = omega (arith, from-few);
+          }
+
+      module _ (r : Compiled) (out : List ℕ) (says : Compiles order numbers (c .sheet) code from r out) (ends-long : length (c .ends) ≡ 16) where
+        abbrev ws : List ℕ
+        ws = codeAfter f (allAtoms (numberedNames rules))
+
+        result : Result f (numberIn every) (allAtoms (numberedNames rules)) (c .sheet) code from r out
+        unfolding Compiles
+        result = says f (numberIn every) (allAtoms (numberedNames rules)) given-is
+
+        ws-few : length ws ≤ 256
+        ws-few = omega (arith, code-short (numberIn every) f (allAtoms (numberedNames rules)), order-few)
+
+        ws-fits : from + length ws ≤ length code
+        ws-fits = omega (arith, from-few, ws-few, m .so-far .whole)
+
+        atoms-now : r .sheet .atoms ≡ length (allAtoms (numberedNames every))
+        atoms-now = result .compiled .counted ∙ ap length (atoms-after rules f)
+
+        atoms-grow : c .sheet .atoms ≤ r .sheet .atoms
+        atoms-grow =
+            omega (
+              arith,
+              m .so-far .compiled .counted,
+              result .compiled .counted,
+              length-append (allAtoms (numberedNames rules)) (atomsOf (mapForm (mapAtom (numberIn every)) f)),
+            )
+
+        part-now : PartIs (r .sheet .atoms) out from (r .end) (last rules f)
+        part-now =
+            record {
+              ordered = omega (arith, result .ends);
+              within = omega (arith, result .ends, ws-fits, ap length (result .wrote), code-length from ws code);
+              is-code = ap (λ (l : List ℕ). part l from (r .end)) (result .wrote)
+                  ∙ ap (part (written from ws code) from) (result .ends) ∙ written-part from ws code ws-fits;
+              short = ws-few;
+              atoms-below = λ i h. omega (arith, last-below rules f i h, atoms-now);
+            }
+
+        ends-now : take (c .count + 1) (set (c .ends) (c .count) (r .end)) ≡ take (c .count) (c .ends) ++ r .end ∷ []
+        ends-now =
+            ap (λ (k : ℕ). take k (set (c .ends) (c .count) (r .end))) (add-one (c .count))
+            ∙ take-suc-set (c .ends) (c .count) (r .end) (omega (arith, place-free))
+
+        coded-now : Coded (r .sheet .atoms) out (take (c .count + 1) (set (c .ends) (c .count) (r .end))) (numberedAtoms (numberedNames every))
+        coded-now =
+            subst (λ (es : List ℕ). Coded (r .sheet .atoms) out es (numberedAtoms (numberedNames every))) (sym ends-now)
+            (subst (Coded (r .sheet .atoms) out (take (c .count) (c .ends) ++ r .end ∷ [])) (sym (numbers-with rules f))
+            (coded-with (c .sheet .atoms) (r .sheet .atoms) code out atoms-grow (ap length (result .wrote) ∙ code-length from ws code)
+            0 (take (c .count) (c .ends)) (numberedAtoms (numberedNames rules)) (r .end) (last rules f) (m .so-far .coded)
+            (ap (take from) (result .wrote) ∙ written-first from ws code ws-fits) part-now))
+
+        names-now : g .names ≡ arraysOf (namesOf every)
+        names-now = ap (λ (h : Gathered). h .names) (gather-is ∙ gathered-is)
+
+        count-now : g .names .count ≡ length (namesOf every)
+        unfolding arraysOf
+        count-now = ap (λ (h : Gathered). h .names .count) (gather-is ∙ gathered-is)
+
+        abbrev grown : Sheet
+        grown = record { names = g .names .count; atoms = r .sheet .atoms; contact = r .sheet .contact; xs = r .sheet .xs; ys = r .sheet .ys }
+
+        pub compiled-now : CompiledRules every (record { names = g .names; sheet = grown; ends = set (c .ends) (c .count) (r .end); count = c .count + 1 }) out
+        compiled-now =
+            record {
+              fits = m .room;
+              whole = ap length (result .wrote) ∙ code-length from ws code ∙ m .so-far .whole;
+              names-are = names-now;
+              names-counted = count-now;
+              compiled = subst (CompiledFrom grown) (atoms-after rules f) (renumbered (r .sheet) (g .names .count) _ (result .compiled));
+              coded = coded-now;
+              counted = omega (arith, m .so-far .counted, length-append rules (f ∷ []));
+            }

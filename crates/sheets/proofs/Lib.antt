@@ -1,0 +1,5 @@
+pub mod Numbers
+pub mod Coding
+pub mod Counting
+pub mod Adding
+pub mod Claims

@@ -1,0 +1,55 @@
+-- The names before a place and those from it on are all; the measure is what is left of the tokens. Assumes nothing.
+use mathlib.Core.Path.{_≡_}
+use Prim.Native.Nat.{_+_, _-_, _≤_}
+use native.Mathlib.Omega.{arith}
+use lib.ListN.{length, getD, drop}
+use borrow.Author.Needs.{needs}
+use Rattle.compile.proofs.Steps.{one-at-most}
+use Rattle.sheets.specs.Counted.{nameCount}
+use Rattle.sheets.proofs.Counting.{count-step, count-end}
+use Rattle.sheets.proofs.names_in.Statement.{statement}
+use Rattle.sheets.proofs.names_in.Tie as tie
+
+abbrev Inv-loop : tie.InvT-loop
+Inv-loop order n₀ i₀ n i = (n + nameCount (drop i order) ≡ nameCount order) × (n ≤ i) × (i ≤ length order)
+
+abbrev μ-loop : tie.MeasureT-loop
+μ-loop order n₀ i₀ n i = length order - i
+
+loop-holds : tie.Need-loop-holds Inv-loop μ-loop
+loop-holds c = (omega arith, omega arith, omega arith)
+
+shared-slice-read-kind : tie.Need-shared-slice-read-kind Inv-loop μ-loop
+shared-slice-read-kind c = omega arith
+
+name-in-requires : tie.Need-name-in-requires Inv-loop μ-loop
+name-in-requires c κs = search needs
+
+add-n : tie.Need-add-n Inv-loop μ-loop
+add-n c =
+    let l = c .before .before .before .loop in
+    let order = c .before .before .before .before .before .args .order .now in
+    omega (arith, c .name-in .ensures, one-at-most (getD order (l .i) 0))
+
+add-i : tie.Need-add-i Inv-loop μ-loop
+add-i c = omega arith
+
+loop-less : tie.Need-loop-less Inv-loop μ-loop
+loop-less c = omega arith
+
+loop-again : tie.Need-loop-again Inv-loop μ-loop
+loop-again c =
+    let l = c .before .before .before .loop in
+    let order = c .before .before .before .before .before .args .order .now in (
+      omega (arith, c .name-in .ensures, count-step order (l .i) (omega arith)),
+      omega (arith, c .name-in .ensures, one-at-most (getD order (l .i) 0)),
+      omega arith,
+    )
+
+returns : tie.Need-returns Inv-loop μ-loop
+returns c = omega (arith, count-end (c .before .before .before .args .order .now) (c .before .loop .i) (omega arith))
+
+pub names-in-spec : {M : Type 1} → statement M
+names-in-spec =
+    tie.close
+    (tie.spec Inv-loop μ-loop loop-holds shared-slice-read-kind name-in-requires add-n add-i loop-less loop-again returns)

@@ -1,0 +1,69 @@
+-- What is compiled once the texts of a list of rules are, and what one text more is asked and gives. Assumes nothing.
+use mathlib.Core.Path.{_≡_}
+use mathlib.Core.List.{List, [], _∷_, _++_, map}
+use Prim.Native.Nat.{ℕ, _≤_}
+use lib.ListN.{length, take}
+use Rattle.formula.specs.Formula.{Formula, Name}
+use Rattle.syntax.specs.RuleText.{IsRule}
+use Rattle.syntax.specs.Rule.{meaningOf}
+use Rattle.evalset.specs.Search.{In}
+use Rattle.contact.specs.Numbering.{allAtoms, namesOf, numberedNames, numberedAtoms}
+use Rattle.names.specs.Gather.{arraysOf}
+use Rattle.contact.specs.Plan.{firstRowOf}
+use Rattle.solver.specs.declared.Row.{Row}
+use Rattle.solver.specs.Coded.{Coded}
+use Rattle.solver.specs.Tree.{rowsOf}
+use Rattle.compile.specs.Sheet.{CompiledFrom}
+use Rattle.sheets.specs.declared.Compiling.{Compiling}
+
+-- "It holds at most 16 rules, 6 names and 16 atoms."
+pub record Fits (rules : List (Formula Name)) : Type 0 where
+  pub rules-fit : length rules ≤ 16
+  pub names-fit : length (namesOf rules) ≤ 6
+  pub atoms-fit : length (allAtoms rules) ≤ 16
+
+-- the rules are compiled: their names, their atoms with numbers for names, and their code with numbers for atoms
+pub record CompiledRules (rules : List (Formula Name)) (c : Compiling) (code : List ℕ) : Type 0 where
+  pub fits : Fits rules
+  pub whole : length code ≡ 4096
+  pub names-are : c .names ≡ arraysOf (namesOf rules)
+  pub names-counted : c .sheet .names ≡ length (namesOf rules)
+  pub compiled : CompiledFrom (c .sheet) (allAtoms (numberedNames rules))
+  pub coded : Coded (c .sheet .atoms) code (take (c .count) (c .ends)) (numberedAtoms (numberedNames rules))
+  pub counted : c .count ≡ length rules
+
+-- the texts are rules, and these are compiled
+pub record CompiledTexts (texts : List (List ℕ)) (c : Compiling) (code : List ℕ) : Type 0 where
+  pub are-rules : (s : List ℕ) → In s texts → IsRule s (meaningOf s)
+  pub rules-compiled : CompiledRules (map meaningOf texts) c code
+
+-- the text is the rule f, the rules before it are compiled, and there is room for it
+pub record OneMore (text : List ℕ) (c : Compiling) (code : List ℕ) (rules : List (Formula Name)) (f : Formula Name) : Type 0 where
+  pub is-rule : IsRule text f
+  pub so-far : CompiledRules rules c code
+  pub room : Fits (rules ++ f ∷ [])
+
+-- there are such rules
+pub record Ready (text : List ℕ) (c : Compiling) (code : List ℕ) : Type 0 where
+  pub rules : List (Formula Name)
+  pub formula : Formula Name
+  pub one-more : OneMore text c code rules formula
+
+-- then all are compiled
+unfoldable pub WithText : List ℕ → Compiling → List ℕ → Compiling → List ℕ → Type 0
+WithText text c code r out = (rules : List (Formula Name)) (f : Formula Name) → OneMore text c code rules f → CompiledRules (rules ++ f ∷ []) r out
+
+-- nothing is compiled, whatever the code's bytes are
+unfoldable pub NothingCompiled : Compiling → Type 0
+NothingCompiled r = (code : List ℕ) → length code ≡ 4096 → CompiledRules [] r code
+
+-- some rules are compiled
+pub record Whole (c : Compiling) (code : List ℕ) : Type 0 where
+  pub rules : List (Formula Name)
+  pub rules-compiled : CompiledRules rules c code
+
+-- the answer is the first row of the rules that are compiled
+unfoldable pub FirstRowIs : Compiling → List ℕ → Row → Type 0
+FirstRowIs c code r =
+    (rules : List (Formula Name)) → CompiledRules rules c code
+    → rowsOf (c .sheet .atoms) r ≡ firstRowOf (length (namesOf rules)) (numberedNames rules)

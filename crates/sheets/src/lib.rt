@@ -1,0 +1,112 @@
+// One rule text more compiled behind those before it: its names behind theirs, its atoms behind those of the sheet, its code behind
+// theirs. "Names and atoms are numbered from 0 by first place, rules in order, left to right", so what is there does not change.
+// Only our own crates compile texts, and only rules for which there is room: the requires of `with_text` says so.
+ghost use mathlib.Core.Path.{_≡_};
+ghost use Prim.Native.Nat.{_≤_};
+ghost use lib.ListN.{take};
+ghost use Rattle.compile.specs.Kinds.{namesBy};
+ghost use Rattle.sheets.specs.Ends.{lastEnd};
+ghost use Rattle.sheets.specs.Counted.{nameCount};
+ghost use Rattle.sheets.specs.Texts.{NothingCompiled, Ready, WithText, Whole, FirstRowIs};
+use names::Names;
+use search::Sheet;
+use solver::Row;
+
+// The kind of a token that is a name, by the lexer's numbers.
+const NAME: u8 = 18;
+
+// What is compiled so far, but for the code, which is lent: the names, the atoms, where the code of each rule ends, and how many
+// rules there are.
+pub struct Compiling {
+    pub names: Names,
+    pub sheet: Sheet,
+    pub ends: [usize; 16],
+    pub count: usize,
+}
+
+// No rule at all.
+pub fn nothing_compiled() -> Compiling
+    ensures { λ r. ⌜ NothingCompiled r ⌝ }
+{
+    let names = names::no_names();
+    let sheet = compile::blank_sheet(0);
+    let ends = [0usize; 16];
+    Compiling {
+        names,
+        sheet,
+        ends,
+        count: 0,
+    }
+}
+
+// How many names a token is.
+fn name_in(kind: u8) -> usize
+    ensures { λ r. ⌜ r ≡ namesBy kind ⌝ }
+{
+    if kind == NAME { 1 } else { 0 }
+}
+
+// How many names an order has.
+fn names_in(order: &[u8]) -> usize
+    ensures { λ r. ⌜ r ≡ nameCount (now (order .entry)) ⌝ }
+{
+    let mut n: usize = 0;
+    let mut i: usize = 0;
+    while i < order.len() {
+        let kind = order[i];
+        n += name_in(kind);
+        i += 1;
+    }
+    n
+}
+
+// Where the code of the last rule ends; 0 where there is no rule.
+fn last_end(ends: [usize; 16], count: usize) -> usize
+    requires { ⌜ count ≤ 16 ⌝ }
+    ensures { λ r. ⌜ r ≡ lastEnd 0 (take count ends) ⌝ }
+{
+    if count == 0 {
+        return 0;
+    }
+    ends[count - 1]
+}
+
+// The rule of this text behind those that are compiled.
+pub fn with_text(text: &[u8], c: Compiling, code: &mut [u8; 4096]) -> Compiling
+    requires { ⌜ Ready (now text) c (now code) ⌝ }
+    ensures { λ r. ⌜ WithText (now (text .entry)) c (now (code .entry)) r (now (code .exit)) ⌝ }
+{
+    let known = c.names;
+    let before = c.sheet;
+    let mut ends = c.ends;
+    let count = c.count;
+    let rule = syntax::read_rule(text);
+    let gathered = names::gather(text, rule, known);
+    let names = gathered.names;
+    let numbers = gathered.numbers;
+    let order = rule.order;
+    let len = rule.len;
+    let used = names_in(&order[..len]);
+    let from = last_end(ends, count);
+    let compiled = compile::compile_rule(&order[..len], &numbers[..used], before, code, from);
+    let mut sheet = compiled.sheet;
+    sheet.names = names.count;
+    ends[count] = compiled.end;
+    Compiling {
+        names,
+        sheet,
+        ends,
+        count: count + 1,
+    }
+}
+
+// The first realisable row that makes the compiled rules true.
+pub fn row_of(c: Compiling, code: &[u8]) -> Row
+    requires { ⌜ Whole c (now code) ⌝ }
+    ensures { λ r. ⌜ FirstRowIs c (now (code .entry)) r ⌝ }
+{
+    let ends = c.ends;
+    let count = c.count;
+    let sheet = c.sheet;
+    solver::first_row(code, &ends[..count], sheet)
+}
