@@ -108,7 +108,7 @@ fn is_atom(kind: u8) -> bool
 }
 
 // How many names a token is.
-fn names_in(kind: u8) -> usize
+pub fn names_in(kind: u8) -> usize
     ensures { λ r. ⌜ r ≡ namesBy kind ⌝ }
 {
     if kind == NAME { 1 } else { 0 }

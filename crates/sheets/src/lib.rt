@@ -4,16 +4,12 @@
 ghost use mathlib.Core.Path.{_≡_};
 ghost use Prim.Native.Nat.{_≤_};
 ghost use lib.ListN.{take};
-ghost use Rattle.compile.specs.Kinds.{namesBy};
 ghost use Rattle.sheets.specs.Ends.{lastEnd};
 ghost use Rattle.sheets.specs.Counted.{nameCount};
 ghost use Rattle.sheets.specs.Texts.{NothingCompiled, Ready, WithText, Whole, FirstRowIs};
 use names::Names;
 use search::Sheet;
 use solver::Row;
-
-// The kind of a token that is a name, by the lexer's numbers.
-const NAME: u8 = 18;
 
 // What is compiled so far, but for the code, which is lent: the names, the atoms, where the code of each rule ends, and how many
 // rules there are.
@@ -39,13 +35,6 @@ pub fn nothing_compiled() -> Compiling
     }
 }
 
-// How many names a token is.
-fn name_in(kind: u8) -> usize
-    ensures { λ r. ⌜ r ≡ namesBy kind ⌝ }
-{
-    if kind == NAME { 1 } else { 0 }
-}
-
 // How many names an order has.
 fn names_in(order: &[u8]) -> usize
     ensures { λ r. ⌜ r ≡ nameCount (now (order .entry)) ⌝ }
@@ -54,7 +43,7 @@ fn names_in(order: &[u8]) -> usize
     let mut i: usize = 0;
     while i < order.len() {
         let kind = order[i];
-        n += name_in(kind);
+        n += compile::names_in(kind);
         i += 1;
     }
     n
