@@ -13,7 +13,7 @@ use Rattle.evalset.specs.Search.{In, here, any, first, orElse}
 use Rattle.evalset.proofs.Search.{clash, cases, and-intro, both, none-in, uncons, in-left, in-right, in-either, map-intro, map-elim, any-intro, none-elim, none-intro, first-some, first-none, first-found, first-append, first-map}
 use Rattle.contact.specs.Meaning.{Floor, atomOn, meetsAll}
 use Rattle.contact.specs.Numbering.{allAtoms, numberedAtoms, AtomBelow, RulesBelow}
-use Rattle.contact.specs.Row.{Row, Realises, Realisable, rulesTrue, Before}
+use Rattle.contact.specs.Row.{IsFirstRow, Row, Realises, Realisable, rulesTrue, Before}
 use Rattle.contact.specs.Plan.{rowMarks, check, rows, good, firstRow, firstRowOf}
 use Rattle.contact.proofs.Numbered.{Faithful, numbered-faithful}
 use Rattle.contact.proofs.Realise.{planFloor, plan-row, row-check}
@@ -137,13 +137,6 @@ module _ (n : ℕ) (atoms : List (Atom ℕ)) (nums : List (Form ℕ)) where
       )
 
 -- ---- the same with the atoms numbered by place
-
--- "The answer uses the first realisable row that makes all rules true."
-pub record IsFirstRow {N : Type 0} (rules : List (Formula N)) (row : Row) : Type 0 where
-  pub realisable : Realisable (allAtoms rules) row
-  pub makes : rulesTrue (numberedAtoms rules) row ≡ true
-  pub earliest : (other : Row) → Realisable (allAtoms rules) other → rulesTrue (numberedAtoms rules) other ≡ true → Before other row
-      → ⊥
 
 module _ (n : ℕ) (rules : List (Formula ℕ)) where
   abbrev pub RowOf : Row → Type 0

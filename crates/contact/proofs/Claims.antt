@@ -12,7 +12,7 @@ use Rattle.evalset.specs.Bit.{bit}
 use Rattle.contact.specs.Meaning.{Floor, atomOn, meetsAll}
 use Rattle.formula.specs.Names.{atomNames}
 use Rattle.contact.specs.Numbering.{allAtoms, sameName, namesOf, numberedNames, numberedAtoms, AtomBelow, RulesBelow}
-use Rattle.contact.specs.Row.{Row, Realises, Realisable, PartialRow, RealisesPart, rulesTrue}
+use Rattle.contact.specs.Row.{IsFirstRow, Row, Realises, Realisable, PartialRow, RealisesPart, rulesTrue}
 use Rattle.contact.specs.Plan.{Mark, marksOf, rowMarks, separated, check, pointsFor, rows, good, firstRowOf, trueContacts, falseZeros}
 use Rattle.contact.specs.Tableau.{refutes, closes, Sound, Exact, search}
 use Rattle.contact.proofs.Bits
@@ -89,7 +89,7 @@ plan-row = Realise.plan-row
 
 -- the row that is found is realisable, makes the rules true, and no realisable row before it does
 pub first-row : (n : ℕ) (rules : List (Formula ℕ)) → RulesBelow n rules → (row : Row) → firstRowOf n rules ≡ row ∷ []
-    → Answer.IsFirstRow rules row
+    → IsFirstRow rules row
 first-row = Answer.first-row
 
 -- its plan gives the atoms exactly this row
@@ -109,7 +109,7 @@ no-plan-exactly = Answer.no-plan-exactly
 
 -- of the rules as read, over names: the row found is the first realisable one that makes them true
 pub first-row-named : (rules : List (Formula Name)) (row : Row)
-    → firstRowOf (length (namesOf rules)) (numberedNames rules) ≡ row ∷ [] → Answer.IsFirstRow rules row
+    → firstRowOf (length (namesOf rules)) (numberedNames rules) ≡ row ∷ [] → IsFirstRow rules row
 first-row-named = Naming.first-row-named
 
 -- the plan, each name at its number, gives their atoms this row

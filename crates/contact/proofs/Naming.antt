@@ -16,10 +16,10 @@ use Rattle.evalset.proofs.Search.{clash, cases, and-intro, both, none-in, uncon
 use Rattle.contact.specs.Meaning.{Floor, holds, within, partTerm, atomOn, value, meets, meetsAll}
 use Rattle.formula.specs.Names.{termNames, atomNames, atomsOf}
 use Rattle.contact.specs.Numbering.{allAtoms, distinct, position, sameName, namesOf, mapTerm, mapAtom, mapForm, numberedNames, numberedAtoms, TermBelow, AtomBelow, RulesBelow}
-use Rattle.contact.specs.Row.{Row, Realises, Realisable, rulesTrue}
+use Rattle.contact.specs.Row.{IsFirstRow, Row, Realises, Realisable, rulesTrue}
 use Rattle.contact.specs.Plan.{firstRowOf}
 use Rattle.contact.proofs.Numbered.{all-atoms-map, numbered-map}
-use Rattle.contact.proofs.Answer.{IsFirstRow, first-row, planOf, plan-gives-row, plan-meets, no-plan-exactly}
+use Rattle.contact.proofs.Answer.{first-row, planOf, plan-gives-row, plan-meets, no-plan-exactly}
 
 -- ---- renaming
 

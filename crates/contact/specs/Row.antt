@@ -5,9 +5,10 @@ use mathlib.Core.Path.{_≡_}
 use mathlib.Core.List.{List, [], _∷_, _++_, map}
 use Prim.Native.Nat.{ℕ, zero, suc}
 use lib.ListN.{getD}
-use Rattle.formula.specs.Formula.{Atom, Form}
+use Rattle.formula.specs.Formula.{Atom, Form, Formula}
 use Rattle.evalset.specs.Search.{all}
 use Rattle.contact.specs.Meaning.{Floor, atomOn, value}
+use Rattle.contact.specs.Numbering.{allAtoms, numberedAtoms}
 
 -- "A row gives each atom true or false."
 abbrev pub Row : Type 0
@@ -32,6 +33,13 @@ Before (true ∷ r) (true ∷ s) = Before r s
 Before (true ∷ r) (false ∷ s) = Unit {0}
 Before (false ∷ r) (true ∷ s) = ⊥
 Before (false ∷ r) (false ∷ s) = Before r s
+
+-- "The answer uses the first realisable row that makes all rules true."
+pub record IsFirstRow {N : Type 0} (rules : List (Formula N)) (row : Row) : Type 0 where
+  pub realisable : Realisable (allAtoms rules) row
+  pub makes : rulesTrue (numberedAtoms rules) row ≡ true
+  pub earliest : (other : Row) → Realisable (allAtoms rules) other → rulesTrue (numberedAtoms rules) other ≡ true → Before other row
+      → ⊥
 
 -- ---- partial rows
 

@@ -9,7 +9,9 @@ use lib.Dec.{eqb}
 use lib.ListN.{length}
 use borrow.Author.Tests.{eq-eqb, ne-eqb}
 use Rattle.evalset.specs.Search.{any}
+use Rattle.formula.specs.Formula.{Formula, Name}
 use Rattle.contact.specs.Meaning.{Floor}
+use Rattle.contact.proofs.Naming.{renamed, numberOf}
 use Rattle.plan.specs.Words.{Plan, IsPlan}
 use Rattle.plan.specs.Floor.{between, touching, liesIn}
 use Rattle.plan.proofs.Truth.{or-l}
@@ -44,3 +46,7 @@ planFloor p h =
       symmetric = λ a b l m e. sym (touching-comm p a b) ∙ e;
       lies = liesIn p;
     }
+
+-- the same over the names of rules, each at its number
+abbrev pub namedFloor : List (Formula Name) → (p : Plan) → IsPlan p → Floor Name
+namedFloor rules p h = renamed (numberOf rules) (planFloor p h)

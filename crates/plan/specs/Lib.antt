@@ -4,3 +4,4 @@ pub mod Judging
 pub mod Reader
 pub mod Arrays
 pub mod Held
+pub mod Given

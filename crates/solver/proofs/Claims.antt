@@ -14,7 +14,7 @@ use Rattle.contact.specs.Meaning.{Floor, meetsAll}
 use Rattle.contact.specs.Numbering.{allAtoms, numberedAtoms, RulesBelow}
 use Rattle.contact.specs.Plan.{firstRow}
 use Rattle.contact.specs.Tableau.{refutes}
-use Rattle.contact.proofs.Answer.{IsFirstRow}
+use Rattle.contact.specs.Row.{IsFirstRow}
 use Rattle.contact.proofs.Claims as contact
 use Rattle.search.specs.declared.Sheet.{Sheet}
 use Rattle.search.specs.Rows.{rowBits}

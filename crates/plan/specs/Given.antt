@@ -1,0 +1,36 @@
+-- The plan that is given for rules, as plan words have it. Assumes nothing.
+use mathlib.Core.Bool.{not}
+use mathlib.Core.Path.{_≡_}
+use mathlib.Core.List.{List, map}
+use Prim.Native.Nat.{ℕ}
+use lib.ListN.{length, getD}
+use Rattle.formula.specs.Formula.{Formula, Name}
+use Rattle.contact.specs.Numbering.{allAtoms, namesOf, numberedNames}
+use Rattle.contact.specs.Row.{Row, IsFirstRow}
+use Rattle.contact.specs.Plan.{Mark, rowMarks, separated, pointsFor, firstRowOf}
+use Rattle.plan.specs.Words.{Plan}
+use Rattle.plan.specs.Arrays.{linksTo}
+
+-- the plan of the marks of a row: its points, and "All unseparated pairs are in contact."
+unfoldable pub givenPlan : ℕ → List Mark → Plan
+givenPlan names ms =
+    let points = pointsFor names ms in
+    record {
+      names = names;
+      points = points;
+      contacts = linksTo (length points) (length points) (λ i j. not (separated ms (getD points i 0) (getD points j 0)));
+    }
+
+-- the plan of a row of the rules as read
+unfoldable pub rowPlan : List (Formula Name) → Row → Plan
+rowPlan rules row = givenPlan (length (namesOf rules)) (rowMarks (allAtoms (numberedNames rules)) row)
+
+-- "The answer uses the first realisable row that makes all rules true": a list of one plan; the empty list is 'no plan'
+unfoldable pub plansOf : List (Formula Name) → List Plan
+plansOf rules = map (rowPlan rules) (firstRowOf (length (namesOf rules)) (numberedNames rules))
+
+-- what is meant: the plan is that of the first realisable row that makes all rules true
+pub record IsGiven (rules : List (Formula Name)) (p : Plan) : Type 0 where
+  pub row : Row
+  pub first : IsFirstRow rules row
+  pub is : p ≡ rowPlan rules row
