@@ -1,12 +1,13 @@
 -- The first row that makes the rules true and passes the check decides the rules: its plan gives exactly the row, so it meets
 -- them; and the row of any floor that meets them is one of those tried, so where no row is found no floor meets them. The
 -- claims hold for any numbering of the atoms under which the numbered rules say what the rules say. Assumes nothing.
-use mathlib.Core.Bool.{Bool, true, false}
+use mathlib.Core.Bool.{Bool, true, false, Bool-set}
 use mathlib.Core.Path.{_≡_, refl, sym, ap, ap₂, _∙_, subst}
 use mathlib.Core.Logic.{⊎-elim, _↔_, ∥∥₁-elim}
 use mathlib.Core.List.{List, [], _∷_, map, nil≢cons, head-eq-of-cons-eq}
 use Prim.Native.Nat.{ℕ, zero, suc}
 use native.Mathlib.Omega.{arith}
+use native.Mathlib.Nat.{ℕ-set}
 use lib.ListN.{length, length-map}
 use Rattle.formula.specs.Formula.{Atom, Form, Formula}
 use Rattle.evalset.specs.Search.{In, here, any, first, orElse}
@@ -76,6 +77,28 @@ before-first (suc n) p row (c ∷ o) e l b =
     right true r i t f = t
     right false r i t f = f i
 
+-- two rows of one length of which neither is before the other are the same
+neither-before : (row other : Row) → length row ≡ length other → (Before row other → ⊥) → (Before other row → ⊥) → row ≡ other
+neither-before [] [] l f g = refl
+neither-before [] (c ∷ o) l f g = absurd (omega arith)
+neither-before (b ∷ r) [] l f g = absurd (omega arith)
+neither-before (true ∷ r) (true ∷ o) l f g = ap (λ s. true ∷ s) (neither-before r o (omega arith) f g)
+neither-before (true ∷ r) (false ∷ o) l f g = absurd (f tt)
+neither-before (false ∷ r) (true ∷ o) l f g = absurd (g tt)
+neither-before (false ∷ r) (false ∷ o) l f g = ap (λ s. false ∷ s) (neither-before r o (omega arith) f g)
+
+-- a realisable row has a value for each atom
+realisable-length : {N : Type 0} (atoms : List (Atom N)) (row : Row) → Realisable atoms row → length row ≡ length atoms
+realisable-length atoms row real =
+    ∥∥₁-elim real (ℕ-set _ _) (λ f. ap length (sym (f .1)) ∙ length-map atoms (atomOn (f .0)))
+
+-- so the first realisable row that makes the rules true is one
+pub first-row-once : {N : Type 0} (rules : List (Formula N)) (row other : Row) → IsFirstRow rules row → IsFirstRow rules other → row ≡ other
+first-row-once rules row other r s =
+    neither-before row other
+    (realisable-length (allAtoms rules) row (r .realisable) ∙ sym (realisable-length (allAtoms rules) other (s .realisable)))
+    (s .earliest row (r .realisable) (r .makes)) (r .earliest other (s .realisable) (s .makes))
+
 -- ---- the claims, for any faithful numbering of the atoms
 
 module _ (n : ℕ) (atoms : List (Atom ℕ)) (nums : List (Form ℕ)) where
@@ -114,8 +137,8 @@ module _ (n : ℕ) (atoms : List (Atom ℕ)) (nums : List (Form ℕ)) where
     unfolding firstRow
     first-earliest row other e real k b =
         ∥∥₁-elim real (λ x y. absurd x)
-        (λ f. let l : length other ≡ length atoms = ap length (sym (f .1)) ∙ length-map atoms (atomOn (f .0)) in
-        clash (realised-good other (f .0) (f .1) k) (before-first (length atoms) (good n atoms nums) row other e l b))
+        (λ f. clash (realised-good other (f .0) (f .1) k)
+        (before-first (length atoms) (good n atoms nums) row other e (realisable-length atoms other real) b))
 
     module _ (rules : List (Formula ℕ)) (faithful : Faithful rules atoms nums) where
       -- the row of a floor that meets the rules is among those tried, and good
@@ -167,3 +190,14 @@ module _ (n : ℕ) (rules : List (Formula ℕ)) where
         makes = row-found row e .makes;
         earliest = λ other real k b. first-earliest n (allAtoms rules) (numberedAtoms rules) names row other e real k b;
       }
+
+  -- and the first realisable row that makes the rules true is found
+  pub first-row-only : RulesBelow n rules → (row : Row) → IsFirstRow rules row → firstRowOf n rules ≡ row ∷ []
+  unfolding firstRow
+  first-row-only names row is =
+      let found : any (good n (allAtoms rules) (numberedAtoms rules)) (rows (length (allAtoms rules))) ≡ true =
+      ∥∥₁-elim (is .realisable) (Bool-set _ _)
+      (λ f. some-good n (allAtoms rules) (numberedAtoms rules) names rules (numbered-faithful rules) (f .0)
+      (sym (numbered-faithful rules (f .0)) ∙ ap (rulesTrue (numberedAtoms rules)) (f .1) ∙ is .makes)) in
+      let r = first-some (good n (allAtoms rules) (numberedAtoms rules)) (rows (length (allAtoms rules))) found in
+      r .1 ∙ ap (λ s. s ∷ []) (first-row-once rules (r .0) row (first-row names (r .0) (r .1)) is)

@@ -92,6 +92,14 @@ pub first-row : (n : ℕ) (rules : List (Formula ℕ)) → RulesBelow n rules �
     → IsFirstRow rules row
 first-row = Answer.first-row
 
+-- there is only one such row, and it is found
+pub first-row-once : {N : Type 0} (rules : List (Formula N)) (row other : Row) → IsFirstRow rules row → IsFirstRow rules other → row ≡ other
+first-row-once rules row other r s = Answer.first-row-once rules row other r s
+
+pub first-row-only : (n : ℕ) (rules : List (Formula ℕ)) → RulesBelow n rules → (row : Row) → IsFirstRow rules row
+    → firstRowOf n rules ≡ row ∷ []
+first-row-only = Answer.first-row-only
+
 -- its plan gives the atoms exactly this row
 pub plan-gives-row : (n : ℕ) (rules : List (Formula ℕ)) (row : Row) (e : firstRowOf n rules ≡ row ∷ [])
     → Realises (Answer.planOf n rules row e) (allAtoms rules) row
@@ -111,6 +119,11 @@ no-plan-exactly = Answer.no-plan-exactly
 pub first-row-named : (rules : List (Formula Name)) (row : Row)
     → firstRowOf (length (namesOf rules)) (numberedNames rules) ≡ row ∷ [] → IsFirstRow rules row
 first-row-named = Naming.first-row-named
+
+-- and the first realisable one that makes them true is found
+pub first-row-only-named : (rules : List (Formula Name)) (row : Row) → IsFirstRow rules row
+    → firstRowOf (length (namesOf rules)) (numberedNames rules) ≡ row ∷ []
+first-row-only-named = Naming.first-row-only-named
 
 -- the plan, each name at its number, gives their atoms this row
 pub plan-row-named : (rules : List (Formula Name)) (row : Row)

@@ -16,7 +16,7 @@ use Rattle.contact.specs.Row.{PartialRow, is, unknown}
 use Rattle.contact.specs.Plan.{Mark, touching, apart, vacant, inhabited, marksOf, allowed, fills, partners, leads, evaluations, withPartner, gives, given, pointsFor, trueContacts, falseZeros}
 
 module _ {A : Type 0} where
-  first-short : (p : A → Bool) (xs : List A) → length (first p xs) ≤ 1
+  pub first-short : (p : A → Bool) (xs : List A) → length (first p xs) ≤ 1
   first-short p [] = omega arith
   first-short p (x ∷ xs) = pick (p x) (first-short p xs)
     where

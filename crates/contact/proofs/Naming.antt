@@ -19,7 +19,7 @@ use Rattle.contact.specs.Numbering.{allAtoms, distinct, position, sameNa
 use Rattle.contact.specs.Row.{IsFirstRow, Row, Realises, Realisable, rulesTrue}
 use Rattle.contact.specs.Plan.{firstRowOf}
 use Rattle.contact.proofs.Numbered.{all-atoms-map, numbered-map}
-use Rattle.contact.proofs.Answer.{first-row, planOf, plan-gives-row, plan-meets, no-plan-exactly}
+use Rattle.contact.proofs.Answer.{first-row, first-row-only, planOf, plan-gives-row, plan-meets, no-plan-exactly}
 
 -- ---- renaming
 
@@ -251,6 +251,16 @@ module _ (rules : List (Formula Name)) where
         makes = sym (rules-true-named row) ∙ r .makes;
         earliest = λ other real k b. r .earliest other (realisable-named other .1 real) (rules-true-named other ∙ k) b;
       }
+
+  -- and that row is found
+  pub first-row-only-named : (row : Row) → IsFirstRow rules row → firstRowOf (length (namesOf rules)) (numberedNames rules) ≡ row ∷ []
+  first-row-only-named row r =
+      first-row-only (length (namesOf rules)) (numberedNames rules) numbered-below row
+      (record {
+        realisable = realisable-named row .1 (r .realisable);
+        makes = rules-true-named row ∙ r .makes;
+        earliest = λ other real k b. r .earliest other (realisable-named other .0 real) (sym (rules-true-named other) ∙ k) b;
+      })
 
   -- no row is found exactly where no floor meets the rules as read
   pub no-plan-named : (firstRowOf (length (namesOf rules)) (numberedNames rules) ≡ []) ↔ ((F : Floor Name) → meetsAll F rules ≡ true → ⊥)

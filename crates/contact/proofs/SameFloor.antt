@@ -2,7 +2,7 @@
 -- every search in the meaning runs over the points alone. Assumes nothing.
 use mathlib.Core.Bool.{Bool, not, _&&_}
 use mathlib.Core.Path.{_≡_, ap, ap₂, _∙_, fun-ext}
-use mathlib.Core.List.{List}
+use mathlib.Core.List.{List, map}
 use Prim.Native.Nat.{ℕ, _<_}
 use Rattle.formula.specs.Formula.{Term, Atom, Formula}
 use Rattle.evalset.specs.Search.{any, all, below}
@@ -40,6 +40,9 @@ module _ {N : Type 0} (F G : Floor N) (same : SameFloor F G) where
   atom-same (Atom.contact x y) = touches-same x y
   atom-same (Atom.part x y) = empty-same (partTerm x y)
   atom-same (Atom.empty t) = empty-same t
+
+  pub row-same : (atoms : List (Atom N)) → map (atomOn F) atoms ≡ map (atomOn G) atoms
+  row-same atoms = ap (λ (v : Atom N → Bool). map v atoms) (fun-ext atom-same)
 
   pub meets-same : (rules : List (Formula N)) → meetsAll F rules ≡ meetsAll G rules
   meets-same rules = ap (λ (v : Atom N → Bool). all (value v) rules) (fun-ext atom-same)

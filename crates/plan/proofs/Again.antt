@@ -145,15 +145,9 @@ plan-again r p h s =
     ap (λ (x : ℕ). planOf x (take (countOf r) (r .points)) (linksTo (countOf r) (countOf r) (memAt (r .rows)))) (s .names)
     ∙ ap₂ (planOf (p .names)) pts ks
 
--- ---- rows that are reflexive and symmetric are the plan's contact
-module _ (r : PlanArrays) (self : (a : ℕ) → a < countOf r → memAt (r .rows) a a ≡ true)
-    (turn : (a b : ℕ) → a < countOf r → b < countOf r → memAt (r .rows) a b ≡ true → memAt (r .rows) b a ≡ true) where
-  n : ℕ
-  n = countOf r
-
-  rows : ℕ → ℕ → Bool
-  rows = memAt (r .rows)
-
+-- ---- rows that are reflexive and symmetric are the contact of a plan that has their contacts
+module _ (n : ℕ) (few : n ≤ 256) (rows : ℕ → ℕ → Bool) (self : (a : ℕ) → a < n → rows a a ≡ true)
+    (turn : (a b : ℕ) → a < n → b < n → rows a b ≡ true → rows b a ≡ true) where
   -- the contact a pair of them has
   one-way : (a b : ℕ) → a < b → b < n → rows a b ≡ true → (between a b (a * 256 + b) ≡ true) × In (a * 256 + b) (linksTo n n rows)
   one-way a b l m e = (
@@ -162,9 +156,9 @@ module _ (r : PlanArrays) (self : (a : ℕ) → a < countOf r → memAt (r .rows
     links-i n a b rows l m e,
   )
 
-  pub rows-kept : (a b : ℕ) → a < countOf r → b < countOf r → touching (planBy r) a b ≡ memAt (r .rows) a b
-  unfolding touching planBy n rows
-  rows-kept a b l m = same-truth _ _ there back
+  pub links-kept : (p : Plan) → p .contacts ≡ linksTo n n rows → (a b : ℕ) → a < n → b < n → touching p a b ≡ rows a b
+  unfolding touching
+  links-kept p c a b l m = ap (λ (ks : List ℕ). eqb a b || any (between a b) ks) c ∙ same-truth _ _ there back
     where
       links : List ℕ
       links = linksTo n n rows
@@ -203,3 +197,10 @@ module _ (r : PlanArrays) (self : (a : ℕ) → a < countOf r → memAt (r .rows
           (λ t. or-l (eqb a b) _ (eq-eqb a b (omega arith)))
           (side b a))
           (side a b)
+
+-- so they are the contact of the plan that arrays hold
+pub rows-kept : (r : PlanArrays) → ((a : ℕ) → a < countOf r → memAt (r .rows) a a ≡ true)
+    → ((a b : ℕ) → a < countOf r → b < countOf r → memAt (r .rows) a b ≡ true → memAt (r .rows) b a ≡ true)
+    → (a b : ℕ) → a < countOf r → b < countOf r → touching (planBy r) a b ≡ memAt (r .rows) a b
+unfolding planBy
+rows-kept r self turn a b l m = links-kept (countOf r) (omega arith) (memAt (r .rows)) self turn (planBy r) refl a b l m

@@ -1,14 +1,18 @@
 -- What this crate promises, claim by claim; each holds by the file named in its comment. Assumes nothing.
 use mathlib.Core.Path.{_≡_, sym, ap, _∙_, subst}
 use mathlib.Core.Bool.{true}
-use mathlib.Core.List.{List}
+use mathlib.Core.Logic.{_↔_}
+use mathlib.Core.List.{List, [], _∷_}
 use Prim.Native.Nat.{ℕ, _^_, _≤_, _<_}
 use lib.ListN.{length, take}
 use native.Mathlib.Omega.{arith}
-use Rattle.formula.specs.Formula.{Term, Atom, Formula}
+use Rattle.formula.specs.Formula.{Term, Atom, Formula, Name}
 use Rattle.evalset.specs.declared.EvalSet.{EvalSet}
 use Rattle.evalset.specs.Sets.{mem, memAt}
 use Rattle.contact.specs.Meaning.{Floor, atomOn, meetsAll}
+use Rattle.contact.specs.Numbering.{allAtoms, namesOf, numberedNames}
+use Rattle.contact.specs.Row.{Row, Realises}
+use Rattle.contact.specs.Plan.{firstRowOf}
 use Rattle.plan.specs.declared.PlanArrays.{PlanArrays}
 use Rattle.plan.specs.declared.PlanAnswer.the-variants as answer-is
 use Rattle.plan.specs.declared.PlanRead.{PlanRead}
@@ -17,12 +21,14 @@ use Rattle.plan.specs.Floor.{touching}
 use Rattle.plan.specs.Judging.{yes, unmet, judge}
 use Rattle.plan.specs.Reader.{Reading, plan, refused, readOf}
 use Rattle.plan.specs.Arrays.{Stored, answerOf, planIn, Reads, countOf, planBy, touchesOf, vacantOf}
+use Rattle.plan.specs.Given.{rowPlan, plansOf, IsGiven}
 use Rattle.plan.proofs.Exact.{Says, exact, plan-read, refusal-read}
 use Rattle.plan.proofs.Contacts.{arrays-plan}
 use Rattle.plan.proofs.Again.{plan-again, rows-kept}
 use Rattle.plan.proofs.Once.{InRange, reads-once}
-use Rattle.plan.proofs.Floors.{planFloor}
+use Rattle.plan.proofs.Floors.{planFloor, namedFloor}
 use Rattle.plan.proofs.Judged.{Means, touches-meant, vacant-meant}
+use Rattle.plan.proofs.Given
 use Rattle.plan.proofs.Unmet.{FirstUnmet, yes-exactly, unmet-exactly}
 
 -- what is read is a plan whose words these are (Sound, Exact)
@@ -87,3 +93,32 @@ judge-yes F rules = yes-exactly F rules
 pub judge-unmet : {N : Type 0} (F : Floor N) (rules : List (Formula N)) (k : ℕ)
     → (judge F rules ≡ unmet k → FirstUnmet F 1 rules k) × (FirstUnmet F 1 rules k → judge F rules ≡ unmet k)
 judge-unmet F rules k = unmet-exactly F rules k
+
+-- the plan of the row that is found is a plan in words, for at most six names (Given)
+pub given-is-plan : (rules : List (Formula Name)) → length (namesOf rules) ≤ mostNames → (row : Row)
+    → firstRowOf (length (namesOf rules)) (numberedNames rules) ≡ row ∷ [] → IsPlan (rowPlan rules row)
+given-is-plan rules few row found = Given.given-is-plan rules row found few
+
+-- its floor gives the rules' atoms this row (Given)
+pub given-row : (rules : List (Formula Name)) (row : Row)
+    → firstRowOf (length (namesOf rules)) (numberedNames rules) ≡ row ∷ [] → (h : IsPlan (rowPlan rules row))
+    → Realises (namedFloor rules (rowPlan rules row) h) (allAtoms rules) row
+given-row = Given.given-row
+
+-- and meets every rule (Given)
+pub given-meets : (rules : List (Formula Name)) (row : Row)
+    → firstRowOf (length (namesOf rules)) (numberedNames rules) ≡ row ∷ [] → (h : IsPlan (rowPlan rules row))
+    → meetsAll (namedFloor rules (rowPlan rules row) h) rules ≡ true
+given-meets = Given.given-meets
+
+-- no plan is given exactly if no floor meets every rule (Given)
+pub no-plan-given : (rules : List (Formula Name)) → (plansOf rules ≡ []) ↔ ((F : Floor Name) → meetsAll F rules ≡ true → ⊥)
+no-plan-given = Given.no-plan-given
+
+-- a plan is given exactly if it is that of the first realisable row that makes all rules true (Given)
+pub given-exactly : (rules : List (Formula Name)) (p : Plan) → (plansOf rules ≡ p ∷ []) ↔ IsGiven rules p
+given-exactly = Given.given-exactly
+
+-- never more than one plan is given (Given)
+pub given-at-most-one : (rules : List (Formula Name)) → length (plansOf rules) ≤ 1
+given-at-most-one = Given.given-at-most-one

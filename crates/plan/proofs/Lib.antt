@@ -15,6 +15,7 @@ pub mod Floors
 pub mod Judged
 pub mod Unmet
 pub mod Again
+pub mod Given
 pub mod Once
 pub mod Claims
 pub mod Examples
