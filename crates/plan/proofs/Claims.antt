@@ -122,3 +122,13 @@ given-exactly = Given.given-exactly
 -- never more than one plan is given (Given)
 pub given-at-most-one : (rules : List (Formula Name)) → length (plansOf rules) ≤ 1
 given-at-most-one = Given.given-at-most-one
+
+-- it has at most 32 points for at most 16 atoms (Given)
+pub given-points : (rules : List (Formula Name)) → length (allAtoms rules) ≤ 16 → (p : Plan) → plansOf rules ≡ p ∷ []
+    → length (p .points) ≤ 32
+given-points = Given.given-points
+
+-- so "an answered plan takes at most 530 words" (Given)
+pub given-words : (rules : List (Formula Name)) → length (allAtoms rules) ≤ 16 → (p : Plan) → plansOf rules ≡ p ∷ []
+    → length (wordsOf p) ≤ 530
+given-words = Given.given-words

@@ -3,27 +3,32 @@
 -- proved of the first row is then so of the plan. Assumes nothing.
 use mathlib.Core.Path.{_≡_, refl, sym, ap, _∙_, subst}
 use mathlib.Core.Bool.{Bool, true, false, not, cond}
-use mathlib.Core.Logic.{_↔_}
+use mathlib.Core.Logic.{_↔_, ⊎-elim}
 use mathlib.Core.List.{List, [], _∷_, map, nil≢cons, cons≢nil, head-eq-of-cons-eq, tail-eq-of-cons-eq}
-use Prim.Native.Nat.{ℕ, zero, suc, _+_, _^_, _≤_, _<_}
+use Prim.Native.Nat.{ℕ, zero, suc, _+_, _-_, _*_, _^_, _≤_, _<_}
 use native.Mathlib.Omega.{arith}
-use lib.ListN.{length, getD, length-map}
+use native.Mathlib.Nat.{mul-suc, suc-mul}
+use lib.ListN.{length, getD, length-append, length-map}
 use Rattle.formula.specs.Formula.{Formula, Name}
-use Rattle.evalset.specs.Search.{keep, from, elem}
-use Rattle.evalset.proofs.Bounded.{keep-length}
-use Rattle.contact.specs.Meaning.{Floor, atomOn, meetsAll}
-use Rattle.contact.specs.Numbering.{allAtoms, namesOf, numberedNames, numberedAtoms}
-use Rattle.contact.specs.Row.{Row, Realises}
+use Rattle.evalset.specs.Search.{keep, gather, from, elem}
+use Rattle.evalset.proofs.Bounded.{side, keep-length}
+use Rattle.contact.specs.Meaning.{Floor, meetsAll}
+use Rattle.contact.specs.Numbering.{allAtoms, namesOf, mapAtom, numberedNames, numberedAtoms}
+use Rattle.contact.specs.Row.{Row, Realises, is}
 use Rattle.contact.specs.Plan.{Mark, rowMarks, separated, check, given, pointsFor, rows, good, firstRow, firstRowOf}
 use Rattle.contact.proofs.Realise.{planFloor as marksFloor, points-some, plan-points, plan-touch, plan-lies}
+use Rattle.contact.proofs.Numbered.{all-atoms-map}
 use Rattle.contact.proofs.Answer.{row-found, planOf, plan-gives-row, plan-meets}
-use Rattle.contact.proofs.Naming.{numbers-row, numbers-meet, first-row-named, first-row-only-named, no-plan-named}
-use Rattle.contact.proofs.Count.{first-short}
+use Rattle.contact.proofs.Naming.{numberOf, numbers-row, numbers-meet, first-row-named, first-row-only-named, no-plan-named}
+use Rattle.contact.proofs.Count.{first-short, points-at-most, words-at-most}
 use Rattle.contact.proofs.SameFloor.{SameFloor, row-same, meets-same}
-use Rattle.plan.specs.Words.{Plan, mostNames, Ascends, IsPlan}
+use Rattle.plan.specs.Words.{Plan, mostNames, Ascends, IsPlan, lastWord, before, wordsOf}
 use Rattle.plan.specs.Floor.{liesIn}
+use Rattle.plan.specs.Arrays.{pairOf, rowTo, linksTo}
 use Rattle.plan.specs.Given.{givenPlan, rowPlan, plansOf, IsGiven}
-use Rattle.plan.proofs.Complete.{room-64}
+use Rattle.plan.proofs.Lists.{gather-small}
+use Rattle.plan.proofs.Complete.{room-64, before-length}
+use Rattle.plan.proofs.Buffer.{pair-early, pair-small}
 use Rattle.plan.proofs.Contacts.{links-rise}
 use Rattle.plan.proofs.Judged.{few-points}
 use Rattle.plan.proofs.Again.{links-kept}
@@ -50,6 +55,7 @@ module _ (n : ℕ) (ms : List Mark) where
   points-ascend = keep-ascends (λ e. elem e (given n ms)) 0 0 (2 ^ n) (2 ^ n) (omega arith) (omega arith)
 
   module _ (checked : check n ms ≡ true) where
+    -- marks that pass the check have a plan in words
     marks-plan : n ≤ mostNames → IsPlan (givenPlan n ms)
     unfolding givenPlan
     marks-plan few =
@@ -66,13 +72,13 @@ module _ (n : ℕ) (ms : List Mark) where
     abbrev unseparated : ℕ → ℕ → Bool
     unseparated a b = not (separated ms (getD (pointsFor n ms) a 0) (getD (pointsFor n ms) b 0))
 
-    unseparated-self : (a : ℕ) → a < length (pointsFor n ms) → unseparated a a ≡ true
-    unseparated-self a l =
+    unseparated-reflexive : (a : ℕ) → a < length (pointsFor n ms) → unseparated a a ≡ true
+    unseparated-reflexive a l =
         sym (plan-touch n ms checked a a) ∙ floor .reflexive a (omega (arith, plan-points n ms checked))
 
-    unseparated-turn : (a b : ℕ) → a < length (pointsFor n ms) → b < length (pointsFor n ms) → unseparated a b ≡ true
+    unseparated-symmetric : (a b : ℕ) → a < length (pointsFor n ms) → b < length (pointsFor n ms) → unseparated a b ≡ true
         → unseparated b a ≡ true
-    unseparated-turn a b l m e =
+    unseparated-symmetric a b l m e =
         sym (plan-touch n ms checked b a)
         ∙ floor .symmetric a b (omega (arith, plan-points n ms checked)) (omega (arith, plan-points n ms checked))
         (plan-touch n ms checked a b ∙ e)
@@ -83,8 +89,10 @@ module _ (n : ℕ) (ms : List Mark) where
     marks-same h =
         record {
           points = sym (plan-points n ms checked);
-          touch = λ a b l m. links-kept (length (pointsFor n ms)) (omega (arith, few-points (givenPlan n ms) h)) unseparated unseparated-self
-              unseparated-turn (givenPlan n ms) refl a b l m ∙ sym (plan-touch n ms checked a b);
+          touch = λ a b l m.
+              links-kept (length (pointsFor n ms)) (omega (arith, few-points (givenPlan n ms) h)) unseparated unseparated-reflexive
+              unseparated-symmetric (givenPlan n ms) refl a b l m
+              ∙ sym (plan-touch n ms checked a b);
           lies = λ i a l. sym (plan-lies n ms checked i a);
         }
 
@@ -131,6 +139,7 @@ module _ {A B : Type 0} (f : A → B) where
       (x, ap (λ l. x ∷ l) (map-none xs (tail-eq-of-cons-eq e)), sym (head-eq-of-cons-eq e))
 
 module _ (rules : List (Formula Name)) where
+  -- none exactly if no floor meets the rules
   pub no-plan-given : (plansOf rules ≡ []) ↔ ((F : Floor Name) → meetsAll F rules ≡ true → ⊥)
   unfolding plansOf
   no-plan-given = (
@@ -138,6 +147,7 @@ module _ (rules : List (Formula Name)) where
     λ none. ap (map (rowPlan rules)) (no-plan-named rules .1 none),
   )
 
+  -- one exactly if it is the plan of the first realisable row that makes the rules true
   pub given-exactly : (p : Plan) → (plansOf rules ≡ p ∷ []) ↔ IsGiven rules p
   unfolding plansOf
   given-exactly p = (
@@ -146,6 +156,7 @@ module _ (rules : List (Formula Name)) where
     λ g. ap (map (rowPlan rules)) (first-row-only-named rules (g .row) (g .first)) ∙ ap (λ (q : Plan). q ∷ []) (sym (g .is)),
   )
 
+  -- and no more
   pub given-at-most-one : length (plansOf rules) ≤ 1
   unfolding plansOf firstRow
   given-at-most-one =
@@ -154,4 +165,70 @@ module _ (rules : List (Formula Name)) where
         length-map (firstRowOf (length (namesOf rules)) (numberedNames rules)) (rowPlan rules),
         first-short (good (length (namesOf rules)) (allAtoms (numberedNames rules)) (numberedAtoms (numberedNames rules)))
             (rows (length (allAtoms (numberedNames rules)))),
+      )
+
+-- ---- how many points and words
+-- the contacts of position i are with later ones
+row-count : (i : ℕ) (row : ℕ → Bool) (k n : ℕ) → length (gather (λ j. pairOf i j row) (from k n)) ≤ k + n - suc i
+row-count i row k zero = omega arith
+row-count i row k (suc n) =
+    ⊎-elim
+    (λ l. omega (
+      arith,
+      length-append (pairOf i k row) (gather (λ j. pairOf i j row) (from (suc k) n)),
+      pair-small i k row,
+      gather-small (λ j. pairOf i j row) 1 (λ j. pair-small i j row) (suc k) n,
+    ))
+    (λ l. rw (pair-early i k row l) (omega (arith, row-count i row (suc k) n)))
+    (side i k)
+
+-- so n points have at most n(n - 1)/2 contacts
+links-count : (rows : ℕ → ℕ → Bool) (size k n : ℕ) → k + n ≡ size
+    → 2 * length (gather (λ i. rowTo size i (rows i)) (from k n)) ≤ n * (n - 1)
+unfolding rowTo
+links-count rows size k zero e = omega arith
+links-count rows size k (suc n) e =
+    omega (
+      arith,
+      squares n,
+      length-append (rowTo size k (rows k)) (gather (λ i. rowTo size i (rows i)) (from (suc k) n)),
+      row-count k (rows k) 0 size,
+      links-count rows size (suc k) n (omega arith),
+    )
+  where
+    squares : (m : ℕ) → m * (m - 1) + 2 * m ≡ suc m * (suc m - 1)
+    squares zero = omega arith
+    squares (suc m) =
+        let y : suc m - 1 ≡ m = omega arith in
+        let z : suc (suc m) - 1 ≡ suc m = omega arith in
+        rw (y, z) (omega (arith, suc-mul (suc m) (suc m), mul-suc (suc m) m))
+
+module _ (rules : List (Formula Name)) (few : length (allAtoms rules) ≤ 16) (p : Plan) (e : plansOf rules ≡ p ∷ []) where
+  -- 16 atoms, 32 points
+  pub given-points : length (p .points) ≤ 32
+  unfolding rowPlan givenPlan
+  given-points =
+      let g = given-exactly rules p .0 e in
+      let atoms : length (allAtoms (numberedNames rules)) ≤ 16 =
+      omega (arith, ap length (all-atoms-map (mapAtom (numberOf rules)) rules), length-map (allAtoms rules) (mapAtom (numberOf rules))) in
+      subst (λ (q : Plan). length (q .points) ≤ 32) (sym (g .is))
+      (points-at-most (length (namesOf rules)) (allAtoms (numberedNames rules)) (map is (g .row)) atoms)
+
+  given-contacts : 2 * length (p .contacts) ≤ length (p .points) * (length (p .points) - 1)
+  unfolding rowPlan givenPlan linksTo
+  given-contacts =
+      let g = given-exactly rules p .0 e in
+      subst (λ (q : Plan). 2 * length (q .contacts) ≤ length (q .points) * (length (q .points) - 1)) (sym (g .is))
+      (links-count _ _ 0 _ (omega arith))
+
+  -- "An answered plan takes at most 530 words."
+  pub given-words : length (wordsOf p) ≤ 530
+  unfolding wordsOf
+  given-words =
+      omega (
+        arith,
+        length-append (before p) (lastWord (length (before p)) ∷ []),
+        before-length p,
+        given-contacts,
+        words-at-most (length (p .points)) given-points,
       )
