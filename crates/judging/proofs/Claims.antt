@@ -7,9 +7,10 @@ use mathlib.Core.Logic.{_↔_}
 use mathlib.Core.List.{List, [], _∷_}
 use Prim.Native.Nat.{ℕ, _≤_, _<_}
 use native.Mathlib.Omega.{arith}
-use Rattle.formula.specs.Formula.{Form, Formula}
+use Rattle.formula.specs.Formula.{Form, Formula, Name}
 use Rattle.contact.specs.Meaning.{meetsAll}
-use Rattle.contact.specs.Numbering.{numberedAtoms}
+use Rattle.contact.specs.Numbering.{numberedNames, numberedAtoms}
+use Rattle.contact.proofs.Naming.{numberOf}
 use Rattle.kleene.specs.Code.{Safe}
 use Rattle.kleene.proofs.Claims.{safe-postfix}
 use Rattle.search.specs.declared.Sheet.{Sheet}
@@ -18,7 +19,7 @@ use Rattle.plan.specs.declared.PlanArrays.{PlanArrays}
 use Rattle.plan.specs.Words.{Plan, IsPlan}
 use Rattle.plan.specs.Arrays.{Stored}
 use Rattle.plan.specs.Judging.{Judgement, yes, unmet, judge}
-use Rattle.plan.proofs.Floors.{planFloor}
+use Rattle.plan.proofs.Floors.{planFloor, namedFloor}
 use Rattle.plan.proofs.Unmet.{FirstUnmet}
 use Rattle.plan.proofs.Claims.{judge-yes, judge-unmet}
 use Rattle.solver.specs.Coded.{SafeFrom, CodedFrom}
@@ -26,6 +27,7 @@ use Rattle.judging.specs.declared.Judged.{Judged}
 use Rattle.judging.specs.declared.Judged.the-variants.{Yes, Unmet}
 use Rattle.judging.specs.Values.{judgedOf}
 use Rattle.judging.specs.Judges.{Runs, Prepared, JudgesSay}
+use Rattle.judging.proofs.Renamed.{judge-map}
 
 -- ---- the answer
 
@@ -56,6 +58,11 @@ module _ (plan : PlanArrays) (sheet : Sheet) (code ends : List ℕ) (r : Judged)
   unmet-exactly k =
       let j = judge-unmet (planFloor p is) rules k in
       (λ e. j .0 (judged-unmet _ k (sym answer-is ∙ e)), λ u. answer-is ∙ ap judgedOf (j .1 u))
+
+-- the numbered rules are judged on the plan's floor as the rules as read are on the one over their names (Renamed)
+pub names-judged : (rules : List (Formula Name)) (p : Plan) (is : IsPlan p)
+    → judge (planFloor p is) (numberedNames rules) ≡ judge (namedFloor rules p is) rules
+names-judged rules p is = judge-map (numberOf rules) (planFloor p is) 1 rules
 
 -- ---- what may be judged
 

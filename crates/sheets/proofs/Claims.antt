@@ -1,5 +1,6 @@
--- What is proved of texts compiled one after another, for whoever builds on it: compiled texts are what the search asks for, since their
--- sheet, code and names are those of the numbered rules, and its answer is the first row of these rules. Assumes nothing.
+-- What is proved of texts compiled one after another, for whoever builds on it: compiled texts are what the search, the plan of a row and
+-- judging ask for, since their sheet, code and names are those of the numbered rules; the answers are the first row of these rules, the
+-- plan of a row and the judgement of the rules as read. Assumes nothing.
 use mathlib.Core.Path.{_≡_, sym, ap, subst, _∙_}
 use mathlib.Core.Logic.{⊎-elim}
 use mathlib.Core.List.{List, [], _∷_, _++_, map}
@@ -17,12 +18,28 @@ use Rattle.solver.specs.declared.Row.{Row}
 use Rattle.solver.specs.Coded.{PartIs, CodedFrom}
 use Rattle.solver.specs.Tree.{ComesFrom, Searchable, rowsOf, FirstRowSays}
 use Rattle.solver.proofs.Claims.{searchable, answer-is}
+use Rattle.search.specs.declared.RowPlan.{RowPlan}
+use Rattle.search.specs.Rows.{rowBits}
+use Rattle.search.specs.Compiled.{limit}
+use Rattle.search.specs.Planned.{marksIn, PlanSays}
+use Rattle.search.proofs.Claims.{planned-is, planned-few}
+use Rattle.plan.specs.declared.PlanArrays.{PlanArrays}
+use Rattle.plan.specs.Words.{Plan, mostNames, IsPlan}
+use Rattle.plan.specs.Arrays.{Stored, planBy}
+use Rattle.plan.specs.Given.{givenPlan, rowPlan}
+use Rattle.plan.specs.Judging.{judge}
+use Rattle.plan.proofs.Floors.{namedFloor}
+use Rattle.judging.specs.declared.Judged.{Judged}
+use Rattle.judging.specs.Values.{judgedOf}
+use Rattle.judging.specs.Judges.{Runs, Prepared, JudgesSay}
+use Rattle.judging.proofs.Claims as judging
 use Rattle.compile.proofs.Searched.{compiled-search}
 use Rattle.sheets.specs.declared.Compiling.{Compiling}
 use Rattle.sheets.specs.Ends.{lastEnd}
-use Rattle.sheets.specs.Texts.{Fits, CompiledRules, CompiledTexts, OneMore, Ready, WithText, NothingCompiled}
+use Rattle.sheets.specs.Texts.{Fits, CompiledRules, CompiledTexts, OneMore, Ready, WithText, NothingCompiled, Whole, RowPlanIs, JudgedIs}
 use Rattle.sheets.proofs.Numbers
 use Rattle.sheets.proofs.Coding
+use Rattle.sheets.proofs.Planning.{rowArrays, plan-given}
 
 -- ---- one rule more (Numbers, Coding)
 
@@ -95,3 +112,49 @@ module _ (rules : List (Formula Name)) (c : Compiling) (code : List ℕ) (h : Co
   answer-first-row r says =
       answer-is code (take (c .count) (c .ends)) (c .sheet) r says (allAtoms (numberedNames rules)) (numberedAtoms (numberedNames rules)) comes-from
       ∙ ap (λ (n : ℕ). firstRow n (allAtoms (numberedNames rules)) (numberedAtoms (numberedNames rules))) (h .names-counted)
+
+  -- ---- for a caller of the plan of a row
+
+  -- the sheet has at most 6 names and 16 atoms, so `plan_of` may be called with it
+  pub may-plan : (c .sheet .names ≤ mostNames) × (c .sheet .atoms ≤ limit)
+  may-plan = (omega (arith, h .names-counted, h .fits .names-fit), omega (arith, h .compiled .counted, h .compiled .few))
+
+  -- what `planned` answers is, beside the number of names, the plan of the row (Planning)
+  pub answer-row-plan : (row : ℕ) (r : RowPlan) → PlanSays (c .sheet) row r
+      → planBy (rowArrays (c .sheet .names) r) ≡ rowPlan rules (rowBits (c .sheet .atoms) row)
+  unfolding rowPlan
+  answer-row-plan row r says =
+      let atoms = allAtoms (numberedNames rules) in
+      let few = planned-few (c .sheet) atoms (comes-from .compiled) r row says (h .compiled .few) in
+      plan-given (c .sheet .names) (marksIn (c .sheet) atoms row) r (planned-is (c .sheet) atoms (comes-from .compiled) row says) (omega arith)
+      ∙ ap (λ (n : ℕ). givenPlan n (marksIn (c .sheet) atoms row)) (h .names-counted)
+
+  -- and so is the answer of `plan_of`
+  pub plan-is : (row : ℕ) (r : PlanArrays) → RowPlanIs c row r → planBy r ≡ rowPlan rules (rowBits (c .sheet .atoms) row)
+  unfolding RowPlanIs
+  plan-is row r says = says rules code h
+
+  -- ---- for a caller of the judgement
+
+  -- `judged` may be called with them
+  pub may-judge : Whole c code
+  may-judge = record { rules = rules; rules-compiled = h }
+
+  -- and so may `judge_plan`
+  prepared : Prepared (c .sheet) code (take (c .count) (c .ends)) (numberedNames rules)
+  prepared = record { compiled = comes-from .compiled; coded = h .coded }
+
+  pub may-run : Runs (c .sheet) code (take (c .count) (c .ends))
+  may-run = judging.prepared-runs (c .sheet) code (take (c .count) (c .ends)) (numberedNames rules) (may-plan .1) prepared
+
+  module _ (arrays : PlanArrays) (r : Judged) (p : Plan) (is : IsPlan p) (named : p .names ≡ length (namesOf rules)) (stored : Stored arrays p) where
+    -- what `judge_plan` answers is the judgement of the rules as read
+    pub answer-judged : JudgesSay arrays (c .sheet) code (take (c .count) (c .ends)) r → r ≡ judgedOf (judge (namedFloor rules p is) rules)
+    answer-judged says =
+        judging.answer-is arrays (c .sheet) code (take (c .count) (c .ends)) r says (numberedNames rules) prepared p is (named ∙ sym (h .names-counted)) stored
+        ∙ ap judgedOf (judging.names-judged rules p is)
+
+    -- and so is the answer of `judged`
+    pub judged-is : JudgedIs c code arrays r → r ≡ judgedOf (judge (namedFloor rules p is) rules)
+    unfolding JudgedIs
+    judged-is says = says rules h p is named stored

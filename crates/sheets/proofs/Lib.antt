@@ -2,4 +2,5 @@ pub mod Numbers
 pub mod Coding
 pub mod Counting
 pub mod Adding
+pub mod Planning
 pub mod Claims

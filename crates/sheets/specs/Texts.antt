@@ -1,4 +1,5 @@
--- What is compiled once the texts of a list of rules are, and what one text more is asked and gives. Assumes nothing.
+-- What is compiled once the texts of a list of rules are, what one text more is asked and gives, and what the compiled rules answer.
+-- Assumes nothing.
 use mathlib.Core.Path.{_≡_}
 use mathlib.Core.List.{List, [], _∷_, _++_, map}
 use Prim.Native.Nat.{ℕ, _≤_}
@@ -13,6 +14,15 @@ use Rattle.contact.specs.Plan.{firstRowOf}
 use Rattle.solver.specs.declared.Row.{Row}
 use Rattle.solver.specs.Coded.{Coded}
 use Rattle.solver.specs.Tree.{rowsOf}
+use Rattle.search.specs.Rows.{rowBits}
+use Rattle.plan.specs.declared.PlanArrays.{PlanArrays}
+use Rattle.plan.specs.Words.{Plan, IsPlan}
+use Rattle.plan.specs.Arrays.{Stored, planBy}
+use Rattle.plan.specs.Given.{rowPlan}
+use Rattle.plan.specs.Judging.{judge}
+use Rattle.plan.proofs.Floors.{namedFloor}
+use Rattle.judging.specs.declared.Judged.{Judged}
+use Rattle.judging.specs.Values.{judgedOf}
 use Rattle.compile.specs.Sheet.{CompiledFrom}
 use Rattle.sheets.specs.declared.Compiling.{Compiling}
 
@@ -62,8 +72,21 @@ pub record Whole (c : Compiling) (code : List ℕ) : Type 0 where
   pub rules : List (Formula Name)
   pub rules-compiled : CompiledRules rules c code
 
+-- ---- what the compiled rules answer
+
 -- the answer is the first row of the rules that are compiled
 unfoldable pub FirstRowIs : Compiling → List ℕ → Row → Type 0
 FirstRowIs c code r =
     (rules : List (Formula Name)) → CompiledRules rules c code
     → rowsOf (c .sheet .atoms) r ≡ firstRowOf (length (namesOf rules)) (numberedNames rules)
+
+-- the arrays hold the plan of a row of the rules that are compiled
+unfoldable pub RowPlanIs : Compiling → ℕ → PlanArrays → Type 0
+RowPlanIs c row r =
+    (rules : List (Formula Name)) (code : List ℕ) → CompiledRules rules c code → planBy r ≡ rowPlan rules (rowBits (c .sheet .atoms) row)
+
+-- the answer is the judgement of the rules that are compiled on the floor of the plan that the arrays hold
+unfoldable pub JudgedIs : Compiling → List ℕ → PlanArrays → Judged → Type 0
+JudgedIs c code arrays r =
+    (rules : List (Formula Name)) → CompiledRules rules c code → (p : Plan) (h : IsPlan p) → p .names ≡ length (namesOf rules) → Stored arrays p
+    → r ≡ judgedOf (judge (namedFloor rules p h) rules)

@@ -1,13 +1,19 @@
 // One rule text more compiled behind those before it: its names behind theirs, its atoms behind those of the sheet, its code behind
 // theirs. "Names and atoms are numbered from 0 by first place, rules in order, left to right", so what is there does not change.
-// Only our own crates compile texts, and only rules for which there is room: the requires of `with_text` says so.
+// Then what the compiled rules answer: their first row, the plan of a row, and the judgement of a plan.
+// Only our own crates compile texts, and only rules for which there is room: the requires of `with_text` says so. What is compiled
+// so meets the other requires (proofs/Claims.antt).
 ghost use mathlib.Core.Path.{_≡_};
 ghost use Prim.Native.Nat.{_≤_};
 ghost use lib.ListN.{take};
+ghost use Rattle.search.specs.Compiled.{limit};
+ghost use Rattle.plan.specs.Words.{mostNames};
 ghost use Rattle.sheets.specs.Ends.{lastEnd};
 ghost use Rattle.sheets.specs.Counted.{nameCount};
-ghost use Rattle.sheets.specs.Texts.{NothingCompiled, Ready, WithText, Whole, FirstRowIs};
+ghost use Rattle.sheets.specs.Texts.{NothingCompiled, Ready, WithText, Whole, FirstRowIs, RowPlanIs, JudgedIs};
+use judging::Judged;
 use names::Names;
+use plan::PlanArrays;
 use search::Sheet;
 use solver::Row;
 
@@ -98,4 +104,32 @@ pub fn row_of(c: Compiling, code: &[u8]) -> Row
     let count = c.count;
     let sheet = c.sheet;
     solver::first_row(code, &ends[..count], sheet)
+}
+
+// The plan of a row of the compiled rules. Its arrays have the number of names in a byte.
+pub fn plan_of(c: Compiling, row: usize) -> PlanArrays
+    requires { ⌜ (c .sheet .names ≤ mostNames) × (c .sheet .atoms ≤ limit) ⌝ }
+    ensures { λ r. ⌜ RowPlanIs c row r ⌝ }
+{
+    let sheet = c.sheet;
+    let planned = search::planned(sheet, row);
+    let points = planned.points;
+    let rows = planned.rows;
+    PlanArrays {
+        names: sheet.names as u8,
+        count: planned.count,
+        points,
+        rows,
+    }
+}
+
+// The judgement of a plan by the compiled rules.
+pub fn judged(c: Compiling, code: &[u8], plan: PlanArrays) -> Judged
+    requires { ⌜ Whole c (now code) ⌝ }
+    ensures { λ r. ⌜ JudgedIs c (now (code .entry)) plan r ⌝ }
+{
+    let ends = c.ends;
+    let count = c.count;
+    let sheet = c.sheet;
+    judging::judge_plan(plan, sheet, code, &ends[..count])
 }

@@ -10,6 +10,8 @@ pub mod Atoms
 pub mod Drafting
 pub mod Told
 pub mod Recount
+pub mod Compiled
+pub mod Asking
 pub mod Loading
 pub mod Rows
 pub mod LoadRows

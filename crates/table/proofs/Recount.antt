@@ -41,10 +41,10 @@ counted-all t ns n i v p h =
 
 -- the i-th line
 module _ (t : Table) (v : FromUs t) (i : ℕ) (d : Line) (h : i < t .count) where
-  abbrev line : Line
+  abbrev pub line : Line
   line = getD (t .lines) i d
 
-  abbrev text : Text
+  abbrev pub text : Text
   text = take (line .len) (line .bytes)
 
   pub text-is : text ≡ getD (rulesOf t) i []
@@ -60,13 +60,13 @@ module _ (t : Table) (v : FromUs t) (i : ℕ) (d : Line) (h : i < t .count) wher
   pub text-length : line .len ≡ length text
   text-length = sym (length-take-le _ _ text-within)
 
-  first : take (i + 1) (rulesOf t) ≡ take i (rulesOf t) ++ text ∷ []
+  pub first : take (i + 1) (rulesOf t) ≡ take i (rulesOf t) ++ text ∷ []
   first =
       ap (λ (k : ℕ). take k (rulesOf t)) (add-one i)
       ∙ take-suc (rulesOf t) i [] (omega (arith, count-is t v))
       ∙ ap (λ (s : Text). take i (rulesOf t) ++ s ∷ []) (sym text-is)
 
-  stands : CanStand (take i (rulesOf t) ++ text ∷ [])
+  pub stands : CanStand (take i (rulesOf t) ++ text ∷ [])
   stands = subst CanStand first (stand-first (take (i + 1) (rulesOf t)) (drop (i + 1) (rulesOf t)) (subst CanStand (sym (take-append-drop (i + 1) (rulesOf t))) (v .standing)))
 
   pub text-read : ruleOf text .answer ≡ RuleAnswer.Formula

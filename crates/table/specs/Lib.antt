@@ -4,3 +4,4 @@ pub mod Drafts
 pub mod Rows
 pub mod Numbers
 pub mod Runs
+pub mod Asking

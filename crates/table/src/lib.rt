@@ -9,13 +9,21 @@ ghost use mathlib.Core.List.{List, [], _∷_, _++_};
 ghost use Prim.Native.Nat.{ℕ, _+_, _-_, _≤_, _<_};
 ghost use lib.ListN.{length, take, drop, replicate};
 ghost use Rattle.syntax.specs.Rule.{ruleOf};
+ghost use Rattle.sheets.specs.Texts.{CompiledTexts, Whole};
 ghost use Rattle.table.specs.Store.{lineOf, tableOf, rulesOf};
 ghost use Rattle.table.specs.Calls.{readAnswer, namesAnswer, judgeText, blankByte, blankLine, linesOf, linesFrom, FromUs, Adds, Withdraws, Loads};
+ghost use Rattle.table.specs.Asking.{writtenAnswer, judgedAnswer, JudgeAnswerSays, Asks, Judges};
 ghost use Rattle.table.specs.declared.AddAnswer.the-variants as AddAnswer;
 ghost use Rattle.table.specs.Drafts.{WasRead, isAtom, atomPlaces, draftOf, draftedOf, Drafts, loadResult};
+use judging::Judged;
 use lexer::Class;
 use names::Names;
 use names::NamesAnswer;
+use plan::PlanAnswer;
+use plan::PlanArrays;
+use plan::Written;
+use sheets::Compiling;
+use solver::Row;
 use syntax::Rule;
 use syntax::RuleAnswer;
 
@@ -92,6 +100,36 @@ pub enum LoadAnswer {
 pub struct LoadResult {
     pub table: Table,
     pub answer: LoadAnswer,
+}
+
+// How ask answers: a plan with its number of words, no plan, or why neither is said; a short buffer carries the words needed.
+pub enum AskAnswer {
+    Plan(usize),
+    NoPlan,
+    NoRule,
+    ShortBuffer(usize),
+}
+
+// What ask hands back.
+pub struct AskResult {
+    pub table: Table,
+    pub answer: AskAnswer,
+}
+
+// How judge answers: the plan meets every rule, or the lowest that it does not meet, from 1, or why neither is said. Words that
+// are no plan carry the index, and a plan of another number of names carries that number.
+pub enum JudgeAnswer {
+    Yes,
+    Unmet(usize),
+    NoRule,
+    NotAPlan(usize),
+    NamesDiffer(usize),
+}
+
+// What judge hands back.
+pub struct JudgeResult {
+    pub table: Table,
+    pub answer: JudgeAnswer,
 }
 
 // The table so far, with the names and the number of atoms of its rules.
@@ -333,6 +371,47 @@ fn kept(table: Table, answer: LoadAnswer) -> LoadResult
     LoadResult { table, answer }
 }
 
+// Room for the code of sixteen rules.
+fn no_code() -> [u8; 4096]
+    ensures { λ r. ⌜ length r ≡ 4096 ⌝ }
+{
+    [0u8; 4096]
+}
+
+// What writing a plan answers, as ask's.
+fn written_answer(w: Written) -> AskAnswer
+    ensures { λ r. ⌜ r ≡ writtenAnswer w ⌝ }
+{
+    match w {
+        Written::Words(n) => AskAnswer::Plan(n),
+        Written::Needs(n) => AskAnswer::ShortBuffer(n),
+    }
+}
+
+// What judging a plan answers, as judge's.
+fn judged_answer(j: Judged) -> JudgeAnswer
+    ensures { λ r. ⌜ r ≡ judgedAnswer j ⌝ }
+{
+    match j {
+        Judged::Yes => JudgeAnswer::Yes,
+        Judged::Unmet(k) => JudgeAnswer::Unmet(k),
+    }
+}
+
+// A plan judged by the compiled rules, if it has as many names as they have.
+fn judge_answer(c: Compiling, code: &[u8], plan: PlanArrays) -> JudgeAnswer
+    requires { ⌜ Whole c (now code) ⌝ }
+    ensures { λ r. ⌜ JudgeAnswerSays c (now (code .entry)) plan r ⌝ }
+{
+    let sheet = c.sheet;
+    let names = plan.names as usize;
+    if names != sheet.names {
+        return JudgeAnswer::NamesDiffer(names);
+    }
+    let judged = sheets::judged(c, code, plan);
+    judged_answer(judged)
+}
+
 impl Table {
     // The table in which no rule stands.
     pub fn empty() -> Table
@@ -456,6 +535,86 @@ impl Table {
         LoadResult {
             table,
             answer: LoadAnswer::Loaded,
+        }
+    }
+
+    // The standing rules compiled, text by text.
+    fn compiled(self, code: &mut [u8; 4096]) -> Compiling
+        requires { ⌜ FromUs self × (length (now code) ≡ 4096) ⌝ }
+        ensures { λ r. ⌜ CompiledTexts (rulesOf self) r (now (code .exit)) ⌝ }
+    {
+        let rules = self.count;
+        let mut c = sheets::nothing_compiled();
+        let mut i: usize = 0;
+        while i < rules {
+            let line = self.lines[i];
+            let len = line.len;
+            let bytes = line.bytes;
+            c = sheets::with_text(&bytes[..len], c, code);
+            i += 1;
+        }
+        c
+    }
+
+    // The plan of the standing rules, its words written over the first ones of the buffer, or that no floor meets these rules. Where
+    // no rule stands, or the buffer is shorter than the plan, the answer says so. The words past the plan, and all words of another
+    // answer, keep their values; the table comes back as it was.
+    pub fn ask(self, buffer: &mut [u32]) -> AskResult
+        requires { ⌜ FromUs self ⌝ }
+        ensures { λ r. ⌜ Asks self (now (buffer .entry)) r (now (buffer .exit)) ⌝ }
+    {
+        if self.count <= 0 {
+            return AskResult {
+                table: self,
+                answer: AskAnswer::NoRule,
+            };
+        }
+        let mut code = no_code();
+        let c = self.compiled(&mut code);
+        let found = sheets::row_of(c, &code);
+        let Row::At(row) = found else {
+            return AskResult {
+                table: self,
+                answer: AskAnswer::NoPlan,
+            };
+        };
+        let plan = sheets::plan_of(c, row);
+        let written = plan::write_plan(plan, buffer);
+        let answer = written_answer(written);
+        AskResult {
+            table: self,
+            answer,
+        }
+    }
+
+    // The judgement of a plan that is read from words, by the standing rules: yes, or the lowest rule that it does not meet. Where no
+    // rule stands, where the words are no plan, or where it has another number of names than the rules, the answer says so.
+    // The table comes back as it was.
+    pub fn judge(self, words: &[u32]) -> JudgeResult
+        requires { ⌜ FromUs self ⌝ }
+        ensures { λ r. ⌜ Judges self (now (words .entry)) r ⌝ }
+    {
+        if self.count <= 0 {
+            return JudgeResult {
+                table: self,
+                answer: JudgeAnswer::NoRule,
+            };
+        }
+        let read = plan::read_plan(words);
+        let reading = read.answer;
+        if let PlanAnswer::Refused(at) = reading {
+            return JudgeResult {
+                table: self,
+                answer: JudgeAnswer::NotAPlan(at),
+            };
+        }
+        let mut code = no_code();
+        let c = self.compiled(&mut code);
+        let plan = read.plan;
+        let answer = judge_answer(c, &code, plan);
+        JudgeResult {
+            table: self,
+            answer,
         }
     }
 }

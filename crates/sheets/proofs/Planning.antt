@@ -1,0 +1,61 @@
+-- The plan that is made for a row is the one that is given: its first points are the given ones, and of its contact rows only the positions
+-- of points are read, where two are in contact exactly if they are not separated. Assumes nothing.
+use mathlib.Core.Bool.{Bool, not, _&&_, cond}
+use mathlib.Core.Path.{_≡_, refl, ap, ap₂, _∙_}
+use mathlib.Core.List.{List, [], _∷_}
+use Prim.Native.Nat.{ℕ, min, _+_, _*_, _-_, _≤_, _<_}
+use native.Mathlib.Omega.{arith}
+use lib.Dec.{ltb}
+use lib.ListN.{length, getD, take, replicate}
+use lib.Seq.{take-at}
+use borrow.Author.Tests.{lt-ltb}
+use Rattle.evalset.specs.Search.{below}
+use Rattle.evalset.specs.Sets.{room, memAt}
+use Rattle.evalset.proofs.Search.{below-elim}
+use Rattle.contact.specs.Plan.{Mark, separated, pointsFor}
+use Rattle.search.specs.declared.RowPlan.{RowPlan}
+use Rattle.search.specs.Planned.{pad, PlanOf}
+use Rattle.search.proofs.Lists.{gather-same}
+use Rattle.search.proofs.Listing.{pad-at}
+use Rattle.plan.specs.declared.PlanArrays.{PlanArrays}
+use Rattle.plan.specs.Arrays.{pairOf, rowTo, linksTo, planBy}
+use Rattle.plan.specs.Held.{planOf}
+use Rattle.plan.specs.Given.{givenPlan}
+
+-- rows that agree below n have the same contacts there
+links-same : (n : ℕ) (s t : ℕ → ℕ → Bool) → ((i j : ℕ) → i < n → j < n → s i j ≡ t i j) → linksTo n n s ≡ linksTo n n t
+unfolding linksTo rowTo pairOf
+links-same n s t h =
+    gather-same (λ i. rowTo n i (s i)) (λ i. rowTo n i (t i)) (below n)
+    (λ i a. gather-same (λ j. pairOf i j (s i)) (λ j. pairOf i j (t i)) (below n)
+    (λ j b. ap (λ (x : Bool). cond (ltb i j && x) ((i * 256 + j) ∷ []) []) (h i j (below-elim n i a) (below-elim n j b))))
+
+-- a list in the array, read to its length
+pad-taken : (xs : List ℕ) → take (length xs) (pad xs) ≡ xs
+unfolding pad
+pad-taken xs = take-at xs (replicate (room - length xs) 0) (length xs) refl
+
+-- the plan of a row beside its number of names
+abbrev pub rowArrays : ℕ → RowPlan → PlanArrays
+rowArrays names r = record { names = names; count = r .count; points = r .points; rows = r .rows }
+
+module _ (names : ℕ) (ms : List Mark) (r : RowPlan) (p : PlanOf names ms r) where
+  abbrev points : List ℕ
+  points = pointsFor names ms
+
+  point-same : (i : ℕ) → i < length points → getD (r .points) i 0 ≡ getD points i 0
+  point-same i l = ap (λ (xs : List ℕ). getD xs i 0) (p .listed) ∙ pad-at points i l
+
+  touch-same : (i j : ℕ) → i < length points → j < length points → memAt (r .rows) i j ≡ not (separated ms (getD points i 0) (getD points j 0))
+  touch-same i j k l =
+      p .contacts i j
+      ∙ ap₂ (λ (a b : Bool). (a && b) && not (separated ms (getD (r .points) i 0) (getD (r .points) j 0)))
+      (lt-ltb i (r .count) (omega (arith, p .counted))) (lt-ltb j (r .count) (omega (arith, p .counted)))
+      ∙ ap₂ (λ (e f : ℕ). not (separated ms e f)) (point-same i k) (point-same j l)
+
+  pub plan-given : r .count ≤ 64 → planBy (rowArrays names r) ≡ givenPlan names ms
+  unfolding planBy givenPlan
+  plan-given few =
+      let n : min (r .count) 64 ≡ length points = omega (arith, p .counted) in
+      ap₂ (λ (m : ℕ) (xs : List ℕ). planOf names (take m xs) (linksTo m m (memAt (r .rows)))) n (p .listed)
+      ∙ ap₂ (planOf names) (pad-taken points) (links-same (length points) (memAt (r .rows)) _ touch-same)

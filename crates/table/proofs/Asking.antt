@@ -1,0 +1,172 @@
+-- Ask and judge meet their definitions: the rows that the search finds are those of the standing rules, their plan is the one that is
+-- written, and words that are read are judged as a plan. Assumes nothing.
+use Prim.Native.Nat.{ℕ, _≤_, _<_}
+use mathlib.Core.Path.{_≡_, refl, sym, ap, ap₂, _∙_, subst}
+use mathlib.Core.Bool.{Bool, true, false, cond}
+use mathlib.Core.List.{List, [], _∷_, map}
+use native.Mathlib.Omega.{arith}
+use lib.Dec.{leb, eqb}
+use lib.ListN.{length}
+use borrow.Author.Tests.{eq-eqb, ne-eqb}
+use Rattle.formula.specs.Formula.{Formula, Name}
+use Rattle.contact.specs.Numbering.{namesOf, numberedNames}
+use Rattle.contact.specs.Row.{Row}
+use Rattle.contact.specs.Plan.{firstRowOf}
+use Rattle.search.specs.Rows.{rowBits}
+use Rattle.solver.specs.declared.Row.{Row as Found}
+use Rattle.solver.specs.declared.Row.the-variants as Found
+use Rattle.solver.specs.Tree.{rowsOf}
+use Rattle.plan.specs.declared.PlanArrays.{PlanArrays}
+use Rattle.plan.specs.declared.PlanAnswer.the-variants as PlanAnswer
+use Rattle.plan.specs.declared.PlanRead.{PlanRead}
+use Rattle.plan.specs.declared.Written.{Written}
+use Rattle.plan.specs.declared.Written.the-variants as Written
+use Rattle.plan.specs.Words.{Plan, IsPlan, wordsOf}
+use Rattle.plan.specs.Reader.{Reading, plan, refused, readOf}
+use Rattle.plan.specs.Arrays.{Stored, answerOf, planIn, Reads, planBy, over, Writes}
+use Rattle.plan.specs.Given.{rowPlan, plansOf}
+use Rattle.plan.specs.Judging.{Judgement, yes, unmet, judge}
+use Rattle.plan.proofs.Exact.{Says, exact}
+use Rattle.plan.proofs.Floors.{namedFloor}
+use Rattle.judging.specs.declared.Judged.{Judged}
+use Rattle.judging.specs.Values.{judgedOf}
+use Rattle.sheets.specs.declared.Compiling.{Compiling}
+use Rattle.sheets.specs.Texts.{CompiledRules, FirstRowIs, RowPlanIs, JudgedIs}
+use Rattle.table.specs.declared.Table.{Table}
+use Rattle.table.specs.declared.AskAnswer.{AskAnswer}
+use Rattle.table.specs.declared.AskAnswer.the-variants as AskAnswer
+use Rattle.table.specs.declared.AskResult.{AskResult}
+use Rattle.table.specs.declared.JudgeAnswer.{JudgeAnswer}
+use Rattle.table.specs.declared.JudgeAnswer.the-variants as JudgeAnswer
+use Rattle.table.specs.declared.JudgeResult.{JudgeResult}
+use Rattle.table.specs.Store.{Text, tableOf, rulesOf}
+use Rattle.table.specs.Calls.{formulasOf, FromUs}
+use Rattle.table.specs.Asking.{writtenAnswer, foundAnswer, askAnswer, foundWords, askWords, asked, Asks, judgementAnswer, judgedAnswer, judgePlan, JudgeAnswerSays, judgeReading, judgeAnswer, judged, Judges}
+use Rattle.table.proofs.Held.{count-is}
+
+-- ---- ask
+
+abbrev askResult : Table → AskAnswer → AskResult
+askResult t a = record { table = t; answer = a }
+
+module _ (t : Table) (v : FromUs t) (buffer : List ℕ) where
+  asks-of : (a : AskAnswer) (exit : List ℕ) → a ≡ askAnswer (rulesOf t) (length buffer) → exit ≡ askWords (rulesOf t) buffer
+      → Asks t buffer (askResult t a) exit
+  unfolding asked
+  asks-of a exit e f = record { result = ap₂ askResult (v .same) e; words = f; same = refl; from-us = v }
+
+  pub asks-none : t .count ≤ 0 → Asks t buffer (askResult t AskAnswer.NoRule) buffer
+  unfolding askAnswer askWords
+  asks-none h = go (rulesOf t) refl (omega (arith, count-is t v))
+    where
+      go : (rs : List Text) → rulesOf t ≡ rs → length rs ≤ 0 → Asks t buffer (askResult t AskAnswer.NoRule) buffer
+      go [] e l = asks-of AskAnswer.NoRule buffer (sym (ap (λ (rs : List Text). askAnswer rs (length buffer)) e)) (sym (ap (λ (rs : List Text). askWords rs buffer) e))
+      go (s ∷ rs) e l = absurd (omega arith)
+
+  -- some rule stands, and these are its plans, none or one
+  pub asks-some : 0 < t .count → (plans : List Plan) → plansOf (formulasOf (rulesOf t)) ≡ plans
+      → (a : AskAnswer) (exit : List ℕ) → a ≡ foundAnswer plans (length buffer) → exit ≡ foundWords plans buffer → Asks t buffer (askResult t a) exit
+  unfolding askAnswer askWords
+  asks-some h plans e a exit f g =
+      let found = some (rulesOf t) (omega (arith, count-is t v)) in
+      asks-of a exit (f ∙ ap (λ (ps : List Plan). foundAnswer ps (length buffer)) (sym e) ∙ found .0)
+      (g ∙ ap (λ (ps : List Plan). foundWords ps buffer) (sym e) ∙ found .1)
+    where
+      some : (rs : List Text) → 0 < length rs
+          → (foundAnswer (plansOf (formulasOf rs)) (length buffer) ≡ askAnswer rs (length buffer)) × (foundWords (plansOf (formulasOf rs)) buffer ≡ askWords rs buffer)
+      some [] l = absurd (omega arith)
+      some (s ∷ rs) l = (refl, refl)
+
+-- the plans of the rows that are found
+pub found-plans : (rules : List (Formula Name)) (c : Compiling) (code : List ℕ) (r : Found) → CompiledRules rules c code → FirstRowIs c code r
+    → plansOf rules ≡ map (rowPlan rules) (rowsOf (c .sheet .atoms) r)
+unfolding plansOf FirstRowIs
+found-plans rules c code r h says = ap (map (rowPlan rules)) (sym (says rules h))
+
+-- what is written is what is asked for
+pub wrote-plan : (arrays : PlanArrays) (buffer : List ℕ) (w : Written) (exit : List ℕ) → Writes arrays buffer w exit
+    → (writtenAnswer w ≡ foundAnswer (planBy arrays ∷ []) (length buffer)) × (exit ≡ foundWords (planBy arrays ∷ []) buffer)
+wrote-plan arrays buffer w exit h =
+    let n = length (wordsOf (planBy arrays)) in
+    (ap writtenAnswer (h .answer) ∙ either n (leb n (length buffer)), h .words)
+  where
+    either : (n : ℕ) (b : Bool) → writtenAnswer (cond b (Written.Words n) (Written.Needs n)) ≡ cond b (AskAnswer.Plan n) (AskAnswer.ShortBuffer n)
+    either n true = refl
+    either n false = refl
+
+-- ---- judge
+
+abbrev judgeResult : Table → JudgeAnswer → JudgeResult
+judgeResult t a = record { table = t; answer = a }
+
+-- both enums have the judgement's cases
+pub same-judgement : (j : Judgement) → judgedAnswer (judgedOf j) ≡ judgementAnswer j
+same-judgement yes = refl
+same-judgement (unmet k) = refl
+
+module _ (rules : List (Formula Name)) (c : Compiling) (code : List ℕ) (arrays : PlanArrays) (compiled : CompiledRules rules c code)
+    (p : Plan) (h : IsPlan p) (stored : Stored arrays p) where
+  judge-differs : (arrays .names ≡ c .sheet .names → ⊥) → JudgeAnswer.NamesDiffer (arrays .names) ≡ judgePlan rules p h
+  judge-differs differ =
+      ap JudgeAnswer.NamesDiffer (stored .names)
+      ∙ sym (ap (λ (b : Bool). cond b (judgementAnswer (judge (namedFloor rules p h) rules)) (JudgeAnswer.NamesDiffer (p .names)))
+      (ne-eqb (p .names) (length (namesOf rules)) (λ e. differ (stored .names ∙ e ∙ sym (compiled .names-counted)))))
+
+  judge-equal : arrays .names ≡ c .sheet .names → (j : Judged) → JudgedIs c code arrays j → (a : JudgeAnswer) → a ≡ judgedAnswer j → a ≡ judgePlan rules p h
+  unfolding JudgedIs
+  judge-equal e j says a f =
+      let named : p .names ≡ length (namesOf rules) = sym (stored .names) ∙ e ∙ compiled .names-counted in
+      f ∙ ap judgedAnswer (says rules compiled p h named stored) ∙ same-judgement (judge (namedFloor rules p h) rules)
+      ∙ sym (ap (λ (b : Bool). cond b (judgementAnswer (judge (namedFloor rules p h) rules)) (JudgeAnswer.NamesDiffer (p .names)))
+      (eq-eqb (p .names) (length (namesOf rules)) named))
+
+pub says-differ : (c : Compiling) (code : List ℕ) (arrays : PlanArrays) → (arrays .names ≡ c .sheet .names → ⊥)
+    → JudgeAnswerSays c code arrays (JudgeAnswer.NamesDiffer (arrays .names))
+unfolding JudgeAnswerSays
+says-differ c code arrays differ rules compiled p h stored = judge-differs rules c code arrays compiled p h stored differ
+
+pub says-equal : (c : Compiling) (code : List ℕ) (arrays : PlanArrays) → arrays .names ≡ c .sheet .names → (j : Judged) → JudgedIs c code arrays j
+    → (a : JudgeAnswer) → a ≡ judgedAnswer j → JudgeAnswerSays c code arrays a
+unfolding JudgeAnswerSays
+says-equal c code arrays e j says a f rules compiled p h stored = judge-equal rules c code arrays compiled p h stored e j says a f
+
+module _ (t : Table) (v : FromUs t) (words : List ℕ) where
+  judges-of : (a : JudgeAnswer) → a ≡ judgeAnswer (rulesOf t) words → Judges t words (judgeResult t a)
+  unfolding judged
+  judges-of a e = record { result = ap₂ judgeResult (v .same) e; same = refl; from-us = v }
+
+  pub judges-none : t .count ≤ 0 → Judges t words (judgeResult t JudgeAnswer.NoRule)
+  unfolding judgeAnswer
+  judges-none h = go (rulesOf t) refl (omega (arith, count-is t v))
+    where
+      go : (rs : List Text) → rulesOf t ≡ rs → length rs ≤ 0 → Judges t words (judgeResult t JudgeAnswer.NoRule)
+      go [] e l = judges-of JudgeAnswer.NoRule (sym (ap (λ (rs : List Text). judgeAnswer rs words) e))
+      go (s ∷ rs) e l = absurd (omega arith)
+
+  -- some rule stands
+  judges-some : 0 < t .count → (a : JudgeAnswer) → a ≡ judgeReading (formulasOf (rulesOf t)) words (readOf words) (exact words) → Judges t words (judgeResult t a)
+  unfolding judgeAnswer
+  judges-some h a e = judges-of a (e ∙ some (rulesOf t) (omega (arith, count-is t v)))
+    where
+      some : (rs : List Text) → 0 < length rs → judgeReading (formulasOf rs) words (readOf words) (exact words) ≡ judgeAnswer rs words
+      some [] l = absurd (omega arith)
+      some (s ∷ rs) l = refl
+
+  module _ (r : PlanRead) (reads : Reads words r) where
+    -- the words are no plan
+    pub judges-words : 0 < t .count → (at : ℕ) → r .answer ≡ PlanAnswer.Refused at → Judges t words (judgeResult t (JudgeAnswer.NotAPlan at))
+    judges-words h at e = judges-some h (JudgeAnswer.NotAPlan at) (sym (go (readOf words) (exact words) (sym (reads .answer) ∙ e)))
+      where
+        go : (x : Reading) (says : Says words x) → answerOf x ≡ PlanAnswer.Refused at → judgeReading (formulasOf (rulesOf t)) words x says ≡ JudgeAnswer.NotAPlan at
+        go (plan p) says q = absurd (let z : _≡_ {A = ℕ} 0 1 = cc in omega arith)
+        go (refused j) says q = let z : j ≡ at = cc in ap JudgeAnswer.NotAPlan z
+
+    -- they are one
+    pub judges-plan : 0 < t .count → r .answer ≡ PlanAnswer.Plan → (c : Compiling) (code : List ℕ) → CompiledRules (formulasOf (rulesOf t)) c code
+        → (a : JudgeAnswer) → JudgeAnswerSays c code (r .plan) a → Judges t words (judgeResult t a)
+    unfolding JudgeAnswerSays
+    judges-plan h e c code compiled a says = judges-some h a (go (readOf words) (exact words) (sym (reads .answer) ∙ e) (reads .plan))
+      where
+        go : (x : Reading) (s : Says words x) → answerOf x ≡ PlanAnswer.Plan → Stored (r .plan) (planIn x) → a ≡ judgeReading (formulasOf (rulesOf t)) words x s
+        go (plan p) s q stored = says (formulasOf (rulesOf t)) compiled p (s .0) stored
+        go (refused j) s q stored = absurd (let z : _≡_ {A = ℕ} 0 1 = cc in omega arith)

@@ -1,0 +1,52 @@
+-- The rules of a table compiled text by text: each text of a list that can stand is a rule, and there is room for it behind those
+-- before it. Assumes nothing.
+use Prim.Native.Nat.{ℕ, _+_, _≤_, _<_}
+use mathlib.Core.Path.{_≡_, sym, ap, subst, _∙_}
+use mathlib.Core.List.{List, [], _∷_, _++_, map}
+use native.Mathlib.Omega.{arith}
+use lib.ListN.{length, take, length-map}
+use lib.Seq.{take-all}
+use Rattle.syntax.specs.Rule.{meaningOf}
+use Rattle.sheets.specs.declared.Compiling.{Compiling}
+use Rattle.sheets.specs.Texts.{Fits, CompiledTexts, NothingCompiled, Ready, WithText}
+use Rattle.sheets.proofs.Claims.{no-texts, may-add, text-added}
+use Rattle.table.specs.declared.Line.{Line}
+use Rattle.table.specs.declared.Table.{Table}
+use Rattle.table.specs.Store.{Text, rulesOf}
+use Rattle.table.specs.Calls.{namesIn, atomsIn, CanStand, FromUs}
+use Rattle.table.proofs.Standing.{is-rule}
+use Rattle.table.proofs.Held.{count-is}
+use Rattle.table.proofs.Recount.{text, first, stands, text-read}
+
+-- rules that can stand can be compiled
+pub stand-fits : (rs : List Text) → CanStand rs → Fits (map meaningOf rs)
+unfolding namesIn atomsIn
+stand-fits rs h = record { rules-fit = omega (arith, length-map rs meaningOf, h .few); names-fit = h .names; atoms-fit = h .atoms }
+
+-- the loop's invariant: the first i texts are compiled
+pub record Reached (t : Table) (c : Compiling) (code : List ℕ) (i : ℕ) : Type 0 where
+  pub within : i ≤ length (rulesOf t)
+  pub texts : CompiledTexts (take i (rulesOf t)) c code
+
+pub reached-none : (t : Table) (c : Compiling) (code : List ℕ) → NothingCompiled c → length code ≡ 4096 → Reached t c code 0
+reached-none t c code n l = record { within = omega arith; texts = no-texts c code n l }
+
+pub reached-all : (t : Table) (c : Compiling) (code : List ℕ) (i : ℕ) → FromUs t → Reached t c code i → t .count ≤ i → CompiledTexts (rulesOf t) c code
+reached-all t c code i v p h =
+    subst (λ (rs : List Text). CompiledTexts rs c code) (take-all i (rulesOf t) (omega (arith, count-is t v))) (p .texts)
+
+-- the i-th text
+module _ (t : Table) (v : FromUs t) (i : ℕ) (d : Line) (h : i < t .count) (c : Compiling) (code : List ℕ) (p : Reached t c code i) where
+  room : Fits (map meaningOf (take i (rulesOf t) ++ text t v i d h ∷ []))
+  room = stand-fits (take i (rulesOf t) ++ text t v i d h ∷ []) (stands t v i d h)
+
+  pub reached-ready : Ready (text t v i d h) c code
+  reached-ready = may-add (take i (rulesOf t)) (text t v i d h) c code (p .texts) (is-rule (text t v i d h) (text-read t v i d h)) room
+
+  pub reached-next : (r : Compiling) (out : List ℕ) → WithText (text t v i d h) c code r out → Reached t r out (i + 1)
+  reached-next r out says =
+      record {
+        within = omega (arith, count-is t v);
+        texts = subst (λ (rs : List Text). CompiledTexts rs r out) (sym (first t v i d h))
+            (text-added (take i (rulesOf t)) (text t v i d h) c code (p .texts) (is-rule (text t v i d h) (text-read t v i d h)) room r out says);
+      }

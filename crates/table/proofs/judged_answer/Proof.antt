@@ -1,0 +1,21 @@
+-- Each case is answered by its own. Assumes nothing.
+use borrow.Author.Needs.{needs}
+use mathlib.Core.Path.{sym, ap}
+use Rattle.table.specs.Asking.{judgedAnswer}
+use Rattle.table.proofs.judged_answer.Statement.{statement}
+use Rattle.table.proofs.judged_answer.Tie as tie
+
+enum-told : tie.Need-enum-told
+enum-told c = search needs
+
+enum-known-j : tie.Need-enum-known-j
+enum-known-j c = search needs
+
+returns : tie.Need-returns
+returns c = search needs
+
+returns-2 : tie.Need-returns-2
+returns-2 c = sym (ap judgedAnswer (c .before .j .given .1))
+
+pub judged-answer-spec : {M : Type 1} → statement M
+judged-answer-spec = tie.close (tie.spec enum-told enum-known-j returns returns-2)

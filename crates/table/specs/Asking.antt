@@ -1,0 +1,112 @@
+-- What ask and judge give, as functions of the list of standing texts and of what is lent beside the table. Assumes nothing.
+use Prim.Native.Nat.{ℕ}
+use mathlib.Core.Path.{_≡_}
+use mathlib.Core.Bool.{cond}
+use mathlib.Core.List.{List, [], _∷_}
+use lib.Dec.{leb, eqb}
+use lib.ListN.{length}
+use Rattle.formula.specs.Formula.{Formula, Name}
+use Rattle.contact.specs.Numbering.{namesOf}
+use Rattle.plan.specs.declared.Written.{Written}
+use Rattle.plan.specs.declared.Written.the-variants as Written
+use Rattle.plan.specs.Words.{Plan, IsPlan, wordsOf}
+use Rattle.plan.specs.Reader.{Reading, plan, refused, readOf}
+use Rattle.plan.specs.declared.PlanArrays.{PlanArrays}
+use Rattle.plan.specs.Arrays.{Stored, over}
+use Rattle.plan.specs.Given.{plansOf}
+use Rattle.plan.specs.Judging.{Judgement, yes, unmet, judge}
+use Rattle.plan.proofs.Floors.{namedFloor}
+use Rattle.plan.proofs.Exact.{Says, exact}
+use Rattle.judging.specs.declared.Judged.{Judged}
+use Rattle.judging.specs.declared.Judged.the-variants as Judged
+use Rattle.sheets.specs.declared.Compiling.{Compiling}
+use Rattle.sheets.specs.Texts.{CompiledRules}
+use Rattle.table.specs.declared.Table.{Table}
+use Rattle.table.specs.declared.AskAnswer.{AskAnswer}
+use Rattle.table.specs.declared.AskAnswer.the-variants as AskAnswer
+use Rattle.table.specs.declared.AskResult.{AskResult}
+use Rattle.table.specs.declared.JudgeAnswer.{JudgeAnswer}
+use Rattle.table.specs.declared.JudgeAnswer.the-variants as JudgeAnswer
+use Rattle.table.specs.declared.JudgeResult.{JudgeResult}
+use Rattle.table.specs.Store.{Text, tableOf, rulesOf}
+use Rattle.table.specs.Calls.{formulasOf, FromUs}
+
+-- ---- ask
+
+-- "Ask answers a plan, with its number of words"; refusal 12: "the plan has more words than the buffer | words needed"
+abbrev pub planAnswer : ℕ → ℕ → AskAnswer
+planAnswer needed room = cond (leb needed room) (AskAnswer.Plan needed) (AskAnswer.ShortBuffer needed)
+
+-- the writer's answer
+abbrev pub writtenAnswer : Written → AskAnswer
+writtenAnswer (Written.Words n) = AskAnswer.Plan n
+writtenAnswer (Written.Needs n) = AskAnswer.ShortBuffer n
+
+-- "or no plan"
+abbrev pub foundAnswer : List Plan → ℕ → AskAnswer
+foundAnswer [] room = AskAnswer.NoPlan
+foundAnswer (p ∷ ps) room = planAnswer (length (wordsOf p)) room
+
+-- refusal 11: "no rule stands"
+unfoldable pub askAnswer : List Text → ℕ → AskAnswer
+askAnswer [] room = AskAnswer.NoRule
+askAnswer (s ∷ rs) room = foundAnswer (plansOf (formulasOf (s ∷ rs))) room
+
+-- "words past the plan, and all words for no plan, keep their values", and so do all words for a refusal
+abbrev pub foundWords : List Plan → List ℕ → List ℕ
+foundWords [] buffer = buffer
+foundWords (p ∷ ps) buffer = cond (leb (length (wordsOf p)) (length buffer)) (over (wordsOf p) buffer) buffer
+
+unfoldable pub askWords : List Text → List ℕ → List ℕ
+askWords [] buffer = buffer
+askWords (s ∷ rs) buffer = foundWords (plansOf (formulasOf (s ∷ rs))) buffer
+
+unfoldable pub asked : List Text → List ℕ → AskResult
+asked rs buffer = record { table = tableOf rs; answer = askAnswer rs (length buffer) }
+
+-- the result, and each word of the buffer
+pub record Asks (t : Table) (buffer : List ℕ) (r : AskResult) (exit : List ℕ) : Type 0 where
+  pub result : r ≡ asked (rulesOf t) buffer
+  pub words : exit ≡ askWords (rulesOf t) buffer
+  pub same : r .table ≡ t
+  pub from-us : FromUs (r .table)
+
+-- ---- judge
+
+-- "Judge answers yes or the lowest unmet rule, from 1"
+abbrev pub judgementAnswer : Judgement → JudgeAnswer
+judgementAnswer yes = JudgeAnswer.Yes
+judgementAnswer (unmet k) = JudgeAnswer.Unmet k
+
+-- the same of the code's answer
+abbrev pub judgedAnswer : Judged → JudgeAnswer
+judgedAnswer Judged.Yes = JudgeAnswer.Yes
+judgedAnswer (Judged.Unmet k) = JudgeAnswer.Unmet k
+
+-- a plan, as a floor over the rules' names in their numbering; refusal 14: "names differ in number | plan's names"
+abbrev pub judgePlan : List (Formula Name) → (p : Plan) → IsPlan p → JudgeAnswer
+judgePlan rules p h =
+    cond (eqb (p .names) (length (namesOf rules))) (judgementAnswer (judge (namedFloor rules p h) rules)) (JudgeAnswer.NamesDiffer (p .names))
+
+-- the answer for a plan that arrays hold, by the rules that are compiled
+unfoldable pub JudgeAnswerSays : Compiling → List ℕ → PlanArrays → JudgeAnswer → Type 0
+JudgeAnswerSays c code arrays r =
+    (rules : List (Formula Name)) → CompiledRules rules c code → (p : Plan) (h : IsPlan p) → Stored arrays p → r ≡ judgePlan rules p h
+
+-- refusal 13: "words up to here begin no plan, or end early | word index, or the length"; what is read is a plan (`exact`)
+abbrev pub judgeReading : List (Formula Name) → (words : List ℕ) → (r : Reading) → Says words r → JudgeAnswer
+judgeReading rules words (plan p) h = judgePlan rules p (h .0)
+judgeReading rules words (refused j) h = JudgeAnswer.NotAPlan j
+
+-- refusal 11: "no rule stands"
+unfoldable pub judgeAnswer : List Text → List ℕ → JudgeAnswer
+judgeAnswer [] words = JudgeAnswer.NoRule
+judgeAnswer (s ∷ rs) words = judgeReading (formulasOf (s ∷ rs)) words (readOf words) (exact words)
+
+unfoldable pub judged : List Text → List ℕ → JudgeResult
+judged rs words = record { table = tableOf rs; answer = judgeAnswer rs words }
+
+pub record Judges (t : Table) (words : List ℕ) (r : JudgeResult) : Type 0 where
+  pub result : r ≡ judged (rulesOf t) words
+  pub same : r .table ≡ t
+  pub from-us : FromUs (r .table)
