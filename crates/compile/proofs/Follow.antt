@@ -3,11 +3,11 @@
 use mathlib.Core.Bool.{true, false}
 use mathlib.Core.Path.{_≡_, refl, sym, ap, ap₂, subst, _∙_}
 use mathlib.Core.List.{List, [], _∷_, _++_, map, append-assoc, append-nil}
-use Prim.Native.Nat.{ℕ, zero, suc, _+_, _-_, _≤_, _<_}
+use Prim.Native.Nat.{ℕ, zero, suc, _+_, _-_, _*_, _≤_, _<_}
 use native.Mathlib.Omega.{arith}
 use native.Mathlib.Numerals.{add-one}
 use lib.Dec.{eqb}
-use lib.ListN.{length, getD, take, drop, set, length-append, length-set, take-append-drop}
+use lib.ListN.{length, getD, take, drop, set, length-append, length-drop, length-set, take-append-drop}
 use lib.Seq.{length-take-le, take-suc, take-length}
 use Rattle.formula.specs.Formula.{Atom, Formula, Name}
 use Rattle.syntax.specs.Symbol.{Leaf, leaf, opening}
@@ -95,13 +95,13 @@ module _ (f : Formula Name) (g : Name → ℕ) (atoms : List (Atom ℕ)) where
   reached-bounds : (i : ℕ) → i ≤ length (postfix f) → Bounds g i (start atoms) (reached f g atoms i)
   reached-bounds i l = subst (λ (k : ℕ). Bounds g k (start atoms) (reached f g atoms i)) (length-take-le i (postfix f) l) (run-bounds g (take i (postfix f)) (start atoms))
 
-  -- no atom is taken away on the way to the end
-  reached-few : (i : ℕ) → length (reached f g atoms i .atoms) ≤ length (atomsAfter g f atoms)
-  reached-few i =
-      subst (λ (s : State). length (reached f g atoms i .atoms) ≤ length (s .atoms))
+  -- the symbols left lead from there to the end
+  reached-on : (i : ℕ) → Bounds g (length (drop i (postfix f))) (reached f g atoms i) (record { terms = []; atoms = atomsAfter g f atoms; code = codeAfter f atoms })
+  reached-on i =
+      subst (Bounds g (length (drop i (postfix f))) (reached f g atoms i))
       (sym (run-append g (take i (postfix f)) (drop i (postfix f)) (start atoms)) ∙ ap (λ (p : List Sym). run g p (start atoms)) (take-append-drop i (postfix f) ∙ sym (take-length (postfix f)))
       ∙ reached-end (length (postfix f)) refl)
-      (run-bounds g (drop i (postfix f)) (reached f g atoms i) .more)
+      (run-bounds g (drop i (postfix f)) (reached f g atoms i))
 
 -- the loop's values are those of the machine's state s, where so many names are passed
 pub record Follows (names from : ℕ) (buf : List ℕ) (s : State) (count : ℕ) (out : List ℕ) (stack : List EvalSet) (height used : ℕ) (sheet : Sheet) (end : ℕ) : Type 0 where
@@ -115,13 +115,13 @@ pub record Follows (names from : ℕ) (buf : List ℕ) (s : State) (count : ℕ)
 
 pub record Inv (order numbers : List ℕ) (before : Sheet) (buf : List ℕ) (from : ℕ) (out : List ℕ) (stack : List EvalSet) (height used : ℕ) (sheet : Sheet) (end i : ℕ) : Type 0 where
   pub within : i ≤ length order
-  pub whole : length stack ≡ 257
+  pub whole : length stack ≡ 172
   pub follows : (f : Formula Name) (g : Name → ℕ) (atoms : List (Atom ℕ)) → Given order numbers before f g atoms
       → Follows (before .names) from buf (reached f g atoms i) (passed (postfix f) i) out stack height used sheet end
 
 -- ---- before the first symbol
 
-pub begins : (order numbers : List ℕ) (before : Sheet) (buf : List ℕ) (from : ℕ) (stack : List EvalSet) → length stack ≡ 257
+pub begins : (order numbers : List ℕ) (before : Sheet) (buf : List ℕ) (from : ℕ) (stack : List EvalSet) → length stack ≡ 172
     → Inv order numbers before buf from buf stack 0 0 before from 0
 unfolding run namesIn
 begins order numbers before buf from stack w =
@@ -163,6 +163,17 @@ module _ {order numbers : List ℕ} {before : Sheet} {buf : List ℕ} {from : �
   pub low : height ≤ i
   low = omega (arith, first-follows .high, reached-bounds (q .formula) (q .numbering) (q .atoms) i (omega (arith, inv .within, same-length (q .given))) .high)
 
+  -- nor higher than what the symbols left can take away
+  pub lower : height ≤ 2 * (length order - i)
+  lower =
+      omega (
+        arith,
+        first-follows .high,
+        reached-on (q .formula) (q .numbering) (q .atoms) i .low,
+        length-drop i (postfix (q .formula)),
+        same-length (q .given),
+      )
+
   pub fits : end ≤ from + i
   fits = omega (arith, first-follows .ends, reached-bounds (q .formula) (q .numbering) (q .atoms) i (omega (arith, inv .within, same-length (q .given))) .long)
 
@@ -187,7 +198,7 @@ module _ {order numbers : List ℕ} {before : Sheet} {buf : List ℕ} {from : �
           arith,
           first-follows .compiled-from .counted,
           q .given .few,
-          reached-few (q .formula) (q .numbering) (q .atoms) (i + 1),
+          reached-on (q .formula) (q .numbering) (q .atoms) (i + 1) .more,
           ap (λ (s : State). length (s .atoms)) (reached-next (q .formula) (q .numbering) (q .atoms) i z),
           atom-grows (q .numbering) (symbolAt (postfix (q .formula)) i) (reached (q .formula) (q .numbering) (q .atoms) i) (ap atomKind (sym e) ∙ a),
         )
@@ -199,7 +210,7 @@ module _ {order numbers : List ℕ} {before : Sheet} {buf : List ℕ} {from : �
 
     module _ (h : ℕ) (d : h ≡ height - takenBy kind) where
       -- the next symbol, once the values are those of the state after it
-      next : {out' : List ℕ} {stack' : List EvalSet} {height' used' : ℕ} {sheet' : Sheet} {end' : ℕ} → length stack' ≡ 257
+      next : {out' : List ℕ} {stack' : List EvalSet} {height' used' : ℕ} {sheet' : Sheet} {end' : ℕ} → length stack' ≡ 172
           → ((f : Formula Name) (g : Name → ℕ) (atoms : List (Atom ℕ)) → Given order numbers before f g atoms
           → Follows (before .names) from buf (step g (symbolAt (postfix f) i) (reached f g atoms i)) (passed (postfix f) i + namesBy kind) out' stack' height' used' sheet' end')
           → Inv order numbers before buf from out' stack' height' used' sheet' end' (i + 1)
@@ -215,7 +226,7 @@ module _ {order numbers : List ℕ} {before : Sheet} {buf : List ℕ} {from : �
                 (sym (passed-next (postfix f) i z ∙ ap (λ (k : ℕ). passed (postfix f) i + namesBy k) (sym (kind-is G i l)))) (h' f g atoms G));
           }
 
-      pub term-again : (r : EvalSet) (k more : ℕ) → h < 257 → termKind kind ≡ true → k ≡ getD numbers used 0 → more ≡ namesBy kind
+      pub term-again : (r : EvalSet) (k more : ℕ) → h < 172 → termKind kind ≡ true → k ≡ getD numbers used 0 → more ≡ namesBy kind
           → mem r ≡ setBy kind k (memAt stack h) (memAt stack (h + 1))
           → Inv order numbers before buf from out (set stack h r) (h + 1) (used + more) sheet end (i + 1)
       term-again r k more b t n j m =

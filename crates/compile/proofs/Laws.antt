@@ -3,7 +3,7 @@
 use mathlib.Core.Bool.{true, false}
 use mathlib.Core.Path.{_≡_, refl, sym, ap, ap₂, _∙_}
 use mathlib.Core.List.{List, [], _∷_, _++_, append-assoc, append-nil}
-use Prim.Native.Nat.{ℕ, _+_, _≤_}
+use Prim.Native.Nat.{ℕ, _+_, _*_, _≤_}
 use native.Mathlib.Omega.{arith}
 use lib.ListN.{length, length-append, length-map}
 use Rattle.formula.specs.declared.Sign.the-variants.{Implies, Iff, Or, And, Plus, Times}
@@ -104,37 +104,39 @@ module _ {N : Type 0} (g : N → ℕ) where
 
   -- ---- bounds
 
-  -- of n symbols: each puts at most one term on the stack and one number into the code, and no atom is taken away
+  -- of n symbols: each puts at most one term on the stack, takes at most two away and puts one number into the code, and no atom is
+  -- taken away
   pub record Bounds (n : ℕ) (s r : State) : Type 0 where
     pub high : length (r .terms) ≤ length (s .terms) + n
+    pub low : length (s .terms) ≤ length (r .terms) + 2 * n
     pub long : length (r .code) ≤ length (s .code) + n
     pub more : length (s .atoms) ≤ length (r .atoms)
 
-  by-terms : (ts : List (Term ℕ)) (s : State) → length ts ≤ length (s .terms) + 1 → Bounds 1 s (withTerms ts s)
-  by-terms ts s l = record { high = l; long = omega arith; more = omega arith }
+  by-terms : (ts : List (Term ℕ)) (s : State) → length ts ≤ length (s .terms) + 1 → length (s .terms) ≤ length ts + 1 → Bounds 1 s (withTerms ts s)
+  by-terms ts s l k = record { high = l; low = omega arith; long = omega arith; more = omega arith }
 
-  by-atom : (a : Atom ℕ) (ts : List (Term ℕ)) (s : State) → length ts ≤ length (s .terms) → Bounds 1 s (withAtom a ts s)
-  by-atom a ts s l =
-      record { high = omega arith; long = omega (arith, length-append (s .code) (atomSign (length (s .atoms)) ∷ [])); more = omega (arith, length-append (s .atoms) (a ∷ [])) }
+  by-atom : (a : Atom ℕ) (ts : List (Term ℕ)) (s : State) → length ts ≤ length (s .terms) → length (s .terms) ≤ length ts + 2 → Bounds 1 s (withAtom a ts s)
+  by-atom a ts s l k =
+      record { high = omega arith; low = omega arith; long = omega (arith, length-append (s .code) (atomSign (length (s .atoms)) ∷ [])); more = omega (arith, length-append (s .atoms) (a ∷ [])) }
 
   by-sign : (c : ℕ) (s : State) → Bounds 1 s (withSign c s)
-  by-sign c s = record { high = omega arith; long = omega (arith, length-append (s .code) (c ∷ [])); more = omega arith }
+  by-sign c s = record { high = omega arith; low = omega arith; long = omega (arith, length-append (s .code) (c ∷ [])); more = omega arith }
 
   by-none : (s : State) → Bounds 1 s s
-  by-none s = record { high = omega arith; long = omega arith; more = omega arith }
+  by-none s = record { high = omega arith; low = omega arith; long = omega arith; more = omega arith }
 
-  fewer : (ts : List (Term ℕ)) → length (below ts) ≤ length ts
-  fewer [] = omega arith
-  fewer (t ∷ ts) = omega arith
+  fewer : (ts : List (Term ℕ)) → (length (below ts) ≤ length ts) × (length ts ≤ length (below ts) + 1)
+  fewer [] = (omega arith, omega arith)
+  fewer (t ∷ ts) = (omega arith, omega arith)
 
   step-bounds : (x : Symbol N) (s : State) → Bounds 1 s (step g x s)
-  step-bounds (leaf x) s = by-terms _ s (omega arith)
-  step-bounds minus s = by-terms _ s (omega (arith, fewer (s .terms)))
-  step-bounds (binary Times) s = by-terms _ s (omega (arith, fewer (s .terms), fewer (below (s .terms))))
-  step-bounds (binary Plus) s = by-terms _ s (omega (arith, fewer (s .terms), fewer (below (s .terms))))
-  step-bounds isZero s = by-atom _ _ s (fewer (s .terms))
-  step-bounds (relation contact) s = by-atom _ _ s (omega (arith, fewer (s .terms), fewer (below (s .terms))))
-  step-bounds (relation part) s = by-atom _ _ s (omega (arith, fewer (s .terms), fewer (below (s .terms))))
+  step-bounds (leaf x) s = by-terms _ s (omega arith) (omega arith)
+  step-bounds minus s = by-terms _ s (omega (arith, fewer (s .terms) .0, fewer (s .terms) .1)) (omega (arith, fewer (s .terms) .0, fewer (s .terms) .1))
+  step-bounds (binary Times) s = by-terms _ s (omega (arith, fewer (s .terms) .0, fewer (s .terms) .1, fewer (below (s .terms)) .0, fewer (below (s .terms)) .1)) (omega (arith, fewer (s .terms) .0, fewer (s .terms) .1, fewer (below (s .terms)) .0, fewer (below (s .terms)) .1))
+  step-bounds (binary Plus) s = by-terms _ s (omega (arith, fewer (s .terms) .0, fewer (s .terms) .1, fewer (below (s .terms)) .0, fewer (below (s .terms)) .1)) (omega (arith, fewer (s .terms) .0, fewer (s .terms) .1, fewer (below (s .terms)) .0, fewer (below (s .terms)) .1))
+  step-bounds isZero s = by-atom _ _ s (fewer (s .terms) .0) (omega (arith, fewer (s .terms) .0, fewer (s .terms) .1))
+  step-bounds (relation contact) s = by-atom _ _ s (omega (arith, fewer (s .terms) .0, fewer (s .terms) .1, fewer (below (s .terms)) .0, fewer (below (s .terms)) .1)) (omega (arith, fewer (s .terms) .0, fewer (s .terms) .1, fewer (below (s .terms)) .0, fewer (below (s .terms)) .1))
+  step-bounds (relation part) s = by-atom _ _ s (omega (arith, fewer (s .terms) .0, fewer (s .terms) .1, fewer (below (s .terms)) .0, fewer (below (s .terms)) .1)) (omega (arith, fewer (s .terms) .0, fewer (s .terms) .1, fewer (below (s .terms)) .0, fewer (below (s .terms)) .1))
   step-bounds tilde s = by-sign 0 s
   step-bounds (binary And) s = by-sign 1 s
   step-bounds (binary Or) s = by-sign 2 s
@@ -148,12 +150,13 @@ module _ {N : Type 0} (g : N → ℕ) where
 
   pub run-bounds : (xs : List (Symbol N)) (s : State) → Bounds (length xs) s (run g xs s)
   unfolding run
-  run-bounds [] s = record { high = omega arith; long = omega arith; more = omega arith }
+  run-bounds [] s = record { high = omega arith; low = omega arith; long = omega arith; more = omega arith }
   run-bounds (x ∷ xs) s =
       let a = step-bounds x s in
       let b = run-bounds xs (step g x s) in
       record {
         high = omega (arith, a .high, b .high);
+        low = omega (arith, a .low, b .low);
         long = omega (arith, a .long, b .long);
         more = omega (arith, a .more, b .more);
       }

@@ -182,17 +182,17 @@ fn sign_code(kind: u8, atoms: usize) -> u8
     }
 }
 
-// A stack of empty sets.
-fn empty_stack() -> [EvalSet; 257]
-    ensures { λ r. ⌜ length r ≡ 257 ⌝ }
+// A stack of empty sets. A symbol puts at most one set on it and takes at most two away, and none is left in the end: of 256
+// symbols the stack is never higher than 170.
+fn empty_stack() -> [EvalSet; 172]
+    ensures { λ r. ⌜ length r ≡ 172 ⌝ }
 {
     let none = evalset::empty();
-    [none; 257]
+    [none; 172]
 }
 
 // The rule with this order, whose names have these numbers at their places: its atoms go behind those of the sheet, its code
-// into the array from a place on. A rule has at most 256 tokens, so the stack is never full: the place above its top can
-// be read. The requires asks for the order of a formula, a compiled sheet, and room for the rule's atoms and code: a caller
+// into the array from a place on. The stack is never full: the place above its top can be read. The requires asks for the order of a formula, a compiled sheet, and room for the rule's atoms and code: a caller
 // has them of what was read (`order-read` and `order-short` of proofs/Claims.antt) and counted.
 pub fn compile_rule(
     order: &[u8],

@@ -5,7 +5,7 @@ use mathlib.Core.Path.{sym, ap, _∙_}
 use lib.ListN.{length, getD}
 use borrow.Author.Needs.{needs}
 use Rattle.evalset.specs.Sets.{memAt}
-use Rattle.compile.proofs.Follow.{Inv, begins, low, fits, few-names, few-atoms, enough, space, term-again, atom-again, sign-again, finished}
+use Rattle.compile.proofs.Follow.{Inv, begins, low, lower, fits, few-names, few-atoms, enough, space, term-again, atom-again, sign-again, finished}
 use Rattle.compile.proofs.Steps.{one-at-most}
 use Rattle.compile.proofs.compile_rule.Statement.{statement}
 use Rattle.compile.proofs.compile_rule.Tie as tie
@@ -21,11 +21,12 @@ module _ (c : tie.After-taken Inv-loop μ-loop) where
   taken-enough : c .taken .result ≤ c .before .before .before .loop .height
   taken-enough = omega (arith, c .taken .ensures, enough (c .before .before .before .before .before .before .before .pre) (c .before .before .before .loop .inv) (omega arith))
 
-  height-low : c .before .before .before .loop .height < 256
+  height-low : c .before .before .before .loop .height < 171
   height-low =
       omega (
         arith,
         low (c .before .before .before .before .before .before .before .pre) (c .before .before .before .loop .inv),
+        lower (c .before .before .before .before .before .before .before .pre) (c .before .before .before .loop .inv),
         c .before .before .before .before .before .before .before .pre .short,
       )
 

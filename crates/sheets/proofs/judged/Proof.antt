@@ -1,6 +1,5 @@
 -- Judging is asked and answers what Claims.antt says of the compiled rules. Assumes nothing.
 use mathlib.Core.Path.{_≡_, sym}
-use Prim.Native.Nat.{_≤_}
 use native.Mathlib.Omega.{arith}
 use lib.ListN.{length, length-map}
 use lib.Seq.{length-take-le}
@@ -10,17 +9,19 @@ use Rattle.sheets.proofs.Claims.{may-run, answer-judged}
 use Rattle.sheets.proofs.judged.Statement.{statement}
 use Rattle.sheets.proofs.judged.Tie as tie
 
--- the ends of the rules have their places in the array
-ends-fit : (c : tie.Start) → c .args .c .count ≤ length (c .args .c .ends)
-ends-fit c =
-    let l : length (c .args .c .ends) ≡ 16 = simp length-map at (c .good .0 .1 .1 .1 .1 .0 .1 .0 .1) in
-    omega (arith, c .pre .rules-compiled .counted, c .pre .rules-compiled .fits .rules-fit)
+-- the array is as long as its type says
+ends-long : (c : tie.Start) → length (c .args .c .ends) ≡ 16
+ends-long c = simp length-map at (c .good .0 .1 .1 .1 .1 .0 .1 .0 .1)
 
 array-share-prefix-ends : tie.Need-array-share-prefix-ends
-array-share-prefix-ends c = ends-fit (c .before .before .before)
+array-share-prefix-ends c =
+    let s = c .before .before .before in
+    omega (arith, ends-long s, s .pre .rules-compiled .counted, s .pre .rules-compiled .fits .rules-fit)
 
 slice-aggregate-judge-plan : tie.Need-slice-aggregate-judge-plan
-slice-aggregate-judge-plan c = sym (length-take-le _ _ (ends-fit (c .before .before .before .before)))
+slice-aggregate-judge-plan c =
+    let s = c .before .before .before .before in
+    sym (length-take-le _ (s .args .c .ends) (omega (arith, ends-long s, s .pre .rules-compiled .counted, s .pre .rules-compiled .fits .rules-fit)))
 
 judge-plan-requires : tie.Need-judge-plan-requires
 judge-plan-requires c κs =
