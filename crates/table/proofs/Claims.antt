@@ -12,15 +12,20 @@ use Rattle.table.specs.declared.WithdrawAnswer.{WithdrawAnswer}
 use Rattle.table.specs.declared.WithdrawResult.{WithdrawResult}
 use Rattle.table.specs.declared.LoadAnswer.{LoadAnswer}
 use Rattle.table.specs.declared.LoadResult.{LoadResult}
+use Rattle.table.specs.declared.AskAnswer.{AskAnswer}
+use Rattle.table.specs.declared.AskResult.{AskResult}
+use Rattle.table.specs.declared.JudgeAnswer.{JudgeAnswer}
 use Rattle.table.specs.Store.{Text, tableOf, rulesOf}
 use Rattle.table.specs.Calls.{judgeAdd, judgeWithdraw, judgeLoad, CanStand, FromUs, Adds, Withdraws, Loads}
-use Rattle.table.specs.Rows.{AddRow, WithdrawRow, LoadRow}
-use Rattle.table.specs.Runs.{Call, add, withdraw, load, step, run, after, Faithful}
+use Rattle.table.specs.Asking.{askAnswer, Asks, judgeAnswer}
+use Rattle.table.specs.Rows.{AddRow, WithdrawRow, LoadRow, AskRow, JudgeRow}
+use Rattle.table.specs.Runs.{Call, add, withdraw, load, ask, step, run, after, Faithful}
 use Rattle.table.proofs.Stored as Stored
 use Rattle.table.proofs.Standing as Standing
 use Rattle.table.proofs.Running as Running
 use Rattle.table.proofs.Rows as Rows
 use Rattle.table.proofs.LoadRows as LoadRows
+use Rattle.table.proofs.AskRows as AskRows
 
 -- ---- tables and lists
 
@@ -47,6 +52,9 @@ withdraw-steps = Running.by-withdraw
 
 pub load-steps : (t : Table) (f : Text) (r : LoadResult) → Loads t f r → r .table ≡ step t (load f)
 load-steps = Running.by-load
+
+pub ask-steps : (t : Table) (buffer : List ℕ) (r : AskResult) (exit : List ℕ) → Asks t buffer r exit → r .table ≡ step t (ask buffer)
+ask-steps = Running.by-ask
 
 -- every call maps the table of a list to the table of the list after it
 pub call-maps : (rs : List Text) (c : Call) → step (tableOf rs) c ≡ tableOf (after rs c)
@@ -82,3 +90,15 @@ load-answered = LoadRows.load-row
 
 pub load-answered-only : (f : Text) (a : LoadAnswer) → LoadRow f a → a ≡ judgeLoad f
 load-answered-only = LoadRows.load-row-only
+
+pub ask-answered : (room : ℕ) (rs : List Text) → AskRow rs room (askAnswer rs room)
+ask-answered = AskRows.ask-row
+
+pub ask-answered-only : (room : ℕ) (rs : List Text) (a : AskAnswer) → AskRow rs room a → a ≡ askAnswer rs room
+ask-answered-only = AskRows.ask-row-only
+
+pub judge-answered : (words : List ℕ) (rs : List Text) → JudgeRow rs words (judgeAnswer rs words)
+judge-answered = AskRows.judge-row
+
+pub judge-answered-only : (words : List ℕ) (rs : List Text) (a : JudgeAnswer) → JudgeRow rs words a → a ≡ judgeAnswer rs words
+judge-answered-only = AskRows.judge-row-only

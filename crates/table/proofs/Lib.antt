@@ -15,4 +15,5 @@ pub mod Asking
 pub mod Loading
 pub mod Rows
 pub mod LoadRows
+pub mod AskRows
 pub mod Claims

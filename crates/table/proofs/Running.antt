@@ -10,8 +10,10 @@ use Rattle.table.specs.declared.AddAnswer.the-variants as AddAnswer
 use Rattle.table.specs.declared.AddResult.{AddResult}
 use Rattle.table.specs.declared.WithdrawResult.{WithdrawResult}
 use Rattle.table.specs.declared.LoadResult.{LoadResult}
+use Rattle.table.specs.declared.AskResult.{AskResult}
 use Rattle.table.specs.Store.{Text, tableOf, rulesOf}
 use Rattle.table.specs.Calls.{CanStand, FromUs, Adds, Withdraws, Loads, judgeAdd, added, withdrawn, loaded}
+use Rattle.table.specs.Asking.{Asks}
 use Rattle.table.specs.Runs.{Call, add, withdraw, load, ask, step, runFrom, run, after, standingFrom, standing, adds, NoneRefused, Faithful}
 use Rattle.table.proofs.Stored.{rules-table, from-us-table}
 use Rattle.table.proofs.Standing.{stand-none, stand-first, stand-added, stand-add, stand-withdraw, stand-load, added-taken}
@@ -28,6 +30,10 @@ by-withdraw t k r h = ap (λ (x : WithdrawResult). x .table) (h .result)
 pub by-load : (t : Table) (f : Text) (r : LoadResult) → Loads t f r → r .table ≡ step t (load f)
 unfolding step
 by-load t f r h = ap (λ (x : LoadResult). x .table) (h .result)
+
+pub by-ask : (t : Table) (buffer : List ℕ) (r : AskResult) (exit : List ℕ) → Asks t buffer r exit → r .table ≡ step t (ask buffer)
+unfolding step
+by-ask t buffer r exit h = h .same
 
 -- one call, from the table of a list
 pub step-table : (rs : List Text) (c : Call) → step (tableOf rs) c ≡ tableOf (after rs c)

@@ -6,10 +6,19 @@ use Rattle.table.specs.declared.WithdrawAnswer.{WithdrawAnswer}
 use Rattle.table.specs.declared.WithdrawAnswer.the-variants as WithdrawAnswer
 use Rattle.table.specs.declared.LoadAnswer.{LoadAnswer}
 use Rattle.table.specs.declared.LoadAnswer.the-variants as LoadAnswer
+use Rattle.table.specs.declared.AskAnswer.{AskAnswer}
+use Rattle.table.specs.declared.AskAnswer.the-variants as AskAnswer
+use Rattle.table.specs.declared.JudgeAnswer.{JudgeAnswer}
+use Rattle.table.specs.declared.JudgeAnswer.the-variants as JudgeAnswer
 
--- done, or refused with a number and what is carried: a value, or for load a line and a place
+-- done, or refused with a number and what is carried: a value, or for load a line and a place; for ask a plan of so many words or no
+-- plan; for judge yes or the lowest unmet rule
 pub data Outcome : Type 0 where
   done : Outcome
+  plan : (words : ℕ) → Outcome
+  noPlan : Outcome
+  yes : Outcome
+  unmet : (rule : ℕ) → Outcome
   refused : (number carried : ℕ) → Outcome
   refusedLine : (number line place : ℕ) → Outcome
 
@@ -32,6 +41,10 @@ withdrawOutcome (WithdrawAnswer.NoSuchRule k) = refused 10 k
 -- an add's refusal on a line
 abbrev pub onLine : ℕ → Outcome → Outcome
 onLine n done = done
+onLine n (plan w) = plan w
+onLine n noPlan = noPlan
+onLine n yes = yes
+onLine n (unmet k) = unmet k
 onLine n (refused k p) = refusedLine k n p
 onLine n (refusedLine k l p) = refusedLine k l p
 
@@ -40,3 +53,16 @@ loadOutcome LoadAnswer.Loaded = done
 loadOutcome LoadAnswer.FileTooLong = refusedLine 15 0 0
 loadOutcome LoadAnswer.AllBlank = refusedLine 1 0 0
 loadOutcome (LoadAnswer.Line n a) = onLine n (addOutcome a)
+
+abbrev pub askOutcome : AskAnswer → Outcome
+askOutcome (AskAnswer.Plan n) = plan n
+askOutcome AskAnswer.NoPlan = noPlan
+askOutcome AskAnswer.NoRule = refused 11 0
+askOutcome (AskAnswer.ShortBuffer n) = refused 12 n
+
+abbrev pub judgeOutcome : JudgeAnswer → Outcome
+judgeOutcome JudgeAnswer.Yes = yes
+judgeOutcome (JudgeAnswer.Unmet k) = unmet k
+judgeOutcome JudgeAnswer.NoRule = refused 11 0
+judgeOutcome (JudgeAnswer.NotAPlan i) = refused 13 i
+judgeOutcome (JudgeAnswer.NamesDiffer n) = refused 14 n

@@ -3,7 +3,7 @@
 use Prim.Native.Nat.{ℕ, _+_, _≤_, _<_}
 use mathlib.Core.Path.{_≡_}
 use mathlib.Core.Logic.{_⊎_}
-use mathlib.Core.Bool.{false}
+use mathlib.Core.Bool.{true, false}
 use mathlib.Core.List.{List, [], _∷_, _++_}
 use lib.ListN.{length}
 use Rattle.formula.specs.Formula.{Formula, Name}
@@ -13,6 +13,11 @@ use Rattle.syntax.specs.declared.RuleAnswer.{RuleAnswer}
 use Rattle.syntax.specs.declared.RuleAnswer.the-variants as RuleAnswer
 use Rattle.evalset.specs.Search.{gather}
 use Rattle.contact.specs.Numbering.{allAtoms}
+use Rattle.contact.specs.Meaning.{Floor, meetsAll}
+use Rattle.plan.specs.Words.{Plan, IsPlan, wordsOf, Refusal}
+use Rattle.plan.specs.Given.{IsGiven}
+use Rattle.plan.proofs.Floors.{namedFloor}
+use Rattle.plan.proofs.Unmet.{FirstUnmet}
 use Rattle.names.specs.Gather.{placesOf, ruleTokens}
 use Rattle.names.specs.Seventh.{SeventhAt}
 use Rattle.table.specs.declared.AddAnswer.{AddAnswer}
@@ -21,6 +26,10 @@ use Rattle.table.specs.declared.WithdrawAnswer.{WithdrawAnswer}
 use Rattle.table.specs.declared.WithdrawAnswer.the-variants as WithdrawAnswer
 use Rattle.table.specs.declared.LoadAnswer.{LoadAnswer}
 use Rattle.table.specs.declared.LoadAnswer.the-variants as LoadAnswer
+use Rattle.table.specs.declared.AskAnswer.{AskAnswer}
+use Rattle.table.specs.declared.AskAnswer.the-variants as AskAnswer
+use Rattle.table.specs.declared.JudgeAnswer.{JudgeAnswer}
+use Rattle.table.specs.declared.JudgeAnswer.the-variants as JudgeAnswer
 use Rattle.table.specs.Store.{Text}
 use Rattle.table.specs.Calls.{formulasOf, namesIn, atomsIn, readAnswer, linesOf, blankLine, filled, CanStand}
 
@@ -65,3 +74,40 @@ pub data LoadRow (f : Text) : LoadAnswer → Type 0 where
   blank : length f ≤ 8192 → filled (linesOf f) ≡ [] → LoadRow f LoadAnswer.AllBlank
   line : {n : ℕ} {a : AddAnswer} → length f ≤ 8192 → RefusedLine (linesOf f) n a → LoadRow f (LoadAnswer.Line n a)
   loads : length f ≤ 8192 → (filled (linesOf f) ≡ [] → ⊥) → CanStand (filled (linesOf f)) → LoadRow f LoadAnswer.Loaded
+
+-- some rule stands
+abbrev pub SomeStand : List Text → Type 0
+SomeStand rs = rs ≡ [] → ⊥
+
+-- ask, with a buffer of so many words
+pub data AskRow (rs : List Text) (room : ℕ) : AskAnswer → Type 0 where
+  -- 11: "no rule stands"
+  none : rs ≡ [] → AskRow rs room AskAnswer.NoRule
+  -- no finite floor, of any number of points, meets all rules
+  without : SomeStand rs → ((F : Floor Name) → meetsAll F (formulasOf rs) ≡ true → ⊥) → AskRow rs room AskAnswer.NoPlan
+  -- 12: "the plan has more words than the buffer", with the "words needed"
+  short : {p : Plan} → SomeStand rs → IsGiven (formulasOf rs) p → room < length (wordsOf p) → AskRow rs room (AskAnswer.ShortBuffer (length (wordsOf p)))
+  given : {p : Plan} → SomeStand rs → IsGiven (formulasOf rs) p → length (wordsOf p) ≤ room → AskRow rs room (AskAnswer.Plan (length (wordsOf p)))
+
+-- the words are those of this plan, and it has as many names as the rules
+pub record Drawn (rs : List Text) (words : List ℕ) (p : Plan) : Type 0 where
+  pub is : IsPlan p
+  pub words-are : wordsOf p ≡ words
+  pub named : p .names ≡ length (namesIn rs)
+
+-- its floor over the rules' names in their numbering
+abbrev pub floorOf : {rs : List Text} {words : List ℕ} {p : Plan} → Drawn rs words p → Floor Name
+floorOf {rs} {words} {p} d = namedFloor (formulasOf rs) p (d .is)
+
+-- judge, with these words
+pub data JudgeRow (rs : List Text) (words : List ℕ) : JudgeAnswer → Type 0 where
+  -- 11: "no rule stands"
+  none : rs ≡ [] → JudgeRow rs words JudgeAnswer.NoRule
+  -- 13: "words up to here begin no plan, or end early"
+  unread : {j : ℕ} → SomeStand rs → Refusal words j → JudgeRow rs words (JudgeAnswer.NotAPlan j)
+  -- 14: "names differ in number", with the "plan's names"
+  differ : {p : Plan} → SomeStand rs → IsPlan p → wordsOf p ≡ words → (p .names ≡ length (namesIn rs) → ⊥) → JudgeRow rs words (JudgeAnswer.NamesDiffer (p .names))
+  -- "Judge answers yes"
+  met : {p : Plan} → SomeStand rs → (d : Drawn rs words p) → meetsAll (floorOf d) (formulasOf rs) ≡ true → JudgeRow rs words JudgeAnswer.Yes
+  -- "or the lowest unmet rule, from 1"
+  unmet : {p : Plan} {k : ℕ} → SomeStand rs → (d : Drawn rs words p) → FirstUnmet (floorOf d) 1 (formulasOf rs) k → JudgeRow rs words (JudgeAnswer.Unmet k)

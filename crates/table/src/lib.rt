@@ -1,17 +1,18 @@
 // The rule table: document 01, 'Calls, checked from the top down'. It holds nothing but the texts of the
 // standing rules, in canonical form; names, atoms and formulas are found from the texts whenever a call
 // needs them. The table goes into a call and comes back from it. The one requires is that it came from
-// `Table::empty` or from a call. What each call gives is in specs/Calls.antt, what its answers mean in
-// specs/Rows.antt, document 01's numbers are in specs/Numbers.antt, and what is proved of lists of calls
+// `Table::empty` or from a call. What each call gives is in specs/Calls.antt and specs/Asking.antt, what its
+// answers mean in specs/Rows.antt, document 01's numbers are in specs/Numbers.antt, and what is proved of lists of calls
 // is in proofs/Claims.antt.
 ghost use mathlib.Core.Path.{_≡_};
 ghost use mathlib.Core.List.{List, [], _∷_, _++_};
 ghost use Prim.Native.Nat.{ℕ, _+_, _-_, _≤_, _<_};
 ghost use lib.ListN.{length, take, drop, replicate};
 ghost use Rattle.syntax.specs.Rule.{ruleOf};
+ghost use Rattle.names.specs.Gather.{arraysOf};
 ghost use Rattle.sheets.specs.Texts.{CompiledTexts, Whole};
 ghost use Rattle.table.specs.Store.{lineOf, tableOf, rulesOf};
-ghost use Rattle.table.specs.Calls.{readAnswer, namesAnswer, judgeText, blankByte, blankLine, linesOf, linesFrom, FromUs, Adds, Withdraws, Loads};
+ghost use Rattle.table.specs.Calls.{namesIn, readAnswer, namesAnswer, judgeText, blankByte, blankLine, linesOf, linesFrom, FromUs, Adds, Withdraws, Loads};
 ghost use Rattle.table.specs.Asking.{writtenAnswer, judgedAnswer, JudgeAnswerSays, Asks, Judges};
 ghost use Rattle.table.specs.declared.AddAnswer.the-variants as AddAnswer;
 ghost use Rattle.table.specs.Drafts.{WasRead, isAtom, atomPlaces, draftOf, draftedOf, Drafts, loadResult};
@@ -448,6 +449,15 @@ impl Table {
             names,
             atoms,
         }
+    }
+
+    // The names of the standing rules in the order of their numbers.
+    pub fn names(self) -> Names
+        requires { ⌜ FromUs self ⌝ }
+        ensures { λ r. ⌜ r ≡ arraysOf (namesIn (rulesOf self)) ⌝ }
+    {
+        let d = self.to_draft();
+        d.names
     }
 
     // The table with a rule put last, its text as it came. A refused text leaves the table as it was; the
