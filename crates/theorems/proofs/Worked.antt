@@ -1,0 +1,109 @@
+-- Every worked sheet holds: the standing rules and the words of their plan are computed from the rule texts, one equation over the
+-- table of rows, and what ask gives follows for any buffer. Assumes nothing.
+use mathlib.Core.Path.{_≡_, refl, sym, ap, _∙_, subst}
+use mathlib.Core.Bool.{Bool, true, false, cond}
+use mathlib.Core.List.{List, [], _∷_, map, nil≢cons, cons≢nil, head-eq-of-cons-eq, tail-eq-of-cons-eq}
+use Prim.Native.Nat.{ℕ}
+use lib.Dec.{leb}
+use lib.ListN.{length}
+use borrow.Author.Tests.{le-leb, lt-leb}
+use Rattle.lexer.specs.Class.{classOf, isBlank, isAlphanumeric, isSign}
+use Rattle.lexer.specs.Spelling.{signs, starts, constantKind}
+use Rattle.lexer.specs.Cutter.{longest, signPiece, runLength, runPiece, pieceOf, cutFrom}
+use Rattle.lexer.specs.Arrays.{lexed}
+use Rattle.syntax.specs.Machine.{run as runMachine, reading}
+use Rattle.syntax.specs.Postfix.{puts}
+use Rattle.syntax.specs.Rule.{ruleOf, meaningOf}
+use Rattle.evalset.specs.Search.{In, here, next}
+use Rattle.evalset.specs.Bit.{bit}
+use Rattle.evalset.proofs.Search.{clash}
+use Rattle.contact.specs.Row.{rulesTrue}
+use Rattle.contact.specs.Plan.{separated, allowed, fills, partners, leads, check, given, pointsFor, good, firstRow}
+use Rattle.names.specs.Gather.{placesOf, ruleTokens, withName, namesAfter, gatheredOf, gathered}
+use Rattle.plan.specs.Arrays.{pairOf, rowTo, linksTo, over}
+use Rattle.plan.specs.Words.{Plan, before, wordsOf}
+use Rattle.plan.specs.Given.{givenPlan, rowPlan, plansOf}
+use Rattle.table.specs.declared.AskAnswer.{AskAnswer}
+use Rattle.table.specs.declared.AskAnswer.the-variants as AskAnswer
+use Rattle.table.specs.Store.{Text}
+use Rattle.table.specs.Calls.{formulasOf, namesIn, atomsIn, judgeNames, judgeAtoms, judgeRoom, judgeText, judgeAdd, addRules, judgeWithdraw, without, withdrawRules, isNone}
+use Rattle.table.specs.Runs.{after, standingFrom, standing, adds}
+use Rattle.table.specs.Asking.{planAnswer, foundAnswer, askAnswer, foundWords, askWords}
+use Rattle.table.proofs.Claims.{same-table}
+use Rattle.theorems.specs.Worked.{Answer, words, noPlan, WorkedSheet, workedSheets, Asked, AskedFor, Holds}
+
+-- ---- computed
+
+-- rules, whether they are none, and the words of each of their plans, none or one
+record Outcome : Type 0 where
+  pub rules : List Text
+  pub none : Bool
+  pub plans : List (List ℕ)
+
+-- what the definitions give for a row
+abbrev computed : WorkedSheet → Outcome
+computed row =
+    record {
+      rules = standing (row .calls);
+      none = isNone (standing (row .calls));
+      plans = map wordsOf (plansOf (formulasOf (standing (row .calls))));
+    }
+
+-- what is written in it
+abbrev plansIn : Answer → List (List ℕ)
+plansIn (words ws) = ws ∷ []
+plansIn noPlan = []
+
+abbrev written : WorkedSheet → Outcome
+written row = record { rules = row .rules; none = false; plans = plansIn (row .answer) }
+
+sheets-computed : map computed workedSheets ≡ map written workedSheets
+unfolding classOf isBlank isAlphanumeric isSign signs starts constantKind longest signPiece runLength runPiece pieceOf cutFrom lexed runMachine reading puts ruleOf meaningOf bit rulesTrue separated allowed fills partners leads check given pointsFor good firstRow placesOf ruleTokens withName namesAfter gatheredOf gathered pairOf rowTo linksTo before wordsOf givenPlan rowPlan plansOf namesIn atomsIn judgeNames judgeAtoms judgeRoom judgeText judgeAdd addRules judgeWithdraw without withdrawRules after standingFrom standing adds
+sheets-computed = refl
+
+-- ---- asked
+
+module _ (buffer : List ℕ) (s : Text) (rs : List Text) where
+  -- ask, by the plans of the rules
+  asked-for : (a : Answer) (plans : List Plan) → plansOf (formulasOf (s ∷ rs)) ≡ plans → map wordsOf plans ≡ plansIn a → AskedFor a (s ∷ rs) buffer
+  unfolding askAnswer askWords
+  asked-for noPlan [] e f =
+      record { answer = ap (λ (ps : List Plan). foundAnswer ps (length buffer)) e; words = ap (λ (ps : List Plan). foundWords ps buffer) e }
+  asked-for noPlan (p ∷ ps) e f = absurd (cons≢nil f)
+  asked-for (words ws) [] e f = absurd (nil≢cons f)
+  asked-for (words ws) (p ∷ ps) e f = (λ h. fits true (le-leb (length ws) (length buffer) h), λ h. fits false (lt-leb (length ws) (length buffer) h))
+    where
+      fits : (b : Bool) → leb (length ws) (length buffer) ≡ b
+          → Asked (s ∷ rs) buffer (cond b (AskAnswer.Plan (length ws)) (AskAnswer.ShortBuffer (length ws))) (cond b (over ws buffer) buffer)
+      fits b g =
+          let h = head-eq-of-cons-eq f in
+          record {
+            answer = ap (λ (qs : List Plan). foundAnswer qs (length buffer)) e ∙ ap (λ (vs : List ℕ). planAnswer (length vs) (length buffer)) h
+                ∙ ap (λ c. cond c (AskAnswer.Plan (length ws)) (AskAnswer.ShortBuffer (length ws))) g;
+            words = ap (λ (qs : List Plan). foundWords qs buffer) e ∙ ap (λ (vs : List ℕ). cond (leb (length vs) (length buffer)) (over vs buffer) buffer) h
+                ∙ ap (λ c. cond c (over ws buffer) buffer) g;
+          }
+
+-- the same where some rule stands
+asked : (buffer : List ℕ) (a : Answer) (rs : List Text) → isNone rs ≡ false → map wordsOf (plansOf (formulasOf rs)) ≡ plansIn a → AskedFor a rs buffer
+asked buffer a [] h e = clash refl h
+asked buffer a (s ∷ rs) h e = asked-for buffer s rs a (plansOf (formulasOf (s ∷ rs))) refl e
+
+-- functions that are equal over a list are equal at each of its elements
+each : {A B : Type 0} (f g : A → B) {xs : List A} {x : A} → In x xs → map f xs ≡ map g xs → f x ≡ g x
+each f g here e = head-eq-of-cons-eq e
+each f g (next i) e = each f g i (tail-eq-of-cons-eq e)
+
+-- ---- the claim
+
+-- "P1 to P12 are shown to follow from the definitions by a single claim over their table."
+pub worked : (row : WorkedSheet) → In row workedSheets → Holds row
+worked row i =
+    let e = each computed written i sheets-computed in
+    let held = same-table (row .calls) .holds in
+    record {
+      stand = ap (λ (o : Outcome). o .rules) e;
+      held = held ∙ ap (λ (o : Outcome). o .rules) e;
+      answered = λ buffer. subst (λ rs. AskedFor (row .answer) rs buffer) (sym held)
+          (asked buffer (row .answer) (standing (row .calls)) (ap (λ (o : Outcome). o .none) e) (ap (λ (o : Outcome). o .plans) e));
+    }

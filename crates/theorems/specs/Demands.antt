@@ -1,0 +1,118 @@
+-- The customer's three demands, each as one statement about a list of calls from the empty table. The list is any list of add, withdraw,
+-- load and ask, refused ones included, each with any text, number or plan buffer: `run` is the table that it leaves, and
+-- `standing` the standing rules, made from the calls alone. The calls of the code come in by their contracts (Adds, Withdraws, Loads,
+-- Asks, Judges, Reads): what holds of every result that a contract allows holds of what the code gives. Assumes nothing.
+use Prim.Native.Nat.{ℕ, _≤_, _<_}
+use mathlib.Core.Path.{_≡_}
+use mathlib.Core.Logic.{_↔_}
+use mathlib.Core.Bool.{true}
+use mathlib.Core.List.{List, []}
+use lib.ListN.{length, take}
+use Rattle.formula.specs.Formula.{Formula, Name}
+use Rattle.syntax.specs.Rule.{meaningOf}
+use Rattle.syntax.specs.RuleText.{IsRule}
+use Rattle.evalset.specs.Search.{In}
+use Rattle.contact.specs.Meaning.{Floor, meetsAll}
+use Rattle.plan.specs.declared.PlanAnswer.the-variants as PlanAnswer
+use Rattle.plan.specs.declared.PlanRead.{PlanRead}
+use Rattle.plan.specs.Words.{Plan, wordsOf}
+use Rattle.plan.specs.Arrays.{Stored, Reads, over}
+use Rattle.plan.specs.Given.{IsGiven}
+use Rattle.plan.proofs.Unmet.{FirstUnmet}
+use Rattle.table.specs.declared.Table.{Table}
+use Rattle.table.specs.declared.AddAnswer.{AddAnswer}
+use Rattle.table.specs.declared.AddAnswer.the-variants as AddAnswer
+use Rattle.table.specs.declared.AddResult.{AddResult}
+use Rattle.table.specs.declared.WithdrawAnswer.{WithdrawAnswer}
+use Rattle.table.specs.declared.WithdrawAnswer.the-variants as WithdrawAnswer
+use Rattle.table.specs.declared.WithdrawResult.{WithdrawResult}
+use Rattle.table.specs.declared.LoadAnswer.{LoadAnswer}
+use Rattle.table.specs.declared.LoadAnswer.the-variants as LoadAnswer
+use Rattle.table.specs.declared.LoadResult.{LoadResult}
+use Rattle.table.specs.declared.AskAnswer.{AskAnswer}
+use Rattle.table.specs.declared.AskAnswer.the-variants as AskAnswer
+use Rattle.table.specs.declared.AskResult.{AskResult}
+use Rattle.table.specs.declared.JudgeAnswer.{JudgeAnswer}
+use Rattle.table.specs.declared.JudgeAnswer.the-variants as JudgeAnswer
+use Rattle.table.specs.declared.JudgeResult.{JudgeResult}
+use Rattle.table.specs.Store.{Text, tableOf}
+use Rattle.table.specs.Calls.{formulasOf, FromUs, Adds, Withdraws, Loads}
+use Rattle.table.specs.Asking.{Asks, Judges}
+use Rattle.table.specs.Rows.{AddRow, WithdrawRow, LoadRow, SomeStand, AskRow, Drawn, floorOf, JudgeRow}
+use Rattle.table.specs.Runs.{Call, run, standing, adds, NoneRefused}
+
+-- ---- demand 1: "a refusal changes no word of it and no part of the rule table, and a malformed, empty or oversized sheet gets its
+-- number and its place, while nothing outside that document's list is refused"
+
+-- the row of an answer applies first, and no other answer's does; which number and values an answer has is in table/specs/Numbers.antt
+abbrev pub Exactly : {A : Type 0} → (A → Type 0) → A → Type 0
+Exactly {A} Row answer = Row answer × ((a : A) → Row a → a ≡ answer)
+
+-- a call after the list; what add, load and judge are lent they cannot write
+pub record Answered (cs : List Call) : Type 0 where
+  -- "With a table that came from us, a caller may pass anything without looking at it first."
+  pub may-call : FromUs (run cs)
+  pub add : (s : Text) (r : AddResult) → Adds (run cs) s r → Exactly (AddRow (standing cs) s) (r .answer)
+  pub add-refused : (s : Text) (r : AddResult) → Adds (run cs) s r → (r .answer ≡ AddAnswer.Added → ⊥) → r .table ≡ run cs
+  pub withdraw : (k : ℕ) (r : WithdrawResult) → Withdraws (run cs) k r → Exactly (WithdrawRow (standing cs) k) (r .answer)
+  pub withdraw-refused : (k : ℕ) (r : WithdrawResult) → Withdraws (run cs) k r → (r .answer ≡ WithdrawAnswer.Withdrawn → ⊥) → r .table ≡ run cs
+  pub load : (f : Text) (r : LoadResult) → Loads (run cs) f r → Exactly (LoadRow f) (r .answer)
+  pub load-refused : (f : Text) (r : LoadResult) → Loads (run cs) f r → (r .answer ≡ LoadAnswer.Loaded → ⊥) → r .table ≡ run cs
+  pub ask : (buffer : List ℕ) (r : AskResult) (exit : List ℕ) → Asks (run cs) buffer r exit → Exactly (AskRow (standing cs) (length buffer)) (r .answer)
+  pub ask-same : (buffer : List ℕ) (r : AskResult) (exit : List ℕ) → Asks (run cs) buffer r exit → r .table ≡ run cs
+  -- "words past the plan, and all words for no plan, keep their values": only a plan is written
+  pub ask-kept : (buffer : List ℕ) (r : AskResult) (exit : List ℕ) → Asks (run cs) buffer r exit → ((n : ℕ) → r .answer ≡ AskAnswer.Plan n → ⊥) → exit ≡ buffer
+  pub judge : (words : List ℕ) (r : JudgeResult) → Judges (run cs) words r → Exactly (JudgeRow (standing cs) words) (r .answer)
+  pub judge-same : (words : List ℕ) (r : JudgeResult) → Judges (run cs) words r → r .table ≡ run cs
+
+-- ---- demand 2: "Rule text is read as the grammar of document 01 has it, and a plan given meets every standing rule .. Plan words read
+-- back give the plan that was written, and a stranger's plan is judged by the same definition."
+
+-- the words are those of a plan whose floor, over the rules' names in their numbering, meets the rules
+pub record Met (rs : List Text) (words : List ℕ) : Type 0 where
+  pub some : SomeStand rs
+  pub plan : Plan
+  pub drawn : Drawn rs words plan
+  pub meets : meetsAll (floorOf drawn) (formulasOf rs) ≡ true
+
+-- they are those of a plan of which rule k, from 1, is the lowest that it does not meet
+pub record NotMet (rs : List Text) (words : List ℕ) (k : ℕ) : Type 0 where
+  pub some : SomeStand rs
+  pub plan : Plan
+  pub drawn : Drawn rs words plan
+  pub lowest : FirstUnmet (floorOf drawn) 1 (formulasOf rs) k
+
+-- the words of a plan that was given; what is read from them is the plan
+pub record Given (rs : List Text) (words : List ℕ) : Type 0 where
+  pub met : Met rs words
+  pub back : (q : PlanRead) → Reads words q → (q .answer ≡ PlanAnswer.Plan) × Stored (q .plan) (met .plan)
+
+pub record Meant (cs : List Call) : Type 0 where
+  -- each standing text is derived by the grammar, and means the one formula that is
+  pub rules : (s : Text) → In s (standing cs) → IsRule s (meaningOf s)
+  pub one : (s : Text) (f : Formula Name) → IsRule s f → meaningOf s ≡ f
+  pub given : (buffer : List ℕ) (r : AskResult) (exit : List ℕ) → Asks (run cs) buffer r exit → (n : ℕ) → r .answer ≡ AskAnswer.Plan n → Given (standing cs) (take n exit)
+  -- "Judge answers yes or the lowest unmet rule, from 1"
+  pub yes : (words : List ℕ) (r : JudgeResult) → Judges (run cs) words r → (r .answer ≡ JudgeAnswer.Yes) ↔ Met (standing cs) words
+  pub unmet : (words : List ℕ) (r : JudgeResult) → Judges (run cs) words r → (k : ℕ) → (r .answer ≡ JudgeAnswer.Unmet k) ↔ NotMet (standing cs) words k
+
+-- ---- demand 3
+
+-- what ask gives after the list, with any plan buffer
+pub record Same (cs : List Call) (buffer : List ℕ) (r : AskResult) (exit : List ℕ) : Type 0 where
+  -- "after the list, ask gives refusal 11 where no rule stands"
+  pub none : standing cs ≡ [] → r .answer ≡ AskAnswer.NoRule
+  -- "Where any stands, it says "no plan" exactly when no finite floor with any number of points, one or more, meets all the standing rules"
+  pub no-plan : SomeStand (standing cs) → (r .answer ≡ AskAnswer.NoPlan) ↔ ((F : Floor Name) → meetsAll F (formulasOf (standing cs)) ≡ true → ⊥)
+  -- "and otherwise gives the plan that document 01 defines, or refusal 12 where the buffer is too short for it"
+  pub plan : SomeStand (standing cs) → (p : Plan) → IsGiven (formulasOf (standing cs)) p → length (wordsOf p) ≤ length buffer
+      → (r .answer ≡ AskAnswer.Plan (length (wordsOf p))) × (exit ≡ over (wordsOf p) buffer)
+  pub short : SomeStand (standing cs) → (p : Plan) → IsGiven (formulasOf (standing cs)) p → length buffer < length (wordsOf p)
+      → (r .answer ≡ AskAnswer.ShortBuffer (length (wordsOf p))) × (exit ≡ buffer)
+  pub otherwise : (F : Floor Name) → meetsAll F (formulasOf (standing cs)) ≡ true → (p : Plan) × IsGiven (formulasOf (standing cs)) p
+  -- "the table after the list .. equal to what comes from an empty table to which only the standing rules are added, in their order":
+  -- "none of these adds is refused"
+  pub table : run cs ≡ run (adds (standing cs))
+  pub taken : NoneRefused (tableOf []) (standing cs)
+  -- "the answer that ask then gives, a refusal too, and every word of its plan buffer .. when ask is lent the same plan buffer"
+  pub same : (s : AskResult) (words : List ℕ) → Asks (run (adds (standing cs))) buffer s words → (r ≡ s) × (exit ≡ words)
