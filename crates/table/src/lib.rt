@@ -553,10 +553,10 @@ impl Table {
         requires { ⌜ FromUs self × (length (now code) ≡ 4096) ⌝ }
         ensures { λ r. ⌜ CompiledTexts (rulesOf self) r (now (code .exit)) ⌝ }
     {
-        let rules = self.count;
+        let standing = self.count;
         let mut c = sheets::nothing_compiled();
         let mut i: usize = 0;
-        while i < rules {
+        while i < standing {
             let line = self.lines[i];
             let len = line.len;
             let bytes = line.bytes;

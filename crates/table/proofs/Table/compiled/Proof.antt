@@ -9,10 +9,10 @@ use Rattle.table.proofs.Table.compiled.Statement.{statement}
 use Rattle.table.proofs.Table.compiled.Tie as tie
 
 abbrev Inv-loop : tie.InvT-loop
-Inv-loop code₀ self rules c₀ i₀ code c i = Reached self c code i
+Inv-loop code₀ self standing c₀ i₀ code c i = Reached self c code i
 
 abbrev μ-loop : tie.MeasureT-loop
-μ-loop code₀ self rules c₀ i₀ code c i = rules - i
+μ-loop code₀ self standing c₀ i₀ code c i = standing - i
 
 few : (c : tie.In-loop Inv-loop μ-loop) → c .before .loop .i < 16
 few c = omega (arith, count-is (c .before .before .before .args .t1) (c .before .before .before .pre .0), c .before .before .before .pre .0 .standing .few, c .loop-test .taken)
