@@ -3,28 +3,29 @@
 use mathlib.Core.List.{List}
 use Prim.Native.Nat.{ℕ}
 use Rattle.evalset.specs.Search.{In}
+use Rattle.table.specs.declared.Table.{Table}
 use Rattle.table.specs.declared.AskResult.{AskResult}
 use Rattle.table.specs.Asking.{Asks}
-use Rattle.table.specs.Runs.{Call, run}
-use Rattle.theorems.specs.Demands.{Answered, Meant, Same}
+use Rattle.table.specs.Runs.{Call}
+use Rattle.theorems.specs.Demands.{Leaves, Answered, Meant, Same}
 use Rattle.theorems.specs.Worked.{WorkedSheet, workedSheets, Holds}
 use Rattle.theorems.proofs.Demands as Demands
 use Rattle.theorems.proofs.Worked as Worked
 
 -- demand 1: after any calls, any further call is answered by the first row of the table of calls that applies and by no other, and a
 -- refusal changes neither the table nor a word of what is lent
-pub demand-one : (cs : List Call) → Answered cs
-demand-one = Demands.answered
+pub demand-one : (cs : List Call) (t : Table) → Leaves cs t → Answered cs t
+demand-one = Demands.demand-one
 
 -- demand 2: the standing texts are rules of the grammar, a plan given meets them and is read back from its words, and a stranger's plan is
 -- judged by the same definition
-pub demand-two : (cs : List Call) → Meant cs
-demand-two = Demands.meant
+pub demand-two : (cs : List Call) (t : Table) → Leaves cs t → Meant cs t
+demand-two = Demands.demand-two
 
 -- demand 3: after any calls, ask with any buffer answers 11, no plan exactly where no finite floor meets the standing rules, the plan that is
--- defined, or 12; and table, answer and every word are those of the run that adds only the standing rules
-pub demand-three : (cs : List Call) (buffer : List ℕ) (r : AskResult) (exit : List ℕ) → Asks (run cs) buffer r exit → Same cs buffer r exit
-demand-three = Demands.same
+-- defined, or 12; and table, answer and every word are those of the calls that add only the standing rules
+pub demand-three : (cs : List Call) (t : Table) → Leaves cs t → (buffer : List ℕ) (r : AskResult) (exit : List ℕ) → Asks t buffer r exit → Same cs t buffer r exit
+demand-three = Demands.demand-three
 
 -- P1 to P12
 pub worked-sheets : (row : WorkedSheet) → In row workedSheets → Holds row

@@ -48,10 +48,24 @@ use Rattle.table.specs.Store.{Text, tableOf, rulesOf}
 use Rattle.table.specs.Calls.{formulasOf, namesIn, ifAdded, judgeAdd, addRules, added, judgeWithdraw, ifWithdrawn, withdrawRules, withdrawn, judgeLoad, ifLoaded, loadRules, loaded, AllRules, CanStand, FromUs, Adds, Withdraws, Loads}
 use Rattle.table.specs.Asking.{askAnswer, foundWords, askWords, asked, Asks, judgeAnswer, judged, Judges}
 use Rattle.table.specs.Rows.{AddRow, WithdrawRow, LoadRow, SomeStand, AskRow, Drawn, floorOf, JudgeRow}
-use Rattle.table.specs.Runs.{Call, run, standing, adds}
+use Rattle.table.specs.Runs.{Call, runFrom, run, standing, adds}
 use Rattle.table.proofs.Standing.{refused-else, is-rule}
 use Rattle.table.proofs.Claims as table
-use Rattle.theorems.specs.Demands.{Exactly, Answered, Met, NotMet, Given, Meant, Same}
+use Rattle.theorems.specs.Demands.{Called, Leaves, Exactly, Answered, Met, NotMet, Given, Meant, Same}
+
+-- ---- calls of the code leave the table of the run
+
+called-runs : (t : Table) (cs : List Call) (u : Table) → Called t cs u → u ≡ runFrom t cs
+unfolding runFrom
+called-runs t cs u Called.none = refl
+called-runs t cs u (Called.add {s = s} {r = r} {cs = ds} h l) = called-runs (r .table) ds u l ∙ ap (λ (x : Table). runFrom x ds) (table.add-steps t s r h)
+called-runs t cs u (Called.withdraw {k = k} {r = r} {cs = ds} h l) = called-runs (r .table) ds u l ∙ ap (λ (x : Table). runFrom x ds) (table.withdraw-steps t k r h)
+called-runs t cs u (Called.load {f = f} {r = r} {cs = ds} h l) = called-runs (r .table) ds u l ∙ ap (λ (x : Table). runFrom x ds) (table.load-steps t f r h)
+called-runs t cs u (Called.ask {buffer = buffer} {r = r} {exit = exit} {cs = ds} h l) = called-runs (r .table) ds u l ∙ ap (λ (x : Table). runFrom x ds) (table.ask-steps t buffer r exit h)
+
+left : (cs : List Call) (t : Table) → Leaves cs t → t ≡ run cs
+unfolding run
+left cs t l = called-runs (tableOf []) cs t l
 
 -- ---- refused calls
 
@@ -174,7 +188,7 @@ module _ (cs : List Call) where
   same-table : tableOf (rulesOf (run cs)) ≡ run cs
   same-table = sym (table.same-table cs .from-us .same)
 
-  pub answered : Answered cs
+  answered : Answered cs (run cs)
   unfolding added withdrawn loaded addRules withdrawRules loadRules
   answered =
       let can : CanStand (standing cs) = stands in
@@ -248,12 +262,12 @@ module _ (cs : List Call) where
       go a (JudgeRow.unmet {p} {k = j} some d u) f =
           let z : j ≡ k = cc in record { some = some; plan = p; drawn = d; lowest = subst (FirstUnmet (floorOf d) 1 (formulasOf (standing cs))) z u }
 
-  pub meant : Meant cs
+  meant : Meant cs (run cs)
   meant = record { rules = standing-rule (standing cs) (stands .rules); one = text-means; given = given; yes = judged-yes; unmet = judged-unmet }
 
   -- ---- demand 3
 
-  pub same : (buffer : List ℕ) (r : AskResult) (exit : List ℕ) → Asks (run cs) buffer r exit → Same cs buffer r exit
+  same : (buffer : List ℕ) (r : AskResult) (exit : List ℕ) → Asks (run cs) buffer r exit → Same cs (run cs) buffer r exit
   same buffer r exit h =
       let row = ask-exactly buffer r exit h in
       let faithful = table.same-table cs in
@@ -263,10 +277,23 @@ module _ (cs : List Call) where
         plan = λ some p g l. (sym (row .1 (AskAnswer.Plan (length (wordsOf p))) (AskRow.given some g l)), asked-by buffer r exit h .1 ∙ words-written (standing cs) buffer some p g l);
         short = λ some p g l. (sym (row .1 (AskAnswer.ShortBuffer (length (wordsOf p))) (AskRow.short some g l)), asked-by buffer r exit h .1 ∙ words-short (standing cs) buffer some p g l);
         otherwise = plan-found (formulasOf (standing cs));
-        table = faithful .table;
+        table = λ u l. faithful .table ∙ sym (left (adds (standing cs)) u l);
         taken = faithful .taken;
-        same = λ s words k. (
-          h .result ∙ ap (λ (t : Table). asked (rulesOf t) buffer) (faithful .table) ∙ sym (k .result),
-          h .words ∙ ap (λ (t : Table). askWords (rulesOf t) buffer) (faithful .table) ∙ sym (k .words),
-        );
+        same = λ u l s words k.
+            let e : run cs ≡ u = faithful .table ∙ sym (left (adds (standing cs)) u l) in (
+              h .result ∙ ap (λ (t : Table). asked (rulesOf t) buffer) e ∙ sym (k .result),
+              h .words ∙ ap (λ (t : Table). askWords (rulesOf t) buffer) e ∙ sym (k .words),
+            );
       }
+
+-- ---- the calls of the code
+
+pub demand-one : (cs : List Call) (t : Table) → Leaves cs t → Answered cs t
+demand-one cs t l = subst (Answered cs) (sym (left cs t l)) (answered cs)
+
+pub demand-two : (cs : List Call) (t : Table) → Leaves cs t → Meant cs t
+demand-two cs t l = subst (Meant cs) (sym (left cs t l)) (meant cs)
+
+pub demand-three : (cs : List Call) (t : Table) → Leaves cs t → (buffer : List ℕ) (r : AskResult) (exit : List ℕ) → Asks t buffer r exit → Same cs t buffer r exit
+demand-three cs t l buffer r exit =
+    subst (λ (u : Table). Asks u buffer r exit → Same cs u buffer r exit) (sym (left cs t l)) (same cs buffer r exit)

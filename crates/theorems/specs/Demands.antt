@@ -1,12 +1,12 @@
 -- The customer's three demands, each as one statement about a list of calls from the empty table. The list is any list of add, withdraw,
--- load and ask, refused ones included, each with any text, number or plan buffer: `run` is the table that it leaves, and
--- `standing` the standing rules, made from the calls alone. The calls of the code come in by their contracts (Adds, Withdraws, Loads,
--- Asks, Judges, Reads): what holds of every result that a contract allows holds of what the code gives. Assumes nothing.
+-- load and ask, refused ones included, each with any text, number or plan buffer; the standing rules, `standing`, are made from the
+-- calls alone. The calls of the code come in by their contracts (Adds, Withdraws, Loads, Asks, Judges, Reads): what holds of every
+-- result that a contract allows holds of what the code gives. Assumes nothing.
 use Prim.Native.Nat.{ℕ, _≤_, _<_}
 use mathlib.Core.Path.{_≡_}
 use mathlib.Core.Logic.{_↔_}
 use mathlib.Core.Bool.{true}
-use mathlib.Core.List.{List, []}
+use mathlib.Core.List.{List, [], _∷_}
 use lib.ListN.{length, take}
 use Rattle.formula.specs.Formula.{Formula, Name}
 use Rattle.syntax.specs.Rule.{meaningOf}
@@ -39,7 +39,19 @@ use Rattle.table.specs.Store.{Text, tableOf}
 use Rattle.table.specs.Calls.{formulasOf, FromUs, Adds, Withdraws, Loads}
 use Rattle.table.specs.Asking.{Asks, Judges}
 use Rattle.table.specs.Rows.{AddRow, WithdrawRow, LoadRow, SomeStand, AskRow, Drawn, floorOf, JudgeRow}
-use Rattle.table.specs.Runs.{Call, run, standing, adds, NoneRefused}
+use Rattle.table.specs.Runs.{Call, standing, adds, NoneRefused}
+
+-- "each call taking the table as the last one gave it back": these calls of the code, the first on t, leave the table u
+pub data Called : Table → List Call → Table → Type 0 where
+  none : {t : Table} → Called t [] t
+  add : {t : Table} {s : Text} {r : AddResult} {cs : List Call} {u : Table} → Adds t s r → Called (r .table) cs u → Called t (Call.add s ∷ cs) u
+  withdraw : {t : Table} {k : ℕ} {r : WithdrawResult} {cs : List Call} {u : Table} → Withdraws t k r → Called (r .table) cs u → Called t (Call.withdraw k ∷ cs) u
+  load : {t : Table} {f : Text} {r : LoadResult} {cs : List Call} {u : Table} → Loads t f r → Called (r .table) cs u → Called t (Call.load f ∷ cs) u
+  ask : {t : Table} {buffer : List ℕ} {r : AskResult} {exit : List ℕ} {cs : List Call} {u : Table} → Asks t buffer r exit → Called (r .table) cs u → Called t (Call.ask buffer ∷ cs) u
+
+-- "from an empty table", which is what `Table::empty` gives
+abbrev pub Leaves : List Call → Table → Type 0
+Leaves cs t = Called (tableOf []) cs t
 
 -- ---- demand 1: "a refusal changes no word of it and no part of the rule table, and a malformed, empty or oversized sheet gets its
 -- number and its place, while nothing outside that document's list is refused"
@@ -49,21 +61,21 @@ abbrev pub Exactly : {A : Type 0} → (A → Type 0) → A → Type 0
 Exactly {A} Row answer = Row answer × ((a : A) → Row a → a ≡ answer)
 
 -- a call after the list; what add, load and judge are lent they cannot write
-pub record Answered (cs : List Call) : Type 0 where
+pub record Answered (cs : List Call) (t : Table) : Type 0 where
   -- "With a table that came from us, a caller may pass anything without looking at it first."
-  pub may-call : FromUs (run cs)
-  pub add : (s : Text) (r : AddResult) → Adds (run cs) s r → Exactly (AddRow (standing cs) s) (r .answer)
-  pub add-refused : (s : Text) (r : AddResult) → Adds (run cs) s r → (r .answer ≡ AddAnswer.Added → ⊥) → r .table ≡ run cs
-  pub withdraw : (k : ℕ) (r : WithdrawResult) → Withdraws (run cs) k r → Exactly (WithdrawRow (standing cs) k) (r .answer)
-  pub withdraw-refused : (k : ℕ) (r : WithdrawResult) → Withdraws (run cs) k r → (r .answer ≡ WithdrawAnswer.Withdrawn → ⊥) → r .table ≡ run cs
-  pub load : (f : Text) (r : LoadResult) → Loads (run cs) f r → Exactly (LoadRow f) (r .answer)
-  pub load-refused : (f : Text) (r : LoadResult) → Loads (run cs) f r → (r .answer ≡ LoadAnswer.Loaded → ⊥) → r .table ≡ run cs
-  pub ask : (buffer : List ℕ) (r : AskResult) (exit : List ℕ) → Asks (run cs) buffer r exit → Exactly (AskRow (standing cs) (length buffer)) (r .answer)
-  pub ask-same : (buffer : List ℕ) (r : AskResult) (exit : List ℕ) → Asks (run cs) buffer r exit → r .table ≡ run cs
+  pub may-call : FromUs t
+  pub add : (s : Text) (r : AddResult) → Adds t s r → Exactly (AddRow (standing cs) s) (r .answer)
+  pub add-refused : (s : Text) (r : AddResult) → Adds t s r → (r .answer ≡ AddAnswer.Added → ⊥) → r .table ≡ t
+  pub withdraw : (k : ℕ) (r : WithdrawResult) → Withdraws t k r → Exactly (WithdrawRow (standing cs) k) (r .answer)
+  pub withdraw-refused : (k : ℕ) (r : WithdrawResult) → Withdraws t k r → (r .answer ≡ WithdrawAnswer.Withdrawn → ⊥) → r .table ≡ t
+  pub load : (f : Text) (r : LoadResult) → Loads t f r → Exactly (LoadRow f) (r .answer)
+  pub load-refused : (f : Text) (r : LoadResult) → Loads t f r → (r .answer ≡ LoadAnswer.Loaded → ⊥) → r .table ≡ t
+  pub ask : (buffer : List ℕ) (r : AskResult) (exit : List ℕ) → Asks t buffer r exit → Exactly (AskRow (standing cs) (length buffer)) (r .answer)
+  pub ask-same : (buffer : List ℕ) (r : AskResult) (exit : List ℕ) → Asks t buffer r exit → r .table ≡ t
   -- "words past the plan, and all words for no plan, keep their values": only a plan is written
-  pub ask-kept : (buffer : List ℕ) (r : AskResult) (exit : List ℕ) → Asks (run cs) buffer r exit → ((n : ℕ) → r .answer ≡ AskAnswer.Plan n → ⊥) → exit ≡ buffer
-  pub judge : (words : List ℕ) (r : JudgeResult) → Judges (run cs) words r → Exactly (JudgeRow (standing cs) words) (r .answer)
-  pub judge-same : (words : List ℕ) (r : JudgeResult) → Judges (run cs) words r → r .table ≡ run cs
+  pub ask-kept : (buffer : List ℕ) (r : AskResult) (exit : List ℕ) → Asks t buffer r exit → ((n : ℕ) → r .answer ≡ AskAnswer.Plan n → ⊥) → exit ≡ buffer
+  pub judge : (words : List ℕ) (r : JudgeResult) → Judges t words r → Exactly (JudgeRow (standing cs) words) (r .answer)
+  pub judge-same : (words : List ℕ) (r : JudgeResult) → Judges t words r → r .table ≡ t
 
 -- ---- demand 2: "Rule text is read as the grammar of document 01 has it, and a plan given meets every standing rule .. Plan words read
 -- back give the plan that was written, and a stranger's plan is judged by the same definition."
@@ -87,19 +99,19 @@ pub record Given (rs : List Text) (words : List ℕ) : Type 0 where
   pub met : Met rs words
   pub back : (q : PlanRead) → Reads words q → (q .answer ≡ PlanAnswer.Plan) × Stored (q .plan) (met .plan)
 
-pub record Meant (cs : List Call) : Type 0 where
+pub record Meant (cs : List Call) (t : Table) : Type 0 where
   -- each standing text is derived by the grammar, and means the one formula that is
   pub rules : (s : Text) → In s (standing cs) → IsRule s (meaningOf s)
   pub one : (s : Text) (f : Formula Name) → IsRule s f → meaningOf s ≡ f
-  pub given : (buffer : List ℕ) (r : AskResult) (exit : List ℕ) → Asks (run cs) buffer r exit → (n : ℕ) → r .answer ≡ AskAnswer.Plan n → Given (standing cs) (take n exit)
+  pub given : (buffer : List ℕ) (r : AskResult) (exit : List ℕ) → Asks t buffer r exit → (n : ℕ) → r .answer ≡ AskAnswer.Plan n → Given (standing cs) (take n exit)
   -- "Judge answers yes or the lowest unmet rule, from 1"
-  pub yes : (words : List ℕ) (r : JudgeResult) → Judges (run cs) words r → (r .answer ≡ JudgeAnswer.Yes) ↔ Met (standing cs) words
-  pub unmet : (words : List ℕ) (r : JudgeResult) → Judges (run cs) words r → (k : ℕ) → (r .answer ≡ JudgeAnswer.Unmet k) ↔ NotMet (standing cs) words k
+  pub yes : (words : List ℕ) (r : JudgeResult) → Judges t words r → (r .answer ≡ JudgeAnswer.Yes) ↔ Met (standing cs) words
+  pub unmet : (words : List ℕ) (r : JudgeResult) → Judges t words r → (k : ℕ) → (r .answer ≡ JudgeAnswer.Unmet k) ↔ NotMet (standing cs) words k
 
 -- ---- demand 3
 
 -- what ask gives after the list, with any plan buffer
-pub record Same (cs : List Call) (buffer : List ℕ) (r : AskResult) (exit : List ℕ) : Type 0 where
+pub record Same (cs : List Call) (t : Table) (buffer : List ℕ) (r : AskResult) (exit : List ℕ) : Type 0 where
   -- "after the list, ask gives refusal 11 where no rule stands"
   pub none : standing cs ≡ [] → r .answer ≡ AskAnswer.NoRule
   -- "Where any stands, it says "no plan" exactly when no finite floor with any number of points, one or more, meets all the standing rules"
@@ -112,7 +124,7 @@ pub record Same (cs : List Call) (buffer : List ℕ) (r : AskResult) (exit : Lis
   pub otherwise : (F : Floor Name) → meetsAll F (formulasOf (standing cs)) ≡ true → (p : Plan) × IsGiven (formulasOf (standing cs)) p
   -- "the table after the list .. equal to what comes from an empty table to which only the standing rules are added, in their order":
   -- "none of these adds is refused"
-  pub table : run cs ≡ run (adds (standing cs))
+  pub table : (u : Table) → Leaves (adds (standing cs)) u → t ≡ u
   pub taken : NoneRefused (tableOf []) (standing cs)
   -- "the answer that ask then gives, a refusal too, and every word of its plan buffer .. when ask is lent the same plan buffer"
-  pub same : (s : AskResult) (words : List ℕ) → Asks (run (adds (standing cs))) buffer s words → (r ≡ s) × (exit ≡ words)
+  pub same : (u : Table) → Leaves (adds (standing cs)) u → (s : AskResult) (words : List ℕ) → Asks u buffer s words → (r ≡ s) × (exit ≡ words)
