@@ -507,6 +507,10 @@ fn contact_order() {
             0x3000_0002,
         ],
     );
+}
+
+// Contacts in their order, and no word after them.
+fn rising_contacts() {
     show(
         &[
             0x1000_0203,
@@ -575,6 +579,7 @@ fn main() {
     points_to_come();
     contacts();
     contact_order();
+    rising_contacts();
     contact_bits();
     last_words();
     buffers();
