@@ -76,7 +76,7 @@ not-withdrawn : {A : Type 0} (a : WithdrawAnswer) (x y : A) → (a ≡ WithdrawA
 not-withdrawn WithdrawAnswer.Withdrawn x y n = absurd (n refl)
 not-withdrawn (WithdrawAnswer.NoSuchRule k) x y n = refl
 
-not-loaded : {A : Type 0} (a : LoadAnswer) (x y : A) → (a ≡ LoadAnswer.Loaded → ⊥) → ifLoaded a x y ≡ y
+pub not-loaded : {A : Type 0} (a : LoadAnswer) (x y : A) → (a ≡ LoadAnswer.Loaded → ⊥) → ifLoaded a x y ≡ y
 not-loaded LoadAnswer.Loaded x y n = absurd (n refl)
 not-loaded LoadAnswer.FileTooLong x y n = refl
 not-loaded LoadAnswer.AllBlank x y n = refl
@@ -98,7 +98,7 @@ module _ (rs : List Text) (buffer : List ℕ) where
   words-plan some p g b e =
       words-found rs buffer some ∙ ap (λ (ps : List Plan). foundWords ps buffer) (given-exactly (formulasOf rs) p .1 g) ∙ ap (λ (t : Bool). cond t (over (wordsOf p) buffer) buffer) e
 
-  words-written : SomeStand rs → (p : Plan) → IsGiven (formulasOf rs) p → length (wordsOf p) ≤ length buffer → askWords rs buffer ≡ over (wordsOf p) buffer
+  pub words-written : SomeStand rs → (p : Plan) → IsGiven (formulasOf rs) p → length (wordsOf p) ≤ length buffer → askWords rs buffer ≡ over (wordsOf p) buffer
   words-written some p g l = words-plan some p g true (le-leb (length (wordsOf p)) (length buffer) l)
 
   words-short : SomeStand rs → (p : Plan) → IsGiven (formulasOf rs) p → length buffer < length (wordsOf p) → askWords rs buffer ≡ buffer
@@ -129,7 +129,7 @@ plan-found rules F m = go (plansOf rules) refl (given-at-most-one rules)
     go (p ∷ q ∷ ps) e l = absurd (omega arith)
 
 -- reading the words of a plan gives it
-read-back : (p : Plan) → IsPlan p → (q : PlanRead) → Reads (wordsOf p) q → (q .answer ≡ PlanAnswer.Plan) × Stored (q .plan) p
+pub read-back : (p : Plan) → IsPlan p → (q : PlanRead) → Reads (wordsOf p) q → (q .answer ≡ PlanAnswer.Plan) × Stored (q .plan) p
 read-back p h q reads =
     let e : readOf (wordsOf p) ≡ plan p = plan-is-read p h in
     (reads .answer ∙ ap answerOf e, subst (λ (x : Reading). Stored (q .plan) (planIn x)) e (reads .plan))

@@ -1,0 +1,100 @@
+-- A text is at most as long as its parts may be: numbers have few digits, names at most 16 bytes, and a plan that is given few points
+-- and contacts. Assumes nothing.
+use mathlib.Core.Path.{_≡_, refl, ap}
+use mathlib.Core.Bool.{Bool, true, false, cond}
+use mathlib.Core.List.{List, [], _∷_}
+use Prim.Native.Nat.{ℕ, zero, suc, _+_, _*_, _/_, _%_, _^_, _≤_, _<_}
+use native.Mathlib.Omega.{arith}
+use lib.ListN.{length, getD, length-append}
+use Rattle.formula.specs.Formula.{Name}
+use Rattle.lexer.specs.Text.{bytes}
+use Rattle.evalset.specs.Bit.{bit}
+use Rattle.evalset.specs.Search.{In, here, next, gather, from, below, orElse}
+use Rattle.plan.specs.Words.{Plan, Rises, IsPlan, before, lastWord, wordsOf}
+use Rattle.plan.proofs.Complete.{before-length}
+use Rattle.plan.proofs.Lists.{below-e, gather-small}
+use Rattle.report.specs.Output.{headLine, blanked, nameIf, pointNames, namesOrNone, pointLine, pointLines, contactLine, planText, refusedText}
+use Rattle.report.proofs.Digits.{decimal-few}
+use Rattle.report.proofs.Parts.{names-parts}
+
+gather-few : {A : Type 0} (f : A → List ℕ) (c : ℕ) (xs : List A) → ((x : A) → In x xs → length (f x) ≤ c) → length (gather f xs) ≤ length xs * c
+gather-few f c [] h = omega arith
+gather-few f c (x ∷ xs) h =
+    let z : suc (length xs) * c ≡ c + length xs * c = omega arith in
+    omega (arith, length-append (f x) (gather f xs), h x here, gather-few f c xs (λ y i. h y (next i)))
+
+from-length : (k n : ℕ) → length (from k n) ≡ n
+from-length k zero = refl
+from-length k (suc n) = ap suc (from-length (suc k) n)
+
+-- ---- a plan
+
+head-few : (names points : ℕ) → names ≤ 6 → points ≤ 32 → length (headLine names points) ≤ 23
+unfolding headLine
+head-few names points h k =
+    simp length-append (omega (arith, decimal-few 0 names (omega arith), decimal-few 1 points (omega arith)))
+
+module _ (names : List Name) (few : length names ≤ 6) (short : (i : ℕ) → length (getD names i []) ≤ 16) where
+  name-few : (e i : ℕ) → length (gather blanked (nameIf names e i)) ≤ 17
+  name-few e i = go (bit e i)
+    where
+      go : (b : Bool) → length (gather blanked (cond b (getD names i [] ∷ []) [])) ≤ 17
+      go true = omega (arith, length-append (blanked (getD names i [])) [], short i)
+      go false = omega arith
+
+  words-few : (e : ℕ) → length (gather blanked (namesOrNone names e)) ≤ 102
+  unfolding namesOrNone
+  words-few e =
+      go (pointNames names e)
+      (omega (arith, ap length (names-parts names e), gather-small (λ i. gather blanked (nameIf names e i)) 17 (name-few e) 0 (length names)))
+    where
+      go : (words : List Name) → length (gather blanked words) ≤ 102 → length (gather blanked (orElse words (bytes "-" ∷ []))) ≤ 102
+      go [] h = omega arith
+      go (w ∷ ws) h = h
+
+  point-few : (i e : ℕ) → i < 32 → length (pointLine names i e) ≤ 112
+  unfolding pointLine
+  point-few i e h = simp length-append (omega (arith, decimal-few 1 i (omega arith), words-few e))
+
+  points-few : (points : List ℕ) → length points ≤ 32 → length (pointLines names points) ≤ length points * 112
+  unfolding pointLines
+  points-few points h =
+      let f : ℕ → List ℕ = λ i. pointLine names i (getD points i 0) in
+      omega (
+        arith,
+        from-length 0 (length points),
+        gather-few f 112 (below (length points)) (λ i at. point-few i (getD points i 0) (omega (arith, below-e i (length points) at))),
+      )
+
+contact-few : (k n : ℕ) → n ≤ 32 → k / 256 < k % 256 → k % 256 < n → length (contactLine k) ≤ 14
+unfolding contactLine
+contact-few k n h a b =
+    simp length-append (omega (arith, decimal-few 1 (k / 256) (omega arith), decimal-few 1 (k % 256) (omega arith)))
+
+contacts-few : (low n : ℕ) (ks : List ℕ) → n ≤ 32 → Rises low n ks → length (gather contactLine ks) ≤ length ks * 14
+contacts-few low n [] h r = omega arith
+contacts-few low n (k ∷ ks) h r =
+    omega (arith, length-append (contactLine k) (gather contactLine ks), contact-few k n h (r .1) (r .2), contacts-few (suc k) n ks h (r .3))
+
+-- a plan of at most 32 points and 530 words
+pub plan-few : (names : List Name) → length names ≤ 6 → ((i : ℕ) → length (getD names i []) ≤ 16) → (p : Plan) → IsPlan p
+    → length (p .points) ≤ 32 → length (wordsOf p) ≤ 530 → length (planText names p) ≤ 10551
+unfolding planText wordsOf
+plan-few names few short p is points words =
+    simp length-append
+    (omega (
+      arith,
+      head-few (p .names) (length (p .points)) (is .few) points,
+      points-few names few short (p .points) points,
+      contacts-few 0 (length (p .points)) (p .contacts) points (is .rise),
+      before-length p,
+      length-append (before p) (lastWord (length (before p)) ∷ []),
+    ))
+
+-- ---- a refusal
+
+pub refused-few : (number line place : ℕ) → number < 2 ^ 64 → line < 2 ^ 64 → place < 2 ^ 64 → length (refusedText number line place) ≤ 79
+unfolding refusedText
+refused-few number line place a b d =
+    simp length-append
+    (omega (arith, decimal-few 19 number (omega arith), decimal-few 19 line (omega arith), decimal-few 19 place (omega arith)))

@@ -1,0 +1,101 @@
+-- The text of what is gathered is gathered part by part, so a loop that puts a part a turn has put the text of the turns so far.
+-- Assumes nothing.
+use mathlib.Core.Path.{_≡_, refl, sym, ap, ap₂, _∙_}
+use mathlib.Core.Bool.{Bool, true}
+use mathlib.Core.List.{List, [], _∷_, _++_, append-nil}
+use Prim.Native.Nat.{ℕ, min, _+_, _*_, _/_, _%_, _≤_, _<_}
+use native.Mathlib.Omega.{arith}
+use lib.ListN.{length, getD, take}
+use lib.Seq.{length-take-le}
+use Rattle.formula.specs.Formula.{Name}
+use Rattle.lexer.specs.Text.{bytes}
+use Rattle.evalset.specs.Search.{gather, below, orElse}
+use Rattle.evalset.specs.Sets.{memAt}
+use Rattle.names.proofs.Texts.{gather-append}
+use Rattle.plan.specs.Arrays.{pairOf, rowTo, linksTo, planBy}
+use Rattle.plan.specs.declared.PlanArrays.{PlanArrays}
+use Rattle.plan.proofs.Buffer.{pair-there}
+use Rattle.plan.proofs.Lists.{gather-more, gather-within}
+use Rattle.report.specs.Output.{labelled, ended, headLine, blanked, nameIf, pointNames, namesOrNone, pointLine, pointLines, contactLine, planText}
+
+gather-gather : {A B C : Type 0} (g : B → List C) (f : A → List B) (xs : List A) → gather g (gather f xs) ≡ gather (λ x. gather g (f x)) xs
+gather-gather g f [] = refl
+gather-gather {C = C} g f (x ∷ xs) = gather-append g (f x) (gather f xs) ∙ ap (λ (l : List C). gather g (f x) ++ l) (gather-gather g f xs)
+
+pub names-parts : (names : List Name) (e : ℕ)
+    → gather blanked (pointNames names e) ≡ gather (λ i. gather blanked (nameIf names e i)) (below (length names))
+unfolding pointNames
+names-parts names e = gather-gather blanked (nameIf names e) (below (length names))
+
+-- the names of a point, or the sign that there are none
+words-none : (words : List Name) → length (gather blanked words) ≡ 0 → words ≡ []
+words-none [] e = refl
+words-none (w ∷ ws) e = absurd (omega arith)
+
+words-some : (words none : List Name) → 0 < length (gather blanked words) → orElse words none ≡ words
+words-some [] none h = absurd (omega arith)
+words-some (w ∷ ws) none h = refl
+
+words-within : (words none : List Name) → length (gather blanked words) ≤ length (gather blanked (orElse words none))
+words-within [] none = omega arith
+words-within (w ∷ ws) none = omega arith
+
+module _ (names : List Name) (e : ℕ) where
+  pub no-names : length (gather blanked (pointNames names e)) ≡ 0
+      → gather blanked (pointNames names e) ++ bytes " -" ≡ gather blanked (namesOrNone names e)
+  unfolding namesOrNone
+  no-names h =
+      let z = words-none (pointNames names e) h in
+      ap (λ (ws : List Name). gather blanked ws ++ bytes " -") z ∙ ap (λ (ws : List Name). gather blanked (orElse ws (bytes "-" ∷ []))) (sym z)
+
+  pub some-names : 0 < length (gather blanked (pointNames names e)) → gather blanked (pointNames names e) ≡ gather blanked (namesOrNone names e)
+  unfolding namesOrNone
+  some-names h = ap (gather blanked) (sym (words-some (pointNames names e) (bytes "-" ∷ []) h))
+
+  pub names-within : length (gather blanked (pointNames names e)) ≤ length (gather blanked (namesOrNone names e))
+  unfolding namesOrNone
+  names-within = words-within (pointNames names e) (bytes "-" ∷ [])
+
+pub points-parts : (names : List Name) (points : List ℕ) (n : ℕ) → n ≤ length points
+    → pointLines names (take n points) ≡ gather (λ i. pointLine names i (getD (take n points) i 0)) (below n)
+unfolding pointLines
+points-parts names points n h =
+    ap (λ (m : ℕ). gather (λ i. pointLine names i (getD (take n points) i 0)) (below m)) (length-take-le n points h)
+
+pub row-parts : (n i : ℕ) (row : ℕ → Bool)
+    → gather contactLine (rowTo n i row) ≡ gather (λ j. gather contactLine (pairOf i j row)) (below n)
+unfolding rowTo
+row-parts n i row = gather-gather contactLine (λ j. pairOf i j row) (below n)
+
+pub rows-parts : (m n : ℕ) (rows : ℕ → ℕ → Bool)
+    → gather contactLine (linksTo m n rows) ≡ gather (λ i. gather contactLine (rowTo n i (rows i))) (below m)
+unfolding linksTo
+rows-parts m n rows = gather-gather contactLine (λ i. rowTo n i (rows i)) (below m)
+
+-- the line of a contact, and of a pair that is one
+pub contact-text : (i j : ℕ) → j < 256 → contactLine (i * 256 + j) ≡ ended (labelled (bytes "contact ") i ++ labelled (bytes " ") j)
+unfolding contactLine
+contact-text i j h =
+    let q : (i * 256 + j) / 256 ≡ i = omega arith in
+    let r : (i * 256 + j) % 256 ≡ j = omega arith in
+    ap₂ (λ (a b : ℕ). ended (labelled (bytes "contact ") a ++ labelled (bytes " ") b)) q r
+
+pub pair-text : (i j : ℕ) (row : ℕ → Bool) → i < j → row j ≡ true → gather contactLine (pairOf i j row) ≡ contactLine (i * 256 + j)
+pair-text i j row h e = ap (gather contactLine) (pair-there i j row h e) ∙ append-nil (contactLine (i * 256 + j))
+
+-- a plan in arrays has their count of points
+pub plan-parts : (names : List Name) (r : PlanArrays) → r .count ≤ 64 → length (r .points) ≡ 64
+    → planText names (planBy r) ≡ headLine (r .names) (r .count) ++ pointLines names (take (r .count) (r .points))
+    ++ gather contactLine (linksTo (r .count) (r .count) (memAt (r .rows)))
+unfolding planText planBy
+plan-parts names r h full =
+    let n : min (r .count) 64 ≡ r .count = omega arith in
+    ap (λ (x : ℕ). headLine (r .names) (length (take x (r .points))) ++ pointLines names (take x (r .points))
+    ++ gather contactLine (linksTo x x (memAt (r .rows)))) n
+    ∙ ap (λ (x : ℕ). headLine (r .names) x ++ pointLines names (take (r .count) (r .points))
+    ++ gather contactLine (linksTo (r .count) (r .count) (memAt (r .rows)))) (length-take-le (r .count) (r .points) (omega arith))
+
+-- where the text of all turns fits, that of the turns so far and of the next one does
+pub fits-turn : (f : ℕ → List ℕ) (at room i n : ℕ) → i < n → at + length (gather f (below n)) ≤ room
+    → at + length (gather f (below i) ++ f i) ≤ room
+fits-turn f at room i n l h = omega (arith, ap length (gather-more f i), gather-within f (i + 1) n (omega arith))

@@ -1,0 +1,189 @@
+-- What ask wrote is the plan that is given, so that what is read from its words is put out as that plan; where it wrote none there is none,
+-- because a rule stands and 530 words are enough. Assumes nothing.
+use Prim.Native.Nat.{ℕ, _+_, _≤_, _<_}
+use mathlib.Core.Path.{_≡_, refl, sym, ap, ap₂, subst, _∙_}
+use mathlib.Core.List.{List, [], _∷_, _++_}
+use mathlib.Core.Logic.{⊎-elim}
+use native.Mathlib.Omega.{arith}
+use lib.ListN.{length, take, drop, length-append}
+use lib.Seq.{take-append-seam}
+use types.Run.{OneOf}
+use denote.Enum.Declared.{tagOf}
+use Rattle.formula.specs.Formula.{Formula, Name}
+use Rattle.lexer.specs.Text.{bytes}
+use Rattle.contact.specs.Numbering.{namesOf, allAtoms}
+use Rattle.contact.proofs.Claims.{first-row-only-named}
+use Rattle.names.specs.Gather.{arraysOf, knownOf, Kept}
+use Rattle.names.specs.declared.Names.{Names}
+use Rattle.names.proofs.Arrays.{known-back, kept-names}
+use Rattle.plan.specs.declared.PlanArrays.{PlanArrays}
+use Rattle.plan.specs.declared.PlanRead.{PlanRead}
+use Rattle.plan.specs.Words.{Plan, IsPlan, wordsOf}
+use Rattle.plan.specs.Arrays.{Stored, Reads, over, planBy}
+use Rattle.plan.specs.Given.{plansOf, IsGiven}
+use Rattle.plan.proofs.Again.{plan-again}
+use Rattle.plan.proofs.Buffer.{written-over}
+use Rattle.plan.proofs.Claims.{no-plan-given, given-exactly, given-is-plan, given-words, given-points}
+use Rattle.table.specs.declared.Table.{Table}
+use Rattle.table.specs.declared.AskAnswer.{AskAnswer}
+use Rattle.table.specs.declared.AskAnswer.the-variants as AskAnswer
+use Rattle.table.specs.declared.AskResult.{AskResult}
+use Rattle.table.specs.declared.LoadAnswer.{LoadAnswer}
+use Rattle.table.specs.declared.LoadAnswer.the-variants as LoadAnswer
+use Rattle.table.specs.declared.LoadResult.{LoadResult}
+use Rattle.table.proofs.AskAnswer.{the-type}
+use Rattle.table.proofs.LoadAnswer.{the-type as load-type}
+use Rattle.table.specs.Store.{Text, tableOf, rulesOf}
+use Rattle.table.specs.Calls.{formulasOf, namesIn, atomsIn, linesOf, filled, judgeLoad, ifLoaded, loadRules, loaded, FromUs, Loads}
+use Rattle.table.specs.Asking.{askAnswer, askWords, asked, Asks}
+use Rattle.table.specs.Rows.{SomeStand, AskRow, LoadRow}
+use Rattle.table.proofs.Claims.{ask-answered, load-answered, rules-back}
+use Rattle.table.specs.Numbers.{loadOutcome}
+use Rattle.theorems.proofs.Demands.{not-loaded, words-written, read-back}
+use Rattle.report.specs.Output.{planText, plansText, rulesText, outcomeText, outputOf, ended}
+use Rattle.report.specs.Putting.{Puts}
+use Rattle.report.proofs.Short.{names-short}
+use Rattle.report.proofs.Bounds.{plan-few}
+
+-- an answer whose case is another than the first is no plan
+pub told-other : (a : AskAnswer) → OneOf (1 ∷ 2 ∷ 3 ∷ []) (tagOf the-type a) → (n : ℕ) → a ≡ AskAnswer.Plan n → ⊥
+told-other a h n e =
+    ⊎-elim (λ z. omega arith) (⊎-elim (λ z. omega arith) (λ z. omega arith)) (subst (λ (x : AskAnswer). OneOf (1 ∷ 2 ∷ 3 ∷ []) (tagOf the-type x)) e h)
+
+module _ (t : Table) (v : FromUs t) (some : SomeStand (rulesOf t)) (buffer : List ℕ) (room : length buffer ≡ 530) (r : AskResult) (exit : List ℕ) (asks : Asks t buffer r exit) where
+  abbrev rules : List (Formula Name)
+  rules = formulasOf (rulesOf t)
+
+  few-atoms : length (allAtoms rules) ≤ 16
+  unfolding atomsIn
+  few-atoms = v .standing .atoms
+
+  row : AskRow (rulesOf t) (length buffer) (r .answer)
+  unfolding asked
+  row = subst (AskRow (rulesOf t) (length buffer)) (sym (ap (λ (x : AskResult). x .answer) (asks .result))) (ask-answered (length buffer) (rulesOf t))
+
+  -- where ask gives no plan
+  pub no-text : ((n : ℕ) → r .answer ≡ AskAnswer.Plan n → ⊥) → ended (bytes "NO PLAN") ≡ rulesText rules
+  unfolding rulesText
+  no-text other = go (r .answer) row other
+    where
+      go : (a : AskAnswer) → AskRow (rulesOf t) (length buffer) a → ((n : ℕ) → a ≡ AskAnswer.Plan n → ⊥) → ended (bytes "NO PLAN") ≡ plansText (namesOf rules) (plansOf rules)
+      go a (AskRow.none e) n = absurd (some e)
+      go a (AskRow.without z never) n = sym (ap (plansText (namesOf rules)) (no-plan-given rules .1 never))
+      go a (AskRow.short {p} z g l) n = absurd (omega (arith, room, given-words rules few-atoms p (given-exactly rules p .1 g)))
+      go a (AskRow.given {p} z g l) n = absurd (n (length (wordsOf p)) refl)
+
+  -- where it gives one
+  pub record Drew (n : ℕ) : Type 0 where
+    pub plan : Plan
+    pub is : IsPlan plan
+    pub only : plansOf rules ≡ plan ∷ []
+    pub within : n ≤ length exit
+    pub counted : n ≡ length (take n exit)
+    pub words : take n exit ≡ wordsOf plan
+
+  pub drew : (n : ℕ) → r .answer ≡ AskAnswer.Plan n → Drew n
+  unfolding over namesIn
+  drew n e = go (r .answer) row e
+    where
+      go : (a : AskAnswer) → AskRow (rulesOf t) (length buffer) a → a ≡ AskAnswer.Plan n → Drew n
+      go a (AskRow.none z) f = absurd (some z)
+      go a (AskRow.without z never) f = absurd (let z : _≡_ {A = ℕ} 0 1 = cc in omega arith)
+      go a (AskRow.short z g l) f = absurd (let z : _≡_ {A = ℕ} 0 1 = cc in omega arith)
+      go a (AskRow.given {p} z g l) f =
+          let size : length (wordsOf p) ≡ n = cc in
+          let wrote : exit ≡ over (wordsOf p) buffer = asks .words ∙ words-written (rulesOf t) buffer some p g l in
+          let words : take n exit ≡ wordsOf p
+          = ap (take n) wrote ∙ ap (λ (k : ℕ). take k (over (wordsOf p) buffer)) (sym size) ∙ take-append-seam (wordsOf p) _ in
+          record {
+            plan = p;
+            is = subst IsPlan (sym (g .is)) (given-is-plan rules (v .standing .names) (g .row) (first-row-only-named rules (g .row) (g .first)));
+            only = given-exactly rules p .1 g;
+            within = omega (arith, size, ap length wrote, length-append (wordsOf p) (drop (length (wordsOf p)) buffer));
+            counted = sym (ap length words ∙ size);
+            words = words;
+          }
+
+  module _ (n : ℕ) (e : r .answer ≡ AskAnswer.Plan n) (q : PlanRead) (reads : Reads (take n exit) q) (names : Names) (are : names ≡ arraysOf (namesIn (rulesOf t))) where
+    abbrev it : Drew n
+    it = drew n e
+
+    stored : Stored (q .plan) (it .plan)
+    stored = read-back (it .plan) (it .is) q (subst (λ (ws : List ℕ). Reads ws q) (it .words) reads) .1
+
+    known : knownOf names ≡ namesIn (rulesOf t)
+    known = ap knownOf are ∙ known-back (namesIn (rulesOf t))
+
+    pub put-kept : Kept names
+    put-kept = subst Kept (sym are) (kept-names (namesIn (rulesOf t)) (v .standing .names))
+
+    points : length (it .plan .points) ≤ 32
+    points = given-points rules few-atoms (it .plan) (it .only)
+
+    pub put-count : q .plan .count ≤ 64
+    put-count = omega (arith, stored .count, points)
+
+    pub put-text-is : planText (knownOf names) (planBy (q .plan)) ≡ rulesText rules
+    unfolding rulesText namesIn
+    put-text-is =
+        ap₂ planText known (plan-again (q .plan) (it .plan) (it .is) stored)
+        ∙ sym (ap (plansText (namesOf rules)) (it .only))
+
+    pub put-fits : length (planText (knownOf names) (planBy (q .plan))) ≤ 10551
+    put-fits =
+        subst (λ (l : List ℕ). length l ≤ 10551) (sym (ap₂ planText known (plan-again (q .plan) (it .plan) (it .is) stored)))
+        (plan-few (namesIn (rulesOf t)) (v .standing .names) (names-short (rulesOf t) (v .standing .rules)) (it .plan) (it .is) points (given-words rules few-atoms (it .plan) (it .only)))
+
+-- ---- a sheet
+
+-- an answer whose case is another than the first is not Loaded
+pub told-refused : (a : LoadAnswer) → OneOf (1 ∷ 2 ∷ 3 ∷ []) (tagOf load-type a) → a ≡ LoadAnswer.Loaded → ⊥
+told-refused a h e =
+    ⊎-elim (λ z. omega arith) (⊎-elim (λ z. omega arith) (λ z. omega arith)) (subst (λ (x : LoadAnswer). OneOf (1 ∷ 2 ∷ 3 ∷ []) (tagOf load-type x)) e h)
+
+module _ (t : Table) (file : Text) (r : LoadResult) (loads : Loads t file r) where
+  answer-is : r .answer ≡ judgeLoad file
+  unfolding loaded
+  answer-is = ap (λ (x : LoadResult). x .answer) (loads .result)
+
+  -- a refused sheet has its refusal's text
+  pub refused-text : (r .answer ≡ LoadAnswer.Loaded → ⊥) → outcomeText (loadOutcome (r .answer)) ≡ outputOf file
+  unfolding outputOf
+  refused-text other =
+      ap (λ (a : LoadAnswer). outcomeText (loadOutcome a)) answer-is
+      ∙ sym (not-loaded (judgeLoad file) (rulesText (formulasOf (filled (linesOf file)))) (outcomeText (loadOutcome (judgeLoad file))) (λ e. other (answer-is ∙ e)))
+
+  module _ (e : r .answer ≡ LoadAnswer.Loaded) where
+    good : judgeLoad file ≡ LoadAnswer.Loaded
+    good = sym answer-is ∙ e
+
+    held : rulesOf (r .table) ≡ filled (linesOf file)
+    unfolding loaded loadRules
+    held =
+        ap (λ (x : LoadResult). rulesOf (x .table)) (loads .result) ∙ rules-back (loadRules (rulesOf t) file)
+        ∙ ap (λ (a : LoadAnswer). ifLoaded a (filled (linesOf file)) (rulesOf t)) good
+
+    -- in a loaded sheet some rule stands
+    pub loaded-some : SomeStand (rulesOf (r .table))
+    loaded-some z = go (judgeLoad file) (load-answered file) good (sym held ∙ z)
+      where
+        go : (a : LoadAnswer) → LoadRow file a → a ≡ LoadAnswer.Loaded → filled (linesOf file) ≡ [] → ⊥
+        go a (LoadRow.long h) f = absurd (let z : _≡_ {A = ℕ} 0 1 = cc in omega arith)
+        go a (LoadRow.blank h k) f = absurd (let z : _≡_ {A = ℕ} 0 1 = cc in omega arith)
+        go a (LoadRow.line h k) f = absurd (let z : _≡_ {A = ℕ} 0 1 = cc in omega arith)
+        go a (LoadRow.loads h none can) f = none
+
+    -- and its text is that of its rules
+    pub loaded-text : rulesText (formulasOf (rulesOf (r .table))) ≡ outputOf file
+    unfolding outputOf
+    loaded-text =
+        ap (λ (rs : List Text). rulesText (formulasOf rs)) held
+        ∙ sym (ap (λ (a : LoadAnswer). ifLoaded a (rulesText (formulasOf (filled (linesOf file)))) (outcomeText (loadOutcome a))) good)
+
+-- put at the first byte, a text is over the buffer
+pub puts-over : (text buffer exit : List ℕ) (end : ℕ) → Puts 0 text buffer exit end → (end ≡ length text) × (exit ≡ over text buffer) × (end ≤ length exit)
+unfolding over
+puts-over text buffer exit end p =
+    let z : end ≡ length text = omega (arith, p .place) in
+    let e : exit ≡ over text buffer = p .bytes ∙ written-over text buffer in
+    (z, e, omega (arith, z, ap length e, length-append text (drop (length text) buffer)))

@@ -1,0 +1,47 @@
+-- The sheet is loaded or refused, and each has its text (Reporting.antt). Assumes nothing.
+use borrow.Author.Needs.{needs}
+use Rattle.report.proofs.Putting.{puts-text}
+use Rattle.report.proofs.Reporting.{told-refused, refused-text, loaded-some, loaded-text}
+use Rattle.report.proofs.put_report.Statement.{statement}
+use Rattle.report.proofs.put_report.Tie as tie
+
+empty-requires : tie.Need-empty-requires
+empty-requires c κs = search needs
+
+load-requires : tie.Need-load-requires
+load-requires c κs = search needs
+
+enum-told : tie.Need-enum-told
+enum-told c = search needs
+
+put-refusal-requires : tie.Need-put-refusal-requires
+put-refusal-requires c κs = search needs
+
+same-length : tie.Need-same-length
+same-length c = search needs
+
+returns : tie.Need-returns
+returns c = puts-text (refused-text _ _ _ (c .before .before .before .before .before .load .ensures) (told-refused _ (c .before .before .before .before .match .keys2))) (c .before .before .put-refusal .ensures)
+
+put-rules-requires : tie.Need-put-rules-requires
+put-rules-requires c κs = (c .before .before .before .before .load .ensures .from-us, loaded-some _ _ _ (c .before .before .before .before .load .ensures) (c .before .before .enum-told .given .1), c .before .before .before .before .before .before .before .before .pre)
+
+same-length-2 : tie.Need-same-length-2
+same-length-2 c = search needs
+
+returns-2 : tie.Need-returns-2
+returns-2 c = puts-text (loaded-text _ _ _ (c .before .before .before .before .before .before .before .load .ensures) (c .before .before .before .before .before .enum-told .given .1)) (c .before .before .put-rules .ensures)
+
+pub put-report-spec : {M : Type 1} → statement M
+put-report-spec =
+    tie.close
+    (tie.spec
+    empty-requires
+    load-requires
+    enum-told
+    put-refusal-requires
+    same-length
+    returns
+    put-rules-requires
+    same-length-2
+    returns-2)

@@ -1,0 +1,14 @@
+-- What is put at the first byte is over the buffer. Assumes nothing.
+use borrow.Author.Needs.{needs}
+use Rattle.report.proofs.Reporting.{puts-over}
+use Rattle.report.proofs.report.Statement.{statement}
+use Rattle.report.proofs.report.Tie as tie
+
+put-report-requires : tie.Need-put-report-requires
+put-report-requires c κs = search needs
+
+returns : tie.Need-returns
+returns c = let p = puts-over _ _ _ _ (c .put-report .ensures) in record { counted = p .0; fits = p .2; bytes = p .1 }
+
+pub report-spec : {M : Type 1} → statement M
+report-spec = tie.close (tie.spec put-report-requires returns)

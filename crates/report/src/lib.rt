@@ -1,0 +1,333 @@
+// The text that the program floorplan writes for a sheet (document 01, 'Worked sheets'). What is meant is in specs/Output.antt: one
+// function from the sheet's bytes to the text's. Here the text is put into a buffer piece by piece: each private function puts
+// one piece at a place, and answers the place after it. The buffer has room for the text of every sheet. Assumes nothing.
+ghost use mathlib.Core.Path.{_≡_};
+ghost use Prim.Native.Nat.{_+_, _*_, _≤_, _<_};
+ghost use lib.ListN.{length, take};
+ghost use Rattle.evalset.specs.Bit.{bit};
+ghost use Rattle.evalset.specs.Search.{gather};
+ghost use Rattle.evalset.specs.Sets.{mem, memAt};
+ghost use Rattle.names.specs.Gather.{bytesIn, knownOf, Kept};
+ghost use Rattle.plan.specs.Arrays.{pairOf, rowTo, linksTo, planBy};
+ghost use Rattle.table.specs.Store.{rulesOf};
+ghost use Rattle.table.specs.Calls.{formulasOf, FromUs};
+ghost use Rattle.table.specs.Rows.{SomeStand};
+ghost use Rattle.table.specs.Numbers.{addOutcome, onLine, loadOutcome};
+ghost use Rattle.report.specs.Output.{decimal, labelled, headLine, nameIf, pointNames, namesOrNone, blanked, pointLine, pointLines, contactLine, planText, refusedText, outcomeText, rulesText, outputOf};
+ghost use Rattle.report.specs.Putting.{Puts, Reports, outcomeOf};
+use evalset::EvalSet;
+use names::Name;
+use names::Names;
+use plan::PlanArrays;
+use table::AddAnswer;
+use table::AskAnswer;
+use table::LoadAnswer;
+use table::Table;
+
+// The bytes of the buffer: the text of a plan has 10,551 at most.
+pub const ROOM: usize = 16384;
+
+// What a load's answer says: done, or the number of the refusal in document 01, the line and the place.
+enum Told {
+    Done,
+    Refused(usize, usize, usize),
+}
+
+// Some bytes.
+fn put_text(text: &[u8], out: &mut [u8], at: usize) -> usize
+    requires { ⌜ at + length (now text) ≤ length (now out) ⌝ }
+    ensures { λ r. ⌜ Puts at (now (text .entry)) (now (out .entry)) (now (out .exit)) r ⌝ }
+{
+    let mut i: usize = 0;
+    while i < text.len() {
+        out[at + i] = text[i];
+        i += 1;
+    }
+    at + i
+}
+
+// A number.
+fn put_number(n: usize, out: &mut [u8], at: usize) -> usize
+    requires { ⌜ at + length (decimal n) ≤ length (now out) ⌝ }
+    ensures { λ r. ⌜ Puts at (decimal n) (now (out .entry)) (now (out .exit)) r ⌝ }
+{
+    let digit = b'0' + (n % 10) as u8;
+    if n < 10 {
+        out[at] = digit;
+        return at + 1;
+    }
+    let end = put_number(n / 10, out, at);
+    out[end] = digit;
+    end + 1
+}
+
+// A text and a number behind it.
+fn put_labelled(label: &[u8], n: usize, out: &mut [u8], at: usize) -> usize
+    requires { ⌜ at + length (labelled (now label) n) ≤ length (now out) ⌝ }
+    ensures { λ r. ⌜ Puts at (labelled (now (label .entry)) n) (now (out .entry)) (now (out .exit)) r ⌝ }
+{
+    let end = put_text(label, out, at);
+    put_number(n, out, end)
+}
+
+// The first line of a plan.
+fn put_head(names: u8, points: usize, out: &mut [u8], at: usize) -> usize
+    requires { ⌜ at + length (headLine names points) ≤ length (now out) ⌝ }
+    ensures { λ r. ⌜ Puts at (headLine names points) (now (out .entry)) (now (out .exit)) r ⌝ }
+{
+    let end = put_labelled(b"PLAN names=", names as usize, out, at);
+    let end = put_labelled(b" points=", points, out, end);
+    put_text(b"\n", out, end)
+}
+
+// Whether the point with this evaluation lies in name i.
+fn lies_in(e: u8, i: usize) -> bool
+    requires { ⌜ i < 8 ⌝ }
+    ensures { λ r. ⌜ r ≡ bit e i ⌝ }
+{
+    (e >> i) % 2 == 1
+}
+
+// A name behind a blank.
+fn put_name(name: Name, out: &mut [u8], at: usize) -> usize
+    requires { ⌜ (name .len ≡ length (bytesIn name)) × (at + length (blanked (bytesIn name)) ≤ length (now out)) ⌝ }
+    ensures { λ r. ⌜ Puts at (blanked (bytesIn name)) (now (out .entry)) (now (out .exit)) r ⌝ }
+{
+    let end = put_text(b" ", out, at);
+    let bytes = name.bytes;
+    let len = name.len as usize;
+    put_text(&bytes[..len], out, end)
+}
+
+// Name i, if the point with this evaluation lies in it.
+fn put_name_if(names: Names, e: u8, i: usize, out: &mut [u8], at: usize) -> usize
+    requires { ⌜ Kept names × (i < names .count) × (at + length (gather blanked (nameIf (knownOf names) e i)) ≤ length (now out)) ⌝ }
+    ensures { λ r. ⌜ Puts at (gather blanked (nameIf (knownOf names) e i)) (now (out .entry)) (now (out .exit)) r ⌝ }
+{
+    if lies_in(e, i) {
+        let list = names.list;
+        let name = list[i];
+        put_name(name, out, at)
+    } else {
+        at
+    }
+}
+
+// The names in which the point with this evaluation lies.
+fn put_names(names: Names, e: u8, out: &mut [u8], at: usize) -> usize
+    requires { ⌜ Kept names × (at + length (gather blanked (pointNames (knownOf names) e)) ≤ length (now out)) ⌝ }
+    ensures { λ r. ⌜ Puts at (gather blanked (pointNames (knownOf names) e)) (now (out .entry)) (now (out .exit)) r ⌝ }
+{
+    let count = names.count;
+    let mut end = at;
+    let mut i: usize = 0;
+    while i < count {
+        end = put_name_if(names, e, i, out, end);
+        i += 1;
+    }
+    end
+}
+
+// These names, or a sign that there are none.
+fn put_words(names: Names, e: u8, out: &mut [u8], at: usize) -> usize
+    requires { ⌜ Kept names × (at + length (gather blanked (namesOrNone (knownOf names) e)) ≤ length (now out)) ⌝ }
+    ensures { λ r. ⌜ Puts at (gather blanked (namesOrNone (knownOf names) e)) (now (out .entry)) (now (out .exit)) r ⌝ }
+{
+    let end = put_names(names, e, out, at);
+    if end <= at {
+        put_text(b" -", out, end)
+    } else {
+        end
+    }
+}
+
+// The line of the point at a position.
+fn put_point(names: Names, i: usize, e: u8, out: &mut [u8], at: usize) -> usize
+    requires { ⌜ Kept names × (at + length (pointLine (knownOf names) i e) ≤ length (now out)) ⌝ }
+    ensures { λ r. ⌜ Puts at (pointLine (knownOf names) i e) (now (out .entry)) (now (out .exit)) r ⌝ }
+{
+    let end = put_labelled(b"point ", i, out, at);
+    let end = put_text(b":", out, end);
+    let end = put_words(names, e, out, end);
+    put_text(b"\n", out, end)
+}
+
+// The lines of the first n points.
+fn put_points(names: Names, points: [u8; 64], n: usize, out: &mut [u8], at: usize) -> usize
+    requires { ⌜ Kept names × (n ≤ 64) × (at + length (pointLines (knownOf names) (take n points)) ≤ length (now out)) ⌝ }
+    ensures { λ r. ⌜ Puts at (pointLines (knownOf names) (take n points)) (now (out .entry)) (now (out .exit)) r ⌝ }
+{
+    let mut end = at;
+    let mut i: usize = 0;
+    while i < n {
+        end = put_point(names, i, points[i], out, end);
+        i += 1;
+    }
+    end
+}
+
+// The line of a contact.
+fn put_contact(i: usize, j: usize, out: &mut [u8], at: usize) -> usize
+    requires { ⌜ (j < 256) × (at + length (contactLine (i * 256 + j)) ≤ length (now out)) ⌝ }
+    ensures { λ r. ⌜ Puts at (contactLine (i * 256 + j)) (now (out .entry)) (now (out .exit)) r ⌝ }
+{
+    let end = put_labelled(b"contact ", i, out, at);
+    let end = put_labelled(b" ", j, out, end);
+    put_text(b"\n", out, end)
+}
+
+// The line of positions i and j, if j is later and in i's row.
+fn put_pair(row: EvalSet, i: usize, j: usize, out: &mut [u8], at: usize) -> usize
+    requires { ⌜ (j < 64) × (at + length (gather contactLine (pairOf i j (mem row))) ≤ length (now out)) ⌝ }
+    ensures { λ r. ⌜ Puts at (gather contactLine (pairOf i j (mem row))) (now (out .entry)) (now (out .exit)) r ⌝ }
+{
+    if j <= i {
+        return at;
+    }
+    if evalset::contains(row, j) {
+        put_contact(i, j, out, at)
+    } else {
+        at
+    }
+}
+
+// The lines of one row.
+fn put_row(row: EvalSet, i: usize, n: usize, out: &mut [u8], at: usize) -> usize
+    requires { ⌜ (n ≤ 64) × (at + length (gather contactLine (rowTo n i (mem row))) ≤ length (now out)) ⌝ }
+    ensures { λ r. ⌜ Puts at (gather contactLine (rowTo n i (mem row))) (now (out .entry)) (now (out .exit)) r ⌝ }
+{
+    let mut end = at;
+    let mut j: usize = 0;
+    while j < n {
+        end = put_pair(row, i, j, out, end);
+        j += 1;
+    }
+    end
+}
+
+// The lines of all rows.
+fn put_rows(rows: [EvalSet; 64], n: usize, out: &mut [u8], at: usize) -> usize
+    requires { ⌜ (n ≤ 64) × (at + length (gather contactLine (linksTo n n (memAt rows))) ≤ length (now out)) ⌝ }
+    ensures { λ r. ⌜ Puts at (gather contactLine (linksTo n n (memAt rows))) (now (out .entry)) (now (out .exit)) r ⌝ }
+{
+    let mut end = at;
+    let mut i: usize = 0;
+    while i < n {
+        let row = rows[i];
+        end = put_row(row, i, n, out, end);
+        i += 1;
+    }
+    end
+}
+
+// A plan of at most 64 points over these names.
+fn put_plan(plan: PlanArrays, names: Names, out: &mut [u8], at: usize) -> usize
+    requires { ⌜ Kept names × (plan .count ≤ 64) × (at + length (planText (knownOf names) (planBy plan)) ≤ length (now out)) ⌝ }
+    ensures { λ r. ⌜ Puts at (planText (knownOf names) (planBy plan)) (now (out .entry)) (now (out .exit)) r ⌝ }
+{
+    let points = plan.points;
+    let rows = plan.rows;
+    let n = plan.count;
+    let end = put_head(plan.names, n, out, at);
+    let end = put_points(names, points, n, out, end);
+    put_rows(rows, n, out, end)
+}
+
+// The number of add's refusal and what it carries, on a line.
+fn outcome_on_line(line: usize, answer: AddAnswer) -> Told
+    ensures { λ r. ⌜ outcomeOf r ≡ onLine line (addOutcome answer) ⌝ }
+{
+    match answer {
+        AddAnswer::Added => Told::Done,
+        AddAnswer::TooLong => Told::Refused(2, line, 256),
+        AddAnswer::NoToken => Told::Refused(1, line, 0),
+        AddAnswer::ForeignByte(i) => Told::Refused(3, line, i),
+        AddAnswer::LongName(i) => Told::Refused(4, line, i),
+        AddAnswer::Measured(i) => Told::Refused(5, line, i),
+        AddAnswer::GrammarAt(i) => Told::Refused(6, line, i),
+        AddAnswer::TableFull => Told::Refused(9, line, 0),
+        AddAnswer::SeventhName(i) => Told::Refused(7, line, i),
+        AddAnswer::TooManyAtoms => Told::Refused(8, line, 0),
+    }
+}
+
+// The number of load's refusal, the line and the place.
+fn outcome(answer: LoadAnswer) -> Told
+    ensures { λ r. ⌜ outcomeOf r ≡ loadOutcome answer ⌝ }
+{
+    match answer {
+        LoadAnswer::Loaded => Told::Done,
+        LoadAnswer::FileTooLong => Told::Refused(15, 0, 0),
+        LoadAnswer::AllBlank => Told::Refused(1, 0, 0),
+        LoadAnswer::Line { line, answer } => outcome_on_line(line, answer),
+    }
+}
+
+// The line of a refusal: three numbers of at most 20 digits, 79 bytes at most.
+fn put_refused(number: usize, line: usize, place: usize, out: &mut [u8], at: usize) -> usize
+    requires { ⌜ at + 79 ≤ length (now out) ⌝ }
+    ensures { λ r. ⌜ Puts at (refusedText number line place) (now (out .entry)) (now (out .exit)) r ⌝ }
+{
+    let end = put_labelled(b"refused ", number, out, at);
+    let end = put_labelled(b" line ", line, out, end);
+    let end = put_labelled(b" at ", place, out, end);
+    put_text(b"\n", out, end)
+}
+
+// What a load's answer says: nothing where it is loaded.
+fn put_refusal(answer: LoadAnswer, out: &mut [u8], at: usize) -> usize
+    requires { ⌜ at + 79 ≤ length (now out) ⌝ }
+    ensures { λ r. ⌜ Puts at (outcomeText (loadOutcome answer)) (now (out .entry)) (now (out .exit)) r ⌝ }
+{
+    let said = outcome(answer);
+    match said {
+        Told::Done => at,
+        Told::Refused(number, line, place) => put_refused(number, line, place, out, at),
+    }
+}
+
+// Room for the words of a plan.
+fn no_words() -> [u32; 530]
+    ensures { λ r. ⌜ length r ≡ 530 ⌝ }
+{
+    [0u32; 530]
+}
+
+// The text for the rules that stand.
+fn put_rules(table: Table, out: &mut [u8]) -> usize
+    requires { ⌜ FromUs table × SomeStand (rulesOf table) × (16384 ≤ length (now out)) ⌝ }
+    ensures { λ r. ⌜ Puts 0 (rulesText (formulasOf (rulesOf table))) (now (out .entry)) (now (out .exit)) r ⌝ }
+{
+    let names = table.names();
+    let mut words = no_words();
+    let asked = table.ask(&mut words);
+    let answer = asked.answer;
+    let AskAnswer::Plan(n) = answer else {
+        return put_text(b"NO PLAN\n", out, 0);
+    };
+    let read = plan::read_plan(&words[..n]);
+    let plan = read.plan;
+    put_plan(plan, names, out, 0)
+}
+
+// The text for a sheet.
+fn put_report(file: &[u8], out: &mut [u8]) -> usize
+    requires { ⌜ 16384 ≤ length (now out) ⌝ }
+    ensures { λ r. ⌜ Puts 0 (outputOf (now (file .entry))) (now (out .entry)) (now (out .exit)) r ⌝ }
+{
+    let t = Table::empty();
+    let loaded = t.load(file);
+    let answer = loaded.answer;
+    let LoadAnswer::Loaded = answer else {
+        return put_refusal(answer, out, 0);
+    };
+    let table = loaded.table;
+    put_rules(table, out)
+}
+
+// The text for a sheet of any bytes, over the first bytes of the buffer, and its length. The other bytes keep their values.
+pub fn report(file: &[u8], out: &mut [u8; ROOM]) -> usize
+    ensures { λ r. ⌜ Reports (now (file .entry)) (now (out .entry)) r (now (out .exit)) ⌝ }
+{
+    put_report(file, out)
+}

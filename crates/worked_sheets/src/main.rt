@@ -1,0 +1,896 @@
+// The test program of the calls, and an example of a caller in another crate: a table is only ever passed to a call and taken
+// from a result, so that `FromUs`, which each call requires, is what the call before it ensures; it is never opened.
+//
+// Standard input is a list of scripts. A line that begins with `#` heads a script, and the table is then the empty one.
+// Every other line is one call, and is written again with ` => ` and its answer:
+//
+//     add TEXT     withdraw K     load TEXT     ask N, with N words lent     judge WORDS
+//     every N, which judges the plan over N names that has every point and every contact
+//
+// In a text `/` is byte 10, a backslash and two hexadecimal digits are that byte, and `{N:PART}` is N times PART. A refusal has
+// document 01's number and what it carries. `same`: the table has as many rules as before the call, and gives the same plans, also
+// while they are withdrawn one by one. `kept`: the words lent to ask have their old values, those past the plan or, for
+// another answer, all. A plan of ask is judged at once. The file `stdout` has the lines that document 01 asks for.
+ghost use mathlib.Core.Path.{_≡_};
+ghost use Prim.Native.Nat.{_≤_, _<_};
+ghost use lib.ListN.{length};
+ghost use Rattle.table.specs.Calls.{FromUs};
+ghost use Rattle.table.specs.Numbers.{addOutcome, withdrawOutcome, onLine, loadOutcome};
+ghost use Rattle.worked_sheets.specs.Outcomes.{outcomeOf};
+use table::AddAnswer;
+use table::AskAnswer;
+use table::JudgeAnswer;
+use table::LoadAnswer;
+use table::Table;
+use table::WithdrawAnswer;
+
+// What a line of a script is.
+enum Command {
+    Heading,
+    Add,
+    Withdraw,
+    Load,
+    Ask,
+    Judge,
+    Every,
+}
+
+// Document 01's number of an answer with what it carries, as the table's own definition gives them.
+enum Outcome {
+    Done,
+    Refused {
+        number: usize,
+        carried: usize,
+    },
+    RefusedLine {
+        number: usize,
+        line: usize,
+        place: usize,
+    },
+}
+
+// ---- writing
+
+fn write_bytes(bytes: &[u8]) {
+    io::write_all(libc::STDOUT_FILENO, bytes);
+}
+
+fn write_number(n: usize) {
+    io::print_decimal(libc::STDOUT_FILENO, n as u64);
+}
+
+// Writes the capital hexadecimal digit of a number modulo 16.
+fn write_digit(d: u32) {
+    let digits = b"0123456789ABCDEF";
+    let i = (d % 16) as usize;
+    let one = [digits[i]];
+    write_bytes(&one);
+}
+
+// Writes a blank and a word in eight digits.
+fn write_word(w: u32) {
+    write_bytes(b" ");
+    write_digit(w / 0x1000_0000);
+    write_digit(w / 0x100_0000);
+    write_digit(w / 0x10_0000);
+    write_digit(w / 0x1_0000);
+    write_digit(w / 0x1000);
+    write_digit(w / 0x100);
+    write_digit(w / 0x10);
+    write_digit(w);
+}
+
+fn write_refusal(number: usize, place: usize) {
+    write_bytes(b"refused ");
+    write_number(number);
+    write_bytes(b" at ");
+    write_number(place);
+}
+
+// ---- what a line says
+
+// The place after the next byte b from a place on, or the end where there is none.
+fn after(s: &[u8], from: usize, b: u8) -> usize
+    requires { ⌜ from < length (now s) ⌝ }
+    ensures { λ r. ⌜ (from < r) × (r ≤ length (now (s .entry))) ⌝ }
+{
+    let mut i = from;
+    while i < s.len() {
+        if s[i] == b {
+            return i + 1;
+        }
+        i += 1;
+    }
+    i
+}
+
+// How many bytes there are without a last byte b.
+fn without_last(s: &[u8], b: u8) -> usize
+    ensures { λ r. ⌜ r ≤ length (now (s .entry)) ⌝ }
+{
+    let n = s.len();
+    if n <= 0 {
+        return n;
+    }
+    if s[n - 1] == b {
+        return n - 1;
+    }
+    n
+}
+
+// The byte at a place, 0 past the end.
+fn byte_at(s: &[u8], i: usize) -> u8 {
+    if i < s.len() {
+        return s[i];
+    }
+    0
+}
+
+// The command of a line, by its first bytes.
+fn command_of(line: &[u8]) -> Command {
+    match byte_at(line, 0) {
+        b'a' => match byte_at(line, 1) {
+            b'd' => Command::Add,
+            _ => Command::Ask,
+        },
+        b'w' => Command::Withdraw,
+        b'l' => Command::Load,
+        b'j' => Command::Judge,
+        b'e' => Command::Every,
+        _ => Command::Heading,
+    }
+}
+
+// A decimal digit put after a number, or the largest number where the result is larger.
+fn with_digit(n: usize, d: usize) -> usize
+    requires { ⌜ d < 10 ⌝ }
+{
+    if (0xFFFF_FFFF_FFFF_FFFF - d) / 10 < n {
+        return 0xFFFF_FFFF_FFFF_FFFF;
+    }
+    n * 10 + d
+}
+
+// The number that the digits at the start of a text make.
+fn number_of(s: &[u8]) -> usize {
+    let mut n: usize = 0;
+    let mut i: usize = 0;
+    while i < s.len() {
+        let b = s[i];
+        if b < 48 {
+            return n;
+        }
+        if 57 < b {
+            return n;
+        }
+        n = with_digit(n, (b - 48) as usize);
+        i += 1;
+    }
+    n
+}
+
+// ---- texts
+
+// A text with nothing in it.
+fn no_text() -> [u8; 8200]
+    ensures { λ r. ⌜ length r ≡ 8200 ⌝ }
+{
+    [0u8; 8200]
+}
+
+// The value of a capital hexadecimal digit, 0 for another byte.
+fn digit_of(b: u8) -> u8
+    ensures { λ r. ⌜ r < 16 ⌝ }
+{
+    match b {
+        48..=57 => b - 48,
+        65..=70 => b - 55,
+        _ => 0,
+    }
+}
+
+// The place after the sign at a place: a backslash takes two digits with it.
+fn after_sign(s: &[u8], i: usize) -> usize
+    requires { ⌜ i < length (now s) ⌝ }
+    ensures { λ r. ⌜ (i < r) × (r ≤ length (now (s .entry))) ⌝ }
+{
+    if s[i] == b'\\' {
+        if 3 <= s.len() - i {
+            return i + 3;
+        }
+    }
+    i + 1
+}
+
+// The byte that a sign is.
+fn sign_byte(sign: &[u8]) -> u8 {
+    match byte_at(sign, 0) {
+        b'/' => b'\n',
+        b'\\' => digit_of(byte_at(sign, 1)) * 16 + digit_of(byte_at(sign, 2)),
+        _ => byte_at(sign, 0),
+    }
+}
+
+// Puts a byte after the first `at` of a text, where there is room, and answers how many are used.
+fn put_byte(text: &mut [u8; 8200], at: usize, b: u8) -> usize
+    requires { ⌜ at ≤ 8200 ⌝ }
+    ensures { λ r. ⌜ r ≤ 8200 ⌝ }
+{
+    if at < 8200 {
+        text[at] = b;
+        return at + 1;
+    }
+    at
+}
+
+// Puts the bytes of signs after the first `at` of a text.
+fn put_signs(text: &mut [u8; 8200], at: usize, signs: &[u8]) -> usize
+    requires { ⌜ at ≤ 8200 ⌝ }
+    ensures { λ r. ⌜ r ≤ 8200 ⌝ }
+{
+    let mut end = at;
+    let mut i: usize = 0;
+    while i < signs.len() {
+        let next = after_sign(signs, i);
+        end = put_byte(text, end, sign_byte(&signs[i..next]));
+        i = next;
+    }
+    end
+}
+
+// Puts the bytes of signs n times after the first `at` of a text.
+fn put_times(text: &mut [u8; 8200], at: usize, signs: &[u8], n: usize) -> usize
+    requires { ⌜ at ≤ 8200 ⌝ }
+    ensures { λ r. ⌜ r ≤ 8200 ⌝ }
+{
+    let mut end = at;
+    let mut i: usize = 0;
+    while i < n {
+        end = put_signs(text, end, signs);
+        i += 1;
+    }
+    end
+}
+
+// Puts a sign, or a part with its number of times, after the first `at` of a text.
+fn put_part(text: &mut [u8; 8200], at: usize, part: &[u8]) -> usize
+    requires { ⌜ (at ≤ 8200) × (0 < length (now part)) ⌝ }
+    ensures { λ r. ⌜ r ≤ 8200 ⌝ }
+{
+    if part[0] == b'{' {
+        let n = number_of(&part[1..]);
+        let start = after(part, 0, b':');
+        let signs = &part[start..];
+        let len = without_last(signs, b'}');
+        return put_times(text, at, &signs[0..len], n);
+    }
+    put_signs(text, at, part)
+}
+
+// The place after the sign or the part at a place.
+fn after_part(s: &[u8], i: usize) -> usize
+    requires { ⌜ i < length (now s) ⌝ }
+    ensures { λ r. ⌜ (i < r) × (r ≤ length (now (s .entry))) ⌝ }
+{
+    if s[i] == b'{' {
+        return after(s, i, b'}');
+    }
+    after_sign(s, i)
+}
+
+// Puts the bytes that a line says, and answers how many there are.
+fn put_text(text: &mut [u8; 8200], line: &[u8]) -> usize
+    ensures { λ r. ⌜ r ≤ 8200 ⌝ }
+{
+    let mut end: usize = 0;
+    let mut i: usize = 0;
+    while i < line.len() {
+        let next = after_part(line, i);
+        end = put_part(text, end, &line[i..next]);
+        i = next;
+    }
+    end
+}
+
+// ---- words
+
+// Room for the words of the largest plan, and one more.
+fn no_plan() -> [u32; 2083]
+    ensures { λ r. ⌜ length r ≡ 2083 ⌝ }
+{
+    [0u32; 2083]
+}
+
+// The word that the digits of a text make, its last eight.
+fn word_of(s: &[u8]) -> u32 {
+    let mut w: u32 = 0;
+    let mut i: usize = 0;
+    while i < s.len() {
+        w = w % 0x1000_0000 * 16 + digit_of(s[i]) as u32;
+        i += 1;
+    }
+    w
+}
+
+// Puts a word after the first `at`, where there is room, and answers how many are used.
+fn put_word(words: &mut [u32; 2083], at: usize, w: u32) -> usize
+    requires { ⌜ at ≤ 2083 ⌝ }
+    ensures { λ r. ⌜ r ≤ 2083 ⌝ }
+{
+    if at < 2083 {
+        words[at] = w;
+        return at + 1;
+    }
+    at
+}
+
+// Puts the words of a line, parted by one blank, and answers how many there are.
+fn put_words(words: &mut [u32; 2083], line: &[u8]) -> usize
+    ensures { λ r. ⌜ r ≤ 2083 ⌝ }
+{
+    let mut end: usize = 0;
+    let mut i: usize = 0;
+    while i < line.len() {
+        let next = after(line, i, b' ');
+        let word = &line[i..next];
+        let len = without_last(word, b' ');
+        end = put_word(words, end, word_of(&word[0..len]));
+        i = next;
+    }
+    end
+}
+
+// Words with nothing in them.
+fn no_words() -> [u32; 600]
+    ensures { λ r. ⌜ length r ≡ 600 ⌝ }
+{
+    [0u32; 600]
+}
+
+// Words with every value different, none of which is a plan's.
+fn marked() -> [u32; 600]
+    ensures { λ r. ⌜ length r ≡ 600 ⌝ }
+{
+    let mut words = no_words();
+    let mut i: usize = 0;
+    while i < 600 {
+        words[i] = 0xE000_0000 + i as u32;
+        i += 1;
+    }
+    words
+}
+
+// Whether the words from a place on are as `marked` gives them.
+fn kept_from(words: [u32; 600], from: usize) -> bool {
+    let mut i = from;
+    while i < 600 {
+        if words[i] != 0xE000_0000 + i as u32 {
+            return false;
+        }
+        i += 1;
+    }
+    true
+}
+
+// Writes the first n words.
+fn write_words(words: [u32; 600], n: usize) {
+    let mut i: usize = 0;
+    while i < 600 {
+        if n <= i {
+            return;
+        }
+        write_word(words[i]);
+        i += 1;
+    }
+}
+
+// Writes whether the words from a place on are kept.
+fn write_kept(words: [u32; 600], from: usize) {
+    if kept_from(words, from) {
+        write_bytes(b"; kept");
+    } else {
+        write_bytes(b"; not kept");
+    }
+}
+
+// The lesser of two numbers.
+fn at_most(n: usize, most: usize) -> usize
+    ensures { λ r. ⌜ r ≤ most ⌝ }
+{
+    if n < most { n } else { most }
+}
+
+// Two to the power of a number of names, at most six.
+fn points_over(names: usize) -> usize
+    ensures { λ r. ⌜ r ≤ 64 ⌝ }
+{
+    match names {
+        0 => 1,
+        1 => 2,
+        2 => 4,
+        3 => 8,
+        4 => 16,
+        5 => 32,
+        _ => 64,
+    }
+}
+
+// Puts a point at each of the first evaluations.
+fn put_points(words: &mut [u32; 2083], at: usize, points: usize) -> usize
+    requires { ⌜ (at ≤ 2083) × (points ≤ 64) ⌝ }
+    ensures { λ r. ⌜ r ≤ 2083 ⌝ }
+{
+    let mut end = at;
+    let mut e: usize = 0;
+    while e < points {
+        end = put_word(words, end, 0x2000_0000 + e as u32);
+        e += 1;
+    }
+    end
+}
+
+// Puts the contacts of a position with all later ones.
+fn put_row(words: &mut [u32; 2083], at: usize, i: usize, points: usize) -> usize
+    requires { ⌜ (at ≤ 2083) × (i < 64) × (points ≤ 64) ⌝ }
+    ensures { λ r. ⌜ r ≤ 2083 ⌝ }
+{
+    let mut end = at;
+    let mut j = i + 1;
+    while j < points {
+        end = put_word(words, end, 0x3000_0000 + (i * 256 + j) as u32);
+        j += 1;
+    }
+    end
+}
+
+// Puts the contacts of every two positions.
+fn put_rows(words: &mut [u32; 2083], at: usize, points: usize) -> usize
+    requires { ⌜ (at ≤ 2083) × (points ≤ 64) ⌝ }
+    ensures { λ r. ⌜ r ≤ 2083 ⌝ }
+{
+    let mut end = at;
+    let mut i: usize = 0;
+    while i < points {
+        end = put_row(words, end, i, points);
+        i += 1;
+    }
+    end
+}
+
+// Puts the plan over some names, at most six, that has every point and every contact.
+fn put_every(words: &mut [u32; 2083], names: usize) -> usize
+    ensures { λ r. ⌜ r ≤ 2083 ⌝ }
+{
+    let names = at_most(names, 6);
+    let points = points_over(names);
+    let first = put_word(words, 0, 0x1000_0000 + (names * 256 + points) as u32);
+    let pointed = put_points(words, first, points);
+    let end = put_rows(words, pointed, points);
+    put_word(words, end, 0x4000_0000 + end as u32)
+}
+
+// ---- the same table
+
+// Whether two buffers have the same words.
+fn same_words(a: [u32; 600], b: [u32; 600]) -> bool {
+    let mut i: usize = 0;
+    while i < 600 {
+        if a[i] != b[i] {
+            return false;
+        }
+        i += 1;
+    }
+    true
+}
+
+// An answer of ask as one number; a plan has three words at least, and a buffer of 600 words is never short.
+fn code_of(a: AskAnswer) -> usize {
+    match a {
+        AskAnswer::Plan(n) => n,
+        AskAnswer::NoPlan => 0,
+        AskAnswer::NoRule => 1,
+        AskAnswer::ShortBuffer(_) => 2,
+    }
+}
+
+// Whether two tables give the same answer to ask, and the same words.
+fn same_plan(a: Table, b: Table) -> bool
+    requires { ⌜ FromUs a × FromUs b ⌝ }
+{
+    let mut one = marked();
+    let mut two = marked();
+    let first = a.ask(&mut one);
+    let second = b.ask(&mut two);
+    let answer = first.answer;
+    let other = second.answer;
+    if code_of(answer) != code_of(other) {
+        return false;
+    }
+    same_words(one, two)
+}
+
+// Whether a rule was withdrawn.
+fn taken(a: WithdrawAnswer) -> bool {
+    match a {
+        WithdrawAnswer::Withdrawn => true,
+        WithdrawAnswer::NoSuchRule(_) => false,
+    }
+}
+
+// Whether two tables have as many rules, and give the same plans while their first rules are withdrawn one by one.
+fn same_table(before: Table, after: Table) -> bool
+    requires { ⌜ FromUs before × FromUs after ⌝ }
+{
+    let mut a = before;
+    let mut b = after;
+    let mut i: usize = 0;
+    while i < 17 {
+        if !same_plan(a, b) {
+            return false;
+        }
+        let first = a.withdraw(1);
+        let second = b.withdraw(1);
+        a = first.table;
+        b = second.table;
+        let answer = first.answer;
+        let other = second.answer;
+        if taken(answer) != taken(other) {
+            return false;
+        }
+        i += 1;
+    }
+    true
+}
+
+// Writes whether the table after a call is the one before it.
+fn write_same(before: Table, after: Table)
+    requires { ⌜ FromUs before × FromUs after ⌝ }
+{
+    if same_table(before, after) {
+        write_bytes(b"; same");
+    } else {
+        write_bytes(b"; changed");
+    }
+}
+
+// ---- the calls
+
+fn refused(number: usize, carried: usize) -> Outcome
+    ensures { λ r. ⌜ r ≡ Outcome.Refused number carried ⌝ }
+{
+    Outcome::Refused { number, carried }
+}
+
+fn refused_line(number: usize, line: usize, place: usize) -> Outcome
+    ensures { λ r. ⌜ r ≡ Outcome.RefusedLine number line place ⌝ }
+{
+    Outcome::RefusedLine {
+        number,
+        line,
+        place,
+    }
+}
+
+fn add_outcome(a: AddAnswer) -> Outcome
+    ensures { λ r. ⌜ r ≡ outcomeOf (addOutcome a) ⌝ }
+{
+    match a {
+        AddAnswer::Added => Outcome::Done,
+        AddAnswer::TooLong => refused(2, 256),
+        AddAnswer::NoToken => refused(1, 0),
+        AddAnswer::ForeignByte(i) => refused(3, i),
+        AddAnswer::LongName(i) => refused(4, i),
+        AddAnswer::Measured(i) => refused(5, i),
+        AddAnswer::GrammarAt(i) => refused(6, i),
+        AddAnswer::TableFull => refused(9, 0),
+        AddAnswer::SeventhName(i) => refused(7, i),
+        AddAnswer::TooManyAtoms => refused(8, 0),
+    }
+}
+
+fn withdraw_outcome(a: WithdrawAnswer) -> Outcome
+    ensures { λ r. ⌜ r ≡ outcomeOf (withdrawOutcome a) ⌝ }
+{
+    match a {
+        WithdrawAnswer::Withdrawn => Outcome::Done,
+        WithdrawAnswer::NoSuchRule(k) => refused(10, k),
+    }
+}
+
+// The outcome of a line that add answers so.
+fn on_line(line: usize, a: AddAnswer) -> Outcome
+    ensures { λ r. ⌜ r ≡ outcomeOf (onLine line (addOutcome a)) ⌝ }
+{
+    let o = add_outcome(a);
+    match o {
+        Outcome::Done => Outcome::Done,
+        Outcome::Refused { number, carried } => refused_line(number, line, carried),
+        Outcome::RefusedLine {
+            number,
+            line: l,
+            place,
+        } => refused_line(number, l, place),
+    }
+}
+
+fn load_outcome(a: LoadAnswer) -> Outcome
+    ensures { λ r. ⌜ r ≡ outcomeOf (loadOutcome a) ⌝ }
+{
+    match a {
+        LoadAnswer::Loaded => Outcome::Done,
+        LoadAnswer::FileTooLong => refused_line(15, 0, 0),
+        LoadAnswer::AllBlank => refused_line(1, 0, 0),
+        LoadAnswer::Line { line, answer } => on_line(line, answer),
+    }
+}
+
+// Writes what a call answered that may change the table, and for a refusal whether the table is as it was.
+fn write_outcome(done: &[u8], o: Outcome, before: Table, after: Table)
+    requires { ⌜ FromUs before × FromUs after ⌝ }
+{
+    match o {
+        Outcome::Done => {
+            write_bytes(done);
+        }
+        Outcome::Refused { number, carried } => {
+            write_refusal(number, carried);
+            write_same(before, after);
+        }
+        Outcome::RefusedLine {
+            number,
+            line,
+            place,
+        } => {
+            write_bytes(b"refused ");
+            write_number(number);
+            write_bytes(b" line ");
+            write_number(line);
+            write_bytes(b" at ");
+            write_number(place);
+            write_same(before, after);
+        }
+    }
+}
+
+// Adds the first n bytes.
+fn add_first(t: Table, text: [u8; 8200], n: usize) -> Table
+    requires { ⌜ FromUs t × (n ≤ 8200) ⌝ }
+    ensures { λ r. ⌜ FromUs r ⌝ }
+{
+    let r = t.add(&text[0..n]);
+    let next = r.table;
+    let answer = r.answer;
+    write_outcome(b"added", add_outcome(answer), t, next);
+    next
+}
+
+fn add_rule(t: Table, rest: &[u8]) -> Table
+    requires { ⌜ FromUs t ⌝ }
+    ensures { λ r. ⌜ FromUs r ⌝ }
+{
+    let mut text = no_text();
+    let n = put_text(&mut text, rest);
+    add_first(t, text, n)
+}
+
+fn withdraw_rule(t: Table, rest: &[u8]) -> Table
+    requires { ⌜ FromUs t ⌝ }
+    ensures { λ r. ⌜ FromUs r ⌝ }
+{
+    let r = t.withdraw(number_of(rest));
+    let next = r.table;
+    let answer = r.answer;
+    write_outcome(b"withdrawn", withdraw_outcome(answer), t, next);
+    next
+}
+
+// Loads the first n bytes.
+fn load_first(t: Table, text: [u8; 8200], n: usize) -> Table
+    requires { ⌜ FromUs t × (n ≤ 8200) ⌝ }
+    ensures { λ r. ⌜ FromUs r ⌝ }
+{
+    let r = t.load(&text[0..n]);
+    let next = r.table;
+    let answer = r.answer;
+    write_outcome(b"loaded", load_outcome(answer), t, next);
+    next
+}
+
+fn load_sheet(t: Table, rest: &[u8]) -> Table
+    requires { ⌜ FromUs t ⌝ }
+    ensures { λ r. ⌜ FromUs r ⌝ }
+{
+    let mut text = no_text();
+    let n = put_text(&mut text, rest);
+    load_first(t, text, n)
+}
+
+fn write_judgement(a: JudgeAnswer) {
+    match a {
+        JudgeAnswer::Yes => {
+            write_bytes(b"yes");
+        }
+        JudgeAnswer::Unmet(k) => {
+            write_bytes(b"unmet rule ");
+            write_number(k);
+        }
+        JudgeAnswer::NoRule => {
+            write_refusal(11, 0);
+        }
+        JudgeAnswer::NotAPlan(i) => {
+            write_refusal(13, i);
+        }
+        JudgeAnswer::NamesDiffer(n) => {
+            write_refusal(14, n);
+        }
+    }
+}
+
+// Judges the first n words.
+fn judge_first(t: Table, words: [u32; 2083], n: usize) -> Table
+    requires { ⌜ FromUs t × (n ≤ 2083) ⌝ }
+    ensures { λ r. ⌜ FromUs r ⌝ }
+{
+    let r = t.judge(&words[0..n]);
+    let next = r.table;
+    let answer = r.answer;
+    write_judgement(answer);
+    write_same(t, next);
+    next
+}
+
+fn judge_words(t: Table, rest: &[u8]) -> Table
+    requires { ⌜ FromUs t ⌝ }
+    ensures { λ r. ⌜ FromUs r ⌝ }
+{
+    let mut words = no_plan();
+    let n = put_words(&mut words, rest);
+    judge_first(t, words, n)
+}
+
+// Judges the plan over some names, at most six, that has every point and every contact.
+fn judge_every(t: Table, rest: &[u8]) -> Table
+    requires { ⌜ FromUs t ⌝ }
+    ensures { λ r. ⌜ FromUs r ⌝ }
+{
+    let mut words = no_plan();
+    let n = put_every(&mut words, number_of(rest));
+    judge_first(t, words, n)
+}
+
+// Writes how the first n words are judged, which are a plan of ask.
+fn write_judged(t: Table, words: [u32; 600], n: usize)
+    requires { ⌜ FromUs t ⌝ }
+{
+    if n <= 600 {
+        let r = t.judge(&words[0..n]);
+        let answer = r.answer;
+        write_bytes(b"; judged ");
+        write_judgement(answer);
+    }
+}
+
+// Writes what ask answered, with its words and whether the others are kept, and how its own plan is judged.
+fn write_asked(a: AskAnswer, t: Table, words: [u32; 600])
+    requires { ⌜ FromUs t ⌝ }
+{
+    match a {
+        AskAnswer::Plan(n) => {
+            write_bytes(b"plan of ");
+            write_number(n);
+            write_bytes(b" words");
+            write_words(words, n);
+            write_kept(words, n);
+            write_judged(t, words, n);
+        }
+        AskAnswer::NoPlan => {
+            write_bytes(b"no plan");
+            write_kept(words, 0);
+        }
+        AskAnswer::NoRule => {
+            write_refusal(11, 0);
+            write_kept(words, 0);
+        }
+        AskAnswer::ShortBuffer(n) => {
+            write_refusal(12, n);
+            write_kept(words, 0);
+        }
+    }
+}
+
+// Asks with the first n words of a buffer, at most 600.
+fn ask_plan(t: Table, rest: &[u8]) -> Table
+    requires { ⌜ FromUs t ⌝ }
+    ensures { λ r. ⌜ FromUs r ⌝ }
+{
+    let n = at_most(number_of(rest), 600);
+    let mut words = marked();
+    let r = t.ask(&mut words[0..n]);
+    let next = r.table;
+    let answer = r.answer;
+    write_asked(answer, next, words);
+    write_same(t, next);
+    next
+}
+
+fn call(t: Table, c: Command, rest: &[u8]) -> Table
+    requires { ⌜ FromUs t ⌝ }
+    ensures { λ r. ⌜ FromUs r ⌝ }
+{
+    match c {
+        Command::Heading => Table::empty(),
+        Command::Add => add_rule(t, rest),
+        Command::Withdraw => withdraw_rule(t, rest),
+        Command::Load => load_sheet(t, rest),
+        Command::Ask => ask_plan(t, rest),
+        Command::Judge => judge_words(t, rest),
+        Command::Every => judge_every(t, rest),
+    }
+}
+
+// Writes what stands between a call and its answer.
+fn write_arrow(c: Command) {
+    match c {
+        Command::Heading => {}
+        _ => {
+            write_bytes(b" => ");
+        }
+    }
+}
+
+// Writes a line of a script again and makes its call.
+fn run_line(t: Table, line: &[u8]) -> Table
+    requires { ⌜ FromUs t ⌝ }
+    ensures { λ r. ⌜ FromUs r ⌝ }
+{
+    write_bytes(line);
+    if line.len() <= 0 {
+        write_bytes(b"\n");
+        return t;
+    }
+    let at = after(line, 0, b' ');
+    let c = command_of(line);
+    write_arrow(c);
+    let next = call(t, c, &line[at..]);
+    write_bytes(b"\n");
+    next
+}
+
+// Runs the lines of a list of scripts, each on the table that the one before it gave back.
+fn run(scripts: &[u8]) {
+    let mut t = Table::empty();
+    let mut from: usize = 0;
+    while from < scripts.len() {
+        let next = after(scripts, from, b'\n');
+        let line = &scripts[from..next];
+        let n = without_last(line, b'\n');
+        t = run_line(t, &line[0..n]);
+        from = next;
+    }
+}
+
+// The table of P5, its calls one after another: four rules added and the fourth withdrawn.
+fn fourth_withdrawn() -> Table
+    ensures { λ r. ⌜ FromUs r ⌝ }
+{
+    let t = Table::empty();
+    let a = t.add(b"~C(raw,cooked)");
+    let t = a.table;
+    let a = t.add(b"~raw=0");
+    let t = a.table;
+    let a = t.add(b"~cooked=0");
+    let t = a.table;
+    let a = t.add(b"<=(raw,cooked)");
+    let t = a.table;
+    let w = t.withdraw(4);
+    w.table
+}
+
+fn main() {
+    let mut scripts = io::large_buffer();
+    let n = io::read_full(libc::STDIN_FILENO, &mut scripts);
+    run(&scripts[0..n]);
+    write_bytes(b"\n# P5 by calls in the code\n");
+    let t = fourth_withdrawn();
+    run_line(t, b"ask 530");
+}
