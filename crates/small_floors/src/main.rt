@@ -1,11 +1,12 @@
-// The test program of ask: document 01's sheets P1 to P12 and a few thousand generated ones, each put to a table and asked, and
-// each answer held to a search over small floors that is written for this program alone. A generated sheet is made twice at once:
-// as text, which the table reads, and in a form of its own, which is evaluated by the definitions of document 01, 'Meaning', on
-// each floor of at most four points on distinct evaluations. Alike points can be merged with no atom changed, so for up to two
-// names these are all floors: ask must give a plan exactly if one of them meets the rules, and the plan's row must be the first of
-// their rows. For three names only floors of up to three points are gone through, and the plan's row may not be later than the
-// first of theirs. The plan must meet every rule, and all its words must be those of document 01, 'The plan that is given', for
-// its row. The file `stdout` has the answers that document 01 gives and the counts that a computation apart from this program gave.
+// The test program of ask: document 01's sheets P1 to P12 and 3,000 generated ones, each put to a table and asked, and each answer
+// held to a search over small floors that shares no code with the table. A generated sheet is made twice at once: as text, which the
+// table reads, and in a form of its own, which is evaluated by the definitions of document 01, 'Meaning', on every floor of at most
+// four points on distinct evaluations. Alike points can be merged with no atom changed, so for up to two names these are all floors:
+// ask must give a plan exactly if one of them meets the rules, and the plan's row must be the first of their rows. For three names
+// there are more floors: where one of these meets the rules ask must give a plan, and its row may not be later than theirs. Every plan
+// must meet the rules on the floor that its words have, and all its words must be those of document 01, 'The plan that is given',
+// for its row. A sheet that disagrees is written, and why. The file `stdout` has document 01's answers to P1 to P12 and the counts
+// that a separate computation gave.
 ghost use Rattle.table.specs.Calls.{FromUs};
 
 mod floors;
@@ -144,7 +145,7 @@ fn disagree(why: &[u8]) -> Finding {
     Finding::Disagrees
 }
 
-// Whether a plan's row is not the first: of three names not all floors are known.
+// Whether a plan's row is not the first: for three names it may be before all that are found.
 fn is_late(names: usize, row: u32, first: u32) -> bool {
     if names < 3 {
         return row != first;
@@ -203,8 +204,8 @@ fn check(code: &[u8], names: usize, answer: Answer, words: &[u32; 530]) -> Findi
 
 // ---- counts
 
-// What is counted, in order; the signs come last, in the order of their numbers.
-const SHEETS_OF: usize = 1;
+// What is counted, after the sheets: sheets of 0 to 3 names, answers, words, and sheets with a sign, by the signs' numbers.
+const NAMES: usize = 1;
 
 const PLANS: usize = 5;
 
@@ -268,7 +269,7 @@ fn write_counts(counts: [u64; 26]) {
     }
 }
 
-// Count i becomes n more; no count comes near the bound.
+// Raises count i by n; no count comes near the bound.
 fn raise(counts: &mut [u64; 26], i: usize, n: usize) {
     counts[i % 26] = counts[i % 26] % 0x1_0000_0000 + (n % 0x1_0000) as u64;
 }
@@ -317,7 +318,7 @@ fn count_signs(counts: &mut [u64; 26], code: &[u8]) {
 
 fn count_sheet(counts: &mut [u64; 26], file: &[u8], code: &[u8], names: usize) {
     raise(counts, 0, 1);
-    raise(counts, SHEETS_OF + names % 4, 1);
+    raise(counts, NAMES + names % 4, 1);
     count_signs(counts, code);
     raise(counts, GROUPS, one_if(is_grouped(file)));
 }
@@ -370,7 +371,7 @@ fn write_words(words: &[u32; 530], n: usize) {
     }
 }
 
-// Writes the answer for a sheet that has a label.
+// Writes the answer to a sheet that has a label.
 fn write_answer(label: &[u8], f: Finding, words: &[u32; 530]) {
     if label.len() == 0 {
         return;

@@ -19,16 +19,17 @@ use super::floors::REST;
 use super::floors::RULE;
 use super::floors::TRUE;
 
-// What is written into the form where no sign is.
+// Where parentheses are put, no sign is.
 const NO_SIGN: u8 = 19;
 
 const FORMULA: u64 = 0;
 
 const TERM: u64 = 1;
 
-// What is being made: items still to be written, the next one on top, how far text and form have come, and the last sign. An item
-// is a byte of text, a name (from 192 on), or a formula or a term of so many leaves in a place of some level (from 128 on). Levels are
-// document 01's, loosest first: 0 -> and <->, 1 | and +, 2 & and *, 3 ~ and -.
+// What is being made: items still to be written, the next one on top; the names so far, and how many there may be; the style of
+// spelling; the last sign; how far text and form have come; and whether there was room for all of it. An item is a byte of text, a name
+// (from 192 on), or a formula or a term with so many leaves in a place of some level (from 128 on). Levels are document 01's, loosest
+// first: 0 -> and <->, 1 | and +, 2 & and *, 3 ~ and -.
 pub struct Maker {
     pub items: [u8; 64],
     pub height: usize,
@@ -114,7 +115,7 @@ impl Maker {
         next
     }
 
-    // A number below n.
+    // A number below n, from the seed.
     fn drawn(self, n: u64) -> u64
         requires { ⌜ 0 < n ⌝ }
         ensures { λ r. ⌜ r < n ⌝ }
@@ -190,6 +191,7 @@ impl Maker {
         }
     }
 
+    // Parentheses that need not be there; the loosest level of a formula is 0, of a term 1.
     fn push_group(self, sort: u64, leaves: u64) -> Maker {
         self.signed(NO_SIGN)
             .push(b')')
@@ -375,6 +377,7 @@ fn with_item(m: Maker, text: &mut [u8; 1100], form: &mut [u8; 512]) -> Maker {
     put_sign(grown, form, grown.sign)
 }
 
+// All items, of which there are never so many that the turns run out.
 fn with_items(m: Maker, text: &mut [u8; 1100], form: &mut [u8; 512]) -> Maker {
     let mut next = m;
     let mut turns: usize = 0;

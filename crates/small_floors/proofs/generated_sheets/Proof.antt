@@ -1,4 +1,4 @@
--- `generated_sheets` is safe and ends: each index is tested, and the number of turns left falls. Assumes nothing.
+-- `generated_sheets` is safe and ends: the number of turns left falls, and nothing has to hold from turn to turn. Assumes nothing.
 use borrow.Author.Needs.{needs}
 use Prim.Native.Nat.{_-_}
 use Rattle.small_floors.proofs.generated_sheets.Statement.{statement}

@@ -1,4 +1,4 @@
--- `is_grouped` is safe and ends: each index is tested, and the number of turns left falls. Assumes nothing.
+-- `is_grouped` is safe and ends: each index is below the length, and the number of turns left falls. Assumes nothing.
 use borrow.Author.Needs.{needs}
 use Prim.Native.Nat.{_-_}
 use lib.ListN.{length}

@@ -1,4 +1,5 @@
--- `table_of` is safe and ends: each index is tested, and the number of turns left falls. Assumes nothing.
+-- `table_of` gives a table from us: the empty one is, and each turn keeps it or takes the one that add gave back. The bytes left fall.
+-- Assumes nothing.
 use borrow.Author.Needs.{needs}
 use mathlib.Core.Logic.{⊎-elim}
 use Prim.Native.Nat.{_-_}

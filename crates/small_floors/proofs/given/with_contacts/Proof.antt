@@ -1,4 +1,4 @@
--- `with_contacts` is safe and ends: each index is tested, and the number of turns left falls. Assumes nothing.
+-- `with_contacts` is safe and ends: the number of turns left falls, and nothing has to hold from turn to turn. Assumes nothing.
 use borrow.Author.Needs.{needs}
 use Prim.Native.Nat.{_-_}
 use Rattle.small_floors.proofs.given.with_contacts.Statement.{statement}
