@@ -2,13 +2,13 @@
 -- of a sign get are as many as their atoms, one run after the other. Assumes nothing.
 use mathlib.Core.Bool.{Bool, false, not, _&&_, _||_, Bool·beq}
 use mathlib.Core.Path.{_≡_, refl, sym, ap, ap₂, _∙_, subst}
-use mathlib.Core.List.{List, [], _∷_, _++_, map}
+use mathlib.Core.List.{List, [], _∷_, _++_, map, map-append}
 use Prim.Native.Nat.{ℕ, suc, _+_, _<_}
 use native.Mathlib.Omega.{arith}
 use lib.ListN.{length, getD, length-append, length-map}
 use Rattle.formula.specs.Formula.{Atom, Form, Formula}
 use Rattle.evalset.specs.Search.{In, all, from, below}
-use Rattle.evalset.proofs.Search.{from-append, below-elim, map-append}
+use Rattle.evalset.proofs.Search.{from-append, below-elim}
 use Rattle.contact.specs.Meaning.{Floor, atomOn, value, meetsAll}
 use Rattle.formula.specs.Names.{atomsOf}
 use Rattle.contact.specs.Numbering.{allAtoms, mapForm, numberForm, numberFrom, numberedAtoms}
@@ -18,15 +18,15 @@ use Rattle.contact.specs.Row.{rulesTrue}
 
 module _ {A : Type 0} (v : A → Bool) where
   -- r gives the atoms numbered from k on their values
-  abbrev Agrees : (ℕ → Bool) → ℕ → List A → Type 0
+  abbrev pub Agrees : (ℕ → Bool) → ℕ → List A → Type 0
   Agrees r k [] = Unit {0}
   Agrees r k (a ∷ atoms) = (r k ≡ v a) × Agrees r (suc k) atoms
 
-  agrees-left : (r : ℕ → Bool) (k : ℕ) (xs ys : List A) → Agrees r k (xs ++ ys) → Agrees r k xs
+  pub agrees-left : (r : ℕ → Bool) (k : ℕ) (xs ys : List A) → Agrees r k (xs ++ ys) → Agrees r k xs
   agrees-left r k [] ys h = tt
   agrees-left r k (x ∷ xs) ys h = (h .0, agrees-left r (suc k) xs ys (h .1))
 
-  agrees-right : (r : ℕ → Bool) (k : ℕ) (xs ys : List A) → Agrees r k (xs ++ ys) → Agrees r (k + length xs) ys
+  pub agrees-right : (r : ℕ → Bool) (k : ℕ) (xs ys : List A) → Agrees r k (xs ++ ys) → Agrees r (k + length xs) ys
   agrees-right r k [] ys h = let e : k ≡ k + 0 = omega arith in subst (λ j. Agrees r j ys) e h
   agrees-right r k (x ∷ xs) ys h =
       let e : suc k + length xs ≡ k + suc (length xs) = omega arith in
@@ -41,7 +41,7 @@ module _ {A : Type 0} (v : A → Bool) where
     number-both k f g c h left right =
         ap₂ c (left (agrees-left r k (atomsOf f) (atomsOf g) h)) (right (agrees-right r k (atomsOf f) (atomsOf g) h))
 
-    number-value : (k : ℕ) (f : Form A) → Agrees r k (atomsOf f) → value r (numberForm k f) ≡ value v f
+    pub number-value : (k : ℕ) (f : Form A) → Agrees r k (atomsOf f) → value r (numberForm k f) ≡ value v f
     number-value k Form.truth h = refl
     number-value k Form.falsity h = refl
     number-value k (Form.atom a) h = h .0

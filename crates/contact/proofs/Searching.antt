@@ -5,14 +5,14 @@
 use mathlib.Core.Bool.{Bool, true, false, not, _&&_, _||_, Bool·beq}
 use mathlib.Core.Path.{_≡_, refl, sym, ap, ap₂, _∙_, subst, fun-ext}
 use mathlib.Core.Logic.{⊎-elim}
-use mathlib.Core.List.{List, [], _∷_, _++_, map, append-assoc, append-nil, map-map, map-id}
+use mathlib.Core.List.{List, [], _∷_, _++_, map, append-assoc, append-nil, map-map, map-id, map-append}
 use Prim.Native.Nat.{ℕ, zero, suc, _+_, _<_}
 use native.Mathlib.Omega.{arith}
 use lib.ListN.{length, getD, length-append}
 use borrow.Author.Tests.{not-true, not-false}
 use Rattle.formula.specs.Formula.{Atom, Form, Formula}
 use Rattle.evalset.specs.Search.{In, here, next, any, all, first, orElse}
-use Rattle.evalset.proofs.Search.{clash, cases, untrue, both, or-cases, none-in, uncons, at-head, in-left, in-right, map-elim, map-append, any-elim, none-intro, all-elim, first-none, first-append}
+use Rattle.evalset.proofs.Search.{clash, cases, untrue, both, or-cases, none-in, uncons, at-head, in-left, in-right, map-elim, any-elim, none-intro, all-elim, first-none, first-append}
 use Rattle.contact.specs.Meaning.{value}
 use Rattle.formula.specs.Names.{atomsOf}
 use Rattle.contact.specs.Numbering.{allAtoms, numberedAtoms, AtomBelow, RulesBelow}
@@ -24,16 +24,16 @@ use Rattle.contact.proofs.Realise.{marks-below, check-fewer}
 
 -- ---- the search, for any test
 
-extends-prefix : (row ext : Row) → Extends (row ++ ext) (map is row)
+pub extends-prefix : (row ext : Row) → Extends (row ++ ext) (map is row)
 extends-prefix [] ext = tt
 extends-prefix (b ∷ row) ext = (refl, extends-prefix row ext)
 
 -- the rows that begin with `row` and have d atoms more
-abbrev under : Row → ℕ → List Row
+abbrev pub under : Row → ℕ → List Row
 under row d = map (λ ext. row ++ ext) (rows d)
 
 -- those with true next, then those with false
-under-split : (row : Row) (d : ℕ) → under row (suc d) ≡ under (row ++ true ∷ []) d ++ under (row ++ false ∷ []) d
+pub under-split : (row : Row) (d : ℕ) → under row (suc d) ≡ under (row ++ true ∷ []) d ++ under (row ++ false ∷ []) d
 under-split row d =
     map-append (λ ext. row ++ ext) (map (λ s. true ∷ s) (rows d)) (map (λ s. false ∷ s) (rows d))
     ∙ ap₂ _++_ (step true) (step false)
@@ -166,16 +166,16 @@ row-known [] i h = absurd (omega arith)
 row-known (b ∷ row) zero h = refl
 row-known (b ∷ row) (suc i) h = row-known row i (omega arith)
 
-and-known : (b c : Bool) → and3 (is b) (is c) ≡ is (b && c)
+pub and-known : (b c : Bool) → and3 (is b) (is c) ≡ is (b && c)
 and-known true c = refl
 and-known false c = refl
 
-or-known : (b c : Bool) → or3 (is b) (is c) ≡ is (b || c)
+pub or-known : (b c : Bool) → or3 (is b) (is c) ≡ is (b || c)
 or-known true c = refl
 or-known false true = refl
 or-known false false = refl
 
-iff-known : (b c : Bool) → iff3 (is b) (is c) ≡ is (Bool·beq b c)
+pub iff-known : (b c : Bool) → iff3 (is b) (is c) ≡ is (Bool·beq b c)
 iff-known true true = refl
 iff-known true false = refl
 iff-known false true = refl

@@ -30,11 +30,11 @@ each h e = ap (λ (r : ℕ → Bool). r e) h
 pub below-add : (m n : ℕ) → below (m + n) ≡ below m ++ from m n
 below-add m n = from-append 0 m n ∙ ap (λ (x : ℕ). below m ++ from x n) (zero-add m)
 
-module _ (p : ℕ → Bool) where
-  any-append : (xs ys : List ℕ) → any p (xs ++ ys) ≡ (any p xs || any p ys)
-  any-append [] ys = refl
-  any-append (x ∷ xs) ys = ap (λ (b : Bool). p x || b) (any-append xs ys) ∙ sym (or-assoc (p x) (any p xs) (any p ys))
+pub any-append : {A : Type 0} (p : A → Bool) (xs ys : List A) → any p (xs ++ ys) ≡ (any p xs || any p ys)
+any-append p [] ys = refl
+any-append p (x ∷ xs) ys = ap (λ (b : Bool). p x || b) (any-append p xs ys) ∙ sym (or-assoc (p x) (any p xs) (any p ys))
 
+module _ (p : ℕ → Bool) where
   keep-append : (xs ys : List ℕ) → keep p (xs ++ ys) ≡ keep p xs ++ keep p ys
   keep-append [] ys = refl
   keep-append (x ∷ xs) ys = go (p x) (keep-append xs ys)
@@ -71,7 +71,7 @@ module _ (p : ℕ → Bool) where
   -- ---- what a loop that counts up by one meets
   pub any-more : (i : ℕ) → any p (below (i + 1)) ≡ (any p (below i) || p i)
   any-more i =
-      ap (any p) (below-add i 1) ∙ any-append (below i) (i ∷ []) ∙ ap (λ (b : Bool). any p (below i) || b) (or-false (p i))
+      ap (any p) (below-add i 1) ∙ any-append p (below i) (i ∷ []) ∙ ap (λ (b : Bool). any p (below i) || b) (or-false (p i))
 
   pub first-more : (i : ℕ) → first p (below (i + 1)) ≡ orElse (first p (below i)) (cond (p i) (i ∷ []) [])
   first-more i = ap (first p) (below-add i 1) ∙ first-append p (below i) (i ∷ [])
@@ -89,7 +89,7 @@ module _ (p : ℕ → Bool) where
 
     pub any-cut : any p (below n) ≡ any p (below m)
     any-cut =
-        ap (any p) parts ∙ any-append (below m) (from m (n - m))
+        ap (any p) parts ∙ any-append p (below m) (from m (n - m))
         ∙ ap (λ (b : Bool). any p (below m) || b) (any-none-from m (n - m) nowhere) ∙ or-false (any p (below m))
 
     pub first-cut : first p (below n) ≡ first p (below m)

@@ -95,10 +95,6 @@ module _ {A B : Type 0} (f : A → B) where
   map-elim [] i = none-in i
   map-elim (x ∷ xs) i = ⊎-elim (λ q. (x, q, here)) (λ j. let r = map-elim xs j in (r .0, r .1, next (r .2))) (uncons i)
 
-  pub map-append : (xs ys : List A) → map f (xs ++ ys) ≡ map f xs ++ map f ys
-  map-append [] ys = refl
-  map-append (x ∷ xs) ys = ap (λ l. f x ∷ l) (map-append xs ys)
-
 -- ---- some, every
 
 module _ {A : Type 0} where

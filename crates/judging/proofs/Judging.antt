@@ -22,6 +22,6 @@ unfolding LeavesSay UnmetSays JudgesSay
 judges plan sheet code ends leaves r values says = λ rules h p is q s.
     says (sheet .atoms) (numberedAtoms rules) (h .coded) (valueOf plan sheet) values
     ∙ ap judgedOf
-    (numbers-judged (planFloor p is) noAtom (valueOf plan sheet) 0 1 rules
+    (numbers-judged (planFloor p is) (valueOf plan sheet) noAtom 0 1 rules
     (λ i l. let z : 0 + i ≡ i = omega arith in
     ap (valueOf plan sheet) z ∙ value-is p is plan s sheet (allAtoms rules) (h .compiled) q i l))

@@ -16,6 +16,7 @@ use Rattle.kleene.specs.declared.Two.{Two}
 use Rattle.kleene.specs.Code.{postfix}
 use Rattle.kleene.specs.Rails.{Duo, duo, noOf, yesOf, sure, duoOf, notD, andD, orD, impliesD, iffD, valueD, exec, duoAt, leafAt}
 use Rattle.kleene.proofs.Formed.{exec-postfix}
+use Rattle.contact.proofs.Searching.{and-known, or-known, iff-known}
 
 not-three : (t : Three) → notD (duoOf t) ≡ duoOf (not3 t)
 not-three (is true) = refl
@@ -96,21 +97,6 @@ pub refuted-three : (v : ℕ → Duo) (w : ℕ → Three) (f : Form ℕ) → Ali
 refuted-three v w f h = ap noOf (value-three v w f h) ∙ no-three (value3 w f)
 
 -- ---- where every atom is decided
-
-and-known : (b c : Bool) → and3 (is b) (is c) ≡ is (b && c)
-and-known true c = refl
-and-known false c = refl
-
-or-known : (b c : Bool) → or3 (is b) (is c) ≡ is (b || c)
-or-known true c = refl
-or-known false true = refl
-or-known false false = refl
-
-iff-known : (b c : Bool) → iff3 (is b) (is c) ≡ is (Bool·beq b c)
-iff-known true true = refl
-iff-known true false = refl
-iff-known false true = refl
-iff-known false false = refl
 
 value-known : (w : ℕ → Bool) (f : Form ℕ) → value3 (λ i. is (w i)) f ≡ is (value w f)
 value-known w Form.truth = refl

@@ -19,7 +19,7 @@ use Rattle.lexer.proofs.Sound.{sound}
 use Rattle.lexer.proofs.Placement.{placed-from, few}
 
 -- a number stored behind those that are there
-pad-set : (xs : List ℕ) (n v : ℕ) → length xs ≡ n → n < 256 → set (pad xs) n v ≡ pad (xs ++ v ∷ [])
+pub pad-set : (xs : List ℕ) (n v : ℕ) → length xs ≡ n → n < 256 → set (pad xs) n v ≡ pad (xs ++ v ∷ [])
 pad-set xs n v e h =
     let m : ℕ = 256 - (length xs + 1) in
     let f : 256 - length xs ≡ suc m = omega arith in

@@ -126,16 +126,3 @@ module _ (ks : List Name) (w : Name) (few : length ks ≤ room) where
       go : (b : Bool) → isKnown ks w ≡ b → length (cond b ks (ks ++ w ∷ [])) ≤ room
       go true e = few
       go false e = let f : number ≡ length ks = position-out sameName ks w e in omega (arith, length-append ks (w ∷ []))
-
--- ---- the numbers
-
--- a number stored behind those that are there
-pub pad-set : (xs : List ℕ) (n v : ℕ) → length xs ≡ n → n < 256 → set (pad xs) n v ≡ pad (xs ++ v ∷ [])
-pad-set xs n v e h =
-    let m : ℕ = 256 - (length xs + 1) in
-    let f : 256 - length xs ≡ suc m = omega arith in
-    let g : m ≡ 256 - length (xs ++ v ∷ []) = omega (arith, length-append xs (v ∷ [])) in
-    ap (λ (k : ℕ). set (xs ++ replicate k 0) n v) f
-    ∙ set-at xs 0 (replicate m 0) v n e
-    ∙ sym (append-assoc xs (v ∷ []) (replicate m 0))
-    ∙ ap (λ (k : ℕ). (xs ++ v ∷ []) ++ replicate k 0) g

@@ -23,8 +23,9 @@ use Rattle.names.specs.declared.Gathered.{Gathered}
 use Rattle.names.specs.Gather.{NameAt, nameAt, placesOf, ruleTokens, room, withName, Numbered, numbered, behind, namesAfter, arraysOf, knownOf, gatheredOf, gathered, Gathers}
 use Rattle.names.specs.Steps.{placeIn, withKept}
 use Rattle.names.proofs.Distinct.{position-most}
-use Rattle.names.proofs.Arrays.{kept-count, number-kept, with-kept, too-many, not-too-many, pad-set}
+use Rattle.names.proofs.Arrays.{kept-count, number-kept, with-kept, too-many, not-too-many}
 use Rattle.names.proofs.Tokens.{rule-tokens, tokens-lie, past, token-lies, at-name, at-other, at-end}
+use Rattle.lexer.proofs.Filling.{pad-set}
 
 pub record Going (text kinds starts lens : List ℕ) (n : ℕ) (first : Names) (known : Names) (numbers : List ℕ) (m i : ℕ) : Type 0 where
   pub tokens : arrays kinds starts lens n ≡ tokensOf (ruleTokens text)

@@ -19,11 +19,11 @@ use Rattle.plan.specs.Words.{Plan, Rises, IsPlan}
 use Rattle.plan.specs.Floor.{between, touching}
 use Rattle.plan.specs.Arrays.{pad, square, Stored, countOf, pairOf, rowTo, linksTo, planBy}
 use Rattle.plan.specs.Held.{planOf}
-use Rattle.plan.proofs.Truth.{and-e, or-e, or-l, or-r, same-truth}
 use Rattle.plan.proofs.Lists.{any-e, any-i, below-e, below-i, gather-e, gather-i}
 use Rattle.plan.proofs.Squares.{Related, square-e, square-i}
 use Rattle.plan.proofs.Contacts.{links-rise}
 use Rattle.plan.proofs.Judged.{few-points, count-is}
+use Rattle.evalset.proofs.Search.{both, or-cases, or-left, or-right, bool-ext}
 
 -- ---- rising lists
 in-none : (k : ℕ) → In k [] → ⊥
@@ -69,7 +69,7 @@ unfolding pairOf
 pair-e k n i j row m = go (ltb i j && row j) refl
   where
     go : (b : Bool) → (ltb i j && row j) ≡ b → In k (cond b ((i * 256 + j) ∷ []) []) → Linked k n i j row
-    go true q x = let w = and-e (ltb i j) (row j) q in
+    go true q x = let w = both (ltb i j) (row j) q in
         record { later = ltb-true i j (w .0); within = m; there = w .1; number = in-one k (i * 256 + j) x }
     go false q x = absurd (in-none k x)
 
@@ -111,7 +111,7 @@ module _ (p : Plan) (few : length (p .points) ≤ 256) (rise : Rises 0 (length (
           let a = l .later in
           let b : i < length (p .points) = w .left in
           absurd (omega arith))
-          (or-e (eqb (y .0) (i * 256 + j)) (eqb (y .0) (j * 256 + i)) (y .2))
+          (or-cases (eqb (y .0) (i * 256 + j)) (eqb (y .0) (j * 256 + i)) (y .2))
 
   back : (k : ℕ) → In k (p .contacts) → In k (linksTo (length (p .points)) (length (p .points)) (square p))
   back k x =
@@ -125,7 +125,7 @@ module _ (p : Plan) (few : length (p .points) ≤ 256) (rise : Rises 0 (length (
         left = omega arith;
         right = m;
         how = inr (any-i (between (k / 256) (k % 256)) k (p .contacts) x
-            (or-l (eqb k (k / 256 * 256 + k % 256)) (eqb k (k % 256 * 256 + k / 256)) (eq-eqb k (k / 256 * 256 + k % 256) z)));
+            (or-left (eqb k (k / 256 * 256 + k % 256)) (eqb k (k % 256 * 256 + k / 256)) (eq-eqb k (k / 256 * 256 + k % 256) z)));
       })))
 
   links-again : linksTo (length (p .points)) (length (p .points)) (square p) ≡ p .contacts
@@ -151,14 +151,14 @@ module _ (n : ℕ) (few : n ≤ 256) (rows : ℕ → ℕ → Bool) (self : (a : 
   -- the contact a pair of them has
   one-way : (a b : ℕ) → a < b → b < n → rows a b ≡ true → (between a b (a * 256 + b) ≡ true) × In (a * 256 + b) (linksTo n n rows)
   one-way a b l m e = (
-    or-l (eqb (a * 256 + b) (a * 256 + b)) (eqb (a * 256 + b) (b * 256 + a))
+    or-left (eqb (a * 256 + b) (a * 256 + b)) (eqb (a * 256 + b) (b * 256 + a))
         (eq-eqb (a * 256 + b) (a * 256 + b) refl),
     links-i n a b rows l m e,
   )
 
   pub links-kept : (p : Plan) → p .contacts ≡ linksTo n n rows → (a b : ℕ) → a < n → b < n → touching p a b ≡ rows a b
   unfolding touching
-  links-kept p c a b l m = ap (λ (ks : List ℕ). eqb a b || any (between a b) ks) c ∙ same-truth _ _ there back
+  links-kept p c a b l m = ap (λ (ks : List ℕ). eqb a b || any (between a b) ks) c ∙ bool-ext _ _ there back
     where
       links : List ℕ
       links = linksTo n n rows
@@ -177,24 +177,24 @@ module _ (n : ℕ) (few : n ≤ 256) (rows : ℕ → ℕ → Bool) (self : (a : 
           let s : i ≡ b = omega arith in
           let t : j ≡ a = omega arith in
           turn b a m l (sym (ap₂ rows s t) ∙ w .there))
-          (or-e (eqb k (a * 256 + b)) (eqb k (b * 256 + a)) e)
+          (or-cases (eqb k (a * 256 + b)) (eqb k (b * 256 + a)) e)
 
       there : (eqb a b || any (between a b) links) ≡ true → rows a b ≡ true
       there e =
           ⊎-elim (λ q. ap (rows a) (sym (eqb-true a b q)) ∙ self a l)
           (λ q. let y = any-e (between a b) links q in let w = links-e (y .0) n rows (y .1) in
           met (w .0) (w .1) (y .0) (w .2) (y .2))
-          (or-e (eqb a b) (any (between a b) links) e)
+          (or-cases (eqb a b) (any (between a b) links) e)
 
       back : rows a b ≡ true → (eqb a b || any (between a b) links) ≡ true
       back e =
           ⊎-elim
-          (λ s. let w = one-way a b s m e in or-r (eqb a b) _ (any-i (between a b) (a * 256 + b) links (w .1) (w .0)))
+          (λ s. let w = one-way a b s m e in or-right (eqb a b) _ (any-i (between a b) (a * 256 + b) links (w .1) (w .0)))
           (λ s. ⊎-elim
           (λ t. let w = one-way b a t l (turn a b l m e) in
-          or-r (eqb a b) _ (any-i (between a b) (b * 256 + a) links (w .1)
+          or-right (eqb a b) _ (any-i (between a b) (b * 256 + a) links (w .1)
           (or-comm (eqb (b * 256 + a) (a * 256 + b)) (eqb (b * 256 + a) (b * 256 + a)) ∙ w .0)))
-          (λ t. or-l (eqb a b) _ (eq-eqb a b (omega arith)))
+          (λ t. or-left (eqb a b) _ (eq-eqb a b (omega arith)))
           (side b a))
           (side a b)
 

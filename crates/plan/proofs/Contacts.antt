@@ -13,7 +13,7 @@ use Rattle.evalset.specs.Sets.{memAt}
 use Rattle.plan.specs.declared.PlanArrays.{PlanArrays}
 use Rattle.plan.specs.Words.{Ascends, Rises, IsPlan, mostNames}
 use Rattle.plan.specs.Arrays.{countOf, pairOf, rowTo, linksTo, planBy}
-use Rattle.plan.proofs.Truth.{and-e}
+use Rattle.evalset.proofs.Search.{both}
 
 rises-from : (low low′ n : ℕ) (ks : List ℕ) → low ≤ low′ → Rises low′ n ks → Rises low n ks
 rises-from low low′ n [] h r = tt
@@ -26,7 +26,7 @@ pair-rises i j n t js h f r = go (ltb i j && t j) refl
   where
     go : (b : Bool) → (ltb i j && t j) ≡ b → Rises (i * 256 + j) n (cond b ((i * 256 + j) ∷ []) [] ++ js)
     go true e =
-        let l : i < j = ltb-true i j (and-e (ltb i j) (t j) e .0) in
+        let l : i < j = ltb-true i j (both (ltb i j) (t j) e .0) in
         let q : (i * 256 + j) / 256 ≡ i = omega arith in
         let s : (i * 256 + j) % 256 ≡ j = omega arith in
         let z : suc (i * 256 + j) ≡ i * 256 + suc j = omega arith in

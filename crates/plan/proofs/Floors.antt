@@ -14,7 +14,7 @@ use Rattle.contact.specs.Meaning.{Floor}
 use Rattle.contact.proofs.Naming.{renamed, numberOf}
 use Rattle.plan.specs.Words.{Plan, IsPlan}
 use Rattle.plan.specs.Floor.{between, touching, liesIn}
-use Rattle.plan.proofs.Truth.{or-l}
+use Rattle.evalset.proofs.Search.{or-left}
 
 eqb-comm : (x y : ℕ) → eqb x y ≡ eqb y x
 eqb-comm x y = go (decEq x y)
@@ -29,7 +29,7 @@ between-comm a b (k ∷ ks) = ap₂ _||_ (or-comm (eqb k (a * 256 + b)) (eqb k (
 
 pub touching-self : (p : Plan) (a : ℕ) → touching p a a ≡ true
 unfolding touching
-touching-self p a = or-l (eqb a a) (any (between a a) (p .contacts)) (eq-eqb a a refl)
+touching-self p a = or-left (eqb a a) (any (between a a) (p .contacts)) (eq-eqb a a refl)
 
 pub touching-comm : (p : Plan) (a b : ℕ) → touching p a b ≡ touching p b a
 unfolding touching

@@ -1,4 +1,3 @@
-pub mod Truth
 pub mod Lists
 pub mod Spelling
 pub mod Sound

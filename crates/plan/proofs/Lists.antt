@@ -9,18 +9,18 @@ use native.Mathlib.Nat.{eq-or-lt-of-le}
 use lib.ListN.{length, length-append}
 use Rattle.evalset.specs.Search.{In, here, next, any, gather, from, below}
 use Rattle.evalset.proofs.Bounded.{below-add}
-use Rattle.plan.proofs.Truth.{or-e, or-l, or-r}
+use Rattle.evalset.proofs.Search.{or-cases, or-left, or-right}
 
 -- ---- some element passes
 module _ {A : Type 0} (p : A → Bool) where
   pub any-e : (xs : List A) → any p xs ≡ true → (x : A) × In x xs × (p x ≡ true)
   any-e [] e = absurd (true≢false (sym e))
   any-e (x ∷ xs) e =
-      ⊎-elim (λ q. (x, here, q)) (λ q. let r = any-e xs q in (r .0, next (r .1), r .2)) (or-e (p x) (any p xs) e)
+      ⊎-elim (λ q. (x, here, q)) (λ q. let r = any-e xs q in (r .0, next (r .1), r .2)) (or-cases (p x) (any p xs) e)
 
   pub any-i : (x : A) (xs : List A) → In x xs → p x ≡ true → any p xs ≡ true
-  any-i x (y ∷ ys) here e = or-l (p y) (any p ys) e
-  any-i x (y ∷ ys) (next i) e = or-r (p y) (any p ys) (any-i x ys i e)
+  any-i x (y ∷ ys) here e = or-left (p y) (any p ys) e
+  any-i x (y ∷ ys) (next i) e = or-right (p y) (any p ys) (any-i x ys i e)
 
   pub any-snoc : (xs : List A) (x : A) → any p (xs ++ (x ∷ [])) ≡ (any p xs || p x)
   any-snoc [] x = or-false (p x)

@@ -12,8 +12,8 @@ use Rattle.plan.specs.declared.Word.{Word}
 use Rattle.plan.specs.declared.Word.the-variants.{First, Point, Contact, Last, Other}
 use Rattle.plan.specs.Words.{Plan, Ascends, Rises, IsPlan, firstWord, pointWord, contactWord, lastWord, before, wordsOf}
 use Rattle.plan.specs.Reader.{kindOf, State, start, pointing, linking, whole, dead, opened, went, pointed, linked, step, run}
-use Rattle.plan.proofs.Truth.{and-e}
 use Rattle.plan.proofs.Spelling.{Spells, spells}
+use Rattle.evalset.proofs.Search.{both}
 
 pub record PointsSeen (ws : List ℕ) (n m : ℕ) (pts : List ℕ) (low : ℕ) : Type 0 where
   pub few : n ≤ 6
@@ -40,8 +40,8 @@ open-step w (First n c) e = go (leb n 6 && (leb 1 c && leb c (2 ^ n))) refl
   where
     go : (b : Bool) → (leb n 6 && (leb 1 c && leb c (2 ^ n))) ≡ b → Seen (w ∷ []) (cond b (pointing n (c - 1) [] 0) dead)
     go true h =
-        let t = and-e (leb n 6) (leb 1 c && leb c (2 ^ n)) h in
-        let u = and-e (leb 1 c) (leb c (2 ^ n)) (t .1) in
+        let t = both (leb n 6) (leb 1 c && leb c (2 ^ n)) h in
+        let u = both (leb 1 c) (leb c (2 ^ n)) (t .1) in
         let one : 1 ≤ c = leb-true 1 c (u .0) in
         let top : c ≤ 2 ^ n = leb-true c (2 ^ n) (u .1) in
         let cs : c ≡ 0 + suc (c - 1) = omega arith in
@@ -98,7 +98,7 @@ points-step ws n m pts low w (Point e) q s = go (leb low e && ltb (e + m) (2 ^ n
   where
     go : (b : Bool) → (leb low e && ltb (e + m) (2 ^ n)) ≡ b → Seen (ws ++ (w ∷ [])) (cond b (went n m (pts ++ (e ∷ [])) e) dead)
     go true h =
-        let t = and-e (leb low e) (ltb (e + m) (2 ^ n)) h in
+        let t = both (leb low e) (ltb (e + m) (2 ^ n)) h in
         point-step ws n m pts low w e s q (leb-true low e (t .0)) (ltb-true (e + m) (2 ^ n) (t .1))
     go false h = tt
 points-step ws n m pts low w (Contact i j) q s = tt
@@ -118,8 +118,8 @@ links-step ws n pts ks low w (Contact i j) q s = go (leb low key && (ltb i j && 
     go : (b : Bool) → (leb low key && (ltb i j && ltb j (length pts))) ≡ b
         → Seen (ws ++ (w ∷ [])) (cond b (linking n pts (ks ++ (key ∷ [])) (suc key)) dead)
     go true h =
-        let t = and-e (leb low key) (ltb i j && ltb j (length pts)) h in
-        let u = and-e (ltb i j) (ltb j (length pts)) (t .1) in
+        let t = both (leb low key) (ltb i j && ltb j (length pts)) h in
+        let u = both (ltb i j) (ltb j (length pts)) (t .1) in
         let a : low ≤ key = leb-true low key (t .0) in
         let b : i < j = ltb-true i j (u .0) in
         let c : j < length pts = ltb-true j (length pts) (u .1) in

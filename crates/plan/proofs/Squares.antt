@@ -21,8 +21,8 @@ use Rattle.plan.specs.Words.{Plan}
 use Rattle.plan.specs.Floor.{between, touching}
 use Rattle.plan.specs.Arrays.{pad, square}
 use Rattle.plan.specs.Held.{planOf, addAt, joinedOf}
-use Rattle.plan.proofs.Truth.{and-e, and-i, or-e, or-l, or-r, same-truth, untrue}
 use Rattle.plan.proofs.Lists.{any-snoc}
+use Rattle.evalset.proofs.Search.{both, and-intro, or-cases, or-left, or-right, bool-ext, untrue}
 
 -- ---- a list in an array
 pub pad-set : (n : ℕ) (l : List ℕ) (a : ℕ) → length l < n → set (pad n l) (length l) a ≡ pad n (l ++ (a ∷ []))
@@ -47,33 +47,33 @@ pub square-e : (p : Plan) (a b : ℕ) → square p a b ≡ true → Related p a 
 unfolding square touching
 square-e p a b e =
     let n = length (p .points) in
-    let u = and-e (ltb a n && ltb b n) (touching p a b) e in
-    let v = and-e (ltb a n) (ltb b n) (u .0) in
+    let u = both (ltb a n && ltb b n) (touching p a b) e in
+    let v = both (ltb a n) (ltb b n) (u .0) in
     record {
       left = ltb-true a n (v .0);
       right = ltb-true b n (v .1);
-      how = ⊎-elim (λ q. inl (eqb-true a b q)) (λ q. inr q) (or-e (eqb a b) (any (between a b) (p .contacts)) (u .1));
+      how = ⊎-elim (λ q. inl (eqb-true a b q)) (λ q. inr q) (or-cases (eqb a b) (any (between a b) (p .contacts)) (u .1));
     }
 
 pub square-i : (p : Plan) (a b : ℕ) → Related p a b → square p a b ≡ true
 unfolding square touching
 square-i p a b r =
     let n = length (p .points) in
-    and-i (ltb a n && ltb b n) (touching p a b) (and-i (ltb a n) (ltb b n) (lt-ltb a n (r .left)) (lt-ltb b n (r .right)))
-    (⊎-elim (λ q. or-l (eqb a b) (any (between a b) (p .contacts)) (eq-eqb a b q))
-    (λ q. or-r (eqb a b) (any (between a b) (p .contacts)) q) (r .how))
+    and-intro (ltb a n && ltb b n) (touching p a b) (and-intro (ltb a n) (ltb b n) (lt-ltb a n (r .left)) (lt-ltb b n (r .right)))
+    (⊎-elim (λ q. or-left (eqb a b) (any (between a b) (p .contacts)) (eq-eqb a b q))
+    (λ q. or-right (eqb a b) (any (between a b) (p .contacts)) q) (r .how))
 
 -- ---- one position more in a row, one contact more
 add-e : (t : ℕ → ℕ → Bool) (i j a b : ℕ) → addAt t i j a b ≡ true → (t a b ≡ true) ⊎ ((a ≡ i) × (b ≡ j))
 add-e t i j a b e =
-    ⊎-elim (λ q. inl q) (λ q. let w = and-e (eqb a i) (eqb b j) q in inr (eqb-true a i (w .0), eqb-true b j (w .1)))
-    (or-e (t a b) (eqb a i && eqb b j) e)
+    ⊎-elim (λ q. inl q) (λ q. let w = both (eqb a i) (eqb b j) q in inr (eqb-true a i (w .0), eqb-true b j (w .1)))
+    (or-cases (t a b) (eqb a i && eqb b j) e)
 
 add-old : (t : ℕ → ℕ → Bool) (i j a b : ℕ) → t a b ≡ true → addAt t i j a b ≡ true
-add-old t i j a b e = or-l (t a b) (eqb a i && eqb b j) e
+add-old t i j a b e = or-left (t a b) (eqb a i && eqb b j) e
 
 add-new : (t : ℕ → ℕ → Bool) (i j a b : ℕ) → a ≡ i → b ≡ j → addAt t i j a b ≡ true
-add-new t i j a b p q = or-r (t a b) (eqb a i && eqb b j) (and-i (eqb a i) (eqb b j) (eq-eqb a i p) (eq-eqb b j q))
+add-new t i j a b p q = or-right (t a b) (eqb a i && eqb b j) (and-intro (eqb a i) (eqb b j) (eq-eqb a i p) (eq-eqb b j q))
 
 module _ (t : ℕ → ℕ → Bool) (i j a b : ℕ) where
   joined-e : joinedOf t i j a b ≡ true → (t a b ≡ true) ⊎ (((a ≡ i) × (b ≡ j)) ⊎ ((a ≡ j) × (b ≡ i)))
@@ -123,7 +123,7 @@ row-set rows i j v h l e = fun-ext (λ a. fun-ext (λ b. go a b (decEq a i)))
 -- ---- one point more
 module _ (n : ℕ) (pts : List ℕ) (e : ℕ) where
   pub square-point : joinedOf (square (planOf n pts [])) (length pts) (length pts) ≡ square (planOf n (pts ++ (e ∷ [])) [])
-  square-point = fun-ext (λ a. fun-ext (λ b. same-truth _ _ (there a b) (back a b (decEq a (length pts)))))
+  square-point = fun-ext (λ a. fun-ext (λ b. bool-ext _ _ (there a b) (back a b (decEq a (length pts)))))
     where
       size : length (pts ++ (e ∷ [])) ≡ length pts + 1
       size = length-append pts (e ∷ [])
@@ -158,7 +158,7 @@ module _ (n : ℕ) (pts : List ℕ) (e : ℕ) where
 -- ---- one contact more
 module _ (n : ℕ) (pts ks : List ℕ) (i j : ℕ) (later : i < j) (within : j < length pts) (few : length pts ≤ 256) where
   pub square-link : joinedOf (square (planOf n pts ks)) i j ≡ square (planOf n pts (ks ++ ((i * 256 + j) ∷ [])))
-  square-link = fun-ext (λ a. fun-ext (λ b. same-truth _ _ (there a b) (back a b)))
+  square-link = fun-ext (λ a. fun-ext (λ b. bool-ext _ _ (there a b) (back a b)))
     where
       k : ℕ
       k = i * 256 + j
@@ -175,7 +175,7 @@ module _ (n : ℕ) (pts ks : List ℕ) (i j : ℕ) (later : i < j) (within : j <
             left = r .left;
             right = r .right;
             how = ⊎-elim (λ z. inl z)
-                (λ z. inr (more a b ∙ or-l (any (between a b) ks) (between a b k) z)) (r .how);
+                (λ z. inr (more a b ∙ or-left (any (between a b) ks) (between a b k) z)) (r .how);
           })
           (λ x. ⊎-elim one other x)
           (joined-e (square (planOf n pts ks)) i j a b q))
@@ -186,8 +186,8 @@ module _ (n : ℕ) (pts ks : List ℕ) (i j : ℕ) (later : i < j) (within : j <
               record {
                 left = omega (arith, z .0);
                 right = omega (arith, z .1);
-                how = inr (more a b ∙ or-r (any (between a b) ks) (between a b k)
-                    (or-l (eqb k (a * 256 + b)) (eqb k (b * 256 + a)) (eq-eqb k (a * 256 + b) s)));
+                how = inr (more a b ∙ or-right (any (between a b) ks) (between a b k)
+                    (or-left (eqb k (a * 256 + b)) (eqb k (b * 256 + a)) (eq-eqb k (a * 256 + b) s)));
               }
 
           other : (a ≡ j) × (b ≡ i) → Related (planOf n pts (ks ++ (k ∷ []))) a b
@@ -196,8 +196,8 @@ module _ (n : ℕ) (pts ks : List ℕ) (i j : ℕ) (later : i < j) (within : j <
               record {
                 left = omega (arith, z .0);
                 right = omega (arith, z .1);
-                how = inr (more a b ∙ or-r (any (between a b) ks) (between a b k)
-                    (or-r (eqb k (a * 256 + b)) (eqb k (b * 256 + a)) (eq-eqb k (b * 256 + a) s)));
+                how = inr (more a b ∙ or-right (any (between a b) ks) (between a b k)
+                    (or-right (eqb k (a * 256 + b)) (eqb k (b * 256 + a)) (eq-eqb k (b * 256 + a) s)));
               }
 
       back : (a b : ℕ) → square (planOf n pts (ks ++ (k ∷ []))) a b ≡ true → joinedOf (square (planOf n pts ks)) i j a b ≡ true
@@ -219,6 +219,6 @@ module _ (n : ℕ) (pts ks : List ℕ) (i j : ℕ) (later : i < j) (within : j <
               let u : a ≡ i = omega arith in let v : b ≡ j = omega arith in joined-one (square (planOf n pts ks)) i j a b u v)
               (λ y. let s : i * 256 + j ≡ b * 256 + a = eqb-true (i * 256 + j) (b * 256 + a) y in
               let u : a ≡ j = omega arith in let v : b ≡ i = omega arith in joined-other (square (planOf n pts ks)) i j a b u v)
-              (or-e (eqb k (a * 256 + b)) (eqb k (b * 256 + a)) x))
-              (or-e (any (between a b) ks) (between a b k) (sym (more a b) ∙ z)))
+              (or-cases (eqb k (a * 256 + b)) (eqb k (b * 256 + a)) x))
+              (or-cases (any (between a b) ks) (between a b k) (sym (more a b) ∙ z)))
               (r .how)

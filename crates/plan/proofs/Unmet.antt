@@ -9,7 +9,7 @@ use lib.ListN.{length}
 use Rattle.formula.specs.Formula.{Formula}
 use Rattle.contact.specs.Meaning.{Floor, meets, meetsAll}
 use Rattle.plan.specs.Judging.{Judgement, yes, unmet, judgeFrom, judge}
-use Rattle.plan.proofs.Truth.{and-e}
+use Rattle.evalset.proofs.Search.{both}
 
 module _ {N : Type 0} (F : Floor N) where
   -- rule k, numbered from `one`, is not met and all before it are
@@ -48,7 +48,7 @@ module _ {N : Type 0} (F : Floor N) where
   from-met : (one : ℕ) (rules : List (Formula N)) → meetsAll F rules ≡ true → judgeFrom one F rules ≡ yes
   from-met one [] e = refl
   from-met one (f ∷ rules) e =
-      let t = and-e (meets F f) (meetsAll F rules) e in
+      let t = both (meets F f) (meetsAll F rules) e in
       ap (λ (b : Bool). cond b (judgeFrom (suc one) F rules) (unmet one)) (t .0) ∙ from-met (suc one) rules (t .1)
 
   from-parts : (one : ℕ) (earlier : List (Formula N)) (rule : Formula N) (later : List (Formula N)) → meetsAll F earlier ≡ true
@@ -58,7 +58,7 @@ module _ {N : Type 0} (F : Floor N) where
       let z : one ≡ one + 0 = omega arith in
       ap (λ (b : Bool). cond b (judgeFrom (suc one) F later) (unmet one)) n ∙ ap unmet z
   from-parts one (f ∷ earlier) rule later e n =
-      let t = and-e (meets F f) (meetsAll F earlier) e in
+      let t = both (meets F f) (meetsAll F earlier) e in
       let z : suc one + length earlier ≡ one + suc (length earlier) = omega arith in
       ap (λ (b : Bool). cond b (judgeFrom (suc one) F (earlier ++ (rule ∷ later))) (unmet one)) (t .0)
       ∙ from-parts (suc one) earlier rule later (t .1) n ∙ ap unmet z

@@ -1,19 +1,16 @@
 -- A loop over atoms meets its list element by element: what a search in a list and the gathered lists grow by, when one element
 -- more stands at the end. All by recursion on the list. Assumes nothing.
-use mathlib.Core.Bool.{Bool, _&&_, _||_, and-true, and-assoc, or-assoc, or-false}
+use mathlib.Core.Bool.{Bool, _&&_, _||_, and-true, and-assoc, or-false}
 use mathlib.Core.Path.{_≡_, refl, sym, ap, ap₂, _∙_}
 use mathlib.Core.List.{List, [], _∷_, _++_, append-nil, append-assoc}
 use Prim.Native.Nat.{ℕ}
 use lib.Dec.{eqb}
 use Rattle.evalset.specs.Search.{In, here, next, any, all, gather, elem}
+use Rattle.evalset.proofs.Bounded.{any-append}
 
 module _ {A : Type 0} (p : A → Bool) where
-  any-append : (xs ys : List A) → any p (xs ++ ys) ≡ (any p xs || any p ys)
-  any-append [] ys = refl
-  any-append (x ∷ xs) ys = ap (λ (b : Bool). p x || b) (any-append xs ys) ∙ sym (or-assoc (p x) (any p xs) (any p ys))
-
   pub any-last : (xs : List A) (x : A) → any p (xs ++ x ∷ []) ≡ (any p xs || p x)
-  any-last xs x = any-append xs (x ∷ []) ∙ ap (λ (b : Bool). any p xs || b) (or-false (p x))
+  any-last xs x = any-append p xs (x ∷ []) ∙ ap (λ (b : Bool). any p xs || b) (or-false (p x))
 
   pub all-last : (xs : List A) (x : A) → all p (xs ++ x ∷ []) ≡ (all p xs && p x)
   all-last [] x = and-true (p x)

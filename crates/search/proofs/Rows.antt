@@ -26,7 +26,7 @@ unfolding rowBits
 row-length zero p = refl
 row-length (suc k) p = ap suc (row-length k p)
 
-row-at : (k p i : ℕ) → i < k → getD (rowBits k p) i false ≡ not (bit p (k - 1 - i))
+pub row-at : (k p i : ℕ) → i < k → getD (rowBits k p) i false ≡ not (bit p (k - 1 - i))
 unfolding rowBits
 row-at zero p i h = absurd (omega arith)
 row-at (suc k) p zero h =

@@ -3,7 +3,7 @@
 -- plan of a row and the judgement of the rules as read. Assumes nothing.
 use mathlib.Core.Path.{_≡_, sym, ap, subst, _∙_}
 use mathlib.Core.Logic.{⊎-elim}
-use mathlib.Core.List.{List, [], _∷_, _++_, map}
+use mathlib.Core.List.{List, [], _∷_, _++_, map, map-append}
 use Prim.Native.Nat.{ℕ, _≤_}
 use native.Mathlib.Omega.{arith}
 use lib.ListN.{length, take}
@@ -11,7 +11,7 @@ use Rattle.formula.specs.Formula.{Form, Formula, Name}
 use Rattle.formula.specs.Names.{atomsOf}
 use Rattle.syntax.specs.RuleText.{IsRule}
 use Rattle.syntax.specs.Rule.{meaningOf}
-use Rattle.evalset.proofs.Search.{in-either, uncons, none-in, map-append}
+use Rattle.evalset.proofs.Search.{in-either, uncons, none-in}
 use Rattle.contact.specs.Numbering.{allAtoms, position, sameName, namesOf, mapAtom, mapForm, numberedNames, numberForm, numberedAtoms}
 use Rattle.contact.specs.Plan.{firstRow, firstRowOf}
 use Rattle.solver.specs.declared.Row.{Row}

@@ -1,14 +1,14 @@
 -- One rule put last changes no number: the names of the rules before it keep theirs, the atoms before it stand where they stood, and
 -- its own are numbered from there on. Assumes nothing.
 use mathlib.Core.Path.{_≡_, refl, ap, ap₂, _∙_}
-use mathlib.Core.List.{List, [], _∷_, _++_, map, append-nil}
+use mathlib.Core.List.{List, [], _∷_, _++_, map, append-nil, map-append}
 use Prim.Native.Nat.{ℕ, _+_}
 use native.Mathlib.Omega.{arith}
 use lib.ListN.{length, length-append}
 use Rattle.formula.specs.Formula.{Term, Atom, Form, Formula, Name}
 use Rattle.formula.specs.Names.{termNames, atomNames, atomsOf}
 use Rattle.evalset.specs.Search.{In, here}
-use Rattle.evalset.proofs.Search.{in-left, in-right, map-append, gather-intro}
+use Rattle.evalset.proofs.Search.{in-left, in-right, gather-intro}
 use Rattle.contact.specs.Numbering.{allAtoms, position, sameName, namesOf, mapTerm, mapAtom, mapForm, numberedNames, numberForm, numberFrom, numberedAtoms}
 use Rattle.names.proofs.Texts.{gather-append}
 use Rattle.names.proofs.Claims.{rules-number-stays}

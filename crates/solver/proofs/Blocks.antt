@@ -23,7 +23,7 @@ use Rattle.contact.specs.Tableau.{refutes}
 use Rattle.kleene.specs.declared.Two.{Two}
 use Rattle.kleene.specs.Rails.{duo, sure, duoOf, duoAt, twoAt}
 use Rattle.search.specs.Rows.{rowBits}
-use Rattle.search.proofs.Rows.{row-length}
+use Rattle.search.proofs.Rows.{row-length, row-at}
 use Rattle.solver.specs.Coded.{Coded, RefutedSays}
 use Rattle.solver.specs.Tree.{extended, decidedAt, candidatesOf}
 
@@ -38,16 +38,6 @@ known-out : (row : List Bool) (i : ℕ) → length row ≤ i → getD (map is ro
 known-out [] i l = refl
 known-out (b ∷ row) zero l = absurd (omega arith)
 known-out (b ∷ row) (suc i) l = known-out row i (omega arith)
-
-row-at : (k p i : ℕ) → i < k → getD (rowBits k p) i false ≡ not (bit p (k - 1 - i))
-unfolding rowBits
-row-at zero p i h = absurd (omega arith)
-row-at (suc k) p zero h =
-    let z : k ≡ suc k - 1 - 0 = omega arith in
-    ap (λ (j : ℕ). not (bit p j)) z
-row-at (suc k) p (suc i) h =
-    let z : k - 1 - i ≡ suc k - 1 - suc i = omega arith in
-    row-at k p i (omega arith) ∙ ap (λ (j : ℕ). not (bit p j)) z
 
 not-not : (b : Bool) → not (not b) ≡ b
 not-not true = refl

@@ -17,7 +17,7 @@ use Rattle.formula.specs.Formula.{Atom, Form}
 use Rattle.evalset.specs.declared.EvalSet.{EvalSet}
 use Rattle.evalset.specs.Search.{In, any, first, orElse, below}
 use Rattle.evalset.specs.Sets.{room, most, mem, meetOf, belowOf, shiftOf}
-use Rattle.evalset.proofs.Search.{clash, untrue, both, and-intro, map-elim, map-append, any-elim, none-elim, none-intro, below-intro, first-none, first-append}
+use Rattle.evalset.proofs.Search.{clash, untrue, both, and-intro, map-elim, any-elim, none-elim, none-intro, below-intro, first-none, first-append}
 use Rattle.evalset.proofs.Bounded.{each}
 use Rattle.evalset.proofs.Members.{names-room}
 use Rattle.contact.specs.Numbering.{allAtoms}
@@ -25,7 +25,7 @@ use Rattle.contact.specs.Row.{is, Extends, rulesTrue}
 use Rattle.contact.specs.Plan.{rowMarks, check, rows, good, firstRow}
 use Rattle.contact.specs.Tableau.{refutes, closes}
 use Rattle.contact.proofs.Answer.{rows-elim}
-use Rattle.contact.proofs.Searching.{refutes-sound, closes-exact}
+use Rattle.contact.proofs.Searching.{refutes-sound, closes-exact, extends-prefix, under-split}
 use Rattle.search.specs.declared.Sheet.{Sheet}
 use Rattle.search.specs.declared.State.{State}
 use Rattle.search.specs.Rows.{rowBits}
@@ -42,26 +42,12 @@ use Rattle.solver.proofs.Blocks.{number, lower-half, upper-half}
 
 -- ---- the rows under a row
 
-extends-prefix : (row ext : List Bool) → Extends (row ++ ext) (map is row)
-extends-prefix [] ext = tt
-extends-prefix (b ∷ row) ext = (refl, extends-prefix row ext)
-
 none-good : (p : List Bool → Bool) (row : List Bool) (d : ℕ) → ((ext : List Bool) → length ext ≡ d → p (row ++ ext) ≡ false)
     → first p (under row d) ≡ []
 none-good p row d g =
     first-none p (under row d)
     (none-intro p (under row d)
     (λ x i q. let w = map-elim (λ ext. row ++ ext) (rows d) i in clash q (ap p (w .1) ∙ g (w .0) (rows-elim d (w .0) (w .2)))))
-
-under-split : (row : List Bool) (d : ℕ) → under row (suc d) ≡ under (row ++ true ∷ []) d ++ under (row ++ false ∷ []) d
-under-split row d =
-    map-append (λ ext. row ++ ext) (map (λ s. true ∷ s) (rows d)) (map (λ s. false ∷ s) (rows d))
-    ∙ ap₂ _++_ (step true) (step false)
-  where
-    step : (b : Bool) → map (λ ext. row ++ ext) (map (λ s. b ∷ s) (rows d)) ≡ under (row ++ b ∷ []) d
-    step b =
-        map-map (λ ext. row ++ ext) (λ s. b ∷ s) (rows d)
-        ∙ ap (λ (f : List Bool → List Bool). map f (rows d)) (fun-ext (λ ext. sym (append-assoc row (b ∷ []) ext)))
 
 both-sides : (p : List Bool → Bool) (row : List Bool) (d : ℕ)
     → first p (under row (suc d)) ≡ orElse (first p (under (row ++ true ∷ []) d)) (first p (under (row ++ false ∷ []) d))

@@ -1,7 +1,7 @@
 -- What a table from us holds, by its number of rules and by line, and a line put last: its lines are those of its texts, then empty ones. Assumes nothing.
 use Prim.Native.Nat.{ℕ, zero, suc, _+_, _-_, _<_}
 use mathlib.Core.Path.{_≡_, refl, sym, ap, _∙_}
-use mathlib.Core.List.{List, [], _∷_, _++_, map}
+use mathlib.Core.List.{List, [], _∷_, _++_, map, map-append}
 use native.Mathlib.Omega.{arith}
 use lib.ListN.{length, take, drop, getD, set, replicate, length-map, List·getD-append, length-append}
 use lib.Seq.{set-at, append-snoc}
@@ -60,10 +60,6 @@ module _ {A : Type 0} where
       ∙ sym (append-snoc p a (replicate (k - 1) z))
 
 module _ {A B : Type 0} (f : A → B) where
-  pub map-append : (l m : List A) → map f (l ++ m) ≡ map f l ++ map f m
-  map-append [] m = refl
-  map-append (x ∷ l) m = ap {B = List B} (λ r. f x ∷ r) (map-append l m)
-
   pub map-take : (n : ℕ) (l : List A) → map f (take n l) ≡ take n (map f l)
   map-take zero l = refl
   map-take (suc n) [] = refl

@@ -1,7 +1,7 @@
 -- Lines moved down by one place: a turn of withdraw's loop, and the table that it leaves: each line takes the place before it, and the last one is cleared. Assumes nothing.
 use Prim.Native.Nat.{ℕ, suc, _+_, _-_, _≤_, _<_}
 use mathlib.Core.Path.{_≡_, sym, ap, _∙_}
-use mathlib.Core.List.{List, [], _∷_, _++_, map}
+use mathlib.Core.List.{List, [], _∷_, _++_, map, map-append}
 use native.Mathlib.Omega.{arith}
 use lib.ListN.{length, take, drop, getD, set, replicate, length-map, length-append, length-take, length-drop, length-replicate}
 use lib.Seq.{paste, paste-zero, paste-suc, drop-paste, getD-drop, drop-cons, set-at, take-at, drop-at, take-append-le, drop-append-le}
@@ -9,7 +9,7 @@ use Rattle.table.specs.declared.Line.{Line}
 use Rattle.table.specs.declared.Table.{Table}
 use Rattle.table.specs.Store.{Text, tableOf, rulesOf, lineOf}
 use Rattle.table.specs.Calls.{without, FromUs}
-use Rattle.table.proofs.Held.{count-is, lines-are, linesWith, tableWith, map-append, map-take, map-drop}
+use Rattle.table.proofs.Held.{count-is, lines-are, linesWith, tableWith, map-take, map-drop}
 
 -- the lines after those from k up to i have moved down
 abbrev pub moved : List Line → ℕ → ℕ → List Line
