@@ -4,7 +4,7 @@ use mathlib.Core.Path.{_≡_, refl, sym, fun-ext}
 use Prim.Native.Nat.{ℕ}
 use lib.Dec.{ltb}
 use Rattle.formula.specs.Formula.{Term}
-use Rattle.evalset.specs.Sets.{room, noneOf, fullOf, nameOf, meetOf, joinOf, minusOf}
+use Rattle.evalset.specs.Sets.{room, noneOf, fullOf, nameSet, meetOf, joinOf, minusOf}
 use Rattle.contact.specs.Meaning.{partTerm}
 use Rattle.contact.specs.Plan.{at}
 use Rattle.compile.specs.Sheet.{setOf}
@@ -33,7 +33,7 @@ pub of-one : fullOf ≡ setOf Term.one
 unfolding setOf
 of-one = fun-ext (λ e. sym (and-true (ltb e room)))
 
-pub of-name : (i : ℕ) → nameOf i ≡ setOf (Term.name i)
+pub of-name : (i : ℕ) → nameSet i ≡ setOf (Term.name i)
 unfolding setOf
 of-name i = refl
 

@@ -1,9 +1,9 @@
 -- What a token of the order asks for, by the number of its kind (specs/Arrays.antt of the lexer): 0 is ->, 1 <->, 2 |, 3 &, 4 +,
 -- 5 *, 6 -, 7 ~, 10 =0, 12 T, 13 F, 14 C, 15 <=, 16 0, 17 1, 18 a name. Sets are known by their members. Assumes nothing.
-use mathlib.Core.Bool.{Bool, true, false, cond}
-use Prim.Native.Nat.{ℕ, _+_}
+use mathlib.Core.Bool.{Bool, true, cond}
+use Prim.Native.Nat.{ℕ}
 use lib.Dec.{eqb, leb}
-use Rattle.evalset.specs.Sets.{noneOf, fullOf, nameOf, meetOf, joinOf, minusOf}
+use Rattle.evalset.specs.Sets.{noneOf, fullOf, nameSet, meetOf, joinOf, minusOf}
 use Rattle.kleene.specs.Code.{atomSign}
 
 -- how many sets it takes off the stack
@@ -27,7 +27,7 @@ unfoldable pub setBy : ℕ → ℕ → (ℕ → Bool) → (ℕ → Bool) → ℕ
 setBy k name x y =
     cond (eqb k 16) noneOf
     (cond (eqb k 17) fullOf
-    (cond (eqb k 18) (nameOf name)
+    (cond (eqb k 18) (nameSet name)
     (cond (eqb k 6) (minusOf fullOf x)
     (cond (eqb k 5) (meetOf x y) (joinOf x y)))))
 

@@ -17,11 +17,11 @@ use Rattle.contact.specs.Numbering.{allAtoms, numberedAtoms, AtomBelow, 
 use Rattle.contact.specs.Row.{IsFirstRow, Row, Realises, Realisable, rulesTrue, Before}
 use Rattle.contact.specs.Plan.{rowMarks, check, rows, good, firstRow, firstRowOf}
 use Rattle.contact.proofs.Numbered.{Faithful, numbered-faithful}
-use Rattle.contact.proofs.Realise.{planFloor, plan-row, row-check}
+use Rattle.contact.proofs.Realise.{marksFloor, plan-row, row-check}
 
 -- ---- the rows of n atoms are the lists of n Booleans, in the order of rows
 
-pub rows-intro : (row : Row) → In row (rows (length row))
+rows-intro : (row : Row) → In row (rows (length row))
 rows-intro [] = here
 rows-intro (true ∷ row) = in-left (map (λ r. false ∷ r) (rows (length row))) (map-intro (λ r. true ∷ r) (rows-intro row))
 rows-intro (false ∷ row) = in-right (map (λ r. true ∷ r) (rows (length row))) (map-intro (λ r. false ∷ r) (rows-intro row))
@@ -44,7 +44,7 @@ rows-first n p =
     ∙ ap₂ orElse (first-map (λ r. true ∷ r) p (rows n)) (first-map (λ r. false ∷ r) p (rows n))
 
 -- no row before the first that passes does
-pub before-first : (n : ℕ) (p : Row → Bool) (row other : Row) → first p (rows n) ≡ row ∷ [] → length other ≡ n → Before other row
+before-first : (n : ℕ) (p : Row → Bool) (row other : Row) → first p (rows n) ≡ row ∷ [] → length other ≡ n → Before other row
     → p other ≡ false
 before-first n p row [] e l b = absurd b
 before-first zero p row (c ∷ o) e l b = absurd (omega arith)
@@ -114,15 +114,15 @@ module _ (n : ℕ) (atoms : List (Atom ℕ)) (nums : List (Form ℕ)) where
       let k = both (rulesTrue nums row) (check n (rowMarks atoms row)) g in
       record { whole = rows-elim (length atoms) row i; makes = k .0; checked = k .1 }
 
-  pub first-good : (row : Row) → firstRow n atoms nums ≡ row ∷ [] → Good row
+  first-good : (row : Row) → firstRow n atoms nums ≡ row ∷ [] → Good row
   unfolding firstRow
   first-good row e = let r = first-found (good n atoms nums) (rows (length atoms)) e in good-elim row (r .0) (r .1)
 
   module _ (rules : List (Formula ℕ)) (faithful : Faithful rules atoms nums) where
     -- the plan of a good row meets every rule
-    pub good-meets : (row : Row) (g : Good row) → meetsAll (planFloor n (rowMarks atoms row) (g .checked)) rules ≡ true
+    pub good-meets : (row : Row) (g : Good row) → meetsAll (marksFloor n (rowMarks atoms row) (g .checked)) rules ≡ true
     good-meets row g =
-        sym (faithful (planFloor n (rowMarks atoms row) (g .checked)))
+        sym (faithful (marksFloor n (rowMarks atoms row) (g .checked)))
         ∙ ap (rulesTrue nums) (plan-row n atoms row (g .whole) (g .checked)) ∙ g .makes
 
   module _ (names : (a : Atom ℕ) → In a atoms → AtomBelow n a) where
@@ -156,28 +156,28 @@ module _ (n : ℕ) (atoms : List (Atom ℕ)) (nums : List (Form ℕ)) where
         λ h. first-none (good n atoms nums) (rows (length atoms))
             (none-intro (good n atoms nums) (rows (length atoms))
             (λ row i g. let a = good-elim row i g in
-            h (planFloor n (rowMarks atoms row) (a .checked)) (good-meets rules faithful row a))),
+            h (marksFloor n (rowMarks atoms row) (a .checked)) (good-meets rules faithful row a))),
       )
 
 -- ---- the same with the atoms numbered by place
 
 module _ (n : ℕ) (rules : List (Formula ℕ)) where
-  abbrev pub RowOf : Row → Type 0
+  abbrev RowOf : Row → Type 0
   RowOf row = Good n (allAtoms rules) (numberedAtoms rules) row
 
   pub row-found : (row : Row) → firstRowOf n rules ≡ row ∷ [] → RowOf row
   row-found row e = first-good n (allAtoms rules) (numberedAtoms rules) row e
 
   -- the plan of the first row
-  abbrev pub planOf : (row : Row) → firstRowOf n rules ≡ row ∷ [] → Floor ℕ
-  planOf row e = planFloor n (rowMarks (allAtoms rules) row) (row-found row e .checked)
+  abbrev pub rowFloor : (row : Row) → firstRowOf n rules ≡ row ∷ [] → Floor ℕ
+  rowFloor row e = marksFloor n (rowMarks (allAtoms rules) row) (row-found row e .checked)
 
   -- gives exactly the row
-  pub plan-gives-row : (row : Row) (e : firstRowOf n rules ≡ row ∷ []) → Realises (planOf row e) (allAtoms rules) row
+  pub plan-gives-row : (row : Row) (e : firstRowOf n rules ≡ row ∷ []) → Realises (rowFloor row e) (allAtoms rules) row
   plan-gives-row row e = plan-row n (allAtoms rules) row (row-found row e .whole) (row-found row e .checked)
 
   -- and meets every rule
-  pub plan-meets : (row : Row) (e : firstRowOf n rules ≡ row ∷ []) → meetsAll (planOf row e) rules ≡ true
+  pub plan-meets : (row : Row) (e : firstRowOf n rules ≡ row ∷ []) → meetsAll (rowFloor row e) rules ≡ true
   plan-meets row e = good-meets n (allAtoms rules) (numberedAtoms rules) rules (numbered-faithful rules) row (row-found row e)
 
   pub no-plan-exactly : RulesBelow n rules → (firstRowOf n rules ≡ []) ↔ ((F : Floor ℕ) → meetsAll F rules ≡ true → ⊥)
@@ -186,7 +186,7 @@ module _ (n : ℕ) (rules : List (Formula ℕ)) where
   pub first-row : RulesBelow n rules → (row : Row) → firstRowOf n rules ≡ row ∷ [] → IsFirstRow rules row
   first-row names row e =
       record {
-        realisable = ∣ (planOf row e, plan-gives-row row e) ∣₁;
+        realisable = ∣ (rowFloor row e, plan-gives-row row e) ∣₁;
         makes = row-found row e .makes;
         earliest = λ other real k b. first-earliest n (allAtoms rules) (numberedAtoms rules) names row other e real k b;
       }

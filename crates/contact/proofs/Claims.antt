@@ -69,22 +69,22 @@ row-exactly = Realise.row-exactly
 -- ---- the plan that is given (Realise, Answer, Naming)
 
 -- the plan's floor has as many points as the plan
-pub plan-points : (n : ℕ) (ms : List Mark) (h : check n ms ≡ true) → Realise.planFloor n ms h .points ≡ length (pointsFor n ms)
+pub plan-points : (n : ℕ) (ms : List Mark) (h : check n ms ≡ true) → Realise.marksFloor n ms h .points ≡ length (pointsFor n ms)
 plan-points = Realise.plan-points
 
 -- those at two places are in contact if they are not separated
 pub plan-touch : (n : ℕ) (ms : List Mark) (h : check n ms ≡ true) (p q : ℕ)
-    → Realise.planFloor n ms h .touch p q ≡ not (separated ms (getD (pointsFor n ms) p 0) (getD (pointsFor n ms) q 0))
+    → Realise.marksFloor n ms h .touch p q ≡ not (separated ms (getD (pointsFor n ms) p 0) (getD (pointsFor n ms) q 0))
 plan-touch = Realise.plan-touch
 
 -- and bit i of a point says whether it lies in name i
 pub plan-lies : (n : ℕ) (ms : List Mark) (h : check n ms ≡ true) (i p : ℕ)
-    → Realise.planFloor n ms h .lies i p ≡ bit (getD (pointsFor n ms) p 0) i
+    → Realise.marksFloor n ms h .lies i p ≡ bit (getD (pointsFor n ms) p 0) i
 plan-lies = Realise.plan-lies
 
 -- the plan of a row that passes the check gives every atom the row's value
 pub plan-row : (n : ℕ) (atoms : List (Atom ℕ)) (row : Row) → length row ≡ length atoms → (h : check n (rowMarks atoms row) ≡ true)
-    → Realises (Realise.planFloor n (rowMarks atoms row) h) atoms row
+    → Realises (Realise.marksFloor n (rowMarks atoms row) h) atoms row
 plan-row = Realise.plan-row
 
 -- the row that is found is realisable, makes the rules true, and no realisable row before it does
@@ -102,12 +102,12 @@ first-row-only = Answer.first-row-only
 
 -- its plan gives the atoms exactly this row
 pub plan-gives-row : (n : ℕ) (rules : List (Formula ℕ)) (row : Row) (e : firstRowOf n rules ≡ row ∷ [])
-    → Realises (Answer.planOf n rules row e) (allAtoms rules) row
+    → Realises (Answer.rowFloor n rules row e) (allAtoms rules) row
 plan-gives-row = Answer.plan-gives-row
 
 -- and meets every rule
 pub plan-meets : (n : ℕ) (rules : List (Formula ℕ)) (row : Row) (e : firstRowOf n rules ≡ row ∷ [])
-    → meetsAll (Answer.planOf n rules row e) rules ≡ true
+    → meetsAll (Answer.rowFloor n rules row e) rules ≡ true
 plan-meets = Answer.plan-meets
 
 -- no row is found exactly if no floor meets every rule

@@ -111,7 +111,7 @@ marks-length (a ∷ atoms) (is b ∷ part) = omega (arith, marks-length atoms pa
 marks-length (a ∷ atoms) (unknown ∷ part) = omega (arith, marks-length atoms part)
 
 -- at most two points for each atom, or one
-pub point-bound-atoms : (n : ℕ) (atoms : List (Atom ℕ)) (part : PartialRow)
+point-bound-atoms : (n : ℕ) (atoms : List (Atom ℕ)) (part : PartialRow)
     → length (pointsFor n (marksOf atoms part)) ≤ max 1 (2 * length atoms)
 point-bound-atoms n atoms part =
     omega (arith, point-bound n (marksOf atoms part), marks-count (marksOf atoms part), marks-length atoms part)

@@ -19,7 +19,7 @@ use Rattle.contact.specs.Numbering.{allAtoms, distinct, position, sameNa
 use Rattle.contact.specs.Row.{IsFirstRow, Row, Realises, Realisable, rulesTrue}
 use Rattle.contact.specs.Plan.{firstRowOf}
 use Rattle.contact.proofs.Numbered.{all-atoms-map, numbered-map}
-use Rattle.contact.proofs.Answer.{first-row, first-row-only, planOf, plan-gives-row, plan-meets, no-plan-exactly}
+use Rattle.contact.proofs.Answer.{first-row, first-row-only, rowFloor, plan-gives-row, plan-meets, no-plan-exactly}
 
 -- ---- renaming
 
@@ -36,7 +36,7 @@ module _ {N M : Type 0} (g : N → M) where
         lies = λ x p. F .lies (g x) p;
       }
 
-  pub holds-map : (v : M → Bool) (t : Term N) → holds v (mapTerm g t) ≡ holds (λ x. v (g x)) t
+  holds-map : (v : M → Bool) (t : Term N) → holds v (mapTerm g t) ≡ holds (λ x. v (g x)) t
   holds-map v Term.zero = refl
   holds-map v Term.one = refl
   holds-map v (Term.name x) = refl
@@ -69,7 +69,7 @@ module _ {A B : Type 0} (h : A → B) where
   value-map v (Form.equivalence f g) = ap₂ Bool·beq (value-map v f) (value-map v g)
 
 -- a floor meets the renamed rules exactly if, renamed, it meets the rules
-pub meets-map : {N M : Type 0} (g : N → M) (F : Floor M) (rules : List (Formula N))
+meets-map : {N M : Type 0} (g : N → M) (F : Floor M) (rules : List (Formula N))
     → meetsAll F (map (mapForm (mapAtom g)) rules) ≡ meetsAll (renamed g F) rules
 meets-map {N} g F rules =
     all-map (mapForm (mapAtom g)) (meets F) rules
@@ -77,7 +77,7 @@ meets-map {N} g F rules =
     (fun-ext (λ f. value-map (mapAtom g) (atomOn F) f ∙ ap (λ (v : Atom N → Bool). value v f) (fun-ext (atom-map g F))))
 
 -- and gives their atoms the row that, renamed, it gives the atoms of the rules
-pub row-map : {N M : Type 0} (g : N → M) (F : Floor M) (rules : List (Formula N))
+row-map : {N M : Type 0} (g : N → M) (F : Floor M) (rules : List (Formula N))
     → map (atomOn F) (allAtoms (map (mapForm (mapAtom g)) rules)) ≡ map (atomOn (renamed g F)) (allAtoms rules)
 row-map {N} g F rules =
     ap (map (atomOn F)) (all-atoms-map (mapAtom g) rules) ∙ map-map (atomOn F) (mapAtom g) (allAtoms rules)
@@ -174,7 +174,7 @@ module _ {N : Type 0} (same : N → N → Bool) (decides : Decides same) where
       (λ j. next (keep-intro (λ z. not (same y z)) (distinct-in ys j) (ap not h))) (uncons i))
 
   -- and is found at its position
-  pub position-found : (d : N) {x : N} (xs : List N) → In x xs
+  position-found : (d : N) {x : N} (xs : List N) → In x xs
       → (position same xs x < length xs) × (getD xs (position same xs x) d ≡ x)
   position-found d [] i = none-in i
   position-found d {x} (y ∷ ys) i =
@@ -210,7 +210,7 @@ module _ (rules : List (Formula Name)) where
       (atom-below numberOf (length (namesOf rules)) (r .0) (λ x j. name-found (gather-intro atomNames (r .2) j) .0))
 
   -- with the names put back they are the rules as read
-  pub names-back : map (mapForm (mapAtom nameOf)) (numberedNames rules) ≡ rules
+  names-back : map (mapForm (mapAtom nameOf)) (numberedNames rules) ≡ rules
   names-back =
       forms-back (mapAtom numberOf) (mapAtom nameOf) rules
       (λ a i. atom-back numberOf nameOf a (λ x j. name-found (gather-intro atomNames i j) .1))
@@ -223,16 +223,16 @@ module _ (rules : List (Formula Name)) where
   numbers-meet F = sym (meets-map numberOf F rules)
 
   -- and so does a floor over names, as one over numbers
-  pub names-row : (F : Floor Name) → map (atomOn (renamed nameOf F)) (allAtoms (numberedNames rules)) ≡ map (atomOn F) (allAtoms rules)
+  names-row : (F : Floor Name) → map (atomOn (renamed nameOf F)) (allAtoms (numberedNames rules)) ≡ map (atomOn F) (allAtoms rules)
   names-row F =
       sym (row-map nameOf F (numberedNames rules))
       ∙ ap (λ (rs : List (Formula Name)). map (atomOn F) (allAtoms rs)) names-back
 
-  pub names-meet : (F : Floor Name) → meetsAll (renamed nameOf F) (numberedNames rules) ≡ meetsAll F rules
+  names-meet : (F : Floor Name) → meetsAll (renamed nameOf F) (numberedNames rules) ≡ meetsAll F rules
   names-meet F = sym (meets-map nameOf F (numberedNames rules)) ∙ ap (meetsAll F) names-back
 
   -- so the realisable rows are the same
-  pub realisable-named : (row : Row) → Realisable (allAtoms (numberedNames rules)) row ↔ Realisable (allAtoms rules) row
+  realisable-named : (row : Row) → Realisable (allAtoms (numberedNames rules)) row ↔ Realisable (allAtoms rules) row
   realisable-named row = (
     λ r. ∥∥₁-map r (λ f. (renamed numberOf (f .0), numbers-row (f .0) ∙ f .1)),
     λ r. ∥∥₁-map r (λ f. (renamed nameOf (f .0), names-row (f .0) ∙ f .1)),
@@ -272,16 +272,16 @@ module _ (rules : List (Formula Name)) where
 
   -- the plan of the first row, over names, gives the row and meets the rules as read
   abbrev pub namedPlan : (row : Row) → firstRowOf (length (namesOf rules)) (numberedNames rules) ≡ row ∷ [] → Floor Name
-  namedPlan row e = renamed numberOf (planOf (length (namesOf rules)) (numberedNames rules) row e)
+  namedPlan row e = renamed numberOf (rowFloor (length (namesOf rules)) (numberedNames rules) row e)
 
   pub plan-row-named : (row : Row) (e : firstRowOf (length (namesOf rules)) (numberedNames rules) ≡ row ∷ [])
       → Realises (namedPlan row e) (allAtoms rules) row
   plan-row-named row e =
-      numbers-row (planOf (length (namesOf rules)) (numberedNames rules) row e)
+      numbers-row (rowFloor (length (namesOf rules)) (numberedNames rules) row e)
       ∙ plan-gives-row (length (namesOf rules)) (numberedNames rules) row e
 
   pub plan-meets-named : (row : Row) (e : firstRowOf (length (namesOf rules)) (numberedNames rules) ≡ row ∷ [])
       → meetsAll (namedPlan row e) rules ≡ true
   plan-meets-named row e =
-      numbers-meet (planOf (length (namesOf rules)) (numberedNames rules) row e)
+      numbers-meet (rowFloor (length (namesOf rules)) (numberedNames rules) row e)
       ∙ plan-meets (length (namesOf rules)) (numberedNames rules) row e

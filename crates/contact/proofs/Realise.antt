@@ -1,5 +1,5 @@
 -- The check passes exactly where some floor gives the decided atoms their values. The evaluations of a floor's points are
--- allowed, those of points in contact are not separated, so every mark is served; and where every mark is served, the points
+-- allowed, those of points in contact are not separated, so every mark is witnessed; and where every mark is witnessed, the points
 -- of the plan, all unseparated pairs in contact, are such a floor. For any number of names and of points. Assumes nothing.
 use mathlib.Core.Bool.{Bool, true, false, not, _&&_, or-comm, Bool-set}
 use mathlib.Core.Path.{_≡_, refl, sym, ap, ap₂, _∙_, subst, fun-ext}
@@ -17,13 +17,13 @@ use Rattle.evalset.proofs.Search.{clash, untrue, bool-ext, and-intro, both, or-
 use Rattle.contact.specs.Meaning.{Floor, within, isEmpty, touches, atomOn}
 use Rattle.contact.specs.Numbering.{TermBelow, AtomBelow}
 use Rattle.contact.specs.Row.{Row, Realises, Realisable, is, unknown, PartialRow, Extends, RealisesPart}
-use Rattle.contact.specs.Plan.{at, evaluations, Mark, touching, apart, vacant, inhabited, mark, marksOf, rowMarks, parts, separated, empties, allowed, fills, partners, leads, served, check, withPartner, gives, given, pointsFor}
+use Rattle.contact.specs.Plan.{at, evaluations, Mark, touching, apart, vacant, inhabited, mark, marksOf, rowMarks, parts, separated, empties, allowed, fills, partners, leads, witnessed, check, withPartner, gives, given, pointsFor}
 use Rattle.contact.proofs.Bits.{encode, encode-lt, bit-encode, holds-same}
 
 -- ---- what marks say of a floor
 
 -- the value of the marked atom on a floor, and the value that the mark gives it
-abbrev pub markOn : Floor ℕ → Mark → Bool
+abbrev markOn : Floor ℕ → Mark → Bool
 markOn F (touching x y) = touches F x y
 markOn F (apart x y) = touches F x y
 markOn F (vacant t) = isEmpty F t
@@ -36,11 +36,11 @@ signOf (vacant t) = true
 signOf (inhabited t) = false
 
 -- the floor gives each marked atom its value
-abbrev pub RealisesMarks : Floor ℕ → List Mark → Type 0
+abbrev RealisesMarks : Floor ℕ → List Mark → Type 0
 RealisesMarks F ms = (m : Mark) → In m ms → markOn F m ≡ signOf m
 
 -- the names of the marked atom are numbered below n
-abbrev pub MarkBelow : ℕ → Mark → Type 0
+abbrev MarkBelow : ℕ → Mark → Type 0
 MarkBelow n (touching x y) = TermBelow n x × TermBelow n y
 MarkBelow n (apart x y) = TermBelow n x × TermBelow n y
 MarkBelow n (vacant t) = TermBelow n t
@@ -108,7 +108,7 @@ module _ (ms : List Mark) (pts : List ℕ) (some : 0 < length pts) (own : (e : �
 
 -- ---- the tests, taken apart and put together
 
-abbrev pub Allowed : ℕ → List Mark → ℕ → Type 0
+abbrev Allowed : ℕ → List Mark → ℕ → Type 0
 Allowed n ms e = (e < 2 ^ n) × (any (empties e) ms ≡ false) × (separated ms e e ≡ false)
 
 module _ (n : ℕ) (ms : List Mark) where
@@ -119,7 +119,7 @@ module _ (n : ℕ) (ms : List Mark) where
       let s = both (not (any (empties e) ms)) (not (separated ms e e)) (r .1) in
       (ltb-true e (2 ^ n) (r .0), not-true _ (s .0), not-true _ (s .1))
 
-  pub allowed-intro : (e : ℕ) → Allowed n ms e → allowed n ms e ≡ true
+  allowed-intro : (e : ℕ) → Allowed n ms e → allowed n ms e ≡ true
   unfolding allowed
   allowed-intro e h =
       and-intro (ltb e (2 ^ n)) (not (any (empties e) ms) && not (separated ms e e)) (lt-ltb e (2 ^ n) (h .0))
@@ -129,7 +129,7 @@ module _ (n : ℕ) (ms : List Mark) where
   unfolding fills
   fills-elim t e h = both (allowed n ms e) (at t e) h
 
-  pub fills-intro : (t : Term ℕ) (e : ℕ) → allowed n ms e ≡ true → at t e ≡ true → fills n ms t e ≡ true
+  fills-intro : (t : Term ℕ) (e : ℕ) → allowed n ms e ≡ true → at t e ≡ true → fills n ms t e ≡ true
   unfolding fills
   fills-intro t e h k = and-intro (allowed n ms e) (at t e) h k
 
@@ -137,7 +137,7 @@ module _ (n : ℕ) (ms : List Mark) where
   unfolding partners
   partners-elim y p q h = let r = both (fills n ms y q) (not (separated ms p q)) h in (r .0, not-true _ (r .1))
 
-  pub partners-intro : (y : Term ℕ) (p q : ℕ) → fills n ms y q ≡ true → separated ms p q ≡ false → partners n ms y p q ≡ true
+  partners-intro : (y : Term ℕ) (p q : ℕ) → fills n ms y q ≡ true → separated ms p q ≡ false → partners n ms y p q ≡ true
   unfolding partners
   partners-intro y p q h k = and-intro (fills n ms y q) (not (separated ms p q)) h (ap not k)
 
@@ -146,18 +146,18 @@ module _ (n : ℕ) (ms : List Mark) where
   unfolding leads
   leads-elim x y p h = both (fills n ms x p) (any (partners n ms y p) (evaluations n)) h
 
-  pub leads-intro : (x y : Term ℕ) (p : ℕ) → fills n ms x p ≡ true → any (partners n ms y p) (evaluations n) ≡ true
+  leads-intro : (x y : Term ℕ) (p : ℕ) → fills n ms x p ≡ true → any (partners n ms y p) (evaluations n) ≡ true
       → leads n ms x y p ≡ true
   unfolding leads
   leads-intro x y p h k = and-intro (fills n ms x p) (any (partners n ms y p) (evaluations n)) h k
 
-  pub check-elim : check n ms ≡ true → (any (allowed n ms) (evaluations n) ≡ true) × (all (served n ms) ms ≡ true)
+  pub check-elim : check n ms ≡ true → (any (allowed n ms) (evaluations n) ≡ true) × (all (witnessed n ms) ms ≡ true)
   unfolding check
-  check-elim h = both (any (allowed n ms) (evaluations n)) (all (served n ms) ms) h
+  check-elim h = both (any (allowed n ms) (evaluations n)) (all (witnessed n ms) ms) h
 
-  pub check-intro : any (allowed n ms) (evaluations n) ≡ true → all (served n ms) ms ≡ true → check n ms ≡ true
+  check-intro : any (allowed n ms) (evaluations n) ≡ true → all (witnessed n ms) ms ≡ true → check n ms ≡ true
   unfolding check
-  check-intro h k = and-intro (any (allowed n ms) (evaluations n)) (all (served n ms) ms) h k
+  check-intro h k = and-intro (any (allowed n ms) (evaluations n)) (all (witnessed n ms) ms) h k
 
 -- ---- from the check to the plan
 
@@ -208,24 +208,24 @@ module _ (n : ℕ) (ms : List Mark) where
     points-some = let r = place 0 (given-point (some-given .1)) in omega (arith, r .1)
 
     -- the plan that is given, as a floor
-    unfoldable pub planFloor : Floor ℕ
-    planFloor = floorOf ms (pointsFor n ms) points-some (λ e i. allowed-elim n ms e (point-allowed i) .2)
+    unfoldable pub marksFloor : Floor ℕ
+    marksFloor = floorOf ms (pointsFor n ms) points-some (λ e i. allowed-elim n ms e (point-allowed i) .2)
 
     -- its points are those of the plan in their order, unseparated ones are in contact, and bit i says which lie in name i
-    pub plan-points : planFloor .points ≡ length (pointsFor n ms)
-    unfolding planFloor floorOf
+    pub plan-points : marksFloor .points ≡ length (pointsFor n ms)
+    unfolding marksFloor floorOf
     plan-points = refl
 
-    pub plan-touch : (p q : ℕ) → planFloor .touch p q ≡ not (separated ms (getD (pointsFor n ms) p 0) (getD (pointsFor n ms) q 0))
-    unfolding planFloor floorOf
+    pub plan-touch : (p q : ℕ) → marksFloor .touch p q ≡ not (separated ms (getD (pointsFor n ms) p 0) (getD (pointsFor n ms) q 0))
+    unfolding marksFloor floorOf
     plan-touch p q = refl
 
-    pub plan-lies : (i p : ℕ) → planFloor .lies i p ≡ bit (getD (pointsFor n ms) p 0) i
-    unfolding planFloor floorOf
+    pub plan-lies : (i p : ℕ) → marksFloor .lies i p ≡ bit (getD (pointsFor n ms) p 0) i
+    unfolding marksFloor floorOf
     plan-lies i p = refl
 
-    all-served : (m : Mark) → In m ms → served n ms m ≡ true
-    all-served m i = all-elim (served n ms) i (check-elim n ms checked .1)
+    all-witnessed : (m : Mark) → In m ms → witnessed n ms m ≡ true
+    all-witnessed m i = all-elim (witnessed n ms) i (check-elim n ms checked .1)
 
     abbrev reach : Term ℕ → ℕ → ℕ → Bool
     reach y e f = at y f && not (separated ms e f)
@@ -236,7 +236,7 @@ module _ (n : ℕ) (ms : List Mark) where
     on-plan : (m : Mark) → In m ms → onPoints ms (pointsFor n ms) m ≡ signOf m
     unfolding separated
     on-plan (touching x y) i =
-        let r = first-some (leads n ms x y) es (all-served (touching x y) i) in
+        let r = first-some (leads n ms x y) es (all-witnessed (touching x y) i) in
         let p : ℕ = r .0 in
         let hp = leads-elim n ms x y p (r .3) in
         let s = first-some (partners n ms y p) es (hp .1) in
@@ -263,11 +263,11 @@ module _ (n : ℕ) (ms : List Mark) where
         ap not
         (none-intro (at t) (pointsFor n ms) (λ e j h. clash h (none-elim (empties e) (allowed-elim n ms e (point-allowed j) .1) i)))
     on-plan (inhabited t) i =
-        let r = first-some (fills n ms t) es (all-served (inhabited t) i) in
+        let r = first-some (fills n ms t) es (all-witnessed (inhabited t) i) in
         ap not (any-intro (at t) (gives-point i (subst (In (r .0)) (sym (r .1)) here)) (fills-elim n ms t (r .0) (r .3) .1))
 
-    pub plan-realises : RealisesMarks planFloor ms
-    unfolding planFloor
+    pub plan-realises : RealisesMarks marksFloor ms
+    unfolding marksFloor
     plan-realises m i = floor-mark ms (pointsFor n ms) _ _ m ∙ on-plan m i
 
 -- ---- from a floor to the check
@@ -352,8 +352,8 @@ module _ (n : ℕ) (ms : List Mark) (names : (m : Mark) → In m ms → MarkBelo
   ev-fills : (t : Term ℕ) (p : ℕ) → TermBelow n t → p < F .points → within F t p ≡ true → fills n ms t (ev p) ≡ true
   ev-fills t p o hp h = fills-intro n ms t (ev p) (ev-allowed p hp) (ev-at t p o ∙ h)
 
-  ev-served : (m : Mark) → In m ms → served n ms m ≡ true
-  ev-served (touching x y) i =
+  ev-witnessed : (m : Mark) → In m ms → witnessed n ms m ≡ true
+  ev-witnessed (touching x y) i =
       let o = names (touching x y) i in
       let w = touches-elim F x y (real (touching x y) i) in
       any-intro (leads n ms x y) (ev-in (w .p))
@@ -361,20 +361,20 @@ module _ (n : ℕ) (ms : List Mark) (names : (m : Mark) → In m ms → MarkBelo
       (any-intro (partners n ms y (ev (w .p))) (ev-in (w .q))
       (partners-intro n ms y (ev (w .p)) (ev (w .q)) (ev-fills y (w .q) (o .1) (w .q-lt) (w .q-in))
       (ev-separated (w .p) (w .q) (w .p-lt) (w .q-lt) (w .meet)))))
-  ev-served (apart x y) i = refl
-  ev-served (vacant t) i = refl
-  ev-served (inhabited t) i =
+  ev-witnessed (apart x y) i = refl
+  ev-witnessed (vacant t) i = refl
+  ev-witnessed (inhabited t) i =
       let r = any-elim (within F t) (below (F .points)) (not-false _ (real (inhabited t) i)) in
       any-intro (fills n ms t) (ev-in (r .0)) (ev-fills t (r .0) (names (inhabited t) i) (below-elim (F .points) (r .0) (r .1)) (r .2))
 
-  pub floor-check : check n ms ≡ true
+  floor-check : check n ms ≡ true
   floor-check =
-      check-intro n ms (any-intro (allowed n ms) (ev-in 0) (ev-allowed 0 (F .some))) (all-intro (served n ms) ms ev-served)
+      check-intro n ms (any-intro (allowed n ms) (ev-in 0) (ev-allowed 0 (F .some))) (all-intro (witnessed n ms) ms ev-witnessed)
 
 -- where marks pass the check, some of them do
 pub check-fewer : (n : ℕ) (ms fewer : List Mark) → ((m : Mark) → In m fewer → MarkBelow n m) → ((m : Mark) → In m fewer → In m ms)
     → check n ms ≡ true → check n fewer ≡ true
-check-fewer n ms fewer names sub h = floor-check n fewer names (planFloor n ms h) (λ m i. plan-realises n ms h m (sub m i))
+check-fewer n ms fewer names sub h = floor-check n fewer names (marksFloor n ms h) (λ m i. plan-realises n ms h m (sub m i))
 
 -- ---- marks and rows
 
@@ -444,16 +444,16 @@ extends-whole (c ∷ s) (b ∷ row) l h = ap₂ _∷_ (h .0) (extends-whole s ro
 
 module _ (n : ℕ) (atoms : List (Atom ℕ)) where
   -- the plan gives the decided atoms their values
-  pub plan-part : (part : PartialRow) → length part ≤ length atoms → (checked : check n (marksOf atoms part) ≡ true)
-      → RealisesPart (planFloor n (marksOf atoms part) checked) atoms part
+  plan-part : (part : PartialRow) → length part ≤ length atoms → (checked : check n (marksOf atoms part) ≡ true)
+      → RealisesPart (marksFloor n (marksOf atoms part) checked) atoms part
   plan-part part l checked =
-      marks-part (planFloor n (marksOf atoms part) checked) atoms part l (plan-realises n (marksOf atoms part) checked)
+      marks-part (marksFloor n (marksOf atoms part) checked) atoms part l (plan-realises n (marksOf atoms part) checked)
 
   -- and of a whole row it gives every atom the row's value
   pub plan-row : (row : Row) → length row ≡ length atoms → (checked : check n (rowMarks atoms row) ≡ true)
-      → Realises (planFloor n (rowMarks atoms row) checked) atoms row
+      → Realises (marksFloor n (rowMarks atoms row) checked) atoms row
   plan-row row l checked =
-      let F : Floor ℕ = planFloor n (rowMarks atoms row) checked in
+      let F : Floor ℕ = marksFloor n (rowMarks atoms row) checked in
       let whole : length (map is row) ≤ length atoms = omega (arith, length-map row is) in
       extends-whole (map (atomOn F) atoms) row (l ∙ sym (length-map atoms (atomOn F))) (plan-part (map is row) whole checked)
 
@@ -468,7 +468,7 @@ module _ (n : ℕ) (atoms : List (Atom ℕ)) where
 pub check-exactly : (n : ℕ) (atoms : List (Atom ℕ)) (part : PartialRow) → ((a : Atom ℕ) → In a atoms → AtomBelow n a)
     → length part ≤ length atoms → (check n (marksOf atoms part) ≡ true) ↔ ∥ ((F : Floor ℕ) × RealisesPart F atoms part) ∥₁
 check-exactly n atoms part names l = (
-  λ h. ∣ (planFloor n (marksOf atoms part) h, plan-part n atoms part l h) ∣₁,
+  λ h. ∣ (marksFloor n (marksOf atoms part) h, plan-part n atoms part l h) ∣₁,
   λ r. ∥∥₁-elim r (Bool-set _ _) (λ f. part-check n atoms names part (f .0) (f .1)),
 )
 
@@ -476,6 +476,6 @@ check-exactly n atoms part names l = (
 pub row-exactly : (n : ℕ) (atoms : List (Atom ℕ)) (row : Row) → ((a : Atom ℕ) → In a atoms → AtomBelow n a) → length row ≡ length atoms
     → (check n (rowMarks atoms row) ≡ true) ↔ Realisable atoms row
 row-exactly n atoms row names l = (
-  λ h. ∣ (planFloor n (rowMarks atoms row) h, plan-row n atoms row l h) ∣₁,
+  λ h. ∣ (marksFloor n (rowMarks atoms row) h, plan-row n atoms row l h) ∣₁,
   λ r. ∥∥₁-elim r (Bool-set _ _) (λ f. row-check n atoms names row (f .0) (f .1)),
 )

@@ -18,7 +18,7 @@ use Rattle.formula.specs.Names.{atomsOf}
 use Rattle.contact.specs.Numbering.{allAtoms, numberedAtoms, AtomBelow, RulesBelow}
 use Rattle.contact.specs.Row.{Row, rulesTrue, Three, is, unknown, PartialRow, Extends}
 use Rattle.contact.specs.Plan.{Mark, mark, marksOf, rowMarks, check, rows, good, firstRow, firstRowOf}
-use Rattle.contact.specs.Tableau.{not3, and3, or3, iff3, value3, refuted, refutes, closes, Sound, Exact, search}
+use Rattle.contact.specs.Tableau.{kleeneNot, kleeneAnd, kleeneOr, kleeneIff, kleeneValue, refuted, refutes, closes, Sound, Exact, search}
 use Rattle.contact.proofs.Numbered.{NumbersBelow, numbers-below}
 use Rattle.contact.proofs.Realise.{marks-below, check-fewer}
 
@@ -81,11 +81,11 @@ abbrev Fits : Three → Bool → Type 0
 Fits (is c) b = c ≡ b
 Fits unknown b = Unit {0}
 
-fits-not : (t : Three) (b : Bool) → Fits t b → Fits (not3 t) (not b)
+fits-not : (t : Three) (b : Bool) → Fits t b → Fits (kleeneNot t) (not b)
 fits-not (is c) b h = ap not h
 fits-not unknown b h = tt
 
-fits-and : (s t : Three) (b c : Bool) → Fits s b → Fits t c → Fits (and3 s t) (b && c)
+fits-and : (s t : Three) (b c : Bool) → Fits s b → Fits t c → Fits (kleeneAnd s t) (b && c)
 fits-and (is true) t true c h k = k
 fits-and (is true) t false c h k = clash refl h
 fits-and (is false) t true c h k = clash refl (sym h)
@@ -100,11 +100,11 @@ or-as true c = refl
 or-as false true = refl
 or-as false false = refl
 
-fits-or : (s t : Three) (b c : Bool) → Fits s b → Fits t c → Fits (or3 s t) (b || c)
+fits-or : (s t : Three) (b c : Bool) → Fits s b → Fits t c → Fits (kleeneOr s t) (b || c)
 fits-or s t b c h k =
-    subst (Fits (or3 s t)) (or-as b c)
-    (fits-not (and3 (not3 s) (not3 t)) (not b && not c)
-    (fits-and (not3 s) (not3 t) (not b) (not c) (fits-not s b h) (fits-not t c k)))
+    subst (Fits (kleeneOr s t)) (or-as b c)
+    (fits-not (kleeneAnd (kleeneNot s) (kleeneNot t)) (not b && not c)
+    (fits-and (kleeneNot s) (kleeneNot t) (not b) (not c) (fits-not s b h) (fits-not t c k)))
 
 beq-true : (c : Bool) → Bool·beq true c ≡ c
 beq-true true = refl
@@ -114,25 +114,25 @@ beq-false : (c : Bool) → Bool·beq false c ≡ not c
 beq-false true = refl
 beq-false false = refl
 
-fits-iff : (s t : Three) (b c : Bool) → Fits s b → Fits t c → Fits (iff3 s t) (Bool·beq b c)
+fits-iff : (s t : Three) (b c : Bool) → Fits s b → Fits t c → Fits (kleeneIff s t) (Bool·beq b c)
 fits-iff (is true) t true c h k = subst (Fits t) (sym (beq-true c)) k
 fits-iff (is true) t false c h k = clash refl h
 fits-iff (is false) t true c h k = clash refl (sym h)
-fits-iff (is false) t false c h k = subst (Fits (not3 t)) (sym (beq-false c)) (fits-not t c k)
+fits-iff (is false) t false c h k = subst (Fits (kleeneNot t)) (sym (beq-false c)) (fits-not t c k)
 fits-iff unknown t b c h k = tt
 
 module _ (part : ℕ → Three) (row : ℕ → Bool) (fits : (i : ℕ) → Fits (part i) (row i)) where
-  value-fits : (f : Form ℕ) → Fits (value3 part f) (value row f)
+  value-fits : (f : Form ℕ) → Fits (kleeneValue part f) (value row f)
   value-fits Form.truth = refl
   value-fits Form.falsity = refl
   value-fits (Form.atom i) = fits i
-  value-fits (Form.negation f) = fits-not (value3 part f) (value row f) (value-fits f)
-  value-fits (Form.conjunction f g) = fits-and (value3 part f) (value3 part g) (value row f) (value row g) (value-fits f) (value-fits g)
-  value-fits (Form.disjunction f g) = fits-or (value3 part f) (value3 part g) (value row f) (value row g) (value-fits f) (value-fits g)
+  value-fits (Form.negation f) = fits-not (kleeneValue part f) (value row f) (value-fits f)
+  value-fits (Form.conjunction f g) = fits-and (kleeneValue part f) (kleeneValue part g) (value row f) (value row g) (value-fits f) (value-fits g)
+  value-fits (Form.disjunction f g) = fits-or (kleeneValue part f) (kleeneValue part g) (value row f) (value row g) (value-fits f) (value-fits g)
   value-fits (Form.implication f g) =
-      fits-or (not3 (value3 part f)) (value3 part g) (not (value row f)) (value row g)
-      (fits-not (value3 part f) (value row f) (value-fits f)) (value-fits g)
-  value-fits (Form.equivalence f g) = fits-iff (value3 part f) (value3 part g) (value row f) (value row g) (value-fits f) (value-fits g)
+      fits-or (kleeneNot (kleeneValue part f)) (kleeneValue part g) (not (value row f)) (value row g)
+      (fits-not (kleeneValue part f) (value row f) (value-fits f)) (value-fits g)
+  value-fits (Form.equivalence f g) = fits-iff (kleeneValue part f) (kleeneValue part g) (value row f) (value row g) (value-fits f) (value-fits g)
 
 fits-refuted : (t : Three) (b : Bool) → Fits t b → refuted t ≡ true → b ≡ false
 fits-refuted (is c) b h k = sym h ∙ not-true c k
@@ -153,10 +153,10 @@ extends-fits (c ∷ row) (is b ∷ part) h (suc i) = extends-fits row part (h .1
 pub refutes-sound : (nums : List (Form ℕ)) → Sound (rulesTrue nums) (refutes nums)
 unfolding rulesTrue refutes
 refutes-sound nums part h row ext =
-    let w = any-elim (λ f. refuted (value3 (λ i. getD part i unknown) f)) nums h in
+    let w = any-elim (λ f. refuted (kleeneValue (λ i. getD part i unknown) f)) nums h in
     untrue (all (value (λ i. getD row i false)) nums)
     (λ g. clash (all-elim (value (λ i. getD row i false)) (w .1) g)
-    (fits-refuted (value3 (λ i. getD part i unknown) (w .0)) (value (λ i. getD row i false) (w .0))
+    (fits-refuted (kleeneValue (λ i. getD part i unknown) (w .0)) (value (λ i. getD row i false) (w .0))
     (value-fits (λ i. getD part i unknown) (λ i. getD row i false) (extends-fits row part ext) (w .0)) (w .2)))
 
 -- ---- a whole row decides every rule
@@ -166,16 +166,16 @@ row-known [] i h = absurd (omega arith)
 row-known (b ∷ row) zero h = refl
 row-known (b ∷ row) (suc i) h = row-known row i (omega arith)
 
-pub and-known : (b c : Bool) → and3 (is b) (is c) ≡ is (b && c)
+pub and-known : (b c : Bool) → kleeneAnd (is b) (is c) ≡ is (b && c)
 and-known true c = refl
 and-known false c = refl
 
-pub or-known : (b c : Bool) → or3 (is b) (is c) ≡ is (b || c)
+pub or-known : (b c : Bool) → kleeneOr (is b) (is c) ≡ is (b || c)
 or-known true c = refl
 or-known false true = refl
 or-known false false = refl
 
-pub iff-known : (b c : Bool) → iff3 (is b) (is c) ≡ is (Bool·beq b c)
+pub iff-known : (b c : Bool) → kleeneIff (is b) (is c) ≡ is (Bool·beq b c)
 iff-known true true = refl
 iff-known true false = refl
 iff-known false true = refl
@@ -196,26 +196,26 @@ module _ (row : Row) where
   Covered numbers = (i : ℕ) → In i numbers → i < length row
 
   sides-known : (f g : Form ℕ) (c3 : Three → Three → Three) (c : Bool → Bool → Bool) → ((a b : Bool) → c3 (is a) (is b) ≡ is (c a b))
-      → Covered (atomsOf f ++ atomsOf g) → (Covered (atomsOf f) → value3 decided f ≡ is (value values f))
-      → (Covered (atomsOf g) → value3 decided g ≡ is (value values g))
-      → c3 (value3 decided f) (value3 decided g) ≡ is (c (value values f) (value values g))
+      → Covered (atomsOf f ++ atomsOf g) → (Covered (atomsOf f) → kleeneValue decided f ≡ is (value values f))
+      → (Covered (atomsOf g) → kleeneValue decided g ≡ is (value values g))
+      → c3 (kleeneValue decided f) (kleeneValue decided g) ≡ is (c (value values f) (value values g))
   sides-known f g c3 c known h left right =
       ap₂ c3 (left (λ i k. h i (in-left (atomsOf g) k))) (right (λ i k. h i (in-right (atomsOf f) k)))
       ∙ known (value values f) (value values g)
 
-  value-known : (f : Form ℕ) → Covered (atomsOf f) → value3 decided f ≡ is (value values f)
+  value-known : (f : Form ℕ) → Covered (atomsOf f) → kleeneValue decided f ≡ is (value values f)
   value-known Form.truth h = refl
   value-known Form.falsity h = refl
   value-known (Form.atom i) h = row-known row i (h i here)
-  value-known (Form.negation f) h = ap not3 (value-known f h)
-  value-known (Form.conjunction f g) h = sides-known f g and3 _&&_ and-known h (value-known f) (value-known g)
-  value-known (Form.disjunction f g) h = sides-known f g or3 _||_ or-known h (value-known f) (value-known g)
+  value-known (Form.negation f) h = ap kleeneNot (value-known f h)
+  value-known (Form.conjunction f g) h = sides-known f g kleeneAnd _&&_ and-known h (value-known f) (value-known g)
+  value-known (Form.disjunction f g) h = sides-known f g kleeneOr _||_ or-known h (value-known f) (value-known g)
   value-known (Form.implication f g) h =
-      sides-known f g (λ s t. or3 (not3 s) t) (λ a b. not a || b) (λ a b. or-known (not a) b) h (value-known f) (value-known g)
-  value-known (Form.equivalence f g) h = sides-known f g iff3 Bool·beq iff-known h (value-known f) (value-known g)
+      sides-known f g (λ s t. kleeneOr (kleeneNot s) t) (λ a b. not a || b) (λ a b. or-known (not a) b) h (value-known f) (value-known g)
+  value-known (Form.equivalence f g) h = sides-known f g kleeneIff Bool·beq iff-known h (value-known f) (value-known g)
 
   rules-known : (fs : List (Form ℕ)) → Covered (allAtoms fs)
-      → any (λ f. refuted (value3 decided f)) fs ≡ not (all (value values) fs)
+      → any (λ f. refuted (kleeneValue decided f)) fs ≡ not (all (value values) fs)
   rules-known [] h = refl
   rules-known (f ∷ fs) h =
       ap₂ _||_ (ap refuted (value-known f (λ i k. h i (in-left (allAtoms fs) k))))
@@ -264,7 +264,7 @@ module _ (n : ℕ) (atoms : List (Atom ℕ)) (nums : List (Form ℕ)) where
       ∙ morgan (rulesTrue nums row) (check n (rowMarks atoms row))) ∙ h)
 
   -- the search gives the answer's row
-  pub search-firstRow : ((a : Atom ℕ) → In a atoms → AtomBelow n a) → NumbersBelow (length atoms) nums
+  search-firstRow : ((a : Atom ℕ) → In a atoms → AtomBelow n a) → NumbersBelow (length atoms) nums
       → search (closes n atoms nums) (length atoms) [] ≡ firstRow n atoms nums
   unfolding firstRow
   search-firstRow names numbers =

@@ -1,13 +1,12 @@
 -- "Names and atoms are numbered from 0 by first place, rules in order, left to right." Assumes nothing.
 use mathlib.Core.Bool.{Bool, true, false, not, _&&_, cond}
-use mathlib.Core.Path.{_≡_}
-use mathlib.Core.List.{List, [], _∷_, _++_, map}
+use mathlib.Core.List.{List, [], _∷_, map}
 use Prim.Native.Nat.{ℕ, zero, suc, _+_, _<_}
 use lib.Dec.{eqb}
 use lib.ListN.{length}
 use Rattle.formula.specs.Formula.{Term, Atom, Form, Formula, Name}
 use Rattle.formula.specs.Names.{atomsOf, atomNames}
-use Rattle.evalset.specs.Search.{In, any, keep, gather}
+use Rattle.evalset.specs.Search.{In, keep, gather}
 
 module _ {A : Type 0} where
   -- the atoms of the rules, in their order

@@ -2,7 +2,7 @@
 -- atoms have numbers for names. Facts hold for any number of names. Assumes nothing.
 use mathlib.Core.Bool.{Bool, true, false, not, _&&_, _||_}
 use mathlib.Core.List.{List, [], _∷_, _++_, map}
-use Prim.Native.Nat.{ℕ, zero, suc, _+_, _^_}
+use Prim.Native.Nat.{ℕ, zero, suc, _^_}
 use lib.Dec.{ltb}
 use lib.ListN.{length}
 use Rattle.formula.specs.Formula.{Term, Atom, Form, Formula}
@@ -10,7 +10,7 @@ use Rattle.evalset.specs.Search.{any, all, first, keep, orElse, gather, below, 
 use Rattle.evalset.specs.Bit.{bit}
 use Rattle.contact.specs.Meaning.{holds, partTerm}
 use Rattle.contact.specs.Numbering.{allAtoms, numberedAtoms}
-use Rattle.contact.specs.Row.{Row, Three, is, unknown, PartialRow, rulesTrue}
+use Rattle.contact.specs.Row.{Row, is, unknown, PartialRow, rulesTrue}
 
 -- "An evaluation is a number whose bit i is set if the point lies in name i." The term holds there.
 abbrev pub at : Term ℕ → ℕ → Bool
@@ -82,15 +82,15 @@ unfoldable pub leads : ℕ → List Mark → Term ℕ → Term ℕ → ℕ → B
 leads names ms x y p = fills names ms x p && any (partners names ms y p) (evaluations names)
 
 -- the mark has its witness
-abbrev pub served : ℕ → List Mark → Mark → Bool
-served names ms (touching x y) = any (leads names ms x y) (evaluations names)
-served names ms (apart x y) = true
-served names ms (vacant t) = true
-served names ms (inhabited t) = any (fills names ms t) (evaluations names)
+abbrev pub witnessed : ℕ → List Mark → Mark → Bool
+witnessed names ms (touching x y) = any (leads names ms x y) (evaluations names)
+witnessed names ms (apart x y) = true
+witnessed names ms (vacant t) = true
+witnessed names ms (inhabited t) = any (fills names ms t) (evaluations names)
 
 -- the check: some evaluation is allowed, and every mark has its witness
 unfoldable pub check : ℕ → List Mark → Bool
-check names ms = any (allowed names ms) (evaluations names) && all (served names ms) ms
+check names ms = any (allowed names ms) (evaluations names) && all (witnessed names ms) ms
 
 -- p, "and then its least partner"
 abbrev pub withPartner : ℕ → List Mark → Term ℕ → ℕ → List ℕ

@@ -9,39 +9,39 @@ use lib.ListN.{length, getD}
 use Rattle.formula.specs.Formula.{Atom, Form}
 use Rattle.evalset.specs.Search.{any, orElse}
 use Rattle.contact.specs.Row.{Row, Three, is, unknown, PartialRow, Extends}
-use Rattle.contact.specs.Plan.{marksOf, check, good}
+use Rattle.contact.specs.Plan.{marksOf, check}
 
 -- ---- Kleene's strong tables
 
-abbrev pub not3 : Three → Three
-not3 (is b) = is (not b)
-not3 unknown = unknown
+abbrev pub kleeneNot : Three → Three
+kleeneNot (is b) = is (not b)
+kleeneNot unknown = unknown
 
-abbrev pub and3 : Three → Three → Three
-and3 (is true) t = t
-and3 (is false) t = is false
-and3 unknown (is true) = unknown
-and3 unknown (is false) = is false
-and3 unknown unknown = unknown
+abbrev pub kleeneAnd : Three → Three → Three
+kleeneAnd (is true) t = t
+kleeneAnd (is false) t = is false
+kleeneAnd unknown (is true) = unknown
+kleeneAnd unknown (is false) = is false
+kleeneAnd unknown unknown = unknown
 
-abbrev pub or3 : Three → Three → Three
-or3 s t = not3 (and3 (not3 s) (not3 t))
+abbrev pub kleeneOr : Three → Three → Three
+kleeneOr s t = kleeneNot (kleeneAnd (kleeneNot s) (kleeneNot t))
 
-abbrev pub iff3 : Three → Three → Three
-iff3 (is true) t = t
-iff3 (is false) t = not3 t
-iff3 unknown t = unknown
+abbrev pub kleeneIff : Three → Three → Three
+kleeneIff (is true) t = t
+kleeneIff (is false) t = kleeneNot t
+kleeneIff unknown t = unknown
 
 -- the value of a formula whose atoms may be undecided
-abbrev pub value3 : (ℕ → Three) → Form ℕ → Three
-value3 r Form.truth = is true
-value3 r Form.falsity = is false
-value3 r (Form.atom i) = r i
-value3 r (Form.negation f) = not3 (value3 r f)
-value3 r (Form.conjunction f g) = and3 (value3 r f) (value3 r g)
-value3 r (Form.disjunction f g) = or3 (value3 r f) (value3 r g)
-value3 r (Form.implication f g) = or3 (not3 (value3 r f)) (value3 r g)
-value3 r (Form.equivalence f g) = iff3 (value3 r f) (value3 r g)
+abbrev pub kleeneValue : (ℕ → Three) → Form ℕ → Three
+kleeneValue r Form.truth = is true
+kleeneValue r Form.falsity = is false
+kleeneValue r (Form.atom i) = r i
+kleeneValue r (Form.negation f) = kleeneNot (kleeneValue r f)
+kleeneValue r (Form.conjunction f g) = kleeneAnd (kleeneValue r f) (kleeneValue r g)
+kleeneValue r (Form.disjunction f g) = kleeneOr (kleeneValue r f) (kleeneValue r g)
+kleeneValue r (Form.implication f g) = kleeneOr (kleeneNot (kleeneValue r f)) (kleeneValue r g)
+kleeneValue r (Form.equivalence f g) = kleeneIff (kleeneValue r f) (kleeneValue r g)
 
 abbrev pub refuted : Three → Bool
 refuted (is b) = not b
@@ -49,7 +49,7 @@ refuted unknown = false
 
 -- some rule is false
 unfoldable pub refutes : List (Form ℕ) → PartialRow → Bool
-refutes rules part = any (λ f. refuted (value3 (λ i. getD part i unknown) f)) rules
+refutes rules part = any (λ f. refuted (kleeneValue (λ i. getD part i unknown) f)) rules
 
 -- some rule is false, or no floor gives the decided atoms their values
 unfoldable pub closes : ℕ → List (Atom ℕ) → List (Form ℕ) → PartialRow → Bool

@@ -1,7 +1,7 @@
 -- The bits of a number, and what the operations on words of k bits do to them, for any k. Each law goes by halving: bit 0 is the
 -- digit, and bit suc e is bit e of the half. Assumes nothing.
 use mathlib.Core.Path.{_≡_, refl, sym, ap, ap₂, _∙_}
-use mathlib.Core.Bool.{Bool, true, false, not, _&&_, _||_, false≢true}
+use mathlib.Core.Bool.{Bool, false, not, _&&_, _||_, false≢true}
 use mathlib.Core.List.{[], _∷_}
 use mathlib.Core.Logic.{_⊎_, inl, inr, ⊎-elim}
 use Prim.Native.Nat.{ℕ, zero, suc, _+_, _-_, _*_, _/_, _%_, _^_, _≤_, _<_, min, max}
@@ -27,7 +27,7 @@ two n = go (n % 2) (mod-lt n (zero-lt-suc 1))
     go (suc (suc d)) h = absurd (omega arith)
 
 -- the digit as a truth value
-abbrev pub set? : ℕ → Bool
+abbrev set? : ℕ → Bool
 set? d = eqb d 1
 
 -- ---- the lowest bit, and the bits above it
@@ -103,7 +103,7 @@ no-half k a h = omega (arith, pow-suc 2 k)
 no-digit : (m : ℕ) → set? (1 - m % 2) ≡ not (set? (m % 2))
 no-digit m = ⊎-elim (λ p. rw p) (λ p. rw p) (two m)
 
-pub bit-not : (k a e : ℕ) → a < 2 ^ k → e < k → bit ((2 ^ k - 1) - a) e ≡ not (bit a e)
+bit-not : (k a e : ℕ) → a < 2 ^ k → e < k → bit ((2 ^ k - 1) - a) e ≡ not (bit a e)
 bit-not zero a e h l = absurd (omega arith)
 bit-not (suc k) a zero h l =
     bit-zero ((2 ^ suc k - 1) - a) ∙ ap set? (no-odd k a h) ∙ no-digit a ∙ sym (ap not (bit-zero a))
@@ -112,7 +112,7 @@ bit-not (suc k) a (suc e) h l =
     ∙ bit-not k (a / 2) e (half k a h) (omega arith) ∙ sym (ap not (bit-suc a e))
 
 -- ---- one bit alone
-pub bit-one : (j e : ℕ) → bit (2 ^ j) e ≡ eqb e j
+bit-one : (j e : ℕ) → bit (2 ^ j) e ≡ eqb e j
 bit-one zero zero = bit-zero 1
 bit-one zero (suc e) = bit-suc 1 e ∙ bit-none e ∙ sym (eqb·suc-zero e)
 bit-one (suc j) zero =
@@ -218,7 +218,7 @@ bit-minus k a b e ha hb = bit-and a ((2 ^ k - 1) - b) e ∙ ⊎-elim low high (s
         ∙ sym (ap (λ (x : Bool). x && not (bit b e)) (bit-above k a e ha l))
 
 -- 1 moved up by j, as a word of k bits
-pub one-up : (k j : ℕ) → j < k → (1 * 2 ^ j) % 2 ^ k ≡ 2 ^ j
+one-up : (k j : ℕ) → j < k → (1 * 2 ^ j) % 2 ^ k ≡ 2 ^ j
 one-up k j h = ap (λ (x : ℕ). x % 2 ^ k) (one-mul (2 ^ j)) ∙ mod-eq-of-lt (pow-lt h)
 
 -- the 2 ^ n low bits, made by two shifts
@@ -242,7 +242,7 @@ bit-add k a j e hj =
     ap (λ (x : ℕ). bit (bitOr a x) e) (one-up k j hj) ∙ bit-or a (2 ^ j) e ∙ ap (λ (x : Bool). bit a e || x) (bit-one j e)
 
 -- ---- moved down
-pub bit-shr : (a m e : ℕ) → bit (a / 2 ^ m) e ≡ bit a (m + e)
+bit-shr : (a m e : ℕ) → bit (a / 2 ^ m) e ≡ bit a (m + e)
 unfolding bit
 bit-shr a m e = ap (λ (x : ℕ). set? (x % 2)) (shr-shr a m e)
 

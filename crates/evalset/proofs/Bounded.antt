@@ -1,18 +1,18 @@
 -- A test on the numbers below n: some pass, the least that passes, and all that pass in rising order. The numbers below m + n are
 -- those below m and the n from m up, and each search goes part by part. Assumes nothing.
 use mathlib.Core.Path.{_≡_, refl, sym, ap, ap₂, _∙_, subst}
-use mathlib.Core.Bool.{Bool, true, false, _&&_, _||_, cond, or-assoc, or-false, or-true, true≢false}
+use mathlib.Core.Bool.{Bool, true, false, _||_, cond, or-assoc, or-false, or-true}
 use mathlib.Core.List.{List, [], _∷_, _++_, append-nil}
 use mathlib.Core.Logic.{_⊎_, inl, inr, ⊎-elim}
 use Prim.Native.Nat.{ℕ, zero, suc, _+_, _-_, _≤_, _<_}
-use native.Mathlib.Nat.{add-zero, zero-add, add-suc, suc-add, eq-or-lt-of-le}
+use native.Mathlib.Nat.{zero-add, eq-or-lt-of-le}
 use native.Mathlib.Decide.{decLt}
 use native.Mathlib.Omega.{arith}
 use lib.ListN.{length}
 use Rattle.evalset.specs.declared.Found.the-variants.{At, Nothing}
 use Rattle.evalset.specs.Search.{any, all, first, keep, orElse, from, below}
 use Rattle.evalset.specs.Sets.{foundOf}
-use Rattle.evalset.proofs.Search.{clash, both, first-append, from-append}
+use Rattle.evalset.proofs.Search.{both, first-append, from-append}
 
 -- below or not
 pub side : (a b : ℕ) → (a < b) ⊎ (b ≤ a)
@@ -72,9 +72,6 @@ module _ (p : ℕ → Bool) where
   pub any-more : (i : ℕ) → any p (below (i + 1)) ≡ (any p (below i) || p i)
   any-more i =
       ap (any p) (below-add i 1) ∙ any-append p (below i) (i ∷ []) ∙ ap (λ (b : Bool). any p (below i) || b) (or-false (p i))
-
-  pub first-more : (i : ℕ) → first p (below (i + 1)) ≡ orElse (first p (below i)) (cond (p i) (i ∷ []) [])
-  first-more i = ap (first p) (below-add i 1) ∙ first-append p (below i) (i ∷ [])
 
   pub keep-more : (i : ℕ) → keep p (below (i + 1)) ≡ keep p (below i) ++ cond (p i) (i ∷ []) []
   keep-more i = ap (keep p) (below-add i 1) ∙ keep-append (below i) (i ∷ [])
@@ -158,9 +155,6 @@ module _ (p : ℕ → Bool) (n : ℕ) where
   pub first-least : {e : ℕ} {es : List ℕ} → first p (below n) ≡ e ∷ es → Least n e p
   first-least {e} h = found-least e (ap foundOf h)
 
-  pub first-nothing : first p (below n) ≡ [] → (d : ℕ) → d < n → p d ≡ false
-  first-nothing h = found-nothing (ap foundOf h)
-
   -- ---- some number passes
   pub any-at : (e : ℕ) → e < n → p e ≡ true → any p (below n) ≡ true
   any-at e l h =
@@ -168,20 +162,6 @@ module _ (p : ℕ → Bool) (n : ℕ) where
       ap (λ (x : ℕ). any p (below x)) z ∙ ap (any p) (below-add e (suc (n - e - 1)))
       ∙ any-append p (below e) (from e (suc (n - e - 1)))
       ∙ ap (λ (b : Bool). any p (below e) || (b || any p (from (suc e) (n - e - 1)))) h ∙ or-true (any p (below e))
-
-  pub any-nothing : any p (below n) ≡ false → (d : ℕ) → d < n → p d ≡ false
-  any-nothing h d l = go (p d) refl
-    where
-      go : (b : Bool) → p d ≡ b → p d ≡ false
-      go true q = absurd (clash (any-at d l q) h)
-      go false q = q
-
-  pub any-least : any p (below n) ≡ true → (e : ℕ) × Least n e p
-  any-least h = go (first p (below n)) (says p 0 n)
-    where
-      go : (r : List ℕ) → Says p 0 n r → (e : ℕ) × Least n e p
-      go [] s = absurd (clash h (any-none p n (λ d l. s d (omega arith) (omega arith))))
-      go (x ∷ xs) s = (x, says-least p n x xs s)
 
   -- ---- every number passes
   pub all-at : all p (below n) ≡ true → (d : ℕ) → d < n → p d ≡ true

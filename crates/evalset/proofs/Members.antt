@@ -10,13 +10,13 @@ use lib.Dec.{ltb, eqb}
 use lib.ListN.{length, set}
 use lib.Seq.{getD-set-same, getD-set-other}
 use lib.Pow.{pow-mono, pow-lt}
-use borrow.Author.Tests.{lt-ltb, le-ltb, ltb-true, eqb-true}
+use borrow.Author.Tests.{lt-ltb, le-ltb, eqb-true}
 use Rattle.evalset.specs.declared.EvalSet.{EvalSet}
 use Rattle.evalset.specs.Bit.{bit}
 use Rattle.evalset.specs.Search.{any, first, keep, below}
-use Rattle.evalset.specs.Sets.{most, room, mem, memAt, noneOf, fullOf, nameOf, belowOf, dropOf, addOf, shiftOf}
+use Rattle.evalset.specs.Sets.{most, room, mem, memAt, noneOf, fullOf, nameSet, belowOf, dropOf, addOf, shiftOf}
 use Rattle.evalset.proofs.Bounded.{side, each, any-cut, first-cut, keep-cut}
-use Rattle.evalset.proofs.Search.{clash, both}
+use Rattle.evalset.proofs.Search.{clash}
 use Rattle.evalset.proofs.Bits.{bit-above, same-bits}
 
 -- ---- room is 2 ^ most
@@ -28,7 +28,7 @@ pub names-place : (n : ℕ) → n < most → 2 ^ n < room
 unfolding room
 names-place n l = pow-lt l
 
-pub room-names : (n : ℕ) → most ≤ n → room ≤ 2 ^ n
+room-names : (n : ℕ) → most ≤ n → room ≤ 2 ^ n
 unfolding room
 room-names n l = pow-mono l
 
@@ -67,19 +67,15 @@ module _ (n : ℕ) where
       high : (e : ℕ) → room ≤ e → belowOf n e ≡ fullOf e
       high e k = ap (λ (b : Bool). b && ltb e (2 ^ n)) (le-ltb e room k) ∙ sym (le-ltb e room k)
 
-  -- a member is below 2 ^ n
-  pub below-in : (e : ℕ) → belowOf n e ≡ true → e < 2 ^ n
-  below-in e h = ltb-true e (2 ^ n) (both (ltb e room) (ltb e (2 ^ n)) h .1)
-
-  pub name-none : most ≤ n → nameOf n ≡ noneOf
+  pub name-none : most ≤ n → nameSet n ≡ noneOf
   name-none l = fun-ext (λ e. ⊎-elim (low e) (high e) (side e room))
     where
-      low : (e : ℕ) → e < room → nameOf n e ≡ false
+      low : (e : ℕ) → e < room → nameSet n e ≡ false
       low e k =
           ap (λ (b : Bool). ltb e room && b) (bit-above n e n (omega (arith, room-names n l)) (omega arith))
           ∙ and-false (ltb e room)
 
-      high : (e : ℕ) → room ≤ e → nameOf n e ≡ false
+      high : (e : ℕ) → room ≤ e → nameSet n e ≡ false
       high e k = ap (λ (b : Bool). b && bit e n) (le-ltb e room k)
 
 module _ (a : ℕ → Bool) (i : ℕ) where

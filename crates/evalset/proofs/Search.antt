@@ -226,7 +226,7 @@ module _ {A B : Type 0} where
 
 -- ---- numbers in rising order
 
-pub from-intro : (k n e : ℕ) → k ≤ e → e < k + n → In e (from k n)
+from-intro : (k n e : ℕ) → k ≤ e → e < k + n → In e (from k n)
 from-intro k zero e h l = absurd (omega arith)
 from-intro k (suc n) e h l =
     cases (eqb e k) (λ q. at-head (eqb-true e k q))
@@ -272,11 +272,3 @@ first-from-least k (suc n) p e f d l h = go (p k) refl f (first-from-least (suc 
 
 pub first-least : (n : ℕ) (p : ℕ → Bool) (e : ℕ) → first p (below n) ≡ e ∷ [] → (d : ℕ) → d < e → p d ≡ false
 first-least n p e f d h = first-from-least 0 n p e f d (omega arith) h
-
-pub least-first : (n : ℕ) (p : ℕ → Bool) (e : ℕ) → e < n → p e ≡ true → ((d : ℕ) → d < e → p d ≡ false) → first p (below n) ≡ e ∷ []
-least-first n p e l h least =
-    let r = first-some p (below n) (any-intro p (below-intro n e l) h) in
-    let low : (r .0 < e → ⊥) = λ k. clash (r .3) (least (r .0) k) in
-    let high : (e < r .0 → ⊥) = λ k. clash h (first-least n p (r .0) (r .1) e k) in
-    let same : r .0 ≡ e = omega arith in
-    r .1 ∙ ap (λ x. x ∷ []) same

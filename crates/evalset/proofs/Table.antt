@@ -10,7 +10,7 @@ use lib.ListN.{length, getD}
 use borrow.Author.Tests.{ltb-true, lt-ltb, le-ltb}
 use Rattle.evalset.specs.Bit.{bit}
 use Rattle.evalset.specs.Search.{all, below}
-use Rattle.evalset.specs.Sets.{room, nameOf}
+use Rattle.evalset.specs.Sets.{room, nameSet}
 use Rattle.evalset.proofs.Bounded.{side, all-at}
 use Rattle.evalset.proofs.Search.{both}
 use Rattle.evalset.proofs.Bits.{bit-above}
@@ -23,7 +23,7 @@ pub at : (f : ℕ → ℕ → Bool) (xs : List ℕ) → every f xs ≡ true → 
 at f xs t i h = all-at (λ k. f k (getD xs k 0)) (length xs) t i h
 
 -- x is a word whose bit e is bit i of e
-abbrev pub isMask : ℕ → ℕ → Bool
+abbrev isMask : ℕ → ℕ → Bool
 isMask i x = ltb x (2 ^ room) && all (λ e. Bool·beq (bit x e) (bit e i)) (below room)
 
 same : (a b : Bool) → Bool·beq a b ≡ true → a ≡ b
@@ -32,20 +32,20 @@ same true false t = sym t
 same false true t = t
 same false false t = refl
 
-mask : (i x : ℕ) → isMask i x ≡ true → (e : ℕ) → bit x e ≡ nameOf i e
+mask : (i x : ℕ) → isMask i x ≡ true → (e : ℕ) → bit x e ≡ nameSet i e
 mask i x t e = ⊎-elim low high (side e room)
   where
     parts : (ltb x (2 ^ room) ≡ true) × (all (λ d. Bool·beq (bit x d) (bit d i)) (below room) ≡ true)
     parts = both (ltb x (2 ^ room)) (all (λ d. Bool·beq (bit x d) (bit d i)) (below room)) t
 
-    low : e < room → bit x e ≡ nameOf i e
+    low : e < room → bit x e ≡ nameSet i e
     low l =
         same (bit x e) (bit e i) (all-at (λ d. Bool·beq (bit x d) (bit d i)) room (parts .1) e l)
         ∙ sym (ap (λ (b : Bool). b && bit e i) (lt-ltb e room l))
 
-    high : room ≤ e → bit x e ≡ nameOf i e
+    high : room ≤ e → bit x e ≡ nameSet i e
     high l =
         bit-above room x e (ltb-true x (2 ^ room) (parts .0)) l ∙ sym (ap (λ (b : Bool). b && bit e i) (le-ltb e room l))
 
-pub mask-bits : (xs : List ℕ) → every isMask xs ≡ true → (i : ℕ) → i < length xs → (e : ℕ) → bit (getD xs i 0) e ≡ nameOf i e
+pub mask-bits : (xs : List ℕ) → every isMask xs ≡ true → (i : ℕ) → i < length xs → (e : ℕ) → bit (getD xs i 0) e ≡ nameSet i e
 mask-bits xs t i h e = mask i (getD xs i 0) (at isMask xs t i h) e

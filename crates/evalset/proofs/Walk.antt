@@ -18,10 +18,10 @@ use Rattle.evalset.proofs.Search.{clash}
 pub from-zero : (p : ℕ → Bool) → p ≡ fromOf 0 p
 from-zero p = fun-ext (λ e. sym (ap (λ (b : Bool). b && p e) (leb·zero e)))
 
-pub from-in : (i e : ℕ) (p : ℕ → Bool) → i ≤ e → fromOf i p e ≡ p e
+from-in : (i e : ℕ) (p : ℕ → Bool) → i ≤ e → fromOf i p e ≡ p e
 from-in i e p l = ap (λ (b : Bool). b && p e) (le-leb i e l)
 
-pub from-out : (i e : ℕ) (p : ℕ → Bool) → e < i → fromOf i p e ≡ false
+from-out : (i e : ℕ) (p : ℕ → Bool) → e < i → fromOf i p e ≡ false
 from-out i e p l = ap (λ (b : Bool). b && p e) (lt-leb i e l)
 
 -- a step of the walk through p below n: e is the least of what is left, q

@@ -35,8 +35,8 @@ abbrev pub fullOf : ℕ → Bool
 fullOf e = ltb e room
 
 -- the evaluations in which name i holds; none where i is most or more
-abbrev pub nameOf : ℕ → ℕ → Bool
-nameOf i e = ltb e room && bit e i
+abbrev pub nameSet : ℕ → ℕ → Bool
+nameSet i e = ltb e room && bit e i
 
 -- the evaluations below 2 ^ names; every one where names is most or more
 abbrev pub belowOf : ℕ → ℕ → Bool

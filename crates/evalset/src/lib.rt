@@ -5,7 +5,7 @@
 ghost use mathlib.Core.Path.{_≡_};
 ghost use mathlib.Core.Bool.{not};
 ghost use Rattle.evalset.specs.Search.{any, first, below};
-ghost use Rattle.evalset.specs.Sets.{room, mem, noneOf, fullOf, nameOf, belowOf, meetOf, joinOf, minusOf, dropOf, addOf, shiftOf, foundOf};
+ghost use Rattle.evalset.specs.Sets.{room, mem, noneOf, fullOf, nameSet, belowOf, meetOf, joinOf, minusOf, dropOf, addOf, shiftOf, foundOf};
 
 // Evaluations are below this.
 pub const ROOM: usize = 64;
@@ -51,7 +51,7 @@ pub fn full() -> EvalSet
 
 // The evaluations in which name i holds: none from NAMES up, where there is no such name.
 pub fn name_set(i: usize) -> EvalSet
-    ensures { λ r. ⌜ mem r ≡ nameOf i ⌝ }
+    ensures { λ r. ⌜ mem r ≡ nameSet i ⌝ }
 {
     if i < NAMES {
         EvalSet { bits: MASKS[i] }

@@ -11,7 +11,7 @@ use Rattle.evalset.specs.Search.{In}
 use Rattle.evalset.specs.Sets.{mem}
 use Rattle.contact.specs.Meaning.{value}
 use Rattle.contact.specs.Row.{Three}
-use Rattle.contact.specs.Tableau.{value3, refuted}
+use Rattle.contact.specs.Tableau.{kleeneValue, refuted}
 use Rattle.kleene.specs.declared.Two.{Two}
 use Rattle.kleene.specs.Code.{postfix, Safe}
 use Rattle.kleene.specs.Rails.{Duo, noOf, sure, duoOf, valueD, exec, duoAt, leafAt}
@@ -32,12 +32,12 @@ safe-postfix = Formed.safe-postfix
 
 -- the rails of a formula are those of its value in the search's tables
 pub value-three : (v : ℕ → Duo) (w : ℕ → Three) (f : Form ℕ) → ((i : ℕ) → In i (atomsOf f) → v i ≡ duoOf (w i))
-    → valueD v f ≡ duoOf (value3 w f)
+    → valueD v f ≡ duoOf (kleeneValue w f)
 value-three = Three.value-three
 
 -- so it is on the second rail exactly if the search refutes it
 pub refuted-three : (v : ℕ → Duo) (w : ℕ → Three) (f : Form ℕ) → ((i : ℕ) → In i (atomsOf f) → v i ≡ duoOf (w i))
-    → noOf (valueD v f) ≡ refuted (value3 w f)
+    → noOf (valueD v f) ≡ refuted (kleeneValue w f)
 refuted-three = Three.refuted-three
 
 -- where every atom is decided, so is the formula, and its value is the usual one
@@ -50,7 +50,7 @@ value-sure = Three.value-sure
 -- the evaluations on its second rail are those that refute the formula
 pub run-refuted : (f : Form ℕ) (leaves : List Two) (e : ℕ) (r : Two) (w : ℕ → Three)
     → exec (leafAt leaves e) (postfix f) [] ≡ duoAt r e ∷ [] → ((i : ℕ) → In i (atomsOf f) → leafAt leaves e i ≡ duoOf (w i))
-    → mem (r .no) e ≡ refuted (value3 w f)
+    → mem (r .no) e ≡ refuted (kleeneValue w f)
 run-refuted = Three.run-refuted
 
 -- and those on its first rail, where every atom is decided, make it true

@@ -16,7 +16,7 @@ use Rattle.kleene.specs.Rails.{Duo, valueD, step, exec}
 -- ---- the value
 
 module _ (v : ℕ → Duo) where
-  pub exec-append : (xs ys : List ℕ) (st : List Duo) → exec v (xs ++ ys) st ≡ exec v ys (exec v xs st)
+  exec-append : (xs ys : List ℕ) (st : List Duo) → exec v (xs ++ ys) st ≡ exec v ys (exec v xs st)
   unfolding exec
   exec-append [] ys st = refl
   exec-append (c ∷ xs) ys st = exec-append xs ys (step v c st)
@@ -47,7 +47,7 @@ module _ (v : ℕ → Duo) where
 -- ---- safety
 
 -- the numbers in a list are below `many`
-abbrev pub Under : ℕ → List ℕ → Type 0
+abbrev Under : ℕ → List ℕ → Type 0
 Under many xs = (i : ℕ) → In i xs → i < many
 
 -- the places of atoms and constants in a formula
@@ -76,7 +76,7 @@ length-join : (c : ℕ) (xs ys : List ℕ) → length (xs ++ (ys ++ c ∷ [])) �
 length-join c xs ys = length-append xs (ys ++ c ∷ []) ∙ ap (λ (k : ℕ). length xs + k) (length-append ys (c ∷ []))
 
 -- the leaves are at most half of the signs, rounded up: each but one has a sign that joins it to the others
-pub leaves-half : (f : Form ℕ) → leaves f + leaves f ≤ suc (length (postfix f))
+leaves-half : (f : Form ℕ) → leaves f + leaves f ≤ suc (length (postfix f))
 unfolding postfix
 leaves-half Form.truth = omega arith
 leaves-half Form.falsity = omega arith
@@ -128,7 +128,7 @@ module _ (deep many : ℕ) where
   fits-postfix (Form.equivalence f g) u =
       fits-join 4 refl f g (fits-postfix f (λ i j. u i (in-left (atomsOf g) j))) (fits-postfix g (λ i j. u i (in-right (atomsOf f) j)))
 
-  pub safe-within : (f : Form ℕ) → Under many (atomsOf f) → leaves f ≤ deep → Safe deep many (postfix f) 0
+  safe-within : (f : Form ℕ) → Under many (atomsOf f) → leaves f ≤ deep → Safe deep many (postfix f) 0
   unfolding Safe
   safe-within f u l =
       subst (λ (k : List ℕ). Safe deep many k 0) (append-nil (postfix f)) (fits-postfix f u 0 [] (omega arith) refl)

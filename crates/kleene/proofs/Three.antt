@@ -1,6 +1,6 @@
 -- The rails of a formula are those of its value in the search's tables: table by table, by the nine cases of two values, and by
 -- recursion on the formula. Assumes nothing.
-use mathlib.Core.Bool.{Bool, true, false, not, _&&_, _||_, Bool·beq}
+use mathlib.Core.Bool.{Bool, true, false, not}
 use mathlib.Core.Path.{_≡_, refl, sym, ap, ap₂, _∙_}
 use mathlib.Core.List.{List, [], _∷_, head-eq-of-cons-eq}
 use Prim.Native.Nat.{ℕ}
@@ -11,19 +11,19 @@ use Rattle.evalset.specs.Sets.{mem}
 use Rattle.evalset.proofs.Search.{in-left, in-right}
 use Rattle.contact.specs.Meaning.{value}
 use Rattle.contact.specs.Row.{Three, is, unknown}
-use Rattle.contact.specs.Tableau.{not3, and3, or3, iff3, value3, refuted}
+use Rattle.contact.specs.Tableau.{kleeneNot, kleeneAnd, kleeneOr, kleeneIff, kleeneValue, refuted}
 use Rattle.kleene.specs.declared.Two.{Two}
 use Rattle.kleene.specs.Code.{postfix}
 use Rattle.kleene.specs.Rails.{Duo, duo, noOf, yesOf, sure, duoOf, notD, andD, orD, impliesD, iffD, valueD, exec, duoAt, leafAt}
 use Rattle.kleene.proofs.Formed.{exec-postfix}
 use Rattle.contact.proofs.Searching.{and-known, or-known, iff-known}
 
-not-three : (t : Three) → notD (duoOf t) ≡ duoOf (not3 t)
+not-three : (t : Three) → notD (duoOf t) ≡ duoOf (kleeneNot t)
 not-three (is true) = refl
 not-three (is false) = refl
 not-three unknown = refl
 
-and-three : (s t : Three) → andD (duoOf s) (duoOf t) ≡ duoOf (and3 s t)
+and-three : (s t : Three) → andD (duoOf s) (duoOf t) ≡ duoOf (kleeneAnd s t)
 and-three (is true) (is true) = refl
 and-three (is true) (is false) = refl
 and-three (is true) unknown = refl
@@ -34,7 +34,7 @@ and-three unknown (is true) = refl
 and-three unknown (is false) = refl
 and-three unknown unknown = refl
 
-or-three : (s t : Three) → orD (duoOf s) (duoOf t) ≡ duoOf (or3 s t)
+or-three : (s t : Three) → orD (duoOf s) (duoOf t) ≡ duoOf (kleeneOr s t)
 or-three (is true) (is true) = refl
 or-three (is true) (is false) = refl
 or-three (is true) unknown = refl
@@ -45,7 +45,7 @@ or-three unknown (is true) = refl
 or-three unknown (is false) = refl
 or-three unknown unknown = refl
 
-iff-three : (s t : Three) → iffD (duoOf s) (duoOf t) ≡ duoOf (iff3 s t)
+iff-three : (s t : Three) → iffD (duoOf s) (duoOf t) ≡ duoOf (kleeneIff s t)
 iff-three (is true) (is true) = refl
 iff-three (is true) (is false) = refl
 iff-three (is true) unknown = refl
@@ -59,8 +59,8 @@ iff-three unknown unknown = refl
 implies-or : (a b : Duo) → impliesD a b ≡ orD (notD a) b
 implies-or (duo y n) (duo z m) = refl
 
-implies-three : (s t : Three) → impliesD (duoOf s) (duoOf t) ≡ duoOf (or3 (not3 s) t)
-implies-three s t = implies-or (duoOf s) (duoOf t) ∙ ap (λ (d : Duo). orD d (duoOf t)) (not-three s) ∙ or-three (not3 s) t
+implies-three : (s t : Three) → impliesD (duoOf s) (duoOf t) ≡ duoOf (kleeneOr (kleeneNot s) t)
+implies-three s t = implies-or (duoOf s) (duoOf t) ∙ ap (λ (d : Duo). orD d (duoOf t)) (not-three s) ∙ or-three (kleeneNot s) t
 
 -- ---- a formula
 
@@ -69,45 +69,45 @@ module _ (v : ℕ → Duo) (w : ℕ → Three) where
   abbrev pub Alike : List ℕ → Type 0
   Alike xs = (i : ℕ) → In i xs → v i ≡ duoOf (w i)
 
-  pub value-three : (f : Form ℕ) → Alike (atomsOf f) → valueD v f ≡ duoOf (value3 w f)
+  pub value-three : (f : Form ℕ) → Alike (atomsOf f) → valueD v f ≡ duoOf (kleeneValue w f)
   unfolding valueD
   value-three Form.truth h = refl
   value-three Form.falsity h = refl
   value-three (Form.atom i) h = h i here
-  value-three (Form.negation f) h = ap notD (value-three f h) ∙ not-three (value3 w f)
+  value-three (Form.negation f) h = ap notD (value-three f h) ∙ not-three (kleeneValue w f)
   value-three (Form.conjunction f g) h =
       ap₂ andD (value-three f (λ i j. h i (in-left (atomsOf g) j))) (value-three g (λ i j. h i (in-right (atomsOf f) j)))
-      ∙ and-three (value3 w f) (value3 w g)
+      ∙ and-three (kleeneValue w f) (kleeneValue w g)
   value-three (Form.disjunction f g) h =
       ap₂ orD (value-three f (λ i j. h i (in-left (atomsOf g) j))) (value-three g (λ i j. h i (in-right (atomsOf f) j)))
-      ∙ or-three (value3 w f) (value3 w g)
+      ∙ or-three (kleeneValue w f) (kleeneValue w g)
   value-three (Form.implication f g) h =
       ap₂ impliesD (value-three f (λ i j. h i (in-left (atomsOf g) j))) (value-three g (λ i j. h i (in-right (atomsOf f) j)))
-      ∙ implies-three (value3 w f) (value3 w g)
+      ∙ implies-three (kleeneValue w f) (kleeneValue w g)
   value-three (Form.equivalence f g) h =
       ap₂ iffD (value-three f (λ i j. h i (in-left (atomsOf g) j))) (value-three g (λ i j. h i (in-right (atomsOf f) j)))
-      ∙ iff-three (value3 w f) (value3 w g)
+      ∙ iff-three (kleeneValue w f) (kleeneValue w g)
 
 -- on the second rail stands what the search refutes
 no-three : (t : Three) → noOf (duoOf t) ≡ refuted t
 no-three (is b) = refl
 no-three unknown = refl
 
-pub refuted-three : (v : ℕ → Duo) (w : ℕ → Three) (f : Form ℕ) → Alike v w (atomsOf f) → noOf (valueD v f) ≡ refuted (value3 w f)
-refuted-three v w f h = ap noOf (value-three v w f h) ∙ no-three (value3 w f)
+pub refuted-three : (v : ℕ → Duo) (w : ℕ → Three) (f : Form ℕ) → Alike v w (atomsOf f) → noOf (valueD v f) ≡ refuted (kleeneValue w f)
+refuted-three v w f h = ap noOf (value-three v w f h) ∙ no-three (kleeneValue w f)
 
 -- ---- where every atom is decided
 
-value-known : (w : ℕ → Bool) (f : Form ℕ) → value3 (λ i. is (w i)) f ≡ is (value w f)
+value-known : (w : ℕ → Bool) (f : Form ℕ) → kleeneValue (λ i. is (w i)) f ≡ is (value w f)
 value-known w Form.truth = refl
 value-known w Form.falsity = refl
 value-known w (Form.atom i) = refl
-value-known w (Form.negation f) = ap not3 (value-known w f)
-value-known w (Form.conjunction f g) = ap₂ and3 (value-known w f) (value-known w g) ∙ and-known (value w f) (value w g)
-value-known w (Form.disjunction f g) = ap₂ or3 (value-known w f) (value-known w g) ∙ or-known (value w f) (value w g)
+value-known w (Form.negation f) = ap kleeneNot (value-known w f)
+value-known w (Form.conjunction f g) = ap₂ kleeneAnd (value-known w f) (value-known w g) ∙ and-known (value w f) (value w g)
+value-known w (Form.disjunction f g) = ap₂ kleeneOr (value-known w f) (value-known w g) ∙ or-known (value w f) (value w g)
 value-known w (Form.implication f g) =
-    ap₂ (λ (s t : Three). or3 (not3 s) t) (value-known w f) (value-known w g) ∙ or-known (not (value w f)) (value w g)
-value-known w (Form.equivalence f g) = ap₂ iff3 (value-known w f) (value-known w g) ∙ iff-known (value w f) (value w g)
+    ap₂ (λ (s t : Three). kleeneOr (kleeneNot s) t) (value-known w f) (value-known w g) ∙ or-known (not (value w f)) (value w g)
+value-known w (Form.equivalence f g) = ap₂ kleeneIff (value-known w f) (value-known w g) ∙ iff-known (value w f) (value w g)
 
 pub value-sure : (v : ℕ → Duo) (w : ℕ → Bool) (f : Form ℕ) → ((i : ℕ) → In i (atomsOf f) → v i ≡ sure (w i))
     → valueD v f ≡ sure (value w f)
@@ -120,7 +120,7 @@ module _ (f : Form ℕ) (leaves : List Two) (e : ℕ) (r : Two) where
   result h = head-eq-of-cons-eq (sym h ∙ exec-postfix (leafAt leaves e) f [])
 
   pub run-refuted : (w : ℕ → Three) → exec (leafAt leaves e) (postfix f) [] ≡ duoAt r e ∷ []
-      → ((i : ℕ) → In i (atomsOf f) → leafAt leaves e i ≡ duoOf (w i)) → mem (r .no) e ≡ refuted (value3 w f)
+      → ((i : ℕ) → In i (atomsOf f) → leafAt leaves e i ≡ duoOf (w i)) → mem (r .no) e ≡ refuted (kleeneValue w f)
   unfolding duoAt
   run-refuted w h k = ap noOf (result h) ∙ refuted-three (leafAt leaves e) w f k
 

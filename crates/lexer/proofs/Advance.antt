@@ -39,7 +39,7 @@ resume-first t k i n (refused a) = refl
 
 module _ (s : List ℕ) (i : ℕ) where
   -- the answer where t is filled already and the text is cut from place i on
-  abbrev pub answer-from : Tokens → Lexed
+  abbrev answer-from : Tokens → Lexed
   answer-from t = resume t (cutFrom i 0 (drop i s))
 
   pub at-end : length s ≤ i → (t : Tokens) → finish t ≡ answer-from t

@@ -13,7 +13,7 @@ use Rattle.lexer.specs.declared.Class.{Class}
 use Rattle.lexer.specs.declared.Class.the-variants as Class
 use Rattle.lexer.proofs.Table.{every, at}
 
-abbrev pub rightAt : ℕ → ℕ → Bool
+abbrev rightAt : ℕ → ℕ → Bool
 rightAt b x = eqb x (classNumber (classOf b))
 
 pub table-right : (table : List ℕ) → length table ≡ 256 → T (every rightAt 0 table) → ClassTable table

@@ -48,7 +48,7 @@ abbrev two : ℕ → Bool → Bool → ℕ
 two n t u = cond t (suc (cond u (suc n) 0)) 0
 
 -- a runLength that is not one byte long is a name
-pub run-name : (s : List ℕ) → (_≡_ {A = ℕ} (runLength s) 1 → ⊥) → runKind (take (runLength s) s) ≡ Kind.Name
+run-name : (s : List ℕ) → (_≡_ {A = ℕ} (runLength s) 1 → ⊥) → runKind (take (runLength s) s) ≡ Kind.Name
 unfolding runLength
 run-name [] h = refl
 run-name (b ∷ []) h = go (inRun (classOf b)) h

@@ -11,7 +11,6 @@ use lib.ListN.{length, take, set, replicate, length-append, length-map}
 use lib.Seq.{take-at, set-at}
 use borrow.Author.Tests.{eq-eqb, ne-eqb, lt-ltb, le-ltb}
 use Rattle.formula.specs.Formula.{Name}
-use Rattle.lexer.specs.Arrays.{pad}
 use Rattle.evalset.proofs.Search.{untrue}
 use Rattle.contact.specs.Numbering.{position, sameName}
 use Rattle.contact.proofs.Naming.{same-name}
@@ -23,7 +22,7 @@ use Rattle.names.proofs.Distinct.{position-in, position-out}
 
 -- ---- one name
 
-pub same-kept : (v w : Name) → sameKept (nameOf v) w ≡ sameName v w
+same-kept : (v w : Name) → sameKept (nameOf v) w ≡ sameName v w
 unfolding sameKept nameOf
 same-kept v w = go (ℕ-discrete (length v) (length w))
   where

@@ -5,7 +5,7 @@ use mathlib.Core.Bool.{Bool, true, false, not, _||_, cond}
 use mathlib.Core.Path.{_≡_, refl, sym, ap, subst, _∙_}
 use mathlib.Core.Logic.{⊎-elim}
 use mathlib.Core.List.{List, [], _∷_, _++_, append-assoc, append-nil}
-use Prim.Native.Nat.{suc, _+_, _≤_, _<_}
+use Prim.Native.Nat.{suc, _≤_, _<_}
 use native.Mathlib.Omega.{arith}
 use lib.ListN.{length, length-append}
 use Rattle.evalset.specs.Search.{In, here, next, any, keep}
@@ -46,7 +46,7 @@ module _ {N : Type 0} (same : N → N → Bool) where
   pub position-most : (ks : List N) (w : N) → position same ks w ≤ length ks
   position-most ks w = cases (isIn ks w) (λ e. omega (arith, position-in ks w e)) (λ e. omega (arith, position-out ks w e))
 
-  pub position-stays : (ks more : List N) (w : N) → isIn ks w ≡ true → position same (ks ++ more) w ≡ position same ks w
+  position-stays : (ks more : List N) (w : N) → isIn ks w ≡ true → position same (ks ++ more) w ≡ position same ks w
   position-stays [] more w h = clash h refl
   position-stays (k ∷ ks) more w h = go (same k w) h (position-stays ks more w)
     where
@@ -57,14 +57,14 @@ module _ {N : Type 0} (same : N → N → Bool) where
 
   -- ---- the list grows at its end
 
-  pub put-grows : (ks : List N) (w : N) → (more : List N) × (put ks w ≡ ks ++ more)
+  put-grows : (ks : List N) (w : N) → (more : List N) × (put ks w ≡ ks ++ more)
   put-grows ks w = go (isIn ks w)
     where
       go : (b : Bool) → (more : List N) × (cond b ks (ks ++ w ∷ []) ≡ ks ++ more)
       go true = ([], sym (append-nil ks))
       go false = (w ∷ [], refl)
 
-  pub put-all-grows : (ks ws : List N) → (more : List N) × (putAll ks ws ≡ ks ++ more)
+  put-all-grows : (ks ws : List N) → (more : List N) × (putAll ks ws ≡ ks ++ more)
   put-all-grows ks [] = ([], sym (append-nil ks))
   put-all-grows ks (w ∷ ws) =
       let p = put-grows ks w in

@@ -3,7 +3,7 @@
 use mathlib.Core.Path.{_≡_, refl, sym, ap, ap₂, _∙_, subst}
 use mathlib.Core.Bool.{Bool, true, false, _&&_, _||_, cond, or-comm, true≢false}
 use mathlib.Core.List.{List, [], _∷_}
-use mathlib.Core.Logic.{_⊎_, inr, ⊎-elim}
+use mathlib.Core.Logic.{inr, ⊎-elim}
 use Prim.Native.Nat.{ℕ, suc, _+_, _-_, _*_, _/_, _%_, _≤_, _<_}
 use native.Mathlib.Omega.{arith}
 use native.Mathlib.Nat.{le-antisymm}
@@ -20,7 +20,7 @@ use Rattle.plan.specs.Floor.{between, touching}
 use Rattle.plan.specs.Arrays.{pad, square, Stored, countOf, pairOf, rowTo, linksTo, planBy}
 use Rattle.plan.specs.Held.{planOf}
 use Rattle.plan.proofs.Lists.{any-e, any-i, below-e, below-i, gather-e, gather-i}
-use Rattle.plan.proofs.Squares.{Related, square-e, square-i}
+use Rattle.plan.proofs.Squares.{Related, square-elim, square-intro}
 use Rattle.plan.proofs.Contacts.{links-rise}
 use Rattle.plan.proofs.Judged.{few-points, count-is}
 use Rattle.evalset.proofs.Search.{both, or-cases, or-left, or-right, bool-ext}
@@ -64,40 +64,40 @@ record Linked (k n i j : ℕ) (row : ℕ → Bool) : Type 0 where
   there : row j ≡ true
   number : k ≡ i * 256 + j
 
-pair-e : (k n i j : ℕ) (row : ℕ → Bool) → j < n → In k (pairOf i j row) → Linked k n i j row
+pair-elim : (k n i j : ℕ) (row : ℕ → Bool) → j < n → In k (pairOf i j row) → Linked k n i j row
 unfolding pairOf
-pair-e k n i j row m = go (ltb i j && row j) refl
+pair-elim k n i j row m = go (ltb i j && row j) refl
   where
     go : (b : Bool) → (ltb i j && row j) ≡ b → In k (cond b ((i * 256 + j) ∷ []) []) → Linked k n i j row
     go true q x = let w = both (ltb i j) (row j) q in
         record { later = ltb-true i j (w .0); within = m; there = w .1; number = in-one k (i * 256 + j) x }
     go false q x = absurd (in-none k x)
 
-pair-i : (i j : ℕ) (row : ℕ → Bool) → i < j → row j ≡ true → In (i * 256 + j) (pairOf i j row)
+pair-intro : (i j : ℕ) (row : ℕ → Bool) → i < j → row j ≡ true → In (i * 256 + j) (pairOf i j row)
 unfolding pairOf
-pair-i i j row l e =
+pair-intro i j row l e =
     subst (λ (b : Bool). In (i * 256 + j) (cond b ((i * 256 + j) ∷ []) [])) (sym (ap₂ _&&_ (lt-ltb i j l) e)) here
 
-links-e : (k n : ℕ) (rows : ℕ → ℕ → Bool) → In k (linksTo n n rows) → (i : ℕ) × (j : ℕ) × Linked k n i j (rows i)
+links-elim : (k n : ℕ) (rows : ℕ → ℕ → Bool) → In k (linksTo n n rows) → (i : ℕ) × (j : ℕ) × Linked k n i j (rows i)
 unfolding linksTo rowTo
-links-e k n rows x =
+links-elim k n rows x =
     let r = gather-e (λ i. rowTo n i (rows i)) k (below n) x in
     let s = gather-e (λ j. pairOf (r .0) j (rows (r .0))) k (below n) (r .2) in
-    (r .0, s .0, pair-e k n (r .0) (s .0) (rows (r .0)) (below-e (s .0) n (s .1)) (s .2))
+    (r .0, s .0, pair-elim k n (r .0) (s .0) (rows (r .0)) (below-e (s .0) n (s .1)) (s .2))
 
-links-i : (n i j : ℕ) (rows : ℕ → ℕ → Bool) → i < j → j < n → rows i j ≡ true → In (i * 256 + j) (linksTo n n rows)
+links-intro : (n i j : ℕ) (rows : ℕ → ℕ → Bool) → i < j → j < n → rows i j ≡ true → In (i * 256 + j) (linksTo n n rows)
 unfolding linksTo rowTo
-links-i n i j rows l m e =
+links-intro n i j rows l m e =
     gather-i (λ a. rowTo n a (rows a)) (i * 256 + j) i (below n) (below-i i n (omega arith))
-    (gather-i (λ b. pairOf i b (rows i)) (i * 256 + j) j (below n) (below-i j n m) (pair-i i j (rows i) l e))
+    (gather-i (λ b. pairOf i b (rows i)) (i * 256 + j) j (below n) (below-i j n m) (pair-intro i j (rows i) l e))
 
 -- ---- the contacts of a plan's square are its contacts
 module _ (p : Plan) (few : length (p .points) ≤ 256) (rise : Rises 0 (length (p .points)) (p .contacts)) where
   there : (k : ℕ) → In k (linksTo (length (p .points)) (length (p .points)) (square p)) → In k (p .contacts)
   there k x =
-      let r = links-e k (length (p .points)) (square p) x in
+      let r = links-elim k (length (p .points)) (square p) x in
       let l = r .2 in
-      let w = square-e p (r .0) (r .1) (l .there) in
+      let w = square-elim p (r .0) (r .1) (l .there) in
       ⊎-elim (λ q. absurd (omega (arith, l .later))) (λ q. found (r .0) (r .1) l w (any-e (between (r .0) (r .1)) (p .contacts) q))
       (w .how)
     where
@@ -120,8 +120,8 @@ module _ (p : Plan) (few : length (p .points) ≤ 256) (rise : Rises 0 (length (
       let m : k % 256 < length (p .points) = w .2 in
       let z : k ≡ k / 256 * 256 + k % 256 = omega arith in
       subst (λ (y : ℕ). In y (linksTo (length (p .points)) (length (p .points)) (square p))) (sym z)
-      (links-i (length (p .points)) (k / 256) (k % 256) (square p) l m
-      (square-i p (k / 256) (k % 256) (record {
+      (links-intro (length (p .points)) (k / 256) (k % 256) (square p) l m
+      (square-intro p (k / 256) (k % 256) (record {
         left = omega arith;
         right = m;
         how = inr (any-i (between (k / 256) (k % 256)) k (p .contacts) x
@@ -153,7 +153,7 @@ module _ (n : ℕ) (few : n ≤ 256) (rows : ℕ → ℕ → Bool) (self : (a : 
   one-way a b l m e = (
     or-left (eqb (a * 256 + b) (a * 256 + b)) (eqb (a * 256 + b) (b * 256 + a))
         (eq-eqb (a * 256 + b) (a * 256 + b) refl),
-    links-i n a b rows l m e,
+    links-intro n a b rows l m e,
   )
 
   pub links-kept : (p : Plan) → p .contacts ≡ linksTo n n rows → (a b : ℕ) → a < n → b < n → touching p a b ≡ rows a b
@@ -182,7 +182,7 @@ module _ (n : ℕ) (few : n ≤ 256) (rows : ℕ → ℕ → Bool) (self : (a : 
       there : (eqb a b || any (between a b) links) ≡ true → rows a b ≡ true
       there e =
           ⊎-elim (λ q. ap (rows a) (sym (eqb-true a b q)) ∙ self a l)
-          (λ q. let y = any-e (between a b) links q in let w = links-e (y .0) n rows (y .1) in
+          (λ q. let y = any-e (between a b) links q in let w = links-elim (y .0) n rows (y .1) in
           met (w .0) (w .1) (y .0) (w .2) (y .2))
           (or-cases (eqb a b) (any (between a b) links) e)
 

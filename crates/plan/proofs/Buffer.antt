@@ -3,7 +3,7 @@
 use mathlib.Core.Path.{_≡_, refl, sym, ap, ap₂, _∙_, subst}
 use mathlib.Core.Bool.{Bool, true, false, _&&_, cond}
 use mathlib.Core.List.{List, [], _∷_, _++_, map, append-assoc, map-append}
-use Prim.Native.Nat.{ℕ, suc, _+_, _-_, _*_, _≤_, _<_}
+use Prim.Native.Nat.{ℕ, suc, _+_, _*_, _≤_, _<_}
 use native.Mathlib.Omega.{arith}
 use native.Mathlib.Nat.{add-zero}
 use native.Mathlib.Numerals.{add-one}
@@ -74,7 +74,7 @@ written-over ws buf = go (length ws) buf
 pub wrote-none : (at : ℕ) (buf : List ℕ) → Wrote at [] buf buf at
 wrote-none at buf = record { place = sym (add-zero at); words = written-none at buf }
 
-pub wrote-more : (at : ℕ) (ks js buf mid exit : List ℕ) (end last : ℕ) → at + length ks ≤ length buf
+wrote-more : (at : ℕ) (ks js buf mid exit : List ℕ) (end last : ℕ) → at + length ks ≤ length buf
     → Wrote at ks buf mid end → Wrote end js mid exit last → Wrote at (ks ++ js) buf exit last
 wrote-more at ks js buf mid exit end last h a b =
     let size : length (map contactWord ks) ≡ length ks = length-map ks contactWord in

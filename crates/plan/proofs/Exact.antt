@@ -1,9 +1,9 @@
 -- The reader reads exactly the plans, and refuses exactly where refusal 13 is due: a state that is not dead can be completed to a
 -- plan, and a dead one stays dead. Assumes nothing.
 use mathlib.Core.Path.{_≡_, refl, sym, ap, ap₂, _∙_, subst}
-use mathlib.Core.Logic.{_⊎_, ⊎-elim}
+use mathlib.Core.Logic.{⊎-elim}
 use mathlib.Core.List.{List, [], _∷_, _++_, map, append-nil, append-assoc, map-append, head-eq-of-cons-eq, tail-eq-of-cons-eq}
-use Prim.Native.Nat.{ℕ, zero, suc, _+_, _-_, _^_, _≤_, _<_}
+use Prim.Native.Nat.{ℕ, zero, suc, _+_, _^_, _≤_, _<_}
 use native.Mathlib.Omega.{arith}
 use lib.ListN.{length, length-append}
 use Rattle.plan.specs.Words.{Plan, Ascends, Rises, IsPlan, firstWord, pointWord, lastWord, before, wordsOf, Begins, Stops, Refusal}
@@ -20,7 +20,7 @@ IsDead (linking n pts ks low) = ⊥
 IsDead (whole p) = ⊥
 IsDead dead = Unit {0}
 
-abbrev pub IsWhole : State → Type 0
+abbrev IsWhole : State → Type 0
 IsWhole start = ⊥
 IsWhole (pointing n m pts low) = ⊥
 IsWhole (linking n pts ks low) = ⊥
@@ -111,17 +111,17 @@ state-begins ws (whole p) e h = record { plan = p; is = e .0; rest = []; words =
 state-begins ws dead e h = absurd (h tt)
 
 -- words begin a plan exactly if they do not lead to the dead state
-pub live-begins : (ws : List ℕ) → (IsDead (run start ws) → ⊥) → Begins ws
+live-begins : (ws : List ℕ) → (IsDead (run start ws) → ⊥) → Begins ws
 live-begins ws h = state-begins ws (run start ws) (seen ws) h
 
-pub dead-begins : (ws : List ℕ) → run start ws ≡ dead → Begins ws → ⊥
+dead-begins : (ws : List ℕ) → run start ws ≡ dead → Begins ws → ⊥
 dead-begins ws h b =
     let e : run start (wordsOf (b .plan)) ≡ dead =
     ap (run start) (sym (b .words)) ∙ run-append start ws (b .rest) ∙ ap (λ (s : State). run s (b .rest)) h ∙ run-dead (b .rest) in
     subst IsWhole (sym (complete (b .plan) (b .is)) ∙ e) tt
 
 -- words that begin a plan still do with the last ones left out
-pub begins-less : (xs ys : List ℕ) → Begins (xs ++ ys) → Begins xs
+begins-less : (xs ys : List ℕ) → Begins (xs ++ ys) → Begins xs
 begins-less xs ys b =
     record { plan = b .plan; is = b .is; rest = ys ++ b .rest; words = sym (append-assoc xs ys (b .rest)) ∙ b .words }
 
@@ -166,7 +166,7 @@ at-word done s w ws h live e =
       stops = dead-begins (done ++ (w ∷ [])) (run-append start done (w ∷ []) ∙ ap (λ (x : State). step x (kindOf w)) h ∙ e);
     }
 
-pub read-says : (done : List ℕ) (s : State) (ws : List ℕ) → run start done ≡ s → (IsDead s → ⊥)
+read-says : (done : List ℕ) (s : State) (ws : List ℕ) → run start done ≡ s → (IsDead s → ⊥)
     → Says (done ++ ws) (readFrom (length done) s ws)
 unfolding readFrom run
 read-says done s [] h live = subst (λ (l : List ℕ). Says l (ended (length done) s)) (sym (append-nil done)) (at-end done s h live)

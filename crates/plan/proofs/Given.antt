@@ -16,9 +16,9 @@ use Rattle.contact.specs.Meaning.{Floor, meetsAll}
 use Rattle.contact.specs.Numbering.{allAtoms, namesOf, mapAtom, numberedNames, numberedAtoms}
 use Rattle.contact.specs.Row.{Row, Realises, is}
 use Rattle.contact.specs.Plan.{Mark, rowMarks, separated, check, given, pointsFor, rows, good, firstRow, firstRowOf}
-use Rattle.contact.proofs.Realise.{planFloor as marksFloor, points-some, plan-points, plan-touch, plan-lies}
+use Rattle.contact.proofs.Realise.{marksFloor, points-some, plan-points, plan-touch, plan-lies}
 use Rattle.contact.proofs.Numbered.{all-atoms-map}
-use Rattle.contact.proofs.Answer.{row-found, planOf, plan-gives-row, plan-meets}
+use Rattle.contact.proofs.Answer.{row-found, rowFloor, plan-gives-row, plan-meets}
 use Rattle.contact.proofs.Naming.{numberOf, numbers-row, numbers-meet, first-row-named, first-row-only-named, no-plan-named}
 use Rattle.contact.proofs.Count.{first-short, points-at-most, words-at-most}
 use Rattle.contact.proofs.SameFloor.{SameFloor, row-same, meets-same}
@@ -107,7 +107,7 @@ module _ (rules : List (Formula Name)) (row : Row) (found : firstRowOf (length (
   given-is-plan few = marks-plan (length (namesOf rules)) (rowMarks (allAtoms (numberedNames rules)) row) checked few
 
   module _ (h : IsPlan (rowPlan rules row)) where
-    same : SameFloor (planFloor (rowPlan rules row) h) (planOf (length (namesOf rules)) (numberedNames rules) row found)
+    same : SameFloor (planFloor (rowPlan rules row) h) (rowFloor (length (namesOf rules)) (numberedNames rules) row found)
     unfolding rowPlan
     same = marks-same (length (namesOf rules)) (rowMarks (allAtoms (numberedNames rules)) row) checked h
 
@@ -115,7 +115,7 @@ module _ (rules : List (Formula Name)) (row : Row) (found : firstRowOf (length (
     pub given-row : Realises (namedFloor rules (rowPlan rules row) h) (allAtoms rules) row
     given-row =
         numbers-row rules (planFloor (rowPlan rules row) h)
-        ∙ row-same (planFloor (rowPlan rules row) h) (planOf (length (namesOf rules)) (numberedNames rules) row found) same
+        ∙ row-same (planFloor (rowPlan rules row) h) (rowFloor (length (namesOf rules)) (numberedNames rules) row found) same
         (allAtoms (numberedNames rules))
         ∙ plan-gives-row (length (namesOf rules)) (numberedNames rules) row found
 
@@ -123,7 +123,7 @@ module _ (rules : List (Formula Name)) (row : Row) (found : firstRowOf (length (
     pub given-meets : meetsAll (namedFloor rules (rowPlan rules row) h) rules ≡ true
     given-meets =
         numbers-meet rules (planFloor (rowPlan rules row) h)
-        ∙ meets-same (planFloor (rowPlan rules row) h) (planOf (length (namesOf rules)) (numberedNames rules) row found) same
+        ∙ meets-same (planFloor (rowPlan rules row) h) (rowFloor (length (namesOf rules)) (numberedNames rules) row found) same
         (numberedNames rules)
         ∙ plan-meets (length (namesOf rules)) (numberedNames rules) row found
 

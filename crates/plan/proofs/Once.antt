@@ -27,7 +27,7 @@ same-list d [] (y ∷ ys) l f = absurd (omega arith)
 same-list d (x ∷ xs) [] l f = absurd (omega arith)
 same-list d (x ∷ xs) (y ∷ ys) l f = ap₂ _∷_ (f 0) (same-list d xs ys (omega arith) (λ i. f (suc i)))
 
-pub stored-once : (p : Plan) (r s : PlanArrays) → InRange r → InRange s → Stored r p → Stored s p → r ≡ s
+stored-once : (p : Plan) (r s : PlanArrays) → InRange r → InRange s → Stored r p → Stored s p → r ≡ s
 unfolding memAt
 stored-once p r s v w a b =
     let rows : memAt (r .rows) ≡ memAt (s .rows) = a .rows ∙ sym (b .rows) in

@@ -87,7 +87,7 @@ module _ (n : ℕ) (pts : List ℕ) (s : ℕ → Bool) (l : n ≤ room) where
   any-places = any-cut (placesOf n pts s) n room l (λ d a b. outside d a)
       ∙ any-same (placesOf n pts s) (λ j. s (getD pts j 0)) n inside
 
-  pub any-met : (row : ℕ → Bool) → any (meetOf row (placesOf n pts s)) (below room) ≡ any (λ j. s (getD pts j 0) && row j) (below n)
+  any-met : (row : ℕ → Bool) → any (meetOf row (placesOf n pts s)) (below room) ≡ any (λ j. s (getD pts j 0) && row j) (below n)
   any-met row =
       any-cut (meetOf row (placesOf n pts s)) n room l (λ d a b. ap (λ (v : Bool). row d && v) (outside d a) ∙ and-false (row d))
       ∙ any-same (meetOf row (placesOf n pts s)) (λ j. s (getD pts j 0) && row j) n

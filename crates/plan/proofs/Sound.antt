@@ -171,7 +171,7 @@ links-step ws n pts ks low w (Last c) q s = go (eqb c (1 + (length pts + length 
     go false h = tt
 links-step ws n pts ks low w Other q s = tt
 
-pub seen-step : (ws : List ℕ) (s : State) (w : ℕ) → Seen ws s → Seen (ws ++ (w ∷ [])) (step s (kindOf w))
+seen-step : (ws : List ℕ) (s : State) (w : ℕ) → Seen ws s → Seen (ws ++ (w ∷ [])) (step s (kindOf w))
 seen-step ws start w h = subst (λ (l : List ℕ). Seen (l ++ (w ∷ [])) (opened (kindOf w))) (sym h)
     (open-step w (kindOf w) (spells w))
 seen-step ws (pointing n m pts low) w h = points-step ws n m pts low w (kindOf w) (spells w) h
@@ -179,7 +179,7 @@ seen-step ws (linking n pts ks low) w h = links-step ws n pts ks low w (kindOf w
 seen-step ws (whole p) w h = tt
 seen-step ws dead w h = tt
 
-pub seen-run : (done : List ℕ) (s : State) (ws : List ℕ) → Seen done s → Seen (done ++ ws) (run s ws)
+seen-run : (done : List ℕ) (s : State) (ws : List ℕ) → Seen done s → Seen (done ++ ws) (run s ws)
 unfolding run
 seen-run done s [] h = subst (λ (l : List ℕ). Seen l s) (sym (append-nil done)) h
 seen-run done s (w ∷ ws) h =

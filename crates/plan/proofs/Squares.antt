@@ -43,9 +43,9 @@ pub record Related (p : Plan) (a b : ℕ) : Type 0 where
   pub right : b < length (p .points)
   pub how : (a ≡ b) ⊎ (any (between a b) (p .contacts) ≡ true)
 
-pub square-e : (p : Plan) (a b : ℕ) → square p a b ≡ true → Related p a b
+pub square-elim : (p : Plan) (a b : ℕ) → square p a b ≡ true → Related p a b
 unfolding square touching
-square-e p a b e =
+square-elim p a b e =
     let n = length (p .points) in
     let u = both (ltb a n && ltb b n) (touching p a b) e in
     let v = both (ltb a n) (ltb b n) (u .0) in
@@ -55,9 +55,9 @@ square-e p a b e =
       how = ⊎-elim (λ q. inl (eqb-true a b q)) (λ q. inr q) (or-cases (eqb a b) (any (between a b) (p .contacts)) (u .1));
     }
 
-pub square-i : (p : Plan) (a b : ℕ) → Related p a b → square p a b ≡ true
+pub square-intro : (p : Plan) (a b : ℕ) → Related p a b → square p a b ≡ true
 unfolding square touching
-square-i p a b r =
+square-intro p a b r =
     let n = length (p .points) in
     and-intro (ltb a n && ltb b n) (touching p a b) (and-intro (ltb a n) (ltb b n) (lt-ltb a n (r .left)) (lt-ltb b n (r .right)))
     (⊎-elim (λ q. or-left (eqb a b) (any (between a b) (p .contacts)) (eq-eqb a b q))
@@ -76,9 +76,9 @@ add-new : (t : ℕ → ℕ → Bool) (i j a b : ℕ) → a ≡ i → b ≡ j →
 add-new t i j a b p q = or-right (t a b) (eqb a i && eqb b j) (and-intro (eqb a i) (eqb b j) (eq-eqb a i p) (eq-eqb b j q))
 
 module _ (t : ℕ → ℕ → Bool) (i j a b : ℕ) where
-  joined-e : joinedOf t i j a b ≡ true → (t a b ≡ true) ⊎ (((a ≡ i) × (b ≡ j)) ⊎ ((a ≡ j) × (b ≡ i)))
+  joined-elim : joinedOf t i j a b ≡ true → (t a b ≡ true) ⊎ (((a ≡ i) × (b ≡ j)) ⊎ ((a ≡ j) × (b ≡ i)))
   unfolding joinedOf
-  joined-e e =
+  joined-elim e =
       ⊎-elim (λ q. ⊎-elim (λ x. inl x) (λ x. inr (inl x)) (add-e t i j a b q)) (λ q. inr (inr q)) (add-e (addAt t i j) j i a b e)
 
   joined-old : t a b ≡ true → joinedOf t i j a b ≡ true
@@ -104,7 +104,7 @@ unfolding memAt mem
 rows-none n names =
     fun-ext (λ a. fun-ext (λ b.
     ap (λ (s : EvalSet). mem s b) (getD-all n a (record { bits = 0 })) ∙ bit-none b
-    ∙ sym (untrue (square (planOf names [] []) a b) (λ e. let l = square-e (planOf names [] []) a b e .left in omega arith))))
+    ∙ sym (untrue (square (planOf names [] []) a b) (λ e. let l = square-elim (planOf names [] []) a b e .left in omega arith))))
 
 pub row-set : (rows : List EvalSet) (i j : ℕ) (v : EvalSet) → i < length rows → j < room → mem v ≡ addOf (memAt rows i) j
     → memAt (set rows i v) ≡ addAt (memAt rows) i j
@@ -131,17 +131,17 @@ module _ (n : ℕ) (pts : List ℕ) (e : ℕ) where
       there : (a b : ℕ) → joinedOf (square (planOf n pts [])) (length pts) (length pts) a b ≡ true
           → square (planOf n (pts ++ (e ∷ [])) []) a b ≡ true
       there a b q =
-          square-i (planOf n (pts ++ (e ∷ [])) []) a b
+          square-intro (planOf n (pts ++ (e ∷ [])) []) a b
           (⊎-elim
-          (λ x. let r = square-e (planOf n pts []) a b x in
+          (λ x. let r = square-elim (planOf n pts []) a b x in
           record { left = omega (arith, size, r .left); right = omega (arith, size, r .right); how = r .how })
           (λ x. let z : (a ≡ length pts) × (b ≡ length pts) = ⊎-elim (λ y. y) (λ y. y) x in
           record { left = omega (arith, size, z .0); right = omega (arith, size, z .1); how = inl (z .0 ∙ sym (z .1)) })
-          (joined-e (square (planOf n pts [])) (length pts) (length pts) a b q))
+          (joined-elim (square (planOf n pts [])) (length pts) (length pts) a b q))
 
       back : (a b : ℕ) → Dec (a ≡ length pts) → square (planOf n (pts ++ (e ∷ [])) []) a b ≡ true
           → joinedOf (square (planOf n pts [])) (length pts) (length pts) a b ≡ true
-      back a b d q = go d (square-e (planOf n (pts ++ (e ∷ [])) []) a b q)
+      back a b d q = go d (square-elim (planOf n (pts ++ (e ∷ [])) []) a b q)
         where
           equal : Related (planOf n (pts ++ (e ∷ [])) []) a b → a ≡ b
           equal r = ⊎-elim (λ z. z) (λ z. absurd (let w : _≡_ {A = ℕ} 0 1 = cc in omega arith)) (r .how)
@@ -152,7 +152,7 @@ module _ (n : ℕ) (pts : List ℕ) (e : ℕ) where
           go (no z) r =
               let q : a ≡ b = equal r in
               joined-old (square (planOf n pts [])) (length pts) (length pts) a b
-              (square-i (planOf n pts []) a b
+              (square-intro (planOf n pts []) a b
               (record { left = omega (arith, size, r .left, z); right = omega (arith, size, r .left, z); how = inl q }))
 
 -- ---- one contact more
@@ -168,9 +168,9 @@ module _ (n : ℕ) (pts ks : List ℕ) (i j : ℕ) (later : i < j) (within : j <
 
       there : (a b : ℕ) → joinedOf (square (planOf n pts ks)) i j a b ≡ true → square (planOf n pts (ks ++ (k ∷ []))) a b ≡ true
       there a b q =
-          square-i (planOf n pts (ks ++ (k ∷ []))) a b
+          square-intro (planOf n pts (ks ++ (k ∷ []))) a b
           (⊎-elim
-          (λ x. let r = square-e (planOf n pts ks) a b x in
+          (λ x. let r = square-elim (planOf n pts ks) a b x in
           record {
             left = r .left;
             right = r .right;
@@ -178,7 +178,7 @@ module _ (n : ℕ) (pts ks : List ℕ) (i j : ℕ) (later : i < j) (within : j <
                 (λ z. inr (more a b ∙ or-left (any (between a b) ks) (between a b k) z)) (r .how);
           })
           (λ x. ⊎-elim one other x)
-          (joined-e (square (planOf n pts ks)) i j a b q))
+          (joined-elim (square (planOf n pts ks)) i j a b q))
         where
           one : (a ≡ i) × (b ≡ j) → Related (planOf n pts (ks ++ (k ∷ []))) a b
           one z =
@@ -201,10 +201,10 @@ module _ (n : ℕ) (pts ks : List ℕ) (i j : ℕ) (later : i < j) (within : j <
               }
 
       back : (a b : ℕ) → square (planOf n pts (ks ++ (k ∷ []))) a b ≡ true → joinedOf (square (planOf n pts ks)) i j a b ≡ true
-      back a b q = go (square-e (planOf n pts (ks ++ (k ∷ []))) a b q)
+      back a b q = go (square-elim (planOf n pts (ks ++ (k ∷ []))) a b q)
         where
           old : Related (planOf n pts ks) a b → joinedOf (square (planOf n pts ks)) i j a b ≡ true
-          old r = joined-old (square (planOf n pts ks)) i j a b (square-i (planOf n pts ks) a b r)
+          old r = joined-old (square (planOf n pts ks)) i j a b (square-intro (planOf n pts ks) a b r)
 
           go : Related (planOf n pts (ks ++ (k ∷ []))) a b → joinedOf (square (planOf n pts ks)) i j a b ≡ true
           go r =

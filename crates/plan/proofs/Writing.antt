@@ -3,7 +3,7 @@
 use mathlib.Core.Path.{_≡_, sym, ap, ap₂, _∙_}
 use mathlib.Core.Bool.{Bool, true, false, cond}
 use mathlib.Core.List.{List, [], _∷_, _++_, map}
-use Prim.Native.Nat.{ℕ, _+_, _-_, _≤_, _<_}
+use Prim.Native.Nat.{ℕ, _+_, _≤_, _<_}
 use native.Mathlib.Omega.{arith}
 use native.Mathlib.Nat.{zero-add}
 use lib.Dec.{leb}
@@ -43,7 +43,7 @@ module _ (p : PlanArrays) (n : ℕ) (full : length (p .points) ≡ 64) (m : n �
             (linksTo n n (memAt (p .rows))) contactWord,
       )
 
-  pub size-is : (s : ℕ) → s ≡ length (linksTo n n (memAt (p .rows))) → 2 + n + s ≡ length (wordsOf (planBy p))
+  size-is : (s : ℕ) → s ≡ length (linksTo n n (memAt (p .rows))) → 2 + n + s ≡ length (wordsOf (planBy p))
   unfolding wordsOf
   size-is s e = omega (arith, e, before-size, length-append (before (planBy p)) (lastWord (length (before (planBy p))) ∷ []))
 

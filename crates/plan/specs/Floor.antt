@@ -1,10 +1,9 @@
 -- What is meant: a plan is a floor over its numbered names. Its points are its positions; two positions are in contact if
 -- they are the same or a contact has both; a position lies in name i if bit i of its evaluation is set. Assumes nothing.
-use mathlib.Core.Bool.{Bool, _&&_, _||_}
-use mathlib.Core.List.{List}
-use Prim.Native.Nat.{ℕ, _*_, _+_, _<_}
-use lib.Dec.{eqb, ltb}
-use lib.ListN.{length, getD}
+use mathlib.Core.Bool.{Bool, _||_}
+use Prim.Native.Nat.{ℕ, _*_, _+_}
+use lib.Dec.{eqb}
+use lib.ListN.{getD}
 use Rattle.evalset.specs.Search.{any}
 use Rattle.evalset.specs.Bit.{bit}
 use Rattle.plan.specs.Words.{Plan}

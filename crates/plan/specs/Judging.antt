@@ -1,5 +1,5 @@
 -- What is meant: "Judge answers yes or the lowest unmet rule, from 1". Assumes nothing.
-use mathlib.Core.Bool.{Bool, true, false, cond}
+use mathlib.Core.Bool.{cond}
 use mathlib.Core.List.{List, [], _∷_}
 use Prim.Native.Nat.{ℕ, suc}
 use Rattle.formula.specs.Formula.{Formula}

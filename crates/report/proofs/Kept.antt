@@ -32,7 +32,7 @@ name-at (w ∷ ws) rest zero h = refl
 name-at (w ∷ ws) rest (suc i) h = name-at ws rest i (omega arith)
 
 module _ (names : Names) (kept : Kept names) where
-  pub known-count : names .count ≡ length (knownOf names)
+  known-count : names .count ≡ length (knownOf names)
   unfolding arraysOf
   known-count = ap (λ (n : Names). n .count) (kept .canonical)
 

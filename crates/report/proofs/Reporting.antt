@@ -1,8 +1,8 @@
 -- What ask wrote is the plan that is given, so that what is read from its words is put out as that plan; where it wrote none there is none,
 -- because a rule stands and 530 words are enough. Assumes nothing.
-use Prim.Native.Nat.{ℕ, _+_, _≤_, _<_}
+use Prim.Native.Nat.{ℕ, _≤_}
 use mathlib.Core.Path.{_≡_, refl, sym, ap, ap₂, subst, _∙_}
-use mathlib.Core.List.{List, [], _∷_, _++_}
+use mathlib.Core.List.{List, [], _∷_}
 use mathlib.Core.Logic.{⊎-elim}
 use native.Mathlib.Omega.{arith}
 use lib.ListN.{length, take, drop, length-append}
@@ -16,11 +16,10 @@ use Rattle.contact.proofs.Claims.{first-row-only-named}
 use Rattle.names.specs.Gather.{arraysOf, knownOf, Kept}
 use Rattle.names.specs.declared.Names.{Names}
 use Rattle.names.proofs.Arrays.{known-back, kept-names}
-use Rattle.plan.specs.declared.PlanArrays.{PlanArrays}
 use Rattle.plan.specs.declared.PlanRead.{PlanRead}
 use Rattle.plan.specs.Words.{Plan, IsPlan, wordsOf}
 use Rattle.plan.specs.Arrays.{Stored, Reads, over, planBy}
-use Rattle.plan.specs.Given.{plansOf, IsGiven}
+use Rattle.plan.specs.Given.{plansOf}
 use Rattle.plan.proofs.Again.{plan-again}
 use Rattle.plan.proofs.Buffer.{written-over}
 use Rattle.plan.proofs.Claims.{no-plan-given, given-exactly, given-is-plan, given-words, given-points}
@@ -33,22 +32,31 @@ use Rattle.table.specs.declared.LoadAnswer.the-variants as LoadAnswer
 use Rattle.table.specs.declared.LoadResult.{LoadResult}
 use Rattle.table.proofs.AskAnswer.{the-type}
 use Rattle.table.proofs.LoadAnswer.{the-type as load-type}
-use Rattle.table.specs.Store.{Text, tableOf, rulesOf}
+use Rattle.table.specs.Store.{Text, rulesOf}
 use Rattle.table.specs.Calls.{formulasOf, namesIn, atomsIn, linesOf, filled, judgeLoad, ifLoaded, loadRules, loaded, FromUs, Loads}
-use Rattle.table.specs.Asking.{askAnswer, askWords, asked, Asks}
+use Rattle.table.specs.Asking.{asked, Asks}
 use Rattle.table.specs.Rows.{SomeStand, AskRow, LoadRow}
 use Rattle.table.proofs.Claims.{ask-answered, load-answered, rules-back}
-use Rattle.table.specs.Numbers.{loadOutcome}
+use Rattle.table.specs.Numbers.{Outcome, loadOutcome, askOutcome}
 use Rattle.theorems.proofs.Demands.{not-loaded, words-written, read-back}
 use Rattle.report.specs.Output.{planText, plansText, rulesText, outcomeText, outputOf, ended}
 use Rattle.report.specs.Putting.{Puts}
 use Rattle.report.proofs.Short.{names-short}
 use Rattle.report.proofs.Bounds.{plan-few}
 
--- an answer whose case is another than the first is no plan
+-- a case that is another than the first
+not-first : OneOf (1 ∷ 2 ∷ 3 ∷ []) 0 → ⊥
+not-first h = ⊎-elim (λ z. omega arith) (⊎-elim (λ z. omega arith) (λ z. omega arith)) h
+
 pub told-other : (a : AskAnswer) → OneOf (1 ∷ 2 ∷ 3 ∷ []) (tagOf the-type a) → (n : ℕ) → a ≡ AskAnswer.Plan n → ⊥
-told-other a h n e =
-    ⊎-elim (λ z. omega arith) (⊎-elim (λ z. omega arith) (λ z. omega arith)) (subst (λ (x : AskAnswer). OneOf (1 ∷ 2 ∷ 3 ∷ []) (tagOf the-type x)) e h)
+told-other a h n e = not-first (subst (λ (x : AskAnswer). OneOf (1 ∷ 2 ∷ 3 ∷ []) (tagOf the-type x)) e h)
+
+-- the outcome of a plan is a plan's alone
+is-plan : (a : AskAnswer) {n : ℕ} → askOutcome a ≡ Outcome.plan n → a ≡ AskAnswer.Plan n
+is-plan (AskAnswer.Plan k) {n} e = let z : k ≡ n = cc in ap AskAnswer.Plan z
+is-plan AskAnswer.NoPlan e = absurd (let z : _≡_ {A = ℕ} 0 1 = cc in omega arith)
+is-plan AskAnswer.NoRule e = absurd (let z : _≡_ {A = ℕ} 0 1 = cc in omega arith)
+is-plan (AskAnswer.ShortBuffer k) e = absurd (let z : _≡_ {A = ℕ} 0 1 = cc in omega arith)
 
 module _ (t : Table) (v : FromUs t) (some : SomeStand (rulesOf t)) (buffer : List ℕ) (room : length buffer ≡ 530) (r : AskResult) (exit : List ℕ) (asks : Asks t buffer r exit) where
   abbrev rules : List (Formula Name)
@@ -58,20 +66,22 @@ module _ (t : Table) (v : FromUs t) (some : SomeStand (rulesOf t)) (buffer : Lis
   unfolding atomsIn
   few-atoms = v .standing .atoms
 
-  row : AskRow (rulesOf t) (length buffer) (r .answer)
+  row : AskRow (rulesOf t) (length buffer) (askOutcome (r .answer))
   unfolding asked
-  row = subst (AskRow (rulesOf t) (length buffer)) (sym (ap (λ (x : AskResult). x .answer) (asks .result))) (ask-answered (length buffer) (rulesOf t))
+  row =
+      subst (λ (a : AskAnswer). AskRow (rulesOf t) (length buffer) (askOutcome a)) (sym (ap (λ (x : AskResult). x .answer) (asks .result)))
+      (ask-answered (length buffer) (rulesOf t))
 
   -- where ask gives no plan
   pub no-text : ((n : ℕ) → r .answer ≡ AskAnswer.Plan n → ⊥) → ended (bytes "NO PLAN") ≡ rulesText rules
   unfolding rulesText
-  no-text other = go (r .answer) row other
+  no-text other = go (askOutcome (r .answer)) row refl
     where
-      go : (a : AskAnswer) → AskRow (rulesOf t) (length buffer) a → ((n : ℕ) → a ≡ AskAnswer.Plan n → ⊥) → ended (bytes "NO PLAN") ≡ plansText (namesOf rules) (plansOf rules)
-      go a (AskRow.none e) n = absurd (some e)
-      go a (AskRow.without z never) n = sym (ap (plansText (namesOf rules)) (no-plan-given rules .1 never))
-      go a (AskRow.short {p} z g l) n = absurd (omega (arith, room, given-words rules few-atoms p (given-exactly rules p .1 g)))
-      go a (AskRow.given {p} z g l) n = absurd (n (length (wordsOf p)) refl)
+      go : (o : Outcome) → AskRow (rulesOf t) (length buffer) o → askOutcome (r .answer) ≡ o → ended (bytes "NO PLAN") ≡ plansText (namesOf rules) (plansOf rules)
+      go o (AskRow.none e) f = absurd (some e)
+      go o (AskRow.without z never) f = sym (ap (plansText (namesOf rules)) (no-plan-given rules .1 never))
+      go o (AskRow.short {p} z g l) f = absurd (omega (arith, room, given-words rules few-atoms p (given-exactly rules p .1 g)))
+      go o (AskRow.given {p} z g l) f = absurd (other (length (wordsOf p)) (is-plan (r .answer) f))
 
   -- where it gives one
   pub record Drew (n : ℕ) : Type 0 where
@@ -84,13 +94,13 @@ module _ (t : Table) (v : FromUs t) (some : SomeStand (rulesOf t)) (buffer : Lis
 
   pub drew : (n : ℕ) → r .answer ≡ AskAnswer.Plan n → Drew n
   unfolding over namesIn
-  drew n e = go (r .answer) row e
+  drew n e = go (askOutcome (r .answer)) row (ap askOutcome e)
     where
-      go : (a : AskAnswer) → AskRow (rulesOf t) (length buffer) a → a ≡ AskAnswer.Plan n → Drew n
-      go a (AskRow.none z) f = absurd (some z)
-      go a (AskRow.without z never) f = absurd (let z : _≡_ {A = ℕ} 0 1 = cc in omega arith)
-      go a (AskRow.short z g l) f = absurd (let z : _≡_ {A = ℕ} 0 1 = cc in omega arith)
-      go a (AskRow.given {p} z g l) f =
+      go : (o : Outcome) → AskRow (rulesOf t) (length buffer) o → o ≡ Outcome.plan n → Drew n
+      go o (AskRow.none z) f = absurd (some z)
+      go o (AskRow.without z never) f = absurd (let z : _≡_ {A = ℕ} 0 1 = cc in omega arith)
+      go o (AskRow.short z g l) f = absurd (let z : _≡_ {A = ℕ} 0 1 = cc in omega arith)
+      go o (AskRow.given {p} z g l) f =
           let size : length (wordsOf p) ≡ n = cc in
           let wrote : exit ≡ over (wordsOf p) buffer = asks .words ∙ words-written (rulesOf t) buffer some p g l in
           let words : take n exit ≡ wordsOf p
@@ -136,10 +146,8 @@ module _ (t : Table) (v : FromUs t) (some : SomeStand (rulesOf t)) (buffer : Lis
 
 -- ---- a sheet
 
--- an answer whose case is another than the first is not Loaded
 pub told-refused : (a : LoadAnswer) → OneOf (1 ∷ 2 ∷ 3 ∷ []) (tagOf load-type a) → a ≡ LoadAnswer.Loaded → ⊥
-told-refused a h e =
-    ⊎-elim (λ z. omega arith) (⊎-elim (λ z. omega arith) (λ z. omega arith)) (subst (λ (x : LoadAnswer). OneOf (1 ∷ 2 ∷ 3 ∷ []) (tagOf load-type x)) e h)
+told-refused a h e = not-first (subst (λ (x : LoadAnswer). OneOf (1 ∷ 2 ∷ 3 ∷ []) (tagOf load-type x)) e h)
 
 module _ (t : Table) (file : Text) (r : LoadResult) (loads : Loads t file r) where
   answer-is : r .answer ≡ judgeLoad file
@@ -165,13 +173,13 @@ module _ (t : Table) (file : Text) (r : LoadResult) (loads : Loads t file r) whe
 
     -- in a loaded sheet some rule stands
     pub loaded-some : SomeStand (rulesOf (r .table))
-    loaded-some z = go (judgeLoad file) (load-answered file) good (sym held ∙ z)
+    loaded-some z = go (loadOutcome (judgeLoad file)) (load-answered file) (ap loadOutcome good) (sym held ∙ z)
       where
-        go : (a : LoadAnswer) → LoadRow file a → a ≡ LoadAnswer.Loaded → filled (linesOf file) ≡ [] → ⊥
-        go a (LoadRow.long h) f = absurd (let z : _≡_ {A = ℕ} 0 1 = cc in omega arith)
-        go a (LoadRow.blank h k) f = absurd (let z : _≡_ {A = ℕ} 0 1 = cc in omega arith)
-        go a (LoadRow.line h k) f = absurd (let z : _≡_ {A = ℕ} 0 1 = cc in omega arith)
-        go a (LoadRow.loads h none can) f = none
+        go : (o : Outcome) → LoadRow file o → o ≡ Outcome.done → filled (linesOf file) ≡ [] → ⊥
+        go o (LoadRow.long h) f = absurd (let z : _≡_ {A = ℕ} 0 1 = cc in omega arith)
+        go o (LoadRow.blank h k) f = absurd (let z : _≡_ {A = ℕ} 0 1 = cc in omega arith)
+        go o (LoadRow.line h k) f = absurd (let z : _≡_ {A = ℕ} 0 1 = cc in omega arith)
+        go o (LoadRow.loads h none can) f = none
 
     -- and its text is that of its rules
     pub loaded-text : rulesText (formulasOf (rulesOf (r .table))) ≡ outputOf file

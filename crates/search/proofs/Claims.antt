@@ -17,7 +17,7 @@ use Rattle.contact.specs.Numbering.{AtomBelow}
 use Rattle.contact.specs.Row.{Row, is, RealisesPart}
 use Rattle.contact.specs.Plan.{Mark, mark, rowMarks, separated, check, pointsFor}
 use Rattle.contact.proofs.Claims as contact
-use Rattle.contact.proofs.Realise.{planFloor}
+use Rattle.contact.proofs.Realise.{marksFloor}
 use Rattle.search.specs.declared.Sheet.{Sheet}
 use Rattle.search.specs.declared.State.{State}
 use Rattle.search.specs.declared.RowPlan.{RowPlan}
@@ -107,7 +107,7 @@ module _ (sheet : Sheet) (atoms : List (Atom ℕ)) (compiled : Compiled sheet at
   -- of a row that passes the check, the contact rows are the contacts of the plan's floor
   pub planned-touch : (r : RowPlan) (row : ℕ) → PlanSays sheet row r → (h : check (sheet .names) (marksIn sheet atoms row) ≡ true)
       → (i j : ℕ) → i < r .count → j < r .count
-      → memAt (r .rows) i j ≡ planFloor (sheet .names) (marksIn sheet atoms row) h .touch i j
+      → memAt (r .rows) i j ≡ marksFloor (sheet .names) (marksIn sheet atoms row) h .touch i j
   planned-touch r row says h i j li lj =
       let n = sheet .names in
       let ms = marksIn sheet atoms row in

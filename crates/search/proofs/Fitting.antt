@@ -14,10 +14,10 @@ use Rattle.evalset.proofs.Bounded.{side, each}
 use Rattle.evalset.proofs.Members.{names-room, below-few, any-names}
 use Rattle.evalset.proofs.Search.{untrue}
 use Rattle.contact.specs.Meaning.{partTerm}
-use Rattle.contact.specs.Plan.{at, evaluations, Mark, touching, apart, vacant, inhabited, zeroMark, mark, parts, separated, empties, allowed, fills, partners, leads, served, check}
+use Rattle.contact.specs.Plan.{at, evaluations, Mark, touching, apart, vacant, inhabited, zeroMark, mark, parts, separated, empties, allowed, fills, partners, leads, witnessed, check}
 use Rattle.contact.proofs.Realise.{allowed-elim, fills-elim, partners-elim, leads-elim, check-elim}
 use Rattle.search.specs.declared.State.{State}
-use Rattle.search.specs.Tests.{crossed, lessOf, partOf, startsOf, servedOf}
+use Rattle.search.specs.Tests.{crossed, lessOf, partOf, startsOf, witnessedOf}
 use Rattle.search.specs.Compiled.{Stands, AtomIs, Fit, Follows}
 use Rattle.search.proofs.Lists.{any-last, all-last}
 
@@ -163,21 +163,21 @@ module _ (n : ℕ) (few : n ≤ most) (s : State) (ms : List Mark) (f : Fit n s 
           ap (λ (r : ℕ → Bool). any r (below room)) (partners-is y t hy p l)
           ∙ any-names (partners n ms t p) n few (partners-low n ms t p)
 
-  zero-served : (k v : Bool) (x y : ℕ → Bool) (t : Term ℕ) → k ≡ false → Stands n x t
-      → servedOf k v al sep x y ≡ served n ms (zeroMark v t)
-  zero-served k true x y t h g = ap (λ (b : Bool). servedOf b true al sep x y) h
-  zero-served k false x y t h g =
-      ap (λ (b : Bool). servedOf b false al sep x y) h ∙ ap (λ (p : ℕ → Bool). any p (below room)) (fills-is x t g)
+  zero-witnessed : (k v : Bool) (x y : ℕ → Bool) (t : Term ℕ) → k ≡ false → Stands n x t
+      → witnessedOf k v al sep x y ≡ witnessed n ms (zeroMark v t)
+  zero-witnessed k true x y t h g = ap (λ (b : Bool). witnessedOf b true al sep x y) h
+  zero-witnessed k false x y t h g =
+      ap (λ (b : Bool). witnessedOf b false al sep x y) h ∙ ap (λ (p : ℕ → Bool). any p (below room)) (fills-is x t g)
       ∙ any-names (fills n ms t) n few (fills-low n ms t)
 
-  pub served-is : (k v : Bool) (x y : ℕ → Bool) (a : Atom ℕ) → AtomIs n k x y a → servedOf k v al sep x y ≡ served n ms (mark a v)
-  served-is k true x y (Atom.contact u t) h =
-      ap (λ (b : Bool). servedOf b true al sep x y) (h .0)
+  pub witnessed-is : (k v : Bool) (x y : ℕ → Bool) (a : Atom ℕ) → AtomIs n k x y a → witnessedOf k v al sep x y ≡ witnessed n ms (mark a v)
+  witnessed-is k true x y (Atom.contact u t) h =
+      ap (λ (b : Bool). witnessedOf b true al sep x y) (h .0)
       ∙ ap (λ (p : ℕ → Bool). any p (below room)) (leads-is x y u t (h .1) (h .2))
       ∙ any-names (leads n ms u t) n few (leads-low n ms u t)
-  served-is k false x y (Atom.contact u t) h = ap (λ (b : Bool). servedOf b false al sep x y) (h .0)
-  served-is k v x y (Atom.part u t) h = zero-served k v x y (partTerm u t) (h .0) (h .1)
-  served-is k v x y (Atom.empty t) h = zero-served k v x y t (h .0) (h .1)
+  witnessed-is k false x y (Atom.contact u t) h = ap (λ (b : Bool). witnessedOf b false al sep x y) (h .0)
+  witnessed-is k v x y (Atom.part u t) h = zero-witnessed k v x y (partTerm u t) (h .0) (h .1)
+  witnessed-is k v x y (Atom.empty t) h = zero-witnessed k v x y t (h .0) (h .1)
 
 -- ---- a mark that leaves the state as it was: its own witness decides
 
@@ -220,27 +220,27 @@ module _ (n : ℕ) (ms : List Mark) (m : Mark) (h : Unchanging m) where
       each-row : {p q : ℕ → ℕ → Bool} → p ≡ q → (e : ℕ) → p e ≡ q e
       each-row z e = ap (λ (r : ℕ → ℕ → Bool). r e) z
 
-  same-served : (o : Mark) → served n ms o ≡ served n more o
+  same-witnessed : (o : Mark) → witnessed n ms o ≡ witnessed n more o
   unfolding leads partners fills
-  same-served (touching x y) =
+  same-witnessed (touching x y) =
       ap₂
       (λ (al : ℕ → Bool) (sep : ℕ → ℕ → Bool).
       any (λ p. (al p && at x p) && any (λ q. (al q && at y q) && not (sep p q)) (evaluations n)) (evaluations n))
       same-allowed same-separated
-  same-served (apart x y) = refl
-  same-served (vacant t) = refl
-  same-served (inhabited t) = ap (λ (al : ℕ → Bool). any (λ e. al e && at t e) (evaluations n)) same-allowed
+  same-witnessed (apart x y) = refl
+  same-witnessed (vacant t) = refl
+  same-witnessed (inhabited t) = ap (λ (al : ℕ → Bool). any (λ e. al e && at t e) (evaluations n)) same-allowed
 
-  check-next : check n ms ≡ true → served n more m ≡ check n more
+  check-next : check n ms ≡ true → witnessed n more m ≡ check n more
   unfolding check
   check-next c =
       let w = check-elim n ms c in
       sym (ap₂ (λ (b d : Bool). b && d) (ap (λ (p : ℕ → Bool). any p (evaluations n)) (sym same-allowed) ∙ w .0)
-      (all-last (served n more) ms m
-      ∙ ap (λ (b : Bool). b && served n more m)
-      (ap (λ (p : Mark → Bool). all p ms) (sym (fun-ext same-served)) ∙ w .1)))
+      (all-last (witnessed n more) ms m
+      ∙ ap (λ (b : Bool). b && witnessed n more m)
+      (ap (λ (p : Mark → Bool). all p ms) (sym (fun-ext same-witnessed)) ∙ w .1)))
 
 -- the same of a list that ends with the mark
 pub check-last : (n : ℕ) (all-marks ms : List Mark) (m : Mark) → all-marks ≡ ms ++ m ∷ [] → Unchanging m → check n ms ≡ true
-    → served n all-marks m ≡ check n all-marks
-check-last n all-marks ms m e h c = ap (λ (l : List Mark). served n l m) e ∙ check-next n ms m h c ∙ sym (ap (check n) e)
+    → witnessed n all-marks m ≡ check n all-marks
+check-last n all-marks ms m e h c = ap (λ (l : List Mark). witnessed n l m) e ∙ check-next n ms m h c ∙ sym (ap (check n) e)

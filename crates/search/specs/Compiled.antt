@@ -9,7 +9,7 @@ use Rattle.formula.specs.Formula.{Term, Atom}
 use Rattle.evalset.specs.Search.{all}
 use Rattle.evalset.specs.Sets.{room, most, mem, memAt, minusOf}
 use Rattle.contact.specs.Meaning.{partTerm}
-use Rattle.contact.specs.Plan.{at, Mark, mark, rowMarks, separated, allowed, served, check}
+use Rattle.contact.specs.Plan.{at, Mark, mark, rowMarks, separated, allowed, witnessed, check}
 use Rattle.search.specs.declared.Sheet.{Sheet}
 use Rattle.search.specs.declared.State.{State}
 use Rattle.search.specs.Rows.{rowBits}
@@ -65,10 +65,10 @@ StepSays sheet s k value r =
     → Fit (sheet .names) r (ms ++ mark (atomAt atoms k) value ∷ [])
 
 -- every mark of the row has its witness
-unfoldable pub ServedSays : Sheet → State → ℕ → ℕ → Bool → Type 0
-ServedSays sheet s row k r =
+unfoldable pub WitnessedSays : Sheet → State → ℕ → ℕ → Bool → Type 0
+WitnessedSays sheet s row k r =
     (atoms : List (Atom ℕ)) → Compiled sheet atoms → k ≤ length atoms → (ms : List Mark) → Fit (sheet .names) s ms
-    → r ≡ all (served (sheet .names) ms) (rowMarks atoms (rowBits k row))
+    → r ≡ all (witnessed (sheet .names) ms) (rowMarks atoms (rowBits k row))
 
 -- the check of the marks of the row
 unfoldable pub RealisableSays : Sheet → State → ℕ → ℕ → Bool → Type 0

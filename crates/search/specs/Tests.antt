@@ -37,11 +37,11 @@ unfoldable pub startsOf : (ℕ → Bool) → (ℕ → Bool) → (ℕ → ℕ →
 startsOf f g sep p = f p && any (minusOf g (sep p)) (below room)
 
 -- an atom with its value has its witness
-abbrev pub servedOf : Bool → Bool → (ℕ → Bool) → (ℕ → ℕ → Bool) → (ℕ → Bool) → (ℕ → Bool) → Bool
-servedOf true true al sep x y = any (startsOf (meetOf al x) (meetOf al y) sep) (below room)
-servedOf true false al sep x y = true
-servedOf false true al sep x y = true
-servedOf false false al sep x y = any (meetOf al x) (below room)
+abbrev pub witnessedOf : Bool → Bool → (ℕ → Bool) → (ℕ → ℕ → Bool) → (ℕ → Bool) → (ℕ → Bool) → Bool
+witnessedOf true true al sep x y = any (startsOf (meetOf al x) (meetOf al y) sep) (below room)
+witnessedOf true false al sep x y = true
+witnessedOf false true al sep x y = true
+witnessedOf false false al sep x y = any (meetOf al x) (below room)
 
 -- p and its least partner
 abbrev pub pairFrom : (ℕ → Bool) → (ℕ → ℕ → Bool) → ℕ → List ℕ

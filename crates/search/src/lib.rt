@@ -11,8 +11,8 @@ ghost use lib.ListN.{length, getD};
 ghost use Rattle.evalset.specs.Search.{first, keep, below, elem};
 ghost use Rattle.evalset.specs.Sets.{room, most, mem, memAt, addOf};
 ghost use Rattle.search.specs.Rows.{rowBits};
-ghost use Rattle.search.specs.Tests.{Separates, Parts, servedOf, pairOf, givesOf, pickOf, rowOf, rowsOf, Filled};
-ghost use Rattle.search.specs.Compiled.{limit, Fit, Follows, StepSays, ServedSays, RealisableSays, NextSays};
+ghost use Rattle.search.specs.Tests.{Separates, Parts, witnessedOf, pairOf, givesOf, pickOf, rowOf, rowsOf, Filled};
+ghost use Rattle.search.specs.Compiled.{limit, Fit, Follows, StepSays, WitnessedSays, RealisableSays, NextSays};
 ghost use Rattle.search.specs.Planned.{pad, StateSays, GatheredSays, GivenSays, Positions, PlanSays};
 use evalset::EvalSet;
 use evalset::Found;
@@ -136,7 +136,7 @@ pub fn step(sheet: Sheet, s: State, k: usize, value: bool) -> State
 
 // Whether an allowed evaluation of x has an allowed partner in y that is not separated from it.
 fn touches(s: State, x: EvalSet, y: EvalSet) -> bool
-    ensures { λ r. ⌜ r ≡ servedOf true true (mem (s .allowed)) (memAt (s .rows)) (mem x) (mem y) ⌝ }
+    ensures { λ r. ⌜ r ≡ witnessedOf true true (mem (s .allowed)) (memAt (s .rows)) (mem x) (mem y) ⌝ }
 {
     let second = evalset::meet(s.allowed, y);
     let mut rest = evalset::meet(s.allowed, x);
@@ -156,8 +156,8 @@ fn touches(s: State, x: EvalSet, y: EvalSet) -> bool
 }
 
 // Whether an atom with its value has its witness.
-fn served(s: State, contact: bool, x: EvalSet, y: EvalSet, value: bool) -> bool
-    ensures { λ r. ⌜ r ≡ servedOf contact value (mem (s .allowed)) (memAt (s .rows)) (mem x) (mem y) ⌝ }
+fn witnessed(s: State, contact: bool, x: EvalSet, y: EvalSet, value: bool) -> bool
+    ensures { λ r. ⌜ r ≡ witnessedOf contact value (mem (s .allowed)) (memAt (s .rows)) (mem x) (mem y) ⌝ }
 {
     if contact {
         if value { touches(s, x, y) } else { true }
@@ -169,16 +169,16 @@ fn served(s: State, contact: bool, x: EvalSet, y: EvalSet, value: bool) -> bool
 }
 
 // Whether each of the k atoms of the row has its witness.
-fn all_served(sheet: Sheet, s: State, row: usize, k: usize) -> bool
+fn all_witnessed(sheet: Sheet, s: State, row: usize, k: usize) -> bool
     requires { ⌜ k ≤ limit ⌝ }
-    ensures { λ r. ⌜ ServedSays sheet s row k r ⌝ }
+    ensures { λ r. ⌜ WitnessedSays sheet s row k r ⌝ }
 {
     let mut i: usize = 0;
     while i < k {
         let contact = sheet.contact[i];
         let x = sheet.xs[i];
         let y = sheet.ys[i];
-        if !served(s, contact, x, y, value_in(row, k, i)) {
+        if !witnessed(s, contact, x, y, value_in(row, k, i)) {
             return false;
         }
         i += 1;
@@ -194,7 +194,7 @@ pub fn realisable(sheet: Sheet, s: State, row: usize, k: usize) -> bool
     if evalset::is_empty(s.allowed) {
         false
     } else {
-        all_served(sheet, s, row, k)
+        all_witnessed(sheet, s, row, k)
     }
 }
 
@@ -209,7 +209,7 @@ pub fn realisable_next(sheet: Sheet, s: State, row: usize, k: usize) -> bool
     if contact == value {
         let x = sheet.xs[i];
         let y = sheet.ys[i];
-        served(s, contact, x, y, value)
+        witnessed(s, contact, x, y, value)
     } else {
         realisable(sheet, s, row, k)
     }

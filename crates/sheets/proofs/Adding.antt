@@ -110,7 +110,7 @@ module _ (text : List ℕ) (c : Compiling) (code : List ℕ) (rules : List (Form
   pub gather-asked : (rule : Rule) → rule ≡ ruleOf text → Gathers text rule (c .names)
   gather-asked rule e = may-gather text rule (c .names) (namesOf rules) e (m .so-far .names-are) (m .so-far .fits .names-fit)
 
-  pub gathered-is : gathered text (knownOf (c .names)) ≡ enoughOf (namesOf every) (formulaNames f)
+  gathered-is : gathered text (knownOf (c .names)) ≡ enoughOf (namesOf every) (formulaNames f)
   gathered-is =
       let few = m .so-far .fits .names-fit in
       ap (gathered text) (known-from (c .names) (namesOf rules) (m .so-far .names-are))
@@ -119,7 +119,7 @@ module _ (text : List ℕ) (c : Compiling) (code : List ℕ) (rules : List (Form
   pub order-is : (rule : Rule) → rule ≡ ruleOf text → take (rule .len) (rule .order) ≡ codes (postfix f)
   order-is rule e = ap (λ (r : Rule). take (r .len) (r .order)) e ∙ order-read text f (m .is-rule)
 
-  pub used-is : (rule : Rule) → rule ≡ ruleOf text → nameCount (take (rule .len) (rule .order)) ≡ length (formulaNames f)
+  used-is : (rule : Rule) → rule ≡ ruleOf text → nameCount (take (rule .len) (rule .order)) ≡ length (formulaNames f)
   used-is rule e = ap nameCount (order-is rule e) ∙ names-counted f
 
   numbers-are : (g : Gathered) (used : ℕ) → g ≡ gathered text (knownOf (c .names)) → used ≡ length (formulaNames f)

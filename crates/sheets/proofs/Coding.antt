@@ -34,7 +34,7 @@ part-kept code out from end last h k l e s =
 
 -- ---- where the last part ends
 
-pub last-after : (many : ℕ) (code : List ℕ) (from : ℕ) (ends : List ℕ) (rules : List (Form ℕ)) → CodedFrom many code from ends rules
+last-after : (many : ℕ) (code : List ℕ) (from : ℕ) (ends : List ℕ) (rules : List (Form ℕ)) → CodedFrom many code from ends rules
     → from ≤ lastEnd from ends
 last-after many code from [] rules h = omega arith
 last-after many code from (end ∷ ends) [] h = absurd h

@@ -48,7 +48,7 @@ module _ {A B : Type 0} (g h : A → B) where
       → c (mapForm g f) (mapForm g k) ≡ c (mapForm h f) (mapForm h k)
   sides-same c f k u left right = ap₂ c (left (λ x i. u x (in-left (atomsOf k) i))) (right (λ x i. u x (in-right (atomsOf f) i)))
 
-  pub form-same : (f : Form A) → Same (atomsOf f) → mapForm g f ≡ mapForm h f
+  form-same : (f : Form A) → Same (atomsOf f) → mapForm g f ≡ mapForm h f
   form-same Form.truth u = refl
   form-same Form.falsity u = refl
   form-same (Form.atom a) u = ap Form.atom (u a here)
@@ -58,7 +58,7 @@ module _ {A B : Type 0} (g h : A → B) where
   form-same (Form.implication f k) u = sides-same Form.implication f k u (form-same f) (form-same k)
   form-same (Form.equivalence f k) u = sides-same Form.equivalence f k u (form-same f) (form-same k)
 
-  pub forms-same : (fs : List (Form A)) → Same (allAtoms fs) → map (mapForm g) fs ≡ map (mapForm h) fs
+  forms-same : (fs : List (Form A)) → Same (allAtoms fs) → map (mapForm g) fs ≡ map (mapForm h) fs
   forms-same [] u = refl
   forms-same (f ∷ fs) u =
       ap₂ _∷_ (form-same f (λ x i. u x (in-left (allAtoms fs) i))) (forms-same fs (λ x i. u x (in-right (atomsOf f) i)))

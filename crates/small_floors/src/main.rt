@@ -8,22 +8,27 @@
 // for its row. A sheet that disagrees is written, and why. The file `stdout` has document 01's answers to P1 to P12 and the counts
 // that a separate computation gave.
 ghost use Rattle.table.specs.Calls.{FromUs};
-use floor_search::ALL;
-use floor_search::AND;
-use floor_search::CONTACT;
-use floor_search::EMPTY;
-use floor_search::EXACTLY_IF;
-use floor_search::FALSE;
-use floor_search::Found;
-use floor_search::IF;
-use floor_search::Maker;
-use floor_search::NAME;
-use floor_search::NOT;
-use floor_search::OR;
-use floor_search::PART;
-use floor_search::RULE;
-use floor_search::TRUE;
-use floor_search::UNWRITTEN;
+
+mod floors;
+mod given;
+mod making;
+
+use floors::ALL;
+use floors::AND;
+use floors::CONTACT;
+use floors::EMPTY;
+use floors::EXACTLY_IF;
+use floors::FALSE;
+use floors::Found;
+use floors::IF;
+use floors::NAME;
+use floors::NOT;
+use floors::OR;
+use floors::PART;
+use floors::RULE;
+use floors::TRUE;
+use given::UNWRITTEN;
+use making::Maker;
 use table::AddAnswer;
 use table::AskAnswer;
 use table::Table;
@@ -150,9 +155,9 @@ fn is_late(names: usize, row: u32, first: u32) -> bool {
 
 // Whether the words are those that document 01 gives for the row.
 fn check_words(code: &[u8], names: usize, row: u32, n: usize, words: &[u32; 530]) -> Finding {
-    let expected = floor_search::words_of(floor_search::atoms_of(code, names, row));
+    let expected = given::words_of(given::atoms_of(code, names, row));
     if expected.count == n {
-        if floor_search::same_words(words, expected) {
+        if given::same_words(words, expected) {
             return Finding::Plan(n);
         }
     }
@@ -165,7 +170,7 @@ fn check_plan(code: &[u8], names: usize, found: Found, n: usize, words: &[u32; 5
             return disagree(b"a plan, but no floor is found");
         }
     }
-    let m = floor_search::on_floor(code, floor_search::floor_in(words, n));
+    let m = floors::on_floor(code, given::floor_in(words, n));
     if !m.met {
         return disagree(b"the plan does not meet the rules");
     }
@@ -179,14 +184,14 @@ fn check_no_plan(found: Found, words: &[u32; 530]) -> Finding {
     if found.some {
         return disagree(b"no plan, but a floor is found");
     }
-    if floor_search::same_words(words, floor_search::no_words()) {
+    if given::same_words(words, given::no_words()) {
         return Finding::NoPlan;
     }
     disagree(b"no plan, but words are written")
 }
 
 fn check(code: &[u8], names: usize, answer: Answer, words: &[u32; 530]) -> Finding {
-    let found = floor_search::search(code, names);
+    let found = floors::search(code, names);
     if !found.whole {
         return disagree(b"the form is not evaluated");
     }
@@ -516,7 +521,7 @@ fn test_made(counts: &mut [u64; 26], text: &[u8; 1100], form: &[u8; 512], m: Mak
 fn test_generated(counts: &mut [u64; 26], k: u64) {
     let mut text = [0u8; 1100];
     let mut form = [0u8; 512];
-    let m = floor_search::with_rules(floor_search::sheet_maker(k), &mut text, &mut form);
+    let m = making::with_rules(making::sheet_maker(k), &mut text, &mut form);
     test_made(counts, &text, &form, m);
 }
 

@@ -16,7 +16,7 @@ use Rattle.evalset.proofs.Search.{none-in, in-either}
 use Rattle.evalset.proofs.Bounded.{each}
 use Rattle.contact.specs.Numbering.{allAtoms}
 use Rattle.contact.specs.Row.{unknown, PartialRow}
-use Rattle.contact.specs.Tableau.{value3, refuted, refutes}
+use Rattle.contact.specs.Tableau.{kleeneValue, refuted, refutes}
 use Rattle.kleene.specs.declared.Two.{Two}
 use Rattle.kleene.specs.Code.{Safe}
 use Rattle.kleene.proofs.Claims.{safe-postfix}
@@ -74,7 +74,7 @@ module _ (many : ℕ) (code : List ℕ) (leaves : List Two) (rules : List (Form 
       rest = rest;
       to-come = h .1;
       so-far = λ e l row v.
-          g e l row v ∙ or-assoc (acc e) (refuted (value3 (λ i. getD row i unknown) rule)) (refutes rest row)
+          g e l row v ∙ or-assoc (acc e) (refuted (kleeneValue (λ i. getD row i unknown) rule)) (refutes rest row)
           ∙ ap (λ (b : Bool). (acc e || b) || refutes rest row) (sym (says rule (h .0 .is-code) e l row v));
     }
 

@@ -10,7 +10,7 @@ use borrow.Author.Tests.{not-true}
 use Rattle.formula.specs.Formula.{Term, Atom}
 use Rattle.evalset.specs.Search.{In, next, any, all}
 use Rattle.evalset.proofs.Search.{clash, both, and-intro, none-in, uncons, at-head, any-intro, any-elim, none-intro, all-intro, all-elim}
-use Rattle.contact.specs.Plan.{at, Mark, touching, apart, vacant, inhabited, rowMarks, evaluations, parts, empties, separated, allowed, fills, partners, leads, served, check}
+use Rattle.contact.specs.Plan.{at, Mark, touching, apart, vacant, inhabited, rowMarks, evaluations, parts, empties, separated, allowed, fills, partners, leads, witnessed, check}
 
 any-more : {A : Type 0} (p q : A → Bool) (xs : List A) → ((x : A) → p x ≡ true → q x ≡ true) → any p xs ≡ true → any q xs ≡ true
 any-more p q xs h t = let w = any-elim p xs t in any-intro q (w .1) (h (w .0) (w .2))
@@ -49,19 +49,19 @@ module _ (n : ℕ) (ms fewer : List Mark) (sub : (m : Mark) → In m fewer → I
       and-intro (fills n fewer x p) _ (fills-fewer x p (w .0))
       (any-more (partners n ms y p) (partners n fewer y p) (evaluations n) (partners-fewer y p) (w .1))
 
-  served-fewer : (m : Mark) → served n ms m ≡ true → served n fewer m ≡ true
-  served-fewer (touching x y) h = any-more (leads n ms x y) (leads n fewer x y) (evaluations n) (leads-fewer x y) h
-  served-fewer (apart x y) h = refl
-  served-fewer (vacant t) h = refl
-  served-fewer (inhabited t) h = any-more (fills n ms t) (fills n fewer t) (evaluations n) (fills-fewer t) h
+  witnessed-fewer : (m : Mark) → witnessed n ms m ≡ true → witnessed n fewer m ≡ true
+  witnessed-fewer (touching x y) h = any-more (leads n ms x y) (leads n fewer x y) (evaluations n) (leads-fewer x y) h
+  witnessed-fewer (apart x y) h = refl
+  witnessed-fewer (vacant t) h = refl
+  witnessed-fewer (inhabited t) h = any-more (fills n ms t) (fills n fewer t) (evaluations n) (fills-fewer t) h
 
   check-fewer : check n ms ≡ true → check n fewer ≡ true
   unfolding check
   check-fewer h =
-      let w = both (any (allowed n ms) (evaluations n)) (all (served n ms) ms) h in
+      let w = both (any (allowed n ms) (evaluations n)) (all (witnessed n ms) ms) h in
       and-intro (any (allowed n fewer) (evaluations n)) _
       (any-more (allowed n ms) (allowed n fewer) (evaluations n) allowed-fewer (w .0))
-      (all-intro (served n fewer) fewer (λ m i. served-fewer m (all-elim (served n ms) (sub m i) (w .1))))
+      (all-intro (witnessed n fewer) fewer (λ m i. witnessed-fewer m (all-elim (witnessed n ms) (sub m i) (w .1))))
 
 -- the marks of a row are among those of each row that begins with it
 marks-in : (atoms : List (Atom ℕ)) (row ext : List Bool) (m : Mark) → In m (rowMarks atoms row) → In m (rowMarks atoms (row ++ ext))

@@ -10,7 +10,7 @@ use Rattle.evalset.specs.declared.EvalSet.{EvalSet}
 use Rattle.evalset.specs.Search.{In}
 use Rattle.evalset.specs.Sets.{room, mem}
 use Rattle.contact.specs.Row.{unknown, PartialRow}
-use Rattle.contact.specs.Tableau.{value3, refuted, refutes}
+use Rattle.contact.specs.Tableau.{kleeneValue, refuted, refutes}
 use Rattle.kleene.specs.declared.Two.{Two}
 use Rattle.kleene.specs.Code.{postfix, Safe}
 use Rattle.kleene.specs.Rails.{duoOf, leafAt}
@@ -59,7 +59,7 @@ Values leaves e row = (i : ℕ) → leafAt leaves e i ≡ duoOf (getD row i unkn
 unfoldable pub RuleRefuted : List ℕ → List Two → EvalSet → Type 0
 RuleRefuted code leaves r =
     (rule : Form ℕ) → code ≡ postfix rule → (e : ℕ) → e < room → (row : PartialRow) → Values leaves e row
-    → mem r e ≡ refuted (value3 (λ i. getD row i unknown) rule)
+    → mem r e ≡ refuted (kleeneValue (λ i. getD row i unknown) rule)
 
 -- and here of all rules
 unfoldable pub RefutedSays : List ℕ → List ℕ → List Two → EvalSet → Type 0

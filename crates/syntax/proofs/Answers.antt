@@ -191,7 +191,7 @@ pub more-refused : (ks : List ℕ) (k : ℕ) (s : Read) (p : ℕ) (A : List ℕ)
 more-refused ks k s p A v = subst (λ (z : Read). MoreSaid ks k z A (Refused p) A) (sym v) (record { says = λ xs e K l R g. g; stops = tt; sorted = λ w g. g; within = λ m d g. g })
 
 -- an answer on which no binary sign goes is the answer
-pub none-follows : (ks : List ℕ) (k : ℕ) (s : Read) (A : List ℕ) → MoreAsked ks k s → followsOf ks k s ≡ false → MoreSaid ks k s A s A
+none-follows : (ks : List ℕ) (k : ℕ) (s : Read) (A : List ℕ) → MoreAsked ks k s → followsOf ks k s ≡ false → MoreSaid ks k s A s A
 none-follows ks k (Value t p n) A a h = more-none ks k (Value t p n) t p n (kindAt ks p) (bindingOf t (kindAt ks p)) A a refl refl refl (ltb-false k (bindingOf t (kindAt ks p)) h)
 none-follows ks k (Refused p) A a h = more-refused ks k (Refused p) p A refl
 

@@ -52,7 +52,7 @@ length-codes (x ∷ xs) = ap suc (length-codes xs)
 abbrev signs : List Sym
 signs = binary Implies ∷ binary Iff ∷ binary Or ∷ binary And ∷ binary Plus ∷ binary Times ∷ minus ∷ tilde ∷ opening ∷ closing ∷ isZero ∷ comma ∷ constant true ∷ constant false ∷ relation contact ∷ relation part ∷ []
 
-abbrev pub signAt : ℕ → Sym
+abbrev signAt : ℕ → Sym
 signAt c = getD signs c opening
 
 sign-code : (x : Sym) → code x < 16 → signAt (code x) ≡ x

@@ -1,17 +1,16 @@
 -- Laws of the machine: how a value is handed to the frame that waits for it, and that a refused token stays refused.
 -- Assumes nothing.
-use Prim.Native.Nat.{ℕ, suc, _+_, _≤_, _<_}
+use Prim.Native.Nat.{ℕ, _+_, _≤_, _<_}
 use native.Mathlib.Omega.{arith}
-use mathlib.Core.Path.{_≡_, refl, sym, ap, _∙_}
+use mathlib.Core.Path.{_≡_, refl, ap}
 use mathlib.Core.List.{List, [], _∷_, _++_}
 use mathlib.Core.Bool.{Bool, true, false}
-use lib.Dec.{ltb}
 use borrow.Author.Tests.{lt-ltb, le-ltb}
 use Rattle.formula.specs.declared.Sign.{Sign}
 use Rattle.formula.specs.declared.Sign.the-variants.{Implies, Iff, Or, And, Plus, Times}
 use Rattle.formula.specs.Sign.{joinsTerms}
-use Rattle.syntax.specs.Symbol.{Symbol, leaf, minus, tilde, opening, closing, comma, isZero, binary, constant, relation}
-use Rattle.syntax.specs.Machine.{Sym, Frame, inParenthesis, afterMinus, afterTilde, afterBinary, firstOf, secondOf, need, signOf, loosest, State, want, have, call, dead, Popped, pickPopped, pop, close, zeroed, part, join, step, Result, accepted, refused, done, finish, run}
+use Rattle.syntax.specs.Symbol.{leaf, minus, tilde, opening, closing, comma, isZero, binary, constant, relation}
+use Rattle.syntax.specs.Machine.{Sym, Frame, inParenthesis, afterMinus, afterTilde, afterBinary, firstOf, secondOf, need, signOf, loosest, have, dead, Popped, pickPopped, pop, close, zeroed, part, join, step, refused, done, finish, run}
 use Rattle.syntax.specs.Reader.{top, goes, goesOn}
 
 pub true≢false : true ≡ false → ⊥

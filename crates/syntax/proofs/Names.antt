@@ -5,7 +5,7 @@ use mathlib.Core.List.{List, [], _∷_, _++_, append-assoc, append-nil}
 use Prim.Native.Nat.{ℕ}
 use Rattle.formula.specs.Formula.{Term, Atom, Form, Formula}
 use Rattle.formula.specs.Names.{termNames, formulaNames}
-use Rattle.syntax.specs.Symbol.{Leaf, Symbol, leaf, opening, closing, comma, relation, contact, part}
+use Rattle.syntax.specs.Symbol.{Leaf, Symbol, leaf, opening, closing, comma, contact, part}
 use Rattle.syntax.specs.Grammar.{leafTerm, IsTerm, t-leaf, t-minus, t-times, t-plus, t-parenthesis, t-looser, IsFormula, f-truth, f-falsity, f-contact, f-part, f-empty, f-tilde, f-and, f-or, f-implies, f-iff, f-parenthesis, f-looser, Derives}
 use Rattle.syntax.specs.Postfix.{termAfter, formulaAfter, postfix, symbolNames, namesIn}
 

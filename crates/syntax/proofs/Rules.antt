@@ -6,7 +6,7 @@ use lib.Dec.{ltb}
 use borrow.Author.Tests.{ltb-true, ltb-false}
 use mathlib.Core.Logic.{_⊎_, inl, inr, ⊎-elim}
 use mathlib.Core.List.{List, [], _∷_, _++_, map}
-use Prim.Native.Nat.{ℕ, _+_, _-_, _≤_, _<_}
+use Prim.Native.Nat.{ℕ, _-_, _≤_, _<_}
 use native.Mathlib.Omega.{arith}
 use lib.ListN.{length, getD, take, replicate, length-map, List·getD-map, List·getD-eq-default}
 use lib.Seq.{take-at}
@@ -23,7 +23,7 @@ use Rattle.lexer.specs.declared.Tokens.{Tokens}
 use Rattle.lexer.proofs.Claims.{start-at, at-most, lexed-cutting, lexed-too-long}
 use Rattle.formula.specs.Formula.{Name}
 use Rattle.syntax.specs.Symbol.{symbolOf, kindOf}
-use Rattle.syntax.specs.Machine.{Sym, Result, accepted, refused, reading}
+use Rattle.syntax.specs.Machine.{Sym, reading}
 use Rattle.syntax.specs.Reader.{codes, Parsed}
 use Rattle.syntax.specs.RuleText.{symbolsOf, placeOf}
 use Rattle.syntax.specs.Rule.{refusalOf, readTokens, tokensIn, byAnswer, ruleOf}

@@ -17,9 +17,9 @@ use Rattle.lexer.proofs.Claims.{computed-is-meant, meant-is-computed, lexed-cut
 use Rattle.formula.specs.Formula.{Formula, Name}
 use Rattle.syntax.specs.Grammar.{Derives}
 use Rattle.syntax.specs.Postfix.{postfix}
-use Rattle.syntax.specs.Machine.{Sym, Result, accepted, refused as refusedAt, run as runTokens, reading}
+use Rattle.syntax.specs.Machine.{Result, accepted, refused as refusedAt, run as runTokens, reading}
 use Rattle.syntax.specs.Reader.{codes}
-use Rattle.syntax.specs.RuleText.{symbolsOf, placeOf, IsRule, Answers, formula, too-long, no-token, foreign-byte, long-name, measured, grammar}
+use Rattle.syntax.specs.RuleText.{symbolsOf, IsRule, Answers, formula, too-long, no-token, foreign-byte, long-name, measured, grammar}
 use Rattle.syntax.specs.Rule.{refusalOf, readTokens, tokensIn, byAnswer, ruleOf, formulaRead, meaningOf}
 use Rattle.syntax.specs.declared.RuleAnswer.{RuleAnswer}
 use Rattle.syntax.specs.declared.RuleAnswer.the-variants as RuleAnswer

@@ -7,7 +7,7 @@ use lib.Dec.{ltb}
 use Rattle.formula.specs.declared.Sign.{Sign}
 use Rattle.formula.specs.Sign.{levelOf, joinsTerms}
 use Rattle.formula.specs.Formula.{Name}
-use Rattle.syntax.specs.Symbol.{Leaf, Relation, Symbol, leaf, minus, tilde, opening, closing, comma, isZero, binary, constant, relation}
+use Rattle.syntax.specs.Symbol.{Relation, Symbol, leaf, minus, tilde, opening, closing, comma, isZero, binary, constant, relation}
 
 abbrev pub Sym : Type 0
 Sym = Symbol Name

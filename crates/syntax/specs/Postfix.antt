@@ -1,7 +1,6 @@
 -- Postfix order: each sign after what it is put on. A formula is found again from it. Assumes nothing.
-use mathlib.Core.Bool.{Bool, true, false}
+use mathlib.Core.Bool.{true, false}
 use mathlib.Core.List.{List, [], _∷_, _++_}
-use Rattle.formula.specs.declared.Sign.{Sign}
 use Rattle.formula.specs.declared.Sign.the-variants.{Implies, Iff, Or, And, Plus, Times}
 use Rattle.formula.specs.Formula.{Term, Atom, Form, Formula}
 use Rattle.syntax.specs.Grammar.{leafTerm}

@@ -3,13 +3,12 @@
 use mathlib.Core.Bool.{Bool, true, false, cond}
 use mathlib.Core.List.{List, [], _∷_, _++_}
 use mathlib.Core.Path.{_≡_}
-use Prim.Native.Nat.{ℕ, suc, _+_, _-_, _≤_, _<_}
+use Prim.Native.Nat.{ℕ, _+_, _-_, _≤_, _<_}
 use lib.Dec.{eqb, ltb}
 use lib.ListN.{length, getD, drop, set, replicate}
-use Rattle.formula.specs.declared.Sign.{Sign}
 use Rattle.formula.specs.declared.Sign.the-variants.{Implies, Iff, Or, And, Plus, Times}
 use Rattle.lexer.specs.Arrays.{codeOf}
-use Rattle.syntax.specs.Symbol.{Symbol, Relation, kindOf, leaf, minus, tilde, opening, closing, comma, isZero, binary, constant, relation}
+use Rattle.syntax.specs.Symbol.{Relation, kindOf, leaf, minus, tilde, opening, closing, comma, isZero, binary, constant, relation}
 use Rattle.syntax.specs.Machine.{Sym, Frame, inParenthesis, need, allow, same, want, have, call, Result, accepted, refused, run, reading}
 use Rattle.syntax.specs.declared.Read.{Read}
 use Rattle.syntax.specs.declared.Read.the-variants.{Value, Refused}

@@ -1,14 +1,14 @@
 -- What is computed: the answer for a rule text, with its tokens and its formula's order as arrays. Assumes nothing.
-use mathlib.Core.List.{List, [], _∷_, _++_, map}
+use mathlib.Core.List.{List, [], _++_}
 use Prim.Native.Nat.{ℕ, _-_}
-use lib.ListN.{length, getD, replicate}
+use lib.ListN.{length, replicate}
 use Rattle.lexer.specs.Token.{Token}
 use Rattle.lexer.specs.Cutting.{Cutting, tokens, refused}
 use Rattle.lexer.specs.Cutter.{cutting}
 use Rattle.lexer.specs.Arrays.{tokensOf, lexed}
 use Rattle.lexer.specs.declared.LexAnswer.{LexAnswer}
 use Rattle.lexer.specs.declared.LexAnswer.the-variants as LexAnswer
-use Rattle.syntax.specs.Machine.{Sym, Result, accepted, refused as refusedAt, reading}
+use Rattle.syntax.specs.Machine.{Result, accepted, refused as refusedAt, reading}
 use Rattle.formula.specs.Formula.{Form, Formula, Name}
 use Rattle.syntax.specs.Postfix.{formulaOf}
 use Rattle.syntax.specs.Reader.{codes}

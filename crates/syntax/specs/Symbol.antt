@@ -1,10 +1,8 @@
 -- The alphabet of the grammar: tokens as what they say, a name by itself, with no place in a text. Assumes nothing.
 use mathlib.Core.Bool.{Bool, true, false}
-use mathlib.Core.List.{List}
-use Prim.Native.Nat.{ℕ}
 use Rattle.formula.specs.declared.Sign.{Sign}
 use Rattle.formula.specs.declared.Sign.the-variants.{Implies, Iff, Or, And, Plus, Times}
-use Rattle.formula.specs.Formula.{Term, Name}
+use Rattle.formula.specs.Formula.{Name}
 use Rattle.lexer.specs.declared.Kind.{Kind}
 use Rattle.lexer.specs.declared.Kind.the-variants as Kind
 

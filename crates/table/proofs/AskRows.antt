@@ -2,7 +2,6 @@
 -- are read exactly if they are those of a plan. Assumes nothing.
 use Prim.Native.Nat.{ℕ, _≤_, _<_}
 use mathlib.Core.Path.{_≡_, refl, sym, ap, _∙_, subst}
-use mathlib.Core.Logic.{⊎-elim}
 use mathlib.Core.Bool.{Bool, true, false, cond}
 use mathlib.Core.List.{List, [], _∷_, cons≢nil}
 use native.Mathlib.Omega.{arith}
@@ -12,7 +11,7 @@ use lib.Dec.{leb, eqb}
 use lib.ListN.{length}
 use borrow.Author.Tests.{leb-true, leb-false, le-leb, lt-leb, eq-eqb, ne-eqb}
 use Rattle.formula.specs.Formula.{Formula, Name}
-use Rattle.contact.specs.Meaning.{Floor, meetsAll}
+use Rattle.contact.specs.Meaning.{Floor}
 use Rattle.contact.specs.Numbering.{namesOf}
 use Rattle.contact.proofs.Naming.{renamed, numberOf}
 use Rattle.plan.specs.Words.{Plan, IsPlan, wordsOf}
@@ -21,7 +20,6 @@ use Rattle.plan.specs.Given.{plansOf, IsGiven}
 use Rattle.plan.specs.Judging.{Judgement, judge}
 use Rattle.plan.proofs.Exact.{Says, exact}
 use Rattle.plan.proofs.Floors.{planFloor, namedFloor}
-use Rattle.plan.proofs.Unmet.{FirstUnmet}
 use Rattle.plan.proofs.Claims.{plan-is-read, refused-exactly, judge-yes, judge-unmet, no-plan-given, given-exactly, given-at-most-one}
 use Rattle.table.specs.declared.AskAnswer.{AskAnswer}
 use Rattle.table.specs.declared.AskAnswer.the-variants as AskAnswer
@@ -30,27 +28,28 @@ use Rattle.table.specs.declared.JudgeAnswer.the-variants as JudgeAnswer
 use Rattle.table.specs.Store.{Text}
 use Rattle.table.specs.Calls.{formulasOf, namesIn}
 use Rattle.table.specs.Asking.{planAnswer, foundAnswer, askAnswer, judgementAnswer, judgePlan, judgeReading, judgeAnswer}
+use Rattle.table.specs.Numbers.{Outcome, askOutcome, judgeOutcome}
 use Rattle.table.specs.Rows.{SomeStand, AskRow, Drawn, floorOf, JudgeRow}
 
 -- ---- ask
 
 module _ (room : ℕ) where
   -- where a rule stands, the plans decide
-  found-row : (rs : List Text) → SomeStand rs → (ps : List Plan) → plansOf (formulasOf rs) ≡ ps → length ps ≤ 1 → AskRow rs room (foundAnswer ps room)
+  found-row : (rs : List Text) → SomeStand rs → (ps : List Plan) → plansOf (formulasOf rs) ≡ ps → length ps ≤ 1 → AskRow rs room (askOutcome (foundAnswer ps room))
   found-row rs some [] e l = AskRow.without some (no-plan-given (formulasOf rs) .0 e)
   found-row rs some (p ∷ []) e l = go (leb (length (wordsOf p)) room) refl
     where
-      go : (b : Bool) → leb (length (wordsOf p)) room ≡ b → AskRow rs room (cond b (AskAnswer.Plan (length (wordsOf p))) (AskAnswer.ShortBuffer (length (wordsOf p))))
+      go : (b : Bool) → leb (length (wordsOf p)) room ≡ b → AskRow rs room (askOutcome (cond b (AskAnswer.Plan (length (wordsOf p))) (AskAnswer.ShortBuffer (length (wordsOf p)))))
       go true t = AskRow.given some (given-exactly (formulasOf rs) p .0 e) (leb-true (length (wordsOf p)) room t)
       go false t = AskRow.short some (given-exactly (formulasOf rs) p .0 e) (leb-false (length (wordsOf p)) room t)
   found-row rs some (p ∷ q ∷ ps) e l = absurd (omega arith)
 
-  pub ask-row : (rs : List Text) → AskRow rs room (askAnswer rs room)
+  pub ask-row : (rs : List Text) → AskRow rs room (askOutcome (askAnswer rs room))
   unfolding askAnswer
   ask-row [] = AskRow.none refl
   ask-row (s ∷ rs) = found-row (s ∷ rs) cons≢nil (plansOf (formulasOf (s ∷ rs))) refl (given-at-most-one (formulasOf (s ∷ rs)))
 
-  pub asked-found : (rs : List Text) → SomeStand rs → askAnswer rs room ≡ foundAnswer (plansOf (formulasOf rs)) room
+  asked-found : (rs : List Text) → SomeStand rs → askAnswer rs room ≡ foundAnswer (plansOf (formulasOf rs)) room
   unfolding askAnswer
   asked-found [] some = absurd (some refl)
   asked-found (s ∷ rs) some = refl
@@ -61,38 +60,41 @@ module _ (room : ℕ) where
   by-room : (n : ℕ) (b : Bool) → leb n room ≡ b → cond b (AskAnswer.Plan n) (AskAnswer.ShortBuffer n) ≡ planAnswer n room
   by-room n b e = ap (λ (t : Bool). cond t (AskAnswer.Plan n) (AskAnswer.ShortBuffer n)) (sym e)
 
-  pub ask-row-only : (rs : List Text) (a : AskAnswer) → AskRow rs room a → a ≡ askAnswer rs room
+  pub ask-row-only : (rs : List Text) (o : Outcome) → AskRow rs room o → o ≡ askOutcome (askAnswer rs room)
   unfolding askAnswer
-  ask-row-only rs a (AskRow.none e) = sym (ap (λ (l : List Text). askAnswer l room) e)
-  ask-row-only rs a (AskRow.without some never) = sym (asked-found rs some ∙ ap (λ (ps : List Plan). foundAnswer ps room) (no-plan-given (formulasOf rs) .1 never))
-  ask-row-only rs a (AskRow.short {p} some g l) = by-room (length (wordsOf p)) false (lt-leb (length (wordsOf p)) room l) ∙ sym (asked-given rs some p g)
-  ask-row-only rs a (AskRow.given {p} some g l) = by-room (length (wordsOf p)) true (le-leb (length (wordsOf p)) room l) ∙ sym (asked-given rs some p g)
+  ask-row-only rs o (AskRow.none e) = sym (ap (λ (l : List Text). askOutcome (askAnswer l room)) e)
+  ask-row-only rs o (AskRow.without some never) =
+      sym (ap askOutcome (asked-found rs some ∙ ap (λ (ps : List Plan). foundAnswer ps room) (no-plan-given (formulasOf rs) .1 never)))
+  ask-row-only rs o (AskRow.short {p} some g l) =
+      ap askOutcome (by-room (length (wordsOf p)) false (lt-leb (length (wordsOf p)) room l) ∙ sym (asked-given rs some p g))
+  ask-row-only rs o (AskRow.given {p} some g l) =
+      ap askOutcome (by-room (length (wordsOf p)) true (le-leb (length (wordsOf p)) room l) ∙ sym (asked-given rs some p g))
 
 -- ---- judge
 
 module _ (words : List ℕ) where
   -- where the words are a plan of as many names, its floor decides
-  met-row : (rs : List Text) → SomeStand rs → (p : Plan) (d : Drawn rs words p) (j : Judgement) → judge (floorOf d) (formulasOf rs) ≡ j → JudgeRow rs words (judgementAnswer j)
+  met-row : (rs : List Text) → SomeStand rs → (p : Plan) (d : Drawn rs words p) (j : Judgement) → judge (floorOf d) (formulasOf rs) ≡ j → JudgeRow rs words (judgeOutcome (judgementAnswer j))
   met-row rs some p d Judgement.yes e = JudgeRow.met some d (judge-yes (floorOf d) (formulasOf rs) .0 e)
   met-row rs some p d (Judgement.unmet k) e = JudgeRow.unmet some d (judge-unmet (floorOf d) (formulasOf rs) k .0 e)
 
-  plan-row : (rs : List Text) → SomeStand rs → (p : Plan) (h : IsPlan p) → wordsOf p ≡ words → JudgeRow rs words (judgePlan (formulasOf rs) p h)
+  plan-row : (rs : List Text) → SomeStand rs → (p : Plan) (h : IsPlan p) → wordsOf p ≡ words → JudgeRow rs words (judgeOutcome (judgePlan (formulasOf rs) p h))
   unfolding namesIn
   plan-row rs some p h w = go (decEq (p .names) (length (namesOf (formulasOf rs))))
     where
       answer : Bool → JudgeAnswer
       answer b = cond b (judgementAnswer (judge (namedFloor (formulasOf rs) p h) (formulasOf rs))) (JudgeAnswer.NamesDiffer (p .names))
 
-      go : Dec (p .names ≡ length (namesOf (formulasOf rs))) → JudgeRow rs words (answer (eqb (p .names) (length (namesOf (formulasOf rs)))))
-      go (yes e) = subst (λ (b : Bool). JudgeRow rs words (answer b)) (sym (eq-eqb (p .names) (length (namesOf (formulasOf rs))) e))
+      go : Dec (p .names ≡ length (namesOf (formulasOf rs))) → JudgeRow rs words (judgeOutcome (answer (eqb (p .names) (length (namesOf (formulasOf rs))))))
+      go (yes e) = subst (λ (b : Bool). JudgeRow rs words (judgeOutcome (answer b))) (sym (eq-eqb (p .names) (length (namesOf (formulasOf rs))) e))
           (met-row rs some p (record { is = h; words-are = w; named = e }) (judge (namedFloor (formulasOf rs) p h) (formulasOf rs)) refl)
-      go (no e) = subst (λ (b : Bool). JudgeRow rs words (answer b)) (sym (ne-eqb (p .names) (length (namesOf (formulasOf rs))) e)) (JudgeRow.differ some h w e)
+      go (no e) = subst (λ (b : Bool). JudgeRow rs words (judgeOutcome (answer b))) (sym (ne-eqb (p .names) (length (namesOf (formulasOf rs))) e)) (JudgeRow.differ some h w e)
 
-  reading-row : (rs : List Text) → SomeStand rs → (r : Reading) (h : Says words r) → JudgeRow rs words (judgeReading (formulasOf rs) words r h)
+  reading-row : (rs : List Text) → SomeStand rs → (r : Reading) (h : Says words r) → JudgeRow rs words (judgeOutcome (judgeReading (formulasOf rs) words r h))
   reading-row rs some (plan p) h = plan-row rs some p (h .0) (h .1)
   reading-row rs some (refused j) h = JudgeRow.unread some h
 
-  pub judge-row : (rs : List Text) → JudgeRow rs words (judgeAnswer rs words)
+  pub judge-row : (rs : List Text) → JudgeRow rs words (judgeOutcome (judgeAnswer rs words))
   unfolding judgeAnswer
   judge-row [] = JudgeRow.none refl
   judge-row (s ∷ rs) = reading-row (s ∷ rs) cons≢nil (readOf words) (exact words)
@@ -130,14 +132,15 @@ module _ (words : List ℕ) where
   drawn-judged : (rs : List Text) → SomeStand rs → (p : Plan) (d : Drawn rs words p) → judgeAnswer rs words ≡ judgementAnswer (judge (floorOf d) (formulasOf rs))
   drawn-judged rs some p d = judged-plan rs some p (d .is) (d .words-are) ∙ by-names rs p (d .is) true (eq-eqb (p .names) (length (namesIn rs)) (d .named))
 
-  pub judge-row-only : (rs : List Text) (a : JudgeAnswer) → JudgeRow rs words a → a ≡ judgeAnswer rs words
+  pub judge-row-only : (rs : List Text) (o : Outcome) → JudgeRow rs words o → o ≡ judgeOutcome (judgeAnswer rs words)
   unfolding judgeAnswer
-  judge-row-only rs a (JudgeRow.none e) = sym (ap (λ (l : List Text). judgeAnswer l words) e)
-  judge-row-only rs a (JudgeRow.unread {j} some r) = sym (judged-read rs some ∙ go (readOf words) (exact words) (refused-exactly words j .1 r))
+  judge-row-only rs o (JudgeRow.none e) = sym (ap (λ (l : List Text). judgeOutcome (judgeAnswer l words)) e)
+  judge-row-only rs o (JudgeRow.unread {j} some r) = sym (ap judgeOutcome (judged-read rs some ∙ go (readOf words) (exact words) (refused-exactly words j .1 r)))
     where
       go : (x : Reading) (s : Says words x) → x ≡ refused j → judgeReading (formulasOf rs) words x s ≡ JudgeAnswer.NotAPlan j
       go (plan q) s e = absurd (let z : _≡_ {A = ℕ} 0 1 = cc in omega arith)
       go (refused i) s e = let z : i ≡ j = cc in ap JudgeAnswer.NotAPlan z
-  judge-row-only rs a (JudgeRow.differ {p} some h w n) = sym (judged-plan rs some p h w ∙ by-names rs p h false (ne-eqb (p .names) (length (namesIn rs)) n))
-  judge-row-only rs a (JudgeRow.met {p} some d m) = sym (drawn-judged rs some p d ∙ ap judgementAnswer (judge-yes (floorOf d) (formulasOf rs) .1 m))
-  judge-row-only rs a (JudgeRow.unmet {p} {k} some d u) = sym (drawn-judged rs some p d ∙ ap judgementAnswer (judge-unmet (floorOf d) (formulasOf rs) k .1 u))
+  judge-row-only rs o (JudgeRow.differ {p} some h w n) = sym (ap judgeOutcome (judged-plan rs some p h w ∙ by-names rs p h false (ne-eqb (p .names) (length (namesIn rs)) n)))
+  judge-row-only rs o (JudgeRow.met {p} some d m) = sym (ap judgeOutcome (drawn-judged rs some p d ∙ ap judgementAnswer (judge-yes (floorOf d) (formulasOf rs) .1 m)))
+  judge-row-only rs o (JudgeRow.unmet {p} {k} some d u) =
+      sym (ap judgeOutcome (drawn-judged rs some p d ∙ ap judgementAnswer (judge-unmet (floorOf d) (formulasOf rs) k .1 u)))

@@ -1,18 +1,15 @@
 -- Ask and judge meet their definitions: the rows that the search finds are those of the standing rules, their plan is the one that is
 -- written, and words that are read are judged as a plan. Assumes nothing.
 use Prim.Native.Nat.{ℕ, _≤_, _<_}
-use mathlib.Core.Path.{_≡_, refl, sym, ap, ap₂, _∙_, subst}
+use mathlib.Core.Path.{_≡_, refl, sym, ap, ap₂, _∙_}
 use mathlib.Core.Bool.{Bool, true, false, cond}
 use mathlib.Core.List.{List, [], _∷_, map}
 use native.Mathlib.Omega.{arith}
-use lib.Dec.{leb, eqb}
+use lib.Dec.{leb}
 use lib.ListN.{length}
 use borrow.Author.Tests.{eq-eqb, ne-eqb}
 use Rattle.formula.specs.Formula.{Formula, Name}
-use Rattle.contact.specs.Numbering.{namesOf, numberedNames}
-use Rattle.contact.specs.Row.{Row}
-use Rattle.contact.specs.Plan.{firstRowOf}
-use Rattle.search.specs.Rows.{rowBits}
+use Rattle.contact.specs.Numbering.{namesOf}
 use Rattle.solver.specs.declared.Row.{Row as Found}
 use Rattle.solver.specs.declared.Row.the-variants as Found
 use Rattle.solver.specs.Tree.{rowsOf}
@@ -23,7 +20,7 @@ use Rattle.plan.specs.declared.Written.{Written}
 use Rattle.plan.specs.declared.Written.the-variants as Written
 use Rattle.plan.specs.Words.{Plan, IsPlan, wordsOf}
 use Rattle.plan.specs.Reader.{Reading, plan, refused, readOf}
-use Rattle.plan.specs.Arrays.{Stored, answerOf, planIn, Reads, planBy, over, Writes}
+use Rattle.plan.specs.Arrays.{Stored, answerOf, planIn, Reads, planBy, Writes}
 use Rattle.plan.specs.Given.{rowPlan, plansOf}
 use Rattle.plan.specs.Judging.{Judgement, yes, unmet, judge}
 use Rattle.plan.proofs.Exact.{Says, exact}
@@ -31,7 +28,7 @@ use Rattle.plan.proofs.Floors.{namedFloor}
 use Rattle.judging.specs.declared.Judged.{Judged}
 use Rattle.judging.specs.Values.{judgedOf}
 use Rattle.sheets.specs.declared.Compiling.{Compiling}
-use Rattle.sheets.specs.Texts.{CompiledRules, FirstRowIs, RowPlanIs, JudgedIs}
+use Rattle.sheets.specs.Texts.{CompiledRules, FirstRowIs, JudgedIs}
 use Rattle.table.specs.declared.Table.{Table}
 use Rattle.table.specs.declared.AskAnswer.{AskAnswer}
 use Rattle.table.specs.declared.AskAnswer.the-variants as AskAnswer
@@ -39,7 +36,7 @@ use Rattle.table.specs.declared.AskResult.{AskResult}
 use Rattle.table.specs.declared.JudgeAnswer.{JudgeAnswer}
 use Rattle.table.specs.declared.JudgeAnswer.the-variants as JudgeAnswer
 use Rattle.table.specs.declared.JudgeResult.{JudgeResult}
-use Rattle.table.specs.Store.{Text, tableOf, rulesOf}
+use Rattle.table.specs.Store.{Text, rulesOf}
 use Rattle.table.specs.Calls.{formulasOf, FromUs}
 use Rattle.table.specs.Asking.{writtenAnswer, foundAnswer, askAnswer, foundWords, askWords, asked, Asks, judgementAnswer, judgedAnswer, judgePlan, JudgeAnswerSays, judgeReading, judgeAnswer, judged, Judges}
 use Rattle.table.proofs.Held.{count-is}
@@ -100,7 +97,7 @@ abbrev judgeResult : Table → JudgeAnswer → JudgeResult
 judgeResult t a = record { table = t; answer = a }
 
 -- both enums have the judgement's cases
-pub same-judgement : (j : Judgement) → judgedAnswer (judgedOf j) ≡ judgementAnswer j
+same-judgement : (j : Judgement) → judgedAnswer (judgedOf j) ≡ judgementAnswer j
 same-judgement yes = refl
 same-judgement (unmet k) = refl
 

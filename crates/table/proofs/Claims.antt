@@ -8,16 +8,13 @@ use Rattle.table.specs.declared.Table.{Table}
 use Rattle.table.specs.declared.AddAnswer.{AddAnswer}
 use Rattle.table.specs.declared.AddAnswer.the-variants as AddAnswer
 use Rattle.table.specs.declared.AddResult.{AddResult}
-use Rattle.table.specs.declared.WithdrawAnswer.{WithdrawAnswer}
 use Rattle.table.specs.declared.WithdrawResult.{WithdrawResult}
-use Rattle.table.specs.declared.LoadAnswer.{LoadAnswer}
 use Rattle.table.specs.declared.LoadResult.{LoadResult}
-use Rattle.table.specs.declared.AskAnswer.{AskAnswer}
 use Rattle.table.specs.declared.AskResult.{AskResult}
-use Rattle.table.specs.declared.JudgeAnswer.{JudgeAnswer}
 use Rattle.table.specs.Store.{Text, tableOf, rulesOf}
 use Rattle.table.specs.Calls.{judgeAdd, judgeWithdraw, judgeLoad, CanStand, FromUs, Adds, Withdraws, Loads}
 use Rattle.table.specs.Asking.{askAnswer, Asks, judgeAnswer}
+use Rattle.table.specs.Numbers.{Outcome, addOutcome, withdrawOutcome, loadOutcome, askOutcome, judgeOutcome}
 use Rattle.table.specs.Rows.{AddRow, WithdrawRow, LoadRow, AskRow, JudgeRow}
 use Rattle.table.specs.Runs.{Call, add, withdraw, load, ask, step, run, after, Faithful}
 use Rattle.table.proofs.Stored as Stored
@@ -72,33 +69,33 @@ from-us-exactly = Running.from-us-runs
 
 -- ---- answers
 
--- add is answered by the first row that applies, and by no other
-pub add-answered : (rs : List Text) (s : Text) → CanStand rs → AddRow rs s (judgeAdd rs s)
+-- each call has the outcome of the first row that applies, and of no other
+pub add-answered : (rs : List Text) (s : Text) → CanStand rs → AddRow rs s (addOutcome (judgeAdd rs s))
 add-answered = Rows.add-row
 
-pub add-answered-only : (rs : List Text) (s : Text) → CanStand rs → (a : AddAnswer) → AddRow rs s a → a ≡ judgeAdd rs s
+pub add-answered-only : (rs : List Text) (s : Text) → CanStand rs → (o : Outcome) → AddRow rs s o → o ≡ addOutcome (judgeAdd rs s)
 add-answered-only = Rows.add-row-only
 
-pub withdraw-answered : (rs : List Text) (k : ℕ) → WithdrawRow rs k (judgeWithdraw rs k)
+pub withdraw-answered : (rs : List Text) (k : ℕ) → WithdrawRow rs k (withdrawOutcome (judgeWithdraw rs k))
 withdraw-answered = Rows.withdraw-row
 
-pub withdraw-answered-only : (rs : List Text) (k : ℕ) (a : WithdrawAnswer) → WithdrawRow rs k a → a ≡ judgeWithdraw rs k
+pub withdraw-answered-only : (rs : List Text) (k : ℕ) (o : Outcome) → WithdrawRow rs k o → o ≡ withdrawOutcome (judgeWithdraw rs k)
 withdraw-answered-only = Rows.withdraw-row-only
 
-pub load-answered : (f : Text) → LoadRow f (judgeLoad f)
+pub load-answered : (f : Text) → LoadRow f (loadOutcome (judgeLoad f))
 load-answered = LoadRows.load-row
 
-pub load-answered-only : (f : Text) (a : LoadAnswer) → LoadRow f a → a ≡ judgeLoad f
+pub load-answered-only : (f : Text) (o : Outcome) → LoadRow f o → o ≡ loadOutcome (judgeLoad f)
 load-answered-only = LoadRows.load-row-only
 
-pub ask-answered : (room : ℕ) (rs : List Text) → AskRow rs room (askAnswer rs room)
+pub ask-answered : (room : ℕ) (rs : List Text) → AskRow rs room (askOutcome (askAnswer rs room))
 ask-answered = AskRows.ask-row
 
-pub ask-answered-only : (room : ℕ) (rs : List Text) (a : AskAnswer) → AskRow rs room a → a ≡ askAnswer rs room
+pub ask-answered-only : (room : ℕ) (rs : List Text) (o : Outcome) → AskRow rs room o → o ≡ askOutcome (askAnswer rs room)
 ask-answered-only = AskRows.ask-row-only
 
-pub judge-answered : (words : List ℕ) (rs : List Text) → JudgeRow rs words (judgeAnswer rs words)
+pub judge-answered : (words : List ℕ) (rs : List Text) → JudgeRow rs words (judgeOutcome (judgeAnswer rs words))
 judge-answered = AskRows.judge-row
 
-pub judge-answered-only : (words : List ℕ) (rs : List Text) (a : JudgeAnswer) → JudgeRow rs words a → a ≡ judgeAnswer rs words
+pub judge-answered-only : (words : List ℕ) (rs : List Text) (o : Outcome) → JudgeRow rs words o → o ≡ judgeOutcome (judgeAnswer rs words)
 judge-answered-only = AskRows.judge-row-only

@@ -1,7 +1,7 @@
 -- The rules of a table compiled text by text: each text of a list that can stand is a rule, and there is room for it behind those
 -- before it. Assumes nothing.
 use Prim.Native.Nat.{ℕ, _+_, _≤_, _<_}
-use mathlib.Core.Path.{_≡_, sym, ap, subst, _∙_}
+use mathlib.Core.Path.{_≡_, sym, subst}
 use mathlib.Core.List.{List, [], _∷_, _++_, map}
 use native.Mathlib.Omega.{arith}
 use lib.ListN.{length, take, length-map}
@@ -19,7 +19,7 @@ use Rattle.table.proofs.Held.{count-is}
 use Rattle.table.proofs.Recount.{text, first, stands, text-read}
 
 -- rules that can stand can be compiled
-pub stand-fits : (rs : List Text) → CanStand rs → Fits (map meaningOf rs)
+stand-fits : (rs : List Text) → CanStand rs → Fits (map meaningOf rs)
 unfolding namesIn atomsIn
 stand-fits rs h = record { rules-fit = omega (arith, length-map rs meaningOf, h .few); names-fit = h .names; atoms-fit = h .atoms }
 

@@ -129,7 +129,7 @@ module _ (d : Draft) (v : Drafts d) where
   unfolding draftOf
   draft-from-us = record { same = ap (λ (x : Draft). x .table) (v .same); standing = v .standing }
 
-  pub draft-names : d .names ≡ arraysOf (namesIn held)
+  draft-names : d .names ≡ arraysOf (namesIn held)
   unfolding draftOf
   draft-names = ap (λ (x : Draft). x .names) (v .same)
 

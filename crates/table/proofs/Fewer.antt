@@ -71,7 +71,7 @@ module _ {N : Type 0} (same : N → N → Bool) (decides : Decides same) where
   from-distinct [] i = i
   from-distinct (x ∷ xs) i = ⊎-elim (λ e. at-head e) (λ j. next (from-distinct xs (keep-elim (λ y. not (same x y)) (distinct same xs) j .0))) (uncons i)
 
-  pub distinct-fewer : (xs ys : List N) → ((z : N) → In z xs → In z ys) → length (distinct same xs) ≤ length (distinct same ys)
+  distinct-fewer : (xs ys : List N) → ((z : N) → In z xs → In z ys) → length (distinct same xs) ≤ length (distinct same ys)
   distinct-fewer xs ys s = once-fits (distinct same xs) (distinct same ys) (distinct-once xs) (λ z i. distinct-in same decides ys (s z (from-distinct xs i)))
 
 pub names-fewer : (fs gs : List (Formula Name)) → ((f : Formula Name) → In f fs → In f gs) → length (namesOf fs) ≤ length (namesOf gs)

@@ -28,7 +28,7 @@ module _ (t : Table) (v : FromUs t) where
   lines-are = ap (λ (u : Table). u .lines) (v .same)
 
 -- the i-th line of such a table, whatever stands past the end
-pub line-at : (rs : List Text) (i : ℕ) (d : Line) → i < length rs → getD (linesWith rs) i d ≡ lineOf (getD rs i [])
+line-at : (rs : List Text) (i : ℕ) (d : Line) → i < length rs → getD (linesWith rs) i d ≡ lineOf (getD rs i [])
 line-at rs i d h =
     List·getD-append (map lineOf rs) _ d i (simp length-map h)
     ∙ map-at rs i d h
@@ -37,10 +37,6 @@ line-at rs i d h =
     map-at [] i d h = absurd (omega arith)
     map-at (r ∷ rs) zero d h = refl
     map-at (r ∷ rs) (suc i) d h = map-at rs i d (omega arith)
-
-pub line-len : (s : Text) → lineOf s .len ≡ length s
-unfolding lineOf
-line-len s = refl
 
 module _ (t : Table) (v : FromUs t) (i : ℕ) (d : Line) (h : i < t .count) where
   in-rules : i < length (rulesOf t)
@@ -52,7 +48,7 @@ module _ (t : Table) (v : FromUs t) (i : ℕ) (d : Line) (h : i < t .count) wher
 -- lists with a padded end
 module _ {A : Type 0} where
   -- a store at the first place of the padding
-  pub set-pad : (p : List A) (z a : A) (k n : ℕ) → length p ≡ n → 0 < k → set (p ++ replicate k z) n a ≡ p ++ a ∷ [] ++ replicate (k - 1) z
+  set-pad : (p : List A) (z a : A) (k n : ℕ) → length p ≡ n → 0 < k → set (p ++ replicate k z) n a ≡ p ++ a ∷ [] ++ replicate (k - 1) z
   set-pad p z a k n e h =
       let f : k ≡ suc (k - 1) = omega arith in
       ap (λ (j : ℕ). set (p ++ replicate j z) n a) f

@@ -16,7 +16,8 @@ use Rattle.table.specs.declared.LoadAnswer.{LoadAnswer}
 use Rattle.table.specs.declared.LoadAnswer.the-variants as LoadAnswer
 use Rattle.table.specs.Store.{Text}
 use Rattle.table.specs.Calls.{judgeAdd, linesOf, blankLine, filled, judgeLines, isNone, judgeLoad, CanStand}
-use Rattle.table.specs.Rows.{RefusedLine, LoadRow, long, blank, line, loads}
+use Rattle.table.specs.Numbers.{Outcome, refused, refusedLine, addOutcome, onLine, loadOutcome}
+use Rattle.table.specs.Rows.{AddRow, RefusedLine, LoadRow, long, blank, line, loads}
 use Rattle.table.proofs.Standing.{NotAdded, added-or, stand-none, stand-first, stand-more, stand-added}
 use Rattle.table.proofs.Loading.{judge-blank, judge-added, judge-refused, filled-blank, filled-more, too-long}
 use Rattle.table.proofs.Rows.{add-row, add-row-only}
@@ -48,7 +49,7 @@ one-filled done l e = filled-append done (l ∷ []) ∙ ap (λ (ls : List Text).
 abbrev Judged : List Text → List Text → Type 0
 Judged done ls =
     ((judgeLines (length done + 1) (filled done) ls ≡ LoadAnswer.Loaded) × CanStand (filled (done ++ ls)))
-    ⊎ ((n : ℕ) × (a : AddAnswer) × (judgeLines (length done + 1) (filled done) ls ≡ LoadAnswer.Line n a) × RefusedLine (done ++ ls) n a)
+    ⊎ ((k : ℕ) × (n : ℕ) × (p : ℕ) × (loadOutcome (judgeLines (length done + 1) (filled done) ls) ≡ refusedLine k n p) × RefusedLine (done ++ ls) k n p)
 
 -- the line l taken over to those that are done
 over : (done : List Text) (l : Text) (ls : List Text) → judgeLines (length done + 1) (filled done) (l ∷ ls) ≡ judgeLines (length (done ++ l ∷ []) + 1) (filled (done ++ l ∷ [])) ls
@@ -56,7 +57,20 @@ over : (done : List Text) (l : Text) (ls : List Text) → judgeLines (length don
 over done l ls e =
     ⊎-elim
     (λ r. inl (e ∙ r .0, subst (λ (x : List Text). CanStand (filled x)) (append-assoc done (l ∷ []) ls) (r .1)))
-    (λ r. inr (r .0, r .1, e ∙ r .2, subst (λ (x : List Text). RefusedLine x (r .0) (r .1)) (append-assoc done (l ∷ []) ls) (r .3)))
+    (λ r. inr (r .0, r .1, r .2, ap loadOutcome e ∙ r .3, subst (λ (x : List Text). RefusedLine x (r .0) (r .1) (r .2)) (append-assoc done (l ∷ []) ls) (r .4)))
+
+-- a refused add has a number and what it carries
+refusal : (a : AddAnswer) → NotAdded a → (k : ℕ) × (p : ℕ) × (addOutcome a ≡ refused k p)
+refusal AddAnswer.Added m = absurd (m refl)
+refusal AddAnswer.TooLong m = (_, _, refl)
+refusal AddAnswer.NoToken m = (_, _, refl)
+refusal (AddAnswer.ForeignByte i) m = (_, _, refl)
+refusal (AddAnswer.LongName i) m = (_, _, refl)
+refusal (AddAnswer.Measured i) m = (_, _, refl)
+refusal (AddAnswer.GrammarAt i) m = (_, _, refl)
+refusal AddAnswer.TableFull m = (_, _, refl)
+refusal (AddAnswer.SeventhName i) m = (_, _, refl)
+refusal AddAnswer.TooManyAtoms m = (_, _, refl)
 
 one-more : (done : List Text) (l : Text) → length done + 1 + 1 ≡ length (done ++ l ∷ []) + 1
 one-more done l = omega (arith, length-append done (l ∷ []))
@@ -81,11 +95,13 @@ module _ (done : List Text) (l : Text) (ls : List Text) (h : CanStand (filled do
 
   refuse : blankLine l ≡ false → NotAdded (judgeAdd (filled done) l) → Judged done (l ∷ ls)
   refuse b m =
+      let r = refusal (judgeAdd (filled done) l) m in
       inr (
+        r .0,
         length done + 1,
-        judgeAdd (filled done) l,
-        judge-refused (length done + 1) (filled done) l ls (judgeAdd (filled done) l) b refl m,
-        record { before = done; text = l; later = ls; split = refl; number = refl; filled-text = b; added = h; row = add-row (filled done) l h; refused = m },
+        r .1,
+        ap loadOutcome (judge-refused (length done + 1) (filled done) l ls (judgeAdd (filled done) l) b refl m) ∙ ap (onLine (length done + 1)) (r .2),
+        record { before = done; text = l; later = ls; split = refl; line-is = refl; filled-text = b; added = h; row = subst (AddRow (filled done) l) (r .2) (add-row (filled done) l h) },
       )
 
   judged-line : Judged done (l ∷ ls)
@@ -103,6 +119,9 @@ some-or [] = inl (refl, refl)
 some-or (l ∷ ls) = inr (refl, λ e. let z : _≡_ {A = ℕ} 0 1 = cc in omega arith)
 
 module _ (f : Text) where
+  gives : {a : LoadAnswer} → judgeLoad f ≡ a → LoadRow f (loadOutcome a) → LoadRow f (loadOutcome (judgeLoad f))
+  gives e r = subst (λ (a : LoadAnswer). LoadRow f (loadOutcome a)) (sym e) r
+
   all-blank : length f ≤ 8192 → isNone (filled (linesOf f)) ≡ true → judgeLoad f ≡ LoadAnswer.AllBlank
   unfolding judgeLoad
   all-blank h e = rw (le-ltb 8192 (length f) h, e)
@@ -114,19 +133,19 @@ module _ (f : Text) where
   first-lines : judgeLines 1 (filled []) (linesOf f) ≡ judgeLines 1 [] (linesOf f)
   first-lines = ap (λ (rs : List Text). judgeLines 1 rs (linesOf f)) no-lines
 
-  load-lines : length f ≤ 8192 → isNone (filled (linesOf f)) ≡ false → (filled (linesOf f) ≡ [] → ⊥) → LoadRow f (judgeLoad f)
+  load-lines : length f ≤ 8192 → isNone (filled (linesOf f)) ≡ false → (filled (linesOf f) ≡ [] → ⊥) → LoadRow f (loadOutcome (judgeLoad f))
   load-lines h e n =
       ⊎-elim
-      (λ r. subst (LoadRow f) (sym (by-lines h e ∙ sym first-lines ∙ r .0)) (loads h n (r .1)))
-      (λ r. subst (LoadRow f) (sym (by-lines h e ∙ sym first-lines ∙ r .2)) (line h (r .3)))
+      (λ r. gives (by-lines h e ∙ sym first-lines ∙ r .0) (loads h n (r .1)))
+      (λ r. subst (LoadRow f) (sym (ap loadOutcome (by-lines h e ∙ sym first-lines) ∙ r .3)) (line h (r .4)))
       (judged (linesOf f) [] (subst CanStand (sym no-lines) stand-none))
 
-  pub load-row : LoadRow f (judgeLoad f)
+  pub load-row : LoadRow f (loadOutcome (judgeLoad f))
   load-row =
       cases (ltb 8192 (length f))
-      (λ t. subst (LoadRow f) (sym (too-long f (ltb-true _ _ t))) (long (ltb-true _ _ t)))
+      (λ t. gives (too-long f (ltb-true _ _ t)) (long (ltb-true _ _ t)))
       (λ t. ⊎-elim
-      (λ e. subst (LoadRow f) (sym (all-blank (ltb-false _ _ t) (e .0))) (blank (ltb-false _ _ t) (e .1)))
+      (λ e. gives (all-blank (ltb-false _ _ t) (e .0)) (blank (ltb-false _ _ t) (e .1)))
       (λ e. load-lines (ltb-false _ _ t) (e .0) (e .1))
       (some-or (filled (linesOf f))))
 
@@ -165,24 +184,29 @@ some-line before l later e =
     go [] = refl
     go (y ∷ x) = refl
 
-refused-first : (ls : List Text) (n : ℕ) (a : AddAnswer) → RefusedLine ls n a → judgeLines 1 [] ls ≡ LoadAnswer.Line n a
-refused-first ls n a r =
-    let z : 1 + length (r .before) ≡ n = omega (arith, r .number) in
-    ap (judgeLines 1 []) (r .split)
+refused-first : (ls : List Text) (k n p : ℕ) → RefusedLine ls k n p → loadOutcome (judgeLines 1 [] ls) ≡ refusedLine k n p
+refused-first ls k n p r =
+    let z : 1 + length (r .before) ≡ n = omega (arith, r .line-is) in
+    let answer : AddAnswer = judgeAdd (filled (r .before)) (r .text) in
+    let told : addOutcome answer ≡ refused k p = sym (add-row-only (filled (r .before)) (r .text) (r .added) (refused k p) (r .row)) in
+    let out : NotAdded answer = λ e. let y : Outcome.done ≡ refused k p = sym (ap addOutcome e) ∙ told in absurd (let x : _≡_ {A = ℕ} 0 1 = cc in omega arith) in
+    ap loadOutcome
+    (ap (judgeLines 1 []) (r .split)
     ∙ passed (r .before) 1 [] (r .text ∷ r .later) (r .added)
-    ∙ judge-refused (1 + length (r .before)) (filled (r .before)) (r .text) (r .later) a (r .filled-text) (sym (add-row-only (filled (r .before)) (r .text) (r .added) a (r .row))) (r .refused)
-    ∙ ap (λ (k : ℕ). LoadAnswer.Line k a) z
+    ∙ judge-refused (1 + length (r .before)) (filled (r .before)) (r .text) (r .later) answer (r .filled-text) refl out)
+    ∙ ap (onLine (1 + length (r .before))) told
+    ∙ ap (λ (m : ℕ). refusedLine k m p) z
 
 all-added : (ls : List Text) → CanStand (filled ls) → judgeLines 1 [] ls ≡ LoadAnswer.Loaded
 unfolding judgeLines
 all-added ls h = ap (judgeLines 1 []) (sym (append-nil ls)) ∙ passed ls 1 [] [] h
 
-pub load-row-only : (f : Text) (a : LoadAnswer) → LoadRow f a → a ≡ judgeLoad f
-load-row-only f a (long h) = sym (too-long f h)
-load-row-only f a (blank h e) = sym (all-blank f h (ap isNone e))
-load-row-only f a (line {n = n} {a = b} h r) =
+pub load-row-only : (f : Text) (o : Outcome) → LoadRow f o → o ≡ loadOutcome (judgeLoad f)
+load-row-only f o (long h) = sym (ap loadOutcome (too-long f h))
+load-row-only f o (blank h e) = sym (ap loadOutcome (all-blank f h (ap isNone e)))
+load-row-only f o (line {k} {n} {p} h r) =
     sym
-    (by-lines f h (ap (λ (ls : List Text). isNone (filled ls)) (r .split) ∙ some-line (r .before) (r .text) (r .later) (r .filled-text))
-    ∙ refused-first (linesOf f) n b r)
-load-row-only f a (loads h n k) =
-    sym (by-lines f h (⊎-elim (λ e. absurd (n (e .1))) (λ e. e .0) (some-or (filled (linesOf f)))) ∙ all-added (linesOf f) k)
+    (ap loadOutcome (by-lines f h (ap (λ (ls : List Text). isNone (filled ls)) (r .split) ∙ some-line (r .before) (r .text) (r .later) (r .filled-text)))
+    ∙ refused-first (linesOf f) k n p r)
+load-row-only f o (loads h n k) =
+    sym (ap loadOutcome (by-lines f h (⊎-elim (λ e. absurd (n (e .1))) (λ e. e .0) (some-or (filled (linesOf f)))) ∙ all-added (linesOf f) k))

@@ -23,11 +23,11 @@ pub adds-of : (t : Table) (s : Text) (r : AddResult) → FromUs t → r ≡ adde
 unfolding added
 adds-of t s r v e = record { result = e; from-us = rw e (from-us-table _ (stand-add _ s (v .standing))) }
 
-pub withdraws-of : (t : Table) (k : ℕ) (r : WithdrawResult) → FromUs t → r ≡ withdrawn (rulesOf t) k → Withdraws t k r
+withdraws-of : (t : Table) (k : ℕ) (r : WithdrawResult) → FromUs t → r ≡ withdrawn (rulesOf t) k → Withdraws t k r
 unfolding withdrawn
 withdraws-of t k r v e = record { result = e; from-us = rw e (from-us-table _ (stand-withdraw _ k (v .standing))) }
 
-pub loads-of : (t : Table) (f : Text) (r : LoadResult) → FromUs t → r ≡ loaded (rulesOf t) f → Loads t f r
+loads-of : (t : Table) (f : Text) (r : LoadResult) → FromUs t → r ≡ loaded (rulesOf t) f → Loads t f r
 unfolding loaded
 loads-of t f r v e = record { result = e; from-us = rw e (from-us-table _ (stand-load _ f (v .standing))) }
 

@@ -1,7 +1,7 @@
--- Each call is answered by the row of the table of calls that applies first, and by no other: the judgement tests the rows in their
--- order, and each test decides what its row says. Assumes nothing.
+-- Add and withdraw are answered by the row of the table of calls that applies first, and by no other: the judgement tests the rows in
+-- their order, and each test decides what its row says. Assumes nothing.
 use Prim.Native.Nat.{ℕ, _≤_, _<_}
-use mathlib.Core.Path.{_≡_, refl, sym, ap, subst, _∙_}
+use mathlib.Core.Path.{_≡_, refl, sym, ap, subst}
 use mathlib.Core.Logic.{_⊎_, inl, inr, ⊎-elim}
 use mathlib.Core.List.{List, [], _∷_, _++_}
 use native.Mathlib.Omega.{arith}
@@ -10,7 +10,7 @@ use lib.Dec.{ltb, leb}
 use borrow.Author.Tests.{ltb-true, ltb-false, leb-true, leb-false}
 use Rattle.formula.specs.Formula.{Formula, Name}
 use Rattle.formula.specs.Names.{atomNames}
-use Rattle.syntax.specs.RuleText.{IsRule, formula}
+use Rattle.syntax.specs.RuleText.{IsRule, Answers, formula}
 use Rattle.syntax.specs.Rule.{ruleOf, meaningOf}
 use Rattle.syntax.specs.declared.RuleAnswer.{RuleAnswer}
 use Rattle.syntax.specs.declared.RuleAnswer.the-variants as RuleAnswer
@@ -28,7 +28,8 @@ use Rattle.table.specs.declared.AddAnswer.the-variants as AddAnswer
 use Rattle.table.specs.declared.WithdrawAnswer.{WithdrawAnswer}
 use Rattle.table.specs.Store.{Text}
 use Rattle.table.specs.Calls.{formulasOf, namesIn, atomsIn, readAnswer, namesAnswer, judgeNames, judgeText, judgeAdd, judgeWithdraw, CanStand}
-use Rattle.table.specs.Rows.{AddRow, unread, full, seventh, many, stands, WithdrawRow, none, taken}
+use Rattle.table.specs.Numbers.{Outcome, addOutcome, withdrawOutcome}
+use Rattle.table.specs.Rows.{AddRow, full, seventh, many, stands, WithdrawRow, none, taken}
 use Rattle.table.proofs.Standing.{NotAdded, read-formula, is-rule, enough}
 use Rattle.table.proofs.Drafting.{judge-text, judge-full, judge-names, judge-atoms, judge-added}
 use Rattle.table.proofs.Results.{withdraw-zero, withdraw-high, withdraw-good}
@@ -56,11 +57,20 @@ unfolding judgeNames
 names-are rs s a e = ap namesAnswer e
 
 module _ (rs : List Text) (s : Text) (h : CanStand rs) where
-  abbrev Holds : Type 0
-  Holds = AddRow rs s (judgeAdd rs s)
+  abbrev Holds : AddAnswer → Type 0
+  Holds a = AddRow rs s (addOutcome a)
 
-  by : (a : AddAnswer) → judgeAdd rs s ≡ a → AddRow rs s a → Holds
-  by a e r = subst (AddRow rs s) (sym e) r
+  unread-row : (a : RuleAnswer) → Answers s a → (a ≡ RuleAnswer.Formula → ⊥) → Holds (readAnswer a)
+  unread-row RuleAnswer.Formula r n = absurd (n refl)
+  unread-row RuleAnswer.TooLong r n = AddRow.long r
+  unread-row RuleAnswer.NoToken r n = AddRow.blank r
+  unread-row (RuleAnswer.ForeignByte i) r n = AddRow.foreign r
+  unread-row (RuleAnswer.LongName i) r n = AddRow.long-name r
+  unread-row (RuleAnswer.Measured i) r n = AddRow.measured r
+  unread-row (RuleAnswer.GrammarAt i) r n = AddRow.grammar r
+
+  by : (a : AddAnswer) → judgeAdd rs s ≡ a → Holds a → Holds (judgeAdd rs s)
+  by a e r = subst Holds (sym e) r
 
   -- a rule, with room for one more
   module _ (e : ruleOf s .answer ≡ RuleAnswer.Formula) (few : length rs < 16) where
@@ -70,11 +80,11 @@ module _ (rs : List Text) (s : Text) (h : CanStand rs) where
     read : judgeText s ≡ AddAnswer.Added
     read = text-is s RuleAnswer.Formula e
 
-    seventh-row : (p : ℕ) → gathered s (namesIn rs) .answer ≡ NamesAnswer.SeventhName p → AddRow rs s (AddAnswer.SeventhName p)
+    seventh-row : (p : ℕ) → gathered s (namesIn rs) .answer ≡ NamesAnswer.SeventhName p → Holds (AddAnswer.SeventhName p)
     unfolding namesIn
     seventh-row p f = seventh rule few (rule-seventh (formulasOf rs) (h .names) s (meaningOf s) rule p .0 f)
 
-    counted : gathered s (namesIn rs) .answer ≡ NamesAnswer.Enough → Holds
+    counted : gathered s (namesIn rs) .answer ≡ NamesAnswer.Enough → Holds (judgeAdd rs s)
     counted f =
         let names = enough rs s (h .names) e .0 f in
         let fine = names-are rs s NamesAnswer.Enough f in
@@ -82,25 +92,25 @@ module _ (rs : List Text) (s : Text) (h : CanStand rs) where
         (λ t. by AddAnswer.TooManyAtoms (judge-atoms rs s read few fine (ltb-true _ _ t)) (many rule few names (ltb-true _ _ t)))
         (λ t. by AddAnswer.Added (judge-added rs s read few fine (ltb-false _ _ t)) (stands rule few names (ltb-false _ _ t)))
 
-    named : (a : NamesAnswer) → gathered s (namesIn rs) .answer ≡ a → Holds
+    named : (a : NamesAnswer) → gathered s (namesIn rs) .answer ≡ a → Holds (judgeAdd rs s)
     named NamesAnswer.Enough f = counted f
     named (NamesAnswer.SeventhName p) f =
         by (AddAnswer.SeventhName p) (judge-names rs s read few (AddAnswer.SeventhName p) (names-are rs s (NamesAnswer.SeventhName p) f) (not-seventh p)) (seventh-row p f)
 
   -- the answer is that of a row
-  pub add-row : AddRow rs s (judgeAdd rs s)
+  pub add-row : AddRow rs s (addOutcome (judgeAdd rs s))
   add-row = ⊎-elim of-rule of-other (formula-or (ruleOf s .answer))
     where
-      of-rule : ruleOf s .answer ≡ RuleAnswer.Formula → Holds
+      of-rule : ruleOf s .answer ≡ RuleAnswer.Formula → Holds (judgeAdd rs s)
       of-rule e =
           cases (leb 16 (length rs))
           (λ t. by AddAnswer.TableFull (judge-full rs s (text-is s RuleAnswer.Formula e) (leb-true _ _ t)) (full (is-rule s e) (leb-true _ _ t)))
           (λ t. named e (leb-false _ _ t) (gathered s (namesIn rs) .answer) refl)
 
-      of-other : (ruleOf s .answer ≡ RuleAnswer.Formula → ⊥) → Holds
+      of-other : (ruleOf s .answer ≡ RuleAnswer.Formula → ⊥) → Holds (judgeAdd rs s)
       of-other n =
           by (readAnswer (ruleOf s .answer)) (judge-text rs s (readAnswer (ruleOf s .answer)) (text-is s (ruleOf s .answer) refl) (λ k. n (read-formula (ruleOf s .answer) k)))
-          (unread (text-answered s) n refl)
+          (unread-row (ruleOf s .answer) (text-answered s) n)
 
   of-formula : {f : Formula Name} → IsRule s f → ruleOf s .answer ≡ RuleAnswer.Formula
   of-formula r = sym (text-answered-only s RuleAnswer.Formula (formula r))
@@ -110,31 +120,49 @@ module _ (rs : List Text) (s : Text) (h : CanStand rs) where
   seventh-found p r x =
       names-are rs s (NamesAnswer.SeventhName p) (rule-seventh (formulasOf rs) (h .names) s (meaningOf s) (is-rule s (of-formula r)) p .1 x)
 
-  -- and a row gives no other answer
-  pub add-row-only : (a : AddAnswer) → AddRow rs s a → a ≡ judgeAdd rs s
-  add-row-only a (unread {a = b} r n e) =
-      let f : ruleOf s .answer ≡ b = sym (text-answered-only s b r) in
-      sym (judge-text rs s a (text-is s b f ∙ sym e) (λ k. n (read-formula b (sym e ∙ k))))
-  add-row-only a (full r k) = sym (judge-full rs s (text-is s RuleAnswer.Formula (of-formula r)) k)
-  add-row-only a (seventh {p = p} r few x) =
-      sym (judge-names rs s (text-is s RuleAnswer.Formula (of-formula r)) few (AddAnswer.SeventhName p) (seventh-found p r x) (not-seventh p))
-  add-row-only a (many r few names k) =
-      sym (judge-atoms rs s (text-is s RuleAnswer.Formula (of-formula r)) few (names-are rs s NamesAnswer.Enough (enough rs s (h .names) (of-formula r) .1 names)) k)
-  add-row-only a (stands r few names k) =
-      sym (judge-added rs s (text-is s RuleAnswer.Formula (of-formula r)) few (names-are rs s NamesAnswer.Enough (enough rs s (h .names) (of-formula r) .1 names)) k)
+  unread-only : (a : RuleAnswer) → Answers s a → (a ≡ RuleAnswer.Formula → ⊥) → addOutcome (readAnswer a) ≡ addOutcome (judgeAdd rs s)
+  unread-only a r n =
+      let f : ruleOf s .answer ≡ a = sym (text-answered-only s a r) in
+      sym (ap addOutcome (judge-text rs s (readAnswer a) (text-is s a f) (λ k. n (read-formula a k))))
+
+  -- and a row has no other outcome
+  pub add-row-only : (o : Outcome) → AddRow rs s o → o ≡ addOutcome (judgeAdd rs s)
+  add-row-only o (AddRow.long r) = unread-only RuleAnswer.TooLong r (λ e. let z : _≡_ {A = ℕ} 0 1 = cc in omega arith)
+  add-row-only o (AddRow.blank r) = unread-only RuleAnswer.NoToken r (λ e. let z : _≡_ {A = ℕ} 0 1 = cc in omega arith)
+  add-row-only o (AddRow.foreign {p} r) = unread-only (RuleAnswer.ForeignByte p) r (λ e. let z : _≡_ {A = ℕ} 0 1 = cc in omega arith)
+  add-row-only o (AddRow.long-name {p} r) = unread-only (RuleAnswer.LongName p) r (λ e. let z : _≡_ {A = ℕ} 0 1 = cc in omega arith)
+  add-row-only o (AddRow.measured {p} r) = unread-only (RuleAnswer.Measured p) r (λ e. let z : _≡_ {A = ℕ} 0 1 = cc in omega arith)
+  add-row-only o (AddRow.grammar {p} r) = unread-only (RuleAnswer.GrammarAt p) r (λ e. let z : _≡_ {A = ℕ} 0 1 = cc in omega arith)
+  add-row-only o (full r k) = sym (ap addOutcome (judge-full rs s (text-is s RuleAnswer.Formula (of-formula r)) k))
+  add-row-only o (seventh {p = p} r few x) =
+      sym
+      (ap addOutcome
+      (judge-names rs s (text-is s RuleAnswer.Formula (of-formula r)) few (AddAnswer.SeventhName p) (seventh-found p r x) (not-seventh p)))
+  add-row-only o (many r few names k) =
+      sym
+      (ap addOutcome
+      (judge-atoms rs s (text-is s RuleAnswer.Formula (of-formula r)) few (names-are rs s NamesAnswer.Enough (enough rs s (h .names) (of-formula r) .1 names)) k))
+  add-row-only o (stands r few names k) =
+      sym
+      (ap addOutcome
+      (judge-added rs s (text-is s RuleAnswer.Formula (of-formula r)) few (names-are rs s NamesAnswer.Enough (enough rs s (h .names) (of-formula r) .1 names)) k))
 
 -- ---- withdraw
 
-pub withdraw-row : (rs : List Text) (k : ℕ) → WithdrawRow rs k (judgeWithdraw rs k)
-withdraw-row rs k =
-    cases (leb k 0)
-    (λ t. subst (WithdrawRow rs k) (sym (withdraw-zero rs k (leb-true _ _ t))) (none (inl (let z : k ≤ 0 = leb-true _ _ t in omega arith))))
-    (λ t. cases (ltb (length rs) k)
-    (λ u. subst (WithdrawRow rs k) (sym (withdraw-high rs k (leb-false _ _ t) (ltb-true _ _ u))) (none (inr (ltb-true _ _ u))))
-    (λ u. subst (WithdrawRow rs k) (sym (withdraw-good rs k (leb-false _ _ t) (ltb-false _ _ u))) (taken (leb-false _ _ t) (ltb-false _ _ u))))
+module _ (rs : List Text) (k : ℕ) where
+  gives : {a : WithdrawAnswer} → judgeWithdraw rs k ≡ a → WithdrawRow rs k (withdrawOutcome a) → WithdrawRow rs k (withdrawOutcome (judgeWithdraw rs k))
+  gives e r = subst (λ (a : WithdrawAnswer). WithdrawRow rs k (withdrawOutcome a)) (sym e) r
 
-pub withdraw-row-only : (rs : List Text) (k : ℕ) (a : WithdrawAnswer) → WithdrawRow rs k a → a ≡ judgeWithdraw rs k
-withdraw-row-only rs k a (none (inl e)) = sym (withdraw-zero rs k (omega arith))
-withdraw-row-only rs k a (none (inr h)) =
-    cases (leb k 0) (λ t. sym (withdraw-zero rs k (leb-true _ _ t))) (λ t. sym (withdraw-high rs k (leb-false _ _ t) h))
-withdraw-row-only rs k a (taken h m) = sym (withdraw-good rs k h m)
+  pub withdraw-row : WithdrawRow rs k (withdrawOutcome (judgeWithdraw rs k))
+  withdraw-row =
+      cases (leb k 0)
+      (λ t. gives (withdraw-zero rs k (leb-true _ _ t)) (none (inl (let z : k ≤ 0 = leb-true _ _ t in omega arith))))
+      (λ t. cases (ltb (length rs) k)
+      (λ u. gives (withdraw-high rs k (leb-false _ _ t) (ltb-true _ _ u)) (none (inr (ltb-true _ _ u))))
+      (λ u. gives (withdraw-good rs k (leb-false _ _ t) (ltb-false _ _ u)) (taken (leb-false _ _ t) (ltb-false _ _ u))))
+
+  pub withdraw-row-only : (o : Outcome) → WithdrawRow rs k o → o ≡ withdrawOutcome (judgeWithdraw rs k)
+  withdraw-row-only o (none (inl e)) = sym (ap withdrawOutcome (withdraw-zero rs k (omega arith)))
+  withdraw-row-only o (none (inr h)) =
+      sym (ap withdrawOutcome (cases (leb k 0) (λ t. withdraw-zero rs k (leb-true _ _ t)) (λ t. withdraw-high rs k (leb-false _ _ t) h)))
+  withdraw-row-only o (taken h m) = sym (ap withdrawOutcome (withdraw-good rs k h m))

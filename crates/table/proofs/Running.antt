@@ -51,12 +51,12 @@ stand-after rs (load f) h = stand-load rs f h
 stand-after rs (ask buf) h = h
 
 -- a list of calls
-pub run-table : (cs : List Call) (rs : List Text) → runFrom (tableOf rs) cs ≡ tableOf (standingFrom rs cs)
+run-table : (cs : List Call) (rs : List Text) → runFrom (tableOf rs) cs ≡ tableOf (standingFrom rs cs)
 unfolding runFrom standingFrom
 run-table [] rs = refl
 run-table (c ∷ cs) rs = rw step-table (run-table cs (after rs c))
 
-pub stand-run : (cs : List Call) (rs : List Text) → CanStand rs → CanStand (standingFrom rs cs)
+stand-run : (cs : List Call) (rs : List Text) → CanStand rs → CanStand (standingFrom rs cs)
 unfolding standingFrom
 stand-run [] rs h = h
 stand-run (c ∷ cs) rs h = stand-run cs (after rs c) (stand-after rs c h)
@@ -69,7 +69,7 @@ after-next : (rs : List Text) (s : Text) → judgeAdd rs s ≡ AddAnswer.Added �
 unfolding after
 after-next rs s e = added-taken rs s e
 
-pub adds-standing : (ss rs : List Text) → CanStand (rs ++ ss) → standingFrom rs (adds ss) ≡ rs ++ ss
+adds-standing : (ss rs : List Text) → CanStand (rs ++ ss) → standingFrom rs (adds ss) ≡ rs ++ ss
 unfolding standingFrom adds
 adds-standing [] rs h = sym (append-nil rs)
 adds-standing (s ∷ ss) rs h =
@@ -77,7 +77,7 @@ adds-standing (s ∷ ss) rs h =
     ∙ adds-standing ss (rs ++ s ∷ []) (rw append-assoc h)
     ∙ append-assoc rs (s ∷ []) ss
 
-pub none-refused : (ss rs : List Text) → CanStand (rs ++ ss) → NoneRefused (tableOf rs) ss
+none-refused : (ss rs : List Text) → CanStand (rs ++ ss) → NoneRefused (tableOf rs) ss
 unfolding added
 none-refused [] rs h = tt
 none-refused (s ∷ ss) rs h =

@@ -17,7 +17,7 @@ use Rattle.table.specs.Drafts.{isAtom, atomPlaces}
 pub rest : (s : Text) (i : ℕ) → i < length s → drop i s ≡ getD s i 0 ∷ drop (i + 1) s
 rest s i h = rw (add-one, drop-cons s i 0)
 
-pub no-rest : (s : Text) (i : ℕ) → length s ≤ i → drop i s ≡ []
+no-rest : (s : Text) (i : ℕ) → length s ≤ i → drop i s ≡ []
 no-rest s i h = drop-of-length-le s h
 
 module _ (s : Text) (i : ℕ) (h : i < length s) where

@@ -89,7 +89,7 @@ module _ (rs : List Text) (k : ℕ) (pos : 1 ≤ k) (high : k ≤ length rs) (fe
       ∙ ap (λ (j : ℕ). take (k - 1) m ++ drop k m ++ drop j (m ++ pad)) f
       ∙ ap (λ (l : List Line). take (k - 1) m ++ drop k m ++ l) r
 
-  pub taken-out : tableWith (set (moved (linesWith rs) k (length rs)) (length rs - 1) (lineOf [])) (length rs - 1) ≡ tableOf (without rs (k - 1))
+  taken-out : tableWith (set (moved (linesWith rs) k (length rs)) (length rs - 1) (lineOf [])) (length rs - 1) ≡ tableOf (without rs (k - 1))
   unfolding tableOf
   taken-out =
       let w : List Text = without rs (k - 1) in

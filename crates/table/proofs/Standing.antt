@@ -135,7 +135,7 @@ rules-all : (rs : List Text) → ((s : Text) → In s rs → ruleOf s .answer �
 rules-all [] f = tt
 rules-all (r ∷ rs) f = (f r here, rules-all rs (λ s i. f s (next i)))
 
-pub stand-part : (rs ss : List Text) → CanStand ss → ((s : Text) → In s rs → In s ss) → length rs ≤ length ss → atomsIn rs ≤ atomsIn ss → CanStand rs
+stand-part : (rs ss : List Text) → CanStand ss → ((s : Text) → In s rs → In s ss) → length rs ≤ length ss → atomsIn rs ≤ atomsIn ss → CanStand rs
 unfolding namesIn
 stand-part rs ss h among few atoms =
     record {
@@ -157,7 +157,7 @@ stand-none = record { few = omega arith; rules = tt; names = omega arith; atoms 
 pub stand-first : (rs ss : List Text) → CanStand (rs ++ ss) → CanStand rs
 stand-first rs ss h = stand-part rs (rs ++ ss) h (λ s i. in-left ss i) (omega (arith, length-append rs ss)) (omega (arith, atoms-append rs ss))
 
-pub stand-without : (rs : List Text) (i : ℕ) → CanStand rs → CanStand (without rs i)
+stand-without : (rs : List Text) (i : ℕ) → CanStand rs → CanStand (without rs i)
 unfolding without
 stand-without rs i h =
     stand-part (take i rs ++ drop (suc i) rs) rs h
@@ -188,7 +188,7 @@ room rs s e =
     let f = passed (ltb 16 (atomsIn (rs ++ s ∷ []))) AddAnswer.TooManyAtoms AddAnswer.Added not-many (d .1) in
     record { read = read-formula _ (a .0); few = leb-false _ _ (b .0); names = names-enough _ (d .0); atoms = ltb-false _ _ (f .0) }
 
-pub room-added : (rs : List Text) (s : Text) → Room rs s → judgeAdd rs s ≡ AddAnswer.Added
+room-added : (rs : List Text) (s : Text) → Room rs s → judgeAdd rs s ≡ AddAnswer.Added
 unfolding judgeAdd judgeText judgeRoom judgeNames judgeAtoms
 room-added rs s h = rw (h .read, lt-leb 16 (length rs) (h .few), h .names, le-ltb 16 (atomsIn (rs ++ s ∷ [])) (h .atoms))
 
@@ -200,7 +200,7 @@ enough rs s h e =
     let r = rule-enough (formulasOf rs) h s (meaningOf s) (is-rule s e) in
     (λ a. omega (arith, r .0 a, ap length (names-last rs s)), λ b. r .1 (omega (arith, ap length (names-last rs s))))
 
-pub rules-append : (rs ss : List Text) → AllRules rs → AllRules ss → AllRules (rs ++ ss)
+rules-append : (rs ss : List Text) → AllRules rs → AllRules ss → AllRules (rs ++ ss)
 rules-append [] ss h k = k
 rules-append (r ∷ rs) ss h k = (h .0, rules-append rs ss (h .1) k)
 
@@ -259,7 +259,7 @@ lines-added a n l e =
     never : LoadAnswer.Line n a ≡ LoadAnswer.Loaded → ⊥
     never e = let z : _≡_ {A = ℕ} 0 1 = cc in omega arith
 
-pub stand-lines : (ls : List Text) (n : ℕ) (rs : List Text) → CanStand rs → judgeLines n rs ls ≡ LoadAnswer.Loaded → CanStand (rs ++ filled ls)
+stand-lines : (ls : List Text) (n : ℕ) (rs : List Text) → CanStand rs → judgeLines n rs ls ≡ LoadAnswer.Loaded → CanStand (rs ++ filled ls)
 unfolding judgeLines filled
 stand-lines [] n rs h e = rw append-nil h
 stand-lines (l ∷ ls) n rs h e =

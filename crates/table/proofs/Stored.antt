@@ -11,7 +11,7 @@ pub text-line : (s : Text) → textOf (lineOf s) ≡ s
 unfolding textOf lineOf
 text-line s = take-append-seam s _
 
-pub texts-lines : (rs : List Text) → map textOf (map lineOf rs) ≡ rs
+texts-lines : (rs : List Text) → map textOf (map lineOf rs) ≡ rs
 texts-lines [] = refl
 texts-lines (s ∷ rs) = rw (text-line, texts-lines rs)
 

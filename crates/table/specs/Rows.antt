@@ -1,5 +1,5 @@
--- What is meant by an answer: the row of the table of calls that applies first, "checked from the top down". No algorithm.
--- Assumes nothing.
+-- What is meant by an answer: the row of the table of calls that applies first, "checked from the top down", with its number and what
+-- it carries. No algorithm. Assumes nothing.
 use Prim.Native.Nat.{ℕ, _+_, _≤_, _<_}
 use mathlib.Core.Path.{_≡_}
 use mathlib.Core.Logic.{_⊎_}
@@ -9,7 +9,6 @@ use lib.ListN.{length}
 use Rattle.formula.specs.Formula.{Formula, Name}
 use Rattle.formula.specs.Names.{atomNames}
 use Rattle.syntax.specs.RuleText.{IsRule, Answers}
-use Rattle.syntax.specs.declared.RuleAnswer.{RuleAnswer}
 use Rattle.syntax.specs.declared.RuleAnswer.the-variants as RuleAnswer
 use Rattle.evalset.specs.Search.{gather}
 use Rattle.contact.specs.Numbering.{allAtoms}
@@ -20,74 +19,74 @@ use Rattle.plan.proofs.Floors.{namedFloor}
 use Rattle.plan.proofs.Unmet.{FirstUnmet}
 use Rattle.names.specs.Gather.{placesOf, ruleTokens}
 use Rattle.names.specs.Seventh.{SeventhAt}
-use Rattle.table.specs.declared.AddAnswer.{AddAnswer}
-use Rattle.table.specs.declared.AddAnswer.the-variants as AddAnswer
-use Rattle.table.specs.declared.WithdrawAnswer.{WithdrawAnswer}
-use Rattle.table.specs.declared.WithdrawAnswer.the-variants as WithdrawAnswer
-use Rattle.table.specs.declared.LoadAnswer.{LoadAnswer}
-use Rattle.table.specs.declared.LoadAnswer.the-variants as LoadAnswer
-use Rattle.table.specs.declared.AskAnswer.{AskAnswer}
-use Rattle.table.specs.declared.AskAnswer.the-variants as AskAnswer
-use Rattle.table.specs.declared.JudgeAnswer.{JudgeAnswer}
-use Rattle.table.specs.declared.JudgeAnswer.the-variants as JudgeAnswer
 use Rattle.table.specs.Store.{Text}
-use Rattle.table.specs.Calls.{formulasOf, namesIn, atomsIn, readAnswer, linesOf, blankLine, filled, CanStand}
+use Rattle.table.specs.Numbers.{Outcome, done, plan, noPlan, yes, refused, refusedLine}
+use Rattle.table.specs.Calls.{formulasOf, namesIn, atomsIn, linesOf, blankLine, filled, CanStand}
 
 -- add's text s where the texts rs stand
-pub data AddRow (rs : List Text) (s : Text) : AddAnswer → Type 0 where
-  -- 2, 1, 3, 4, 5 and 6: the text is no rule
-  unread : {a : RuleAnswer} {b : AddAnswer} → Answers s a → (a ≡ RuleAnswer.Formula → ⊥) → b ≡ readAnswer a → AddRow rs s b
+pub data AddRow (rs : List Text) (s : Text) : Outcome → Type 0 where
+  -- 2: "more than 256 bytes", with 256
+  long : Answers s RuleAnswer.TooLong → AddRow rs s (refused 2 256)
+  -- 1: "no token and no foreign byte"
+  blank : Answers s RuleAnswer.NoToken → AddRow rs s (refused 1 0)
+  -- 3: "foreign byte", at "its place"
+  foreign : {p : ℕ} → Answers s (RuleAnswer.ForeignByte p) → AddRow rs s (refused 3 p)
+  -- 4: "name over 16 bytes", at "its first byte"
+  long-name : {p : ℕ} → Answers s (RuleAnswer.LongName p) → AddRow rs s (refused 4 p)
+  -- 5: "<=m", at "its first byte"
+  measured : {p : ℕ} → Answers s (RuleAnswer.Measured p) → AddRow rs s (refused 5 p)
+  -- 6: "tokens up to here begin no formula, or text ends early", at the "token's first byte, or the text's length"
+  grammar : {p : ℕ} → Answers s (RuleAnswer.GrammarAt p) → AddRow rs s (refused 6 p)
   -- 9: "16 rules stand"
-  full : {f : Formula Name} → IsRule s f → 16 ≤ length rs → AddRow rs s AddAnswer.TableFull
+  full : {f : Formula Name} → IsRule s f → 16 ≤ length rs → AddRow rs s (refused 9 0)
   -- 7: "a seventh name", at "that name's first byte"
   seventh : {f : Formula Name} {p : ℕ} → IsRule s f → length rs < 16 → SeventhAt (gather atomNames (allAtoms (formulasOf rs))) (placesOf s (ruleTokens s)) p
-      → AddRow rs s (AddAnswer.SeventhName p)
+      → AddRow rs s (refused 7 p)
   -- 8: "more than 16 atoms in all"
-  many : {f : Formula Name} → IsRule s f → length rs < 16 → length (namesIn (rs ++ s ∷ [])) ≤ 6 → 16 < atomsIn (rs ++ s ∷ []) → AddRow rs s AddAnswer.TooManyAtoms
+  many : {f : Formula Name} → IsRule s f → length rs < 16 → length (namesIn (rs ++ s ∷ [])) ≤ 6 → 16 < atomsIn (rs ++ s ∷ []) → AddRow rs s (refused 8 0)
   -- "No refusal comes in another case."
-  stands : {f : Formula Name} → IsRule s f → length rs < 16 → length (namesIn (rs ++ s ∷ [])) ≤ 6 → atomsIn (rs ++ s ∷ []) ≤ 16 → AddRow rs s AddAnswer.Added
+  stands : {f : Formula Name} → IsRule s f → length rs < 16 → length (namesIn (rs ++ s ∷ [])) ≤ 6 → atomsIn (rs ++ s ∷ []) ≤ 16 → AddRow rs s done
 
 -- withdraw k where the texts rs stand
-pub data WithdrawRow (rs : List Text) (k : ℕ) : WithdrawAnswer → Type 0 where
+pub data WithdrawRow (rs : List Text) (k : ℕ) : Outcome → Type 0 where
   -- 10: "k is 0 or above the number of rules"
-  none : (k ≡ 0) ⊎ (length rs < k) → WithdrawRow rs k (WithdrawAnswer.NoSuchRule k)
-  taken : 0 < k → k ≤ length rs → WithdrawRow rs k WithdrawAnswer.Withdrawn
+  none : (k ≡ 0) ⊎ (length rs < k) → WithdrawRow rs k (refused 10 k)
+  taken : 0 < k → k ≤ length rs → WithdrawRow rs k done
 
 -- "The first refused line ends the load": the lines before it that are not blank are added to an empty list
-pub record RefusedLine (ls : List Text) (n : ℕ) (a : AddAnswer) : Type 0 where
+pub record RefusedLine (ls : List Text) (number line place : ℕ) : Type 0 where
   pub before : List Text
   pub text : Text
   pub later : List Text
   pub split : ls ≡ before ++ text ∷ later
   -- "line (from 1, blank ones counted)"
-  pub number : n ≡ length before + 1
+  pub line-is : line ≡ length before + 1
   pub filled-text : blankLine text ≡ false
   pub added : CanStand (filled before)
-  pub row : AddRow (filled before) text a
-  pub refused : a ≡ AddAnswer.Added → ⊥
+  pub row : AddRow (filled before) text (refused number place)
 
 -- load's file
-pub data LoadRow (f : Text) : LoadAnswer → Type 0 where
+pub data LoadRow (f : Text) : Outcome → Type 0 where
   -- 15: "more than 8,192 bytes"
-  long : 8192 < length f → LoadRow f LoadAnswer.FileTooLong
+  long : 8192 < length f → LoadRow f (refusedLine 15 0 0)
   -- 1: "every line blank, or no byte"
-  blank : length f ≤ 8192 → filled (linesOf f) ≡ [] → LoadRow f LoadAnswer.AllBlank
-  line : {n : ℕ} {a : AddAnswer} → length f ≤ 8192 → RefusedLine (linesOf f) n a → LoadRow f (LoadAnswer.Line n a)
-  loads : length f ≤ 8192 → (filled (linesOf f) ≡ [] → ⊥) → CanStand (filled (linesOf f)) → LoadRow f LoadAnswer.Loaded
+  blank : length f ≤ 8192 → filled (linesOf f) ≡ [] → LoadRow f (refusedLine 1 0 0)
+  line : {k n p : ℕ} → length f ≤ 8192 → RefusedLine (linesOf f) k n p → LoadRow f (refusedLine k n p)
+  loads : length f ≤ 8192 → (filled (linesOf f) ≡ [] → ⊥) → CanStand (filled (linesOf f)) → LoadRow f done
 
 -- some rule stands
 abbrev pub SomeStand : List Text → Type 0
 SomeStand rs = rs ≡ [] → ⊥
 
 -- ask, with a buffer of so many words
-pub data AskRow (rs : List Text) (room : ℕ) : AskAnswer → Type 0 where
+pub data AskRow (rs : List Text) (room : ℕ) : Outcome → Type 0 where
   -- 11: "no rule stands"
-  none : rs ≡ [] → AskRow rs room AskAnswer.NoRule
+  none : rs ≡ [] → AskRow rs room (refused 11 0)
   -- no finite floor, of any number of points, meets all rules
-  without : SomeStand rs → ((F : Floor Name) → meetsAll F (formulasOf rs) ≡ true → ⊥) → AskRow rs room AskAnswer.NoPlan
+  without : SomeStand rs → ((F : Floor Name) → meetsAll F (formulasOf rs) ≡ true → ⊥) → AskRow rs room noPlan
   -- 12: "the plan has more words than the buffer", with the "words needed"
-  short : {p : Plan} → SomeStand rs → IsGiven (formulasOf rs) p → room < length (wordsOf p) → AskRow rs room (AskAnswer.ShortBuffer (length (wordsOf p)))
-  given : {p : Plan} → SomeStand rs → IsGiven (formulasOf rs) p → length (wordsOf p) ≤ room → AskRow rs room (AskAnswer.Plan (length (wordsOf p)))
+  short : {p : Plan} → SomeStand rs → IsGiven (formulasOf rs) p → room < length (wordsOf p) → AskRow rs room (refused 12 (length (wordsOf p)))
+  given : {p : Plan} → SomeStand rs → IsGiven (formulasOf rs) p → length (wordsOf p) ≤ room → AskRow rs room (plan (length (wordsOf p)))
 
 -- the words are those of this plan, and it has as many names as the rules
 pub record Drawn (rs : List Text) (words : List ℕ) (p : Plan) : Type 0 where
@@ -100,14 +99,14 @@ abbrev pub floorOf : {rs : List Text} {words : List ℕ} {p : Plan} → Drawn rs
 floorOf {rs} {words} {p} d = namedFloor (formulasOf rs) p (d .is)
 
 -- judge, with these words
-pub data JudgeRow (rs : List Text) (words : List ℕ) : JudgeAnswer → Type 0 where
+pub data JudgeRow (rs : List Text) (words : List ℕ) : Outcome → Type 0 where
   -- 11: "no rule stands"
-  none : rs ≡ [] → JudgeRow rs words JudgeAnswer.NoRule
+  none : rs ≡ [] → JudgeRow rs words (refused 11 0)
   -- 13: "words up to here begin no plan, or end early"
-  unread : {j : ℕ} → SomeStand rs → Refusal words j → JudgeRow rs words (JudgeAnswer.NotAPlan j)
+  unread : {j : ℕ} → SomeStand rs → Refusal words j → JudgeRow rs words (refused 13 j)
   -- 14: "names differ in number", with the "plan's names"
-  differ : {p : Plan} → SomeStand rs → IsPlan p → wordsOf p ≡ words → (p .names ≡ length (namesIn rs) → ⊥) → JudgeRow rs words (JudgeAnswer.NamesDiffer (p .names))
+  differ : {p : Plan} → SomeStand rs → IsPlan p → wordsOf p ≡ words → (p .names ≡ length (namesIn rs) → ⊥) → JudgeRow rs words (refused 14 (p .names))
   -- "Judge answers yes"
-  met : {p : Plan} → SomeStand rs → (d : Drawn rs words p) → meetsAll (floorOf d) (formulasOf rs) ≡ true → JudgeRow rs words JudgeAnswer.Yes
+  met : {p : Plan} → SomeStand rs → (d : Drawn rs words p) → meetsAll (floorOf d) (formulasOf rs) ≡ true → JudgeRow rs words yes
   -- "or the lowest unmet rule, from 1"
-  unmet : {p : Plan} {k : ℕ} → SomeStand rs → (d : Drawn rs words p) → FirstUnmet (floorOf d) 1 (formulasOf rs) k → JudgeRow rs words (JudgeAnswer.Unmet k)
+  unmet : {p : Plan} {k : ℕ} → SomeStand rs → (d : Drawn rs words p) → FirstUnmet (floorOf d) 1 (formulasOf rs) k → JudgeRow rs words (Outcome.unmet k)

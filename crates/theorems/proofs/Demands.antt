@@ -3,14 +3,14 @@
 -- same. Assumes nothing.
 use Prim.Native.Nat.{ℕ, _≤_, _<_}
 use mathlib.Core.Path.{_≡_, refl, sym, ap, _∙_, subst}
-use mathlib.Core.Logic.{_↔_, ⊎-elim, _⊎_, inl, inr}
+use mathlib.Core.Logic.{_↔_, ⊎-elim}
 use mathlib.Core.Bool.{Bool, true, false, cond}
-use mathlib.Core.List.{List, [], _∷_, _++_}
+use mathlib.Core.List.{List, [], _∷_}
 use native.Mathlib.Omega.{arith}
 use lib.Dec.{leb}
 use lib.ListN.{length, take}
 use lib.Seq.{take-append-seam}
-use borrow.Author.Tests.{leb-true, leb-false, le-leb, lt-leb}
+use borrow.Author.Tests.{le-leb, lt-leb}
 use Rattle.formula.specs.Formula.{Formula, Name}
 use Rattle.syntax.specs.Rule.{meaningOf}
 use Rattle.syntax.specs.RuleText.{IsRule}
@@ -29,7 +29,6 @@ use Rattle.plan.proofs.Claims.{plan-is-read, no-plan-given, given-exactly, give
 use Rattle.contact.specs.Row.{Row, IsFirstRow}
 use Rattle.contact.proofs.Claims.{first-row-only-named}
 use Rattle.table.specs.declared.Table.{Table}
-use Rattle.table.specs.declared.AddAnswer.{AddAnswer}
 use Rattle.table.specs.declared.AddAnswer.the-variants as AddAnswer
 use Rattle.table.specs.declared.AddResult.{AddResult}
 use Rattle.table.specs.declared.WithdrawAnswer.{WithdrawAnswer}
@@ -38,16 +37,15 @@ use Rattle.table.specs.declared.WithdrawResult.{WithdrawResult}
 use Rattle.table.specs.declared.LoadAnswer.{LoadAnswer}
 use Rattle.table.specs.declared.LoadAnswer.the-variants as LoadAnswer
 use Rattle.table.specs.declared.LoadResult.{LoadResult}
-use Rattle.table.specs.declared.AskAnswer.{AskAnswer}
 use Rattle.table.specs.declared.AskAnswer.the-variants as AskAnswer
 use Rattle.table.specs.declared.AskResult.{AskResult}
-use Rattle.table.specs.declared.JudgeAnswer.{JudgeAnswer}
 use Rattle.table.specs.declared.JudgeAnswer.the-variants as JudgeAnswer
 use Rattle.table.specs.declared.JudgeResult.{JudgeResult}
 use Rattle.table.specs.Store.{Text, tableOf, rulesOf}
-use Rattle.table.specs.Calls.{formulasOf, namesIn, ifAdded, judgeAdd, addRules, added, judgeWithdraw, ifWithdrawn, withdrawRules, withdrawn, judgeLoad, ifLoaded, loadRules, loaded, AllRules, CanStand, FromUs, Adds, Withdraws, Loads}
+use Rattle.table.specs.Calls.{formulasOf, namesIn, judgeAdd, addRules, added, judgeWithdraw, ifWithdrawn, withdrawRules, withdrawn, judgeLoad, ifLoaded, loadRules, loaded, AllRules, CanStand, FromUs}
 use Rattle.table.specs.Asking.{askAnswer, foundWords, askWords, asked, Asks, judgeAnswer, judged, Judges}
-use Rattle.table.specs.Rows.{AddRow, WithdrawRow, LoadRow, SomeStand, AskRow, Drawn, floorOf, JudgeRow}
+use Rattle.table.specs.Numbers as Numbers
+use Rattle.table.specs.Rows.{AddRow, WithdrawRow, LoadRow, SomeStand, AskRow, floorOf, JudgeRow}
 use Rattle.table.specs.Runs.{Call, runFrom, run, standing, adds}
 use Rattle.table.proofs.Standing.{refused-else, is-rule}
 use Rattle.table.proofs.Claims as table
@@ -69,9 +67,6 @@ left cs t l = called-runs (tableOf []) cs t l
 
 -- ---- refused calls
 
-not-added : {A : Type 0} (a : AddAnswer) (x y : A) → (a ≡ AddAnswer.Added → ⊥) → ifAdded a x y ≡ y
-not-added a x y n = refused-else a x y n
-
 not-withdrawn : {A : Type 0} (a : WithdrawAnswer) (x y : A) → (a ≡ WithdrawAnswer.Withdrawn → ⊥) → ifWithdrawn a x y ≡ y
 not-withdrawn WithdrawAnswer.Withdrawn x y n = absurd (n refl)
 not-withdrawn (WithdrawAnswer.NoSuchRule k) x y n = refl
@@ -83,8 +78,9 @@ not-loaded LoadAnswer.AllBlank x y n = refl
 not-loaded (LoadAnswer.Line l a) x y n = refl
 
 -- an answer that is the computed one has its row alone
-by-row : {A : Type 0} (Row : A → Type 0) {a b : A} → a ≡ b → Row b → ((c : A) → Row c → c ≡ b) → Exactly Row a
-by-row Row e w only = (subst Row (sym e) w, λ c v. only c v ∙ sym e)
+by-row : {A : Type 0} (Row : Numbers.Outcome → Type 0) (outcome : A → Numbers.Outcome) {a b : A} → a ≡ b → Row (outcome b) → ((o : Numbers.Outcome) → Row o → o ≡ outcome b)
+    → Exactly Row (outcome a)
+by-row Row outcome e w only = subst (λ o. Exactly Row o) (sym (ap outcome e)) (record { row = w; only = only })
 
 -- ---- the words of the buffer
 
@@ -104,20 +100,20 @@ module _ (rs : List Text) (buffer : List ℕ) where
   words-short : SomeStand rs → (p : Plan) → IsGiven (formulasOf rs) p → length buffer < length (wordsOf p) → askWords rs buffer ≡ buffer
   words-short some p g l = words-plan some p g false (lt-leb (length (wordsOf p)) (length buffer) l)
 
-  words-kept : (a : AskAnswer) → AskRow rs (length buffer) a → ((n : ℕ) → a ≡ AskAnswer.Plan n → ⊥) → askWords rs buffer ≡ buffer
+  words-kept : (o : Numbers.Outcome) → AskRow rs (length buffer) o → ((n : ℕ) → o ≡ Numbers.plan n → ⊥) → askWords rs buffer ≡ buffer
   unfolding askWords
-  words-kept a (AskRow.none e) n = ap (λ (l : List Text). askWords l buffer) e
-  words-kept a (AskRow.without some never) n = words-found rs buffer some ∙ ap (λ (ps : List Plan). foundWords ps buffer) (no-plan-given (formulasOf rs) .1 never)
-  words-kept a (AskRow.short {p} some g l) n = words-short some p g l
-  words-kept a (AskRow.given {p} some g l) n = absurd (n (length (wordsOf p)) refl)
+  words-kept o (AskRow.none e) n = ap (λ (l : List Text). askWords l buffer) e
+  words-kept o (AskRow.without some never) n = words-found rs buffer some ∙ ap (λ (ps : List Plan). foundWords ps buffer) (no-plan-given (formulasOf rs) .1 never)
+  words-kept o (AskRow.short {p} some g l) n = words-short some p g l
+  words-kept o (AskRow.given {p} some g l) n = absurd (n (length (wordsOf p)) refl)
 
 -- ---- plans
 
-without-plan : (rs : List Text) (room : ℕ) (a : AskAnswer) → AskRow rs room a → a ≡ AskAnswer.NoPlan → (F : Floor Name) → meetsAll F (formulasOf rs) ≡ true → ⊥
-without-plan rs room a (AskRow.none z) f = absurd (let z : _≡_ {A = ℕ} 0 1 = cc in omega arith)
-without-plan rs room a (AskRow.without some never) f = never
-without-plan rs room a (AskRow.short some g l) f = absurd (let z : _≡_ {A = ℕ} 0 1 = cc in omega arith)
-without-plan rs room a (AskRow.given some g l) f = absurd (let z : _≡_ {A = ℕ} 0 1 = cc in omega arith)
+without-plan : (rs : List Text) (room : ℕ) (o : Numbers.Outcome) → AskRow rs room o → o ≡ Numbers.noPlan → (F : Floor Name) → meetsAll F (formulasOf rs) ≡ true → ⊥
+without-plan rs room o (AskRow.none z) f = absurd (let z : _≡_ {A = ℕ} 0 1 = cc in omega arith)
+without-plan rs room o (AskRow.without some never) f = never
+without-plan rs room o (AskRow.short some g l) f = absurd (let z : _≡_ {A = ℕ} 0 1 = cc in omega arith)
+without-plan rs room o (AskRow.given some g l) f = absurd (let z : _≡_ {A = ℕ} 0 1 = cc in omega arith)
 
 -- where some floor meets the rules there is a plan
 plan-found : (rules : List (Formula Name)) (F : Floor Name) → meetsAll F rules ≡ true → (p : Plan) × IsGiven rules p
@@ -173,15 +169,13 @@ module _ (cs : List Call) where
   unfolding judged
   judged-by words r h = ap (λ (x : JudgeResult). x .answer) (h .result) ∙ ap (λ (rs : List Text). judgeAnswer rs words) held
 
-  ask-exactly : (buffer : List ℕ) (r : AskResult) (exit : List ℕ) → Asks (run cs) buffer r exit → Exactly (AskRow (standing cs) (length buffer)) (r .answer)
+  ask-exactly : (buffer : List ℕ) (r : AskResult) (exit : List ℕ) → Asks (run cs) buffer r exit → Exactly (AskRow (standing cs) (length buffer)) (Numbers.askOutcome (r .answer))
   ask-exactly buffer r exit h =
-      let e = asked-by buffer r exit h .0 in
-      (subst (AskRow (standing cs) (length buffer)) (sym e) (table.ask-answered (length buffer) (standing cs)), λ a w. table.ask-answered-only (length buffer) (standing cs) a w ∙ sym e)
+      by-row (AskRow (standing cs) (length buffer)) Numbers.askOutcome (asked-by buffer r exit h .0) (table.ask-answered (length buffer) (standing cs)) (table.ask-answered-only (length buffer) (standing cs))
 
-  judge-exactly : (words : List ℕ) (r : JudgeResult) → Judges (run cs) words r → Exactly (JudgeRow (standing cs) words) (r .answer)
+  judge-exactly : (words : List ℕ) (r : JudgeResult) → Judges (run cs) words r → Exactly (JudgeRow (standing cs) words) (Numbers.judgeOutcome (r .answer))
   judge-exactly words r h =
-      let e = judged-by words r h in
-      (subst (JudgeRow (standing cs) words) (sym e) (table.judge-answered words (standing cs)), λ a w. table.judge-answered-only words (standing cs) a w ∙ sym e)
+      by-row (JudgeRow (standing cs) words) Numbers.judgeOutcome (judged-by words r h) (table.judge-answered words (standing cs)) (table.judge-answered-only words (standing cs))
 
   -- ---- demand 1
 
@@ -195,20 +189,20 @@ module _ (cs : List Call) where
       let us : FromUs (run cs) = table.same-table cs .from-us in
       record {
         may-call = us;
-        add = λ s r h. by-row (AddRow (standing cs) s) (ap (λ (x : AddResult). x .answer) (h .result) ∙ ap (λ (rs : List Text). judgeAdd rs s) held) (table.add-answered (standing cs) s can)
+        add = λ s r h. by-row (AddRow (standing cs) s) Numbers.addOutcome (ap (λ (x : AddResult). x .answer) (h .result) ∙ ap (λ (rs : List Text). judgeAdd rs s) held) (table.add-answered (standing cs) s can)
             (table.add-answered-only (standing cs) s can);
         add-refused = λ s r h n. let e = h .result in
-            ap (λ (x : AddResult). x .table) e ∙ ap tableOf (not-added (judgeAdd (rulesOf (run cs)) s) _ _ (λ f. n (ap (λ (x : AddResult). x .answer) e ∙ f))) ∙ same-table;
-        withdraw = λ k r h. by-row (WithdrawRow (standing cs) k) (ap (λ (x : WithdrawResult). x .answer) (h .result) ∙ ap (λ (rs : List Text). judgeWithdraw rs k) held)
+            ap (λ (x : AddResult). x .table) e ∙ ap tableOf (refused-else (judgeAdd (rulesOf (run cs)) s) _ _ (λ f. n (ap Numbers.addOutcome (ap (λ (x : AddResult). x .answer) e ∙ f)))) ∙ same-table;
+        withdraw = λ k r h. by-row (WithdrawRow (standing cs) k) Numbers.withdrawOutcome (ap (λ (x : WithdrawResult). x .answer) (h .result) ∙ ap (λ (rs : List Text). judgeWithdraw rs k) held)
             (table.withdraw-answered (standing cs) k) (table.withdraw-answered-only (standing cs) k);
         withdraw-refused = λ k r h n. let e = h .result in
-            ap (λ (x : WithdrawResult). x .table) e ∙ ap tableOf (not-withdrawn (judgeWithdraw (rulesOf (run cs)) k) _ _ (λ f. n (ap (λ (x : WithdrawResult). x .answer) e ∙ f))) ∙ same-table;
-        load = λ f r h. by-row (LoadRow f) (ap (λ (x : LoadResult). x .answer) (h .result)) (table.load-answered f) (table.load-answered-only f);
+            ap (λ (x : WithdrawResult). x .table) e ∙ ap tableOf (not-withdrawn (judgeWithdraw (rulesOf (run cs)) k) _ _ (λ f. n (ap Numbers.withdrawOutcome (ap (λ (x : WithdrawResult). x .answer) e ∙ f)))) ∙ same-table;
+        load = λ f r h. by-row (LoadRow f) Numbers.loadOutcome (ap (λ (x : LoadResult). x .answer) (h .result)) (table.load-answered f) (table.load-answered-only f);
         load-refused = λ f r h n. let e = h .result in
-            ap (λ (x : LoadResult). x .table) e ∙ ap tableOf (not-loaded (judgeLoad f) _ _ (λ g. n (ap (λ (x : LoadResult). x .answer) e ∙ g))) ∙ same-table;
+            ap (λ (x : LoadResult). x .table) e ∙ ap tableOf (not-loaded (judgeLoad f) _ _ (λ g. n (ap Numbers.loadOutcome (ap (λ (x : LoadResult). x .answer) e ∙ g)))) ∙ same-table;
         ask = ask-exactly;
         ask-same = λ buffer r exit h. h .same;
-        ask-kept = λ buffer r exit h n. asked-by buffer r exit h .1 ∙ words-kept (standing cs) buffer (r .answer) (ask-exactly buffer r exit h .0) n;
+        ask-kept = λ buffer r exit h n. asked-by buffer r exit h .1 ∙ words-kept (standing cs) buffer (Numbers.askOutcome (r .answer)) (ask-exactly buffer r exit h .row) n;
         judge = judge-exactly;
         judge-same = λ words r h. h .same;
       }
@@ -220,46 +214,46 @@ module _ (cs : List Call) where
   plan-given some p g =
       subst (λ (q : Plan). Given (standing cs) (wordsOf q)) (sym (g .is)) (row-given (standing cs) some (stands .names) (g .row) (g .first))
 
-  given : (buffer : List ℕ) (r : AskResult) (exit : List ℕ) → Asks (run cs) buffer r exit → (n : ℕ) → r .answer ≡ AskAnswer.Plan n → Given (standing cs) (take n exit)
+  given : (buffer : List ℕ) (r : AskResult) (exit : List ℕ) → Asks (run cs) buffer r exit → (n : ℕ) → Numbers.askOutcome (r .answer) ≡ Numbers.plan n → Given (standing cs) (take n exit)
   unfolding over
-  given buffer r exit h n e = go (r .answer) (ask-exactly buffer r exit h .0) e
+  given buffer r exit h n e = go (Numbers.askOutcome (r .answer)) (ask-exactly buffer r exit h .row) e
     where
-      go : (a : AskAnswer) → AskRow (standing cs) (length buffer) a → a ≡ AskAnswer.Plan n → Given (standing cs) (take n exit)
-      go a (AskRow.none z) f = absurd (let z : _≡_ {A = ℕ} 0 1 = cc in omega arith)
-      go a (AskRow.without some never) f = absurd (let z : _≡_ {A = ℕ} 0 1 = cc in omega arith)
-      go a (AskRow.short some g l) f = absurd (let z : _≡_ {A = ℕ} 0 1 = cc in omega arith)
-      go a (AskRow.given {p} some g l) f =
+      go : (o : Numbers.Outcome) → AskRow (standing cs) (length buffer) o → o ≡ Numbers.plan n → Given (standing cs) (take n exit)
+      go o (AskRow.none z) f = absurd (let z : _≡_ {A = ℕ} 0 1 = cc in omega arith)
+      go o (AskRow.without some never) f = absurd (let z : _≡_ {A = ℕ} 0 1 = cc in omega arith)
+      go o (AskRow.short some g l) f = absurd (let z : _≡_ {A = ℕ} 0 1 = cc in omega arith)
+      go o (AskRow.given {p} some g l) f =
           let z : length (wordsOf p) ≡ n = cc in
           let w : take n exit ≡ wordsOf p
           = ap (take n) (asked-by buffer r exit h .1 ∙ words-written (standing cs) buffer some p g l) ∙ ap (λ (k : ℕ). take k (over (wordsOf p) buffer)) (sym z)
           ∙ take-append-seam (wordsOf p) _ in
           subst (Given (standing cs)) (sym w) (plan-given some p g)
 
-  judged-yes : (words : List ℕ) (r : JudgeResult) → Judges (run cs) words r → (r .answer ≡ JudgeAnswer.Yes) ↔ Met (standing cs) words
+  judged-yes : (words : List ℕ) (r : JudgeResult) → Judges (run cs) words r → (Numbers.judgeOutcome (r .answer) ≡ Numbers.yes) ↔ Met (standing cs) words
   judged-yes words r h = (
-    λ e. go (r .answer) (judge-exactly words r h .0) e,
-    λ m. sym (judge-exactly words r h .1 JudgeAnswer.Yes (JudgeRow.met (m .some) (m .drawn) (m .meets))),
+    λ e. go (Numbers.judgeOutcome (r .answer)) (judge-exactly words r h .row) e,
+    λ m. sym (judge-exactly words r h .only Numbers.yes (JudgeRow.met (m .some) (m .drawn) (m .meets))),
   )
     where
-      go : (a : JudgeAnswer) → JudgeRow (standing cs) words a → a ≡ JudgeAnswer.Yes → Met (standing cs) words
-      go a (JudgeRow.none z) f = absurd (let z : _≡_ {A = ℕ} 0 1 = cc in omega arith)
-      go a (JudgeRow.unread some z) f = absurd (let z : _≡_ {A = ℕ} 0 1 = cc in omega arith)
-      go a (JudgeRow.differ some i w z) f = absurd (let z : _≡_ {A = ℕ} 0 1 = cc in omega arith)
-      go a (JudgeRow.met {p} some d m) f = record { some = some; plan = p; drawn = d; meets = m }
-      go a (JudgeRow.unmet some d u) f = absurd (let z : _≡_ {A = ℕ} 0 1 = cc in omega arith)
+      go : (o : Numbers.Outcome) → JudgeRow (standing cs) words o → o ≡ Numbers.yes → Met (standing cs) words
+      go o (JudgeRow.none z) f = absurd (let z : _≡_ {A = ℕ} 0 1 = cc in omega arith)
+      go o (JudgeRow.unread some z) f = absurd (let z : _≡_ {A = ℕ} 0 1 = cc in omega arith)
+      go o (JudgeRow.differ some i w z) f = absurd (let z : _≡_ {A = ℕ} 0 1 = cc in omega arith)
+      go o (JudgeRow.met {p} some d m) f = record { some = some; plan = p; drawn = d; meets = m }
+      go o (JudgeRow.unmet some d u) f = absurd (let z : _≡_ {A = ℕ} 0 1 = cc in omega arith)
 
-  judged-unmet : (words : List ℕ) (r : JudgeResult) → Judges (run cs) words r → (k : ℕ) → (r .answer ≡ JudgeAnswer.Unmet k) ↔ NotMet (standing cs) words k
+  judged-unmet : (words : List ℕ) (r : JudgeResult) → Judges (run cs) words r → (k : ℕ) → (Numbers.judgeOutcome (r .answer) ≡ Numbers.unmet k) ↔ NotMet (standing cs) words k
   judged-unmet words r h k = (
-    λ e. go (r .answer) (judge-exactly words r h .0) e,
-    λ m. sym (judge-exactly words r h .1 (JudgeAnswer.Unmet k) (JudgeRow.unmet (m .some) (m .drawn) (m .lowest))),
+    λ e. go (Numbers.judgeOutcome (r .answer)) (judge-exactly words r h .row) e,
+    λ m. sym (judge-exactly words r h .only (Numbers.unmet k) (JudgeRow.unmet (m .some) (m .drawn) (m .lowest))),
   )
     where
-      go : (a : JudgeAnswer) → JudgeRow (standing cs) words a → a ≡ JudgeAnswer.Unmet k → NotMet (standing cs) words k
-      go a (JudgeRow.none z) f = absurd (let z : _≡_ {A = ℕ} 0 1 = cc in omega arith)
-      go a (JudgeRow.unread some z) f = absurd (let z : _≡_ {A = ℕ} 0 1 = cc in omega arith)
-      go a (JudgeRow.differ some i w z) f = absurd (let z : _≡_ {A = ℕ} 0 1 = cc in omega arith)
-      go a (JudgeRow.met some d m) f = absurd (let z : _≡_ {A = ℕ} 0 1 = cc in omega arith)
-      go a (JudgeRow.unmet {p} {k = j} some d u) f =
+      go : (o : Numbers.Outcome) → JudgeRow (standing cs) words o → o ≡ Numbers.unmet k → NotMet (standing cs) words k
+      go o (JudgeRow.none z) f = absurd (let z : _≡_ {A = ℕ} 0 1 = cc in omega arith)
+      go o (JudgeRow.unread some z) f = absurd (let z : _≡_ {A = ℕ} 0 1 = cc in omega arith)
+      go o (JudgeRow.differ some i w z) f = absurd (let z : _≡_ {A = ℕ} 0 1 = cc in omega arith)
+      go o (JudgeRow.met some d m) f = absurd (let z : _≡_ {A = ℕ} 0 1 = cc in omega arith)
+      go o (JudgeRow.unmet {p} {k = j} some d u) f =
           let z : j ≡ k = cc in record { some = some; plan = p; drawn = d; lowest = subst (FirstUnmet (floorOf d) 1 (formulasOf (standing cs))) z u }
 
   meant : Meant cs (run cs)
@@ -272,10 +266,10 @@ module _ (cs : List Call) where
       let row = ask-exactly buffer r exit h in
       let faithful = table.same-table cs in
       record {
-        none = λ e. sym (row .1 AskAnswer.NoRule (AskRow.none e));
-        no-plan = λ some. (λ e. without-plan (standing cs) (length buffer) (r .answer) (row .0) e, λ never. sym (row .1 AskAnswer.NoPlan (AskRow.without some never)));
-        plan = λ some p g l. (sym (row .1 (AskAnswer.Plan (length (wordsOf p))) (AskRow.given some g l)), asked-by buffer r exit h .1 ∙ words-written (standing cs) buffer some p g l);
-        short = λ some p g l. (sym (row .1 (AskAnswer.ShortBuffer (length (wordsOf p))) (AskRow.short some g l)), asked-by buffer r exit h .1 ∙ words-short (standing cs) buffer some p g l);
+        none = λ e. sym (row .only (Numbers.refused 11 0) (AskRow.none e));
+        no-plan = λ some. (λ e. without-plan (standing cs) (length buffer) (Numbers.askOutcome (r .answer)) (row .row) e, λ never. sym (row .only Numbers.noPlan (AskRow.without some never)));
+        plan = λ some p g l. (sym (row .only (Numbers.plan (length (wordsOf p))) (AskRow.given some g l)), asked-by buffer r exit h .1 ∙ words-written (standing cs) buffer some p g l);
+        short = λ some p g l. (sym (row .only (Numbers.refused 12 (length (wordsOf p))) (AskRow.short some g l)), asked-by buffer r exit h .1 ∙ words-short (standing cs) buffer some p g l);
         otherwise = plan-found (formulasOf (standing cs));
         table = λ u l. faithful .table ∙ sym (left (adds (standing cs)) u l);
         taken = faithful .taken;

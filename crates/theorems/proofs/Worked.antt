@@ -29,19 +29,20 @@ use Rattle.table.specs.Store.{Text}
 use Rattle.table.specs.Calls.{formulasOf, namesIn, atomsIn, judgeNames, judgeAtoms, judgeRoom, judgeText, judgeAdd, addRules, judgeWithdraw, without, withdrawRules, isNone}
 use Rattle.table.specs.Runs.{after, standingFrom, standing, adds}
 use Rattle.table.specs.Asking.{planAnswer, foundAnswer, askAnswer, foundWords, askWords}
+use Rattle.table.specs.Numbers.{askOutcome}
 use Rattle.table.proofs.Claims.{same-table}
 use Rattle.theorems.specs.Worked.{Answer, words, noPlan, WorkedSheet, workedSheets, Asked, AskedFor, Holds}
 
 -- ---- computed
 
 -- rules, whether they are none, and the words of each of their plans, none or one
-record Outcome : Type 0 where
+record Computed : Type 0 where
   pub rules : List Text
   pub none : Bool
   pub plans : List (List ℕ)
 
 -- what the definitions give for a row
-abbrev computed : WorkedSheet → Outcome
+abbrev computed : WorkedSheet → Computed
 computed row =
     record {
       rules = standing (row .calls);
@@ -54,7 +55,7 @@ abbrev plansIn : Answer → List (List ℕ)
 plansIn (words ws) = ws ∷ []
 plansIn noPlan = []
 
-abbrev written : WorkedSheet → Outcome
+abbrev written : WorkedSheet → Computed
 written row = record { rules = row .rules; none = false; plans = plansIn (row .answer) }
 
 sheets-computed : map computed workedSheets ≡ map written workedSheets
@@ -68,18 +69,18 @@ module _ (buffer : List ℕ) (s : Text) (rs : List Text) where
   asked-for : (a : Answer) (plans : List Plan) → plansOf (formulasOf (s ∷ rs)) ≡ plans → map wordsOf plans ≡ plansIn a → AskedFor a (s ∷ rs) buffer
   unfolding askAnswer askWords
   asked-for noPlan [] e f =
-      record { answer = ap (λ (ps : List Plan). foundAnswer ps (length buffer)) e; words = ap (λ (ps : List Plan). foundWords ps buffer) e }
+      record { answer = ap (λ (ps : List Plan). askOutcome (foundAnswer ps (length buffer))) e; words = ap (λ (ps : List Plan). foundWords ps buffer) e }
   asked-for noPlan (p ∷ ps) e f = absurd (cons≢nil f)
   asked-for (words ws) [] e f = absurd (nil≢cons f)
   asked-for (words ws) (p ∷ ps) e f = (λ h. fits true (le-leb (length ws) (length buffer) h), λ h. fits false (lt-leb (length ws) (length buffer) h))
     where
       fits : (b : Bool) → leb (length ws) (length buffer) ≡ b
-          → Asked (s ∷ rs) buffer (cond b (AskAnswer.Plan (length ws)) (AskAnswer.ShortBuffer (length ws))) (cond b (over ws buffer) buffer)
+          → Asked (s ∷ rs) buffer (askOutcome (cond b (AskAnswer.Plan (length ws)) (AskAnswer.ShortBuffer (length ws)))) (cond b (over ws buffer) buffer)
       fits b g =
           let h = head-eq-of-cons-eq f in
           record {
-            answer = ap (λ (qs : List Plan). foundAnswer qs (length buffer)) e ∙ ap (λ (vs : List ℕ). planAnswer (length vs) (length buffer)) h
-                ∙ ap (λ c. cond c (AskAnswer.Plan (length ws)) (AskAnswer.ShortBuffer (length ws))) g;
+            answer = ap askOutcome (ap (λ (qs : List Plan). foundAnswer qs (length buffer)) e ∙ ap (λ (vs : List ℕ). planAnswer (length vs) (length buffer)) h
+                ∙ ap (λ c. cond c (AskAnswer.Plan (length ws)) (AskAnswer.ShortBuffer (length ws))) g);
             words = ap (λ (qs : List Plan). foundWords qs buffer) e ∙ ap (λ (vs : List ℕ). cond (leb (length vs) (length buffer)) (over vs buffer) buffer) h
                 ∙ ap (λ c. cond c (over ws buffer) buffer) g;
           }
@@ -102,8 +103,8 @@ worked row i =
     let e = each computed written i sheets-computed in
     let held = same-table (row .calls) .holds in
     record {
-      stand = ap (λ (o : Outcome). o .rules) e;
-      held = held ∙ ap (λ (o : Outcome). o .rules) e;
+      stand = ap (λ (o : Computed). o .rules) e;
+      held = held ∙ ap (λ (o : Computed). o .rules) e;
       answered = λ buffer. subst (λ rs. AskedFor (row .answer) rs buffer) (sym held)
-          (asked buffer (row .answer) (standing (row .calls)) (ap (λ (o : Outcome). o .none) e) (ap (λ (o : Outcome). o .plans) e));
+          (asked buffer (row .answer) (standing (row .calls)) (ap (λ (o : Computed). o .none) e) (ap (λ (o : Computed). o .plans) e));
     }

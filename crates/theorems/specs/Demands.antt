@@ -20,24 +20,15 @@ use Rattle.plan.specs.Arrays.{Stored, Reads, over}
 use Rattle.plan.specs.Given.{IsGiven}
 use Rattle.plan.proofs.Unmet.{FirstUnmet}
 use Rattle.table.specs.declared.Table.{Table}
-use Rattle.table.specs.declared.AddAnswer.{AddAnswer}
-use Rattle.table.specs.declared.AddAnswer.the-variants as AddAnswer
 use Rattle.table.specs.declared.AddResult.{AddResult}
-use Rattle.table.specs.declared.WithdrawAnswer.{WithdrawAnswer}
-use Rattle.table.specs.declared.WithdrawAnswer.the-variants as WithdrawAnswer
 use Rattle.table.specs.declared.WithdrawResult.{WithdrawResult}
-use Rattle.table.specs.declared.LoadAnswer.{LoadAnswer}
-use Rattle.table.specs.declared.LoadAnswer.the-variants as LoadAnswer
 use Rattle.table.specs.declared.LoadResult.{LoadResult}
-use Rattle.table.specs.declared.AskAnswer.{AskAnswer}
-use Rattle.table.specs.declared.AskAnswer.the-variants as AskAnswer
 use Rattle.table.specs.declared.AskResult.{AskResult}
-use Rattle.table.specs.declared.JudgeAnswer.{JudgeAnswer}
-use Rattle.table.specs.declared.JudgeAnswer.the-variants as JudgeAnswer
 use Rattle.table.specs.declared.JudgeResult.{JudgeResult}
 use Rattle.table.specs.Store.{Text, tableOf}
 use Rattle.table.specs.Calls.{formulasOf, FromUs, Adds, Withdraws, Loads}
 use Rattle.table.specs.Asking.{Asks, Judges}
+use Rattle.table.specs.Numbers.{Outcome, done, plan, noPlan, yes, unmet, refused, addOutcome, withdrawOutcome, loadOutcome, askOutcome, judgeOutcome}
 use Rattle.table.specs.Rows.{AddRow, WithdrawRow, LoadRow, SomeStand, AskRow, Drawn, floorOf, JudgeRow}
 use Rattle.table.specs.Runs.{Call, standing, adds, NoneRefused}
 
@@ -56,25 +47,26 @@ Leaves cs t = Called (tableOf []) cs t
 -- ---- demand 1: "a refusal changes no word of it and no part of the rule table, and a malformed, empty or oversized sheet gets its
 -- number and its place, while nothing outside that document's list is refused"
 
--- the row of an answer applies first, and no other answer's does; which number and values an answer has is in table/specs/Numbers.antt
-abbrev pub Exactly : {A : Type 0} → (A → Type 0) → A → Type 0
-Exactly {A} Row answer = Row answer × ((a : A) → Row a → a ≡ answer)
+-- the row of this outcome, document 01's number with what it carries, applies first, and no other outcome's does
+pub record Exactly (Row : Outcome → Type 0) (outcome : Outcome) : Type 0 where
+  pub row : Row outcome
+  pub only : (o : Outcome) → Row o → o ≡ outcome
 
 -- a call after the list; what add, load and judge are lent they cannot write
 pub record Answered (cs : List Call) (t : Table) : Type 0 where
   -- "With a table that came from us, a caller may pass anything without looking at it first."
   pub may-call : FromUs t
-  pub add : (s : Text) (r : AddResult) → Adds t s r → Exactly (AddRow (standing cs) s) (r .answer)
-  pub add-refused : (s : Text) (r : AddResult) → Adds t s r → (r .answer ≡ AddAnswer.Added → ⊥) → r .table ≡ t
-  pub withdraw : (k : ℕ) (r : WithdrawResult) → Withdraws t k r → Exactly (WithdrawRow (standing cs) k) (r .answer)
-  pub withdraw-refused : (k : ℕ) (r : WithdrawResult) → Withdraws t k r → (r .answer ≡ WithdrawAnswer.Withdrawn → ⊥) → r .table ≡ t
-  pub load : (f : Text) (r : LoadResult) → Loads t f r → Exactly (LoadRow f) (r .answer)
-  pub load-refused : (f : Text) (r : LoadResult) → Loads t f r → (r .answer ≡ LoadAnswer.Loaded → ⊥) → r .table ≡ t
-  pub ask : (buffer : List ℕ) (r : AskResult) (exit : List ℕ) → Asks t buffer r exit → Exactly (AskRow (standing cs) (length buffer)) (r .answer)
+  pub add : (s : Text) (r : AddResult) → Adds t s r → Exactly (AddRow (standing cs) s) (addOutcome (r .answer))
+  pub add-refused : (s : Text) (r : AddResult) → Adds t s r → (addOutcome (r .answer) ≡ done → ⊥) → r .table ≡ t
+  pub withdraw : (k : ℕ) (r : WithdrawResult) → Withdraws t k r → Exactly (WithdrawRow (standing cs) k) (withdrawOutcome (r .answer))
+  pub withdraw-refused : (k : ℕ) (r : WithdrawResult) → Withdraws t k r → (withdrawOutcome (r .answer) ≡ done → ⊥) → r .table ≡ t
+  pub load : (f : Text) (r : LoadResult) → Loads t f r → Exactly (LoadRow f) (loadOutcome (r .answer))
+  pub load-refused : (f : Text) (r : LoadResult) → Loads t f r → (loadOutcome (r .answer) ≡ done → ⊥) → r .table ≡ t
+  pub ask : (buffer : List ℕ) (r : AskResult) (exit : List ℕ) → Asks t buffer r exit → Exactly (AskRow (standing cs) (length buffer)) (askOutcome (r .answer))
   pub ask-same : (buffer : List ℕ) (r : AskResult) (exit : List ℕ) → Asks t buffer r exit → r .table ≡ t
   -- "words past the plan, and all words for no plan, keep their values": only a plan is written
-  pub ask-kept : (buffer : List ℕ) (r : AskResult) (exit : List ℕ) → Asks t buffer r exit → ((n : ℕ) → r .answer ≡ AskAnswer.Plan n → ⊥) → exit ≡ buffer
-  pub judge : (words : List ℕ) (r : JudgeResult) → Judges t words r → Exactly (JudgeRow (standing cs) words) (r .answer)
+  pub ask-kept : (buffer : List ℕ) (r : AskResult) (exit : List ℕ) → Asks t buffer r exit → ((n : ℕ) → askOutcome (r .answer) ≡ plan n → ⊥) → exit ≡ buffer
+  pub judge : (words : List ℕ) (r : JudgeResult) → Judges t words r → Exactly (JudgeRow (standing cs) words) (judgeOutcome (r .answer))
   pub judge-same : (words : List ℕ) (r : JudgeResult) → Judges t words r → r .table ≡ t
 
 -- ---- demand 2: "Rule text is read as the grammar of document 01 has it, and a plan given meets every standing rule .. Plan words read
@@ -103,24 +95,24 @@ pub record Meant (cs : List Call) (t : Table) : Type 0 where
   -- each standing text is derived by the grammar, and means the one formula that is
   pub rules : (s : Text) → In s (standing cs) → IsRule s (meaningOf s)
   pub one : (s : Text) (f : Formula Name) → IsRule s f → meaningOf s ≡ f
-  pub given : (buffer : List ℕ) (r : AskResult) (exit : List ℕ) → Asks t buffer r exit → (n : ℕ) → r .answer ≡ AskAnswer.Plan n → Given (standing cs) (take n exit)
+  pub given : (buffer : List ℕ) (r : AskResult) (exit : List ℕ) → Asks t buffer r exit → (n : ℕ) → askOutcome (r .answer) ≡ plan n → Given (standing cs) (take n exit)
   -- "Judge answers yes or the lowest unmet rule, from 1"
-  pub yes : (words : List ℕ) (r : JudgeResult) → Judges t words r → (r .answer ≡ JudgeAnswer.Yes) ↔ Met (standing cs) words
-  pub unmet : (words : List ℕ) (r : JudgeResult) → Judges t words r → (k : ℕ) → (r .answer ≡ JudgeAnswer.Unmet k) ↔ NotMet (standing cs) words k
+  pub yes : (words : List ℕ) (r : JudgeResult) → Judges t words r → (judgeOutcome (r .answer) ≡ yes) ↔ Met (standing cs) words
+  pub unmet : (words : List ℕ) (r : JudgeResult) → Judges t words r → (k : ℕ) → (judgeOutcome (r .answer) ≡ unmet k) ↔ NotMet (standing cs) words k
 
 -- ---- demand 3
 
 -- what ask gives after the list, with any plan buffer
 pub record Same (cs : List Call) (t : Table) (buffer : List ℕ) (r : AskResult) (exit : List ℕ) : Type 0 where
   -- "after the list, ask gives refusal 11 where no rule stands"
-  pub none : standing cs ≡ [] → r .answer ≡ AskAnswer.NoRule
+  pub none : standing cs ≡ [] → askOutcome (r .answer) ≡ refused 11 0
   -- "Where any stands, it says "no plan" exactly when no finite floor with any number of points, one or more, meets all the standing rules"
-  pub no-plan : SomeStand (standing cs) → (r .answer ≡ AskAnswer.NoPlan) ↔ ((F : Floor Name) → meetsAll F (formulasOf (standing cs)) ≡ true → ⊥)
+  pub no-plan : SomeStand (standing cs) → (askOutcome (r .answer) ≡ noPlan) ↔ ((F : Floor Name) → meetsAll F (formulasOf (standing cs)) ≡ true → ⊥)
   -- "and otherwise gives the plan that document 01 defines, or refusal 12 where the buffer is too short for it"
   pub plan : SomeStand (standing cs) → (p : Plan) → IsGiven (formulasOf (standing cs)) p → length (wordsOf p) ≤ length buffer
-      → (r .answer ≡ AskAnswer.Plan (length (wordsOf p))) × (exit ≡ over (wordsOf p) buffer)
+      → (askOutcome (r .answer) ≡ plan (length (wordsOf p))) × (exit ≡ over (wordsOf p) buffer)
   pub short : SomeStand (standing cs) → (p : Plan) → IsGiven (formulasOf (standing cs)) p → length buffer < length (wordsOf p)
-      → (r .answer ≡ AskAnswer.ShortBuffer (length (wordsOf p))) × (exit ≡ buffer)
+      → (askOutcome (r .answer) ≡ refused 12 (length (wordsOf p))) × (exit ≡ buffer)
   pub otherwise : (F : Floor Name) → meetsAll F (formulasOf (standing cs)) ≡ true → (p : Plan) × IsGiven (formulasOf (standing cs)) p
   -- "the table after the list .. equal to what comes from an empty table to which only the standing rules are added, in their order":
   -- "none of these adds is refused"

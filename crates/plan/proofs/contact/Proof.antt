@@ -1,5 +1,5 @@
 -- `plan::contact` meets its contract: each kind of word has its function.
-use Prim.Native.Nat.{_+_, _-_}
+use Prim.Native.Nat.{_+_}
 use mathlib.Core.Path.{sym, subst}
 use Rattle.plan.specs.declared.Word.{Word}
 use Rattle.plan.specs.Reader.{linked}

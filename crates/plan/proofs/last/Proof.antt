@@ -1,6 +1,5 @@
 -- `plan::last` meets its contract: the words before it are 1, the points and the contacts.
 use native.Mathlib.Omega.{arith}
-use Prim.Native.Nat.{_-_}
 use mathlib.Core.Path.{refl}
 use Rattle.plan.proofs.Steps.{dead-holds, last-good, last-bad}
 use borrow.Author.Needs.{needs}

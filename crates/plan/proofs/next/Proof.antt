@@ -1,5 +1,4 @@
 -- `plan::next` meets its contract: the phase tells which state the machine is in.
-use Prim.Native.Nat.{_-_}
 use mathlib.Core.Path.{subst}
 use Rattle.plan.proofs.Steps.{some-points, some-links, next-start, next-points, next-links, next-over, Next}
 use borrow.Author.Needs.{needs}

@@ -1,6 +1,5 @@
 -- `plan::open` meets its contract: each test that fails is the machine's, and what passes them all is its state.
 use native.Mathlib.Omega.{arith}
-use Prim.Native.Nat.{_-_}
 use mathlib.Core.Path.{refl}
 use Rattle.plan.proofs.Steps.{dead-holds, not-first, open-many, open-none, open-over, open-good}
 use borrow.Author.Needs.{needs}

@@ -1,6 +1,5 @@
 -- `plan::pair_size` meets its contract: each branch is a case of the pair.
 use native.Mathlib.Omega.{arith}
-use Prim.Native.Nat.{_-_}
 use mathlib.Core.Path.{sym, ap, _∙_}
 use lib.ListN.{length}
 use Rattle.evalset.specs.Sets.{mem}

@@ -1,6 +1,6 @@
 -- `plan::point` meets its contract: each test that fails is the machine's, and what passes them all is its state.
 use native.Mathlib.Omega.{arith}
-use Prim.Native.Nat.{ℕ, _^_, _-_}
+use Prim.Native.Nat.{ℕ, _^_}
 use mathlib.Core.Path.{_≡_, refl, ap, _∙_}
 use Rattle.plan.proofs.Complete.{room-64}
 use Rattle.plan.proofs.Steps.{dead-holds, not-point, point-low, point-room, point-top, point-good}

@@ -1,6 +1,6 @@
 -- `plan::write_plan` meets its contract: the pieces one after the other are the plan's words, and all of them fit.
 use native.Mathlib.Omega.{arith}
-use Prim.Native.Nat.{min, _-_, _*_, _≤_}
+use Prim.Native.Nat.{min, _*_, _≤_}
 use mathlib.Core.Path.{_≡_}
 use mathlib.Core.List.{[]}
 use lib.ListN.{length, length-set}

@@ -12,7 +12,7 @@ use Rattle.contact.specs.Plan.{Mark, mark, rowMarks}
 use Rattle.search.specs.Rows.{rowBits}
 use Rattle.search.specs.Compiled.{atomAt, RealisableSays, NextSays}
 use Rattle.search.proofs.Rows.{marks-parent}
-use Rattle.search.proofs.Fitting.{served-is, unchanging, check-last}
+use Rattle.search.proofs.Fitting.{witnessed-is, unchanging, check-last}
 use Rattle.search.proofs.realisable_next.Statement.{statement}
 use Rattle.search.proofs.realisable_next.Tie as tie
 
@@ -37,8 +37,8 @@ mul-y c = search needs
 element-copy-out-y : tie.Need-element-copy-out-y
 element-copy-out-y c = search needs
 
-served-requires : tie.Need-served-requires
-served-requires c κs = search needs
+witnessed-requires : tie.Need-witnessed-requires
+witnessed-requires c κs = search needs
 
 realisable-requires : tie.Need-realisable-requires
 realisable-requires c κs = search needs
@@ -58,7 +58,7 @@ returns c = λ atoms h l f p.
     let v = c .before .before .before .before .value-in .result in
     let b : a .k - 1 < length atoms = omega (arith, c .before .before .before .before .before .before .pre .0) in
     let is = h .atom-is (a .k - 1) b in
-    c .served .ensures ∙ served-is _ (h .few) _ _ f _ v _ _ (atomAt atoms (a .k - 1)) is
+    c .witnessed .ensures ∙ witnessed-is _ (h .few) _ _ f _ v _ _ (atomAt atoms (a .k - 1)) is
     ∙ check-last _ _ before (mark (atomAt atoms (a .k - 1)) v)
     (marks-parent atoms (a .k) (a .row) (c .before .before .before .before .before .before .pre .0) l
     ∙ ap (λ (w : Bool). before ++ mark (atomAt atoms (a .k - 1)) w ∷ []) (sym (c .before .before .before .before .value-in .ensures)))
@@ -79,7 +79,7 @@ realisable-next-spec =
     element-copy-out-x
     mul-y
     element-copy-out-y
-    served-requires
+    witnessed-requires
     realisable-requires
     returns
     returns-2)

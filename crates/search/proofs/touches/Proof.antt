@@ -10,7 +10,7 @@ use Rattle.evalset.specs.Search.{any, below}
 use Rattle.evalset.specs.Sets.{room, mem, memAt, minusOf, fromOf}
 use Rattle.evalset.proofs.Bounded.{any-at, any-none}
 use Rattle.evalset.proofs.Walk.{from-zero, Step, step, stop}
-use Rattle.search.specs.Tests.{startsOf, servedOf}
+use Rattle.search.specs.Tests.{startsOf, witnessedOf}
 use Rattle.search.proofs.Walks.{Passed, starts-alone, starts-yes, walk-on, walk-ends}
 use Rattle.search.proofs.touches.Statement.{statement}
 use Rattle.search.proofs.touches.Tie as tie
@@ -45,7 +45,7 @@ enum-told c = search needs
 asked : (c : tie.After-meet2 Inv-loop μ-loop)
     → let a = c .before .before .before .before .args in
     any (startsOf (mem (c .meet2 .result)) (mem (c .before .before .meet .result)) (memAt (a .t1 .rows))) (below room)
-    ≡ servedOf true true (mem (a .t1 .allowed)) (memAt (a .t1 .rows)) (mem (a .x)) (mem (a .y))
+    ≡ witnessedOf true true (mem (a .t1 .allowed)) (memAt (a .t1 .rows)) (mem (a .x)) (mem (a .y))
 asked c =
     ap₂ (λ (f g : ℕ → Bool). any (startsOf f g (memAt (c .before .before .before .before .args .t1 .rows))) (below room))
     (c .meet2 .ensures) (c .before .before .meet .ensures)

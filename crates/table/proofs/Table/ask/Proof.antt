@@ -1,8 +1,7 @@
 -- The rules are compiled, the search finds the first row or none, and its plan is written. Assumes nothing.
 use borrow.Author.Needs.{needs}
-use mathlib.Core.Path.{_≡_, refl, sym, ap, _∙_}
-use mathlib.Core.List.{List, [], _∷_, map}
-use Rattle.search.specs.Rows.{rowBits}
+use mathlib.Core.Path.{refl, sym, ap, _∙_}
+use mathlib.Core.List.{[], _∷_, map}
 use Rattle.solver.specs.Tree.{rowsOf}
 use Rattle.solver.specs.declared.Row.{Row}
 use Rattle.plan.specs.Words.{Plan}
