@@ -25,7 +25,7 @@ fn read_on(sheet: &mut [u8], at: usize) -> Got
     Got::Bytes(n)
 }
 
-// Reads until the input ends or the sheet is full.
+// Reads until the input ends or the sheet is full. (`io::read_full` does not tell a read that failed from the end of the input.)
 fn read_sheet(sheet: &mut [u8]) -> Got
     ensures { λ r. ⌜ Within 0 (length (now (sheet .exit))) r ⌝ }
 {

@@ -3,11 +3,9 @@
 use Prim.Native.Nat.{ℕ, _≤_}
 use mathlib.Core.Path.{_≡_, refl, sym, ap, ap₂, subst, _∙_}
 use mathlib.Core.List.{List, [], _∷_}
-use mathlib.Core.Logic.{⊎-elim}
 use native.Mathlib.Omega.{arith}
 use lib.ListN.{length, take, drop, length-append}
-use lib.Seq.{take-append-seam}
-use types.Run.{OneOf}
+use types.Run.{OneOf, miss}
 use denote.Enum.Declared.{tagOf}
 use Rattle.formula.specs.Formula.{Formula, Name}
 use Rattle.lexer.specs.Text.{bytes}
@@ -32,27 +30,39 @@ use Rattle.table.specs.declared.LoadAnswer.the-variants as LoadAnswer
 use Rattle.table.specs.declared.LoadResult.{LoadResult}
 use Rattle.table.proofs.AskAnswer.{the-type}
 use Rattle.table.proofs.LoadAnswer.{the-type as load-type}
+use Rattle.table.proofs.Outcome.{the-type as outcome-type}
 use Rattle.table.specs.Store.{Text, rulesOf}
 use Rattle.table.specs.Calls.{formulasOf, namesIn, atomsIn, linesOf, filled, judgeLoad, ifLoaded, loadRules, loaded, FromUs, Loads}
-use Rattle.table.specs.Asking.{asked, Asks}
+use Rattle.table.specs.Asking.{askWords, asked, Asks}
 use Rattle.table.specs.Rows.{SomeStand, AskRow, LoadRow}
 use Rattle.table.proofs.Claims.{ask-answered, load-answered, rules-back}
-use Rattle.table.specs.Numbers.{Outcome, loadOutcome, askOutcome}
-use Rattle.theorems.proofs.Demands.{not-loaded, words-written, read-back}
+use Rattle.table.specs.declared.Outcome.{Outcome}
+use Rattle.table.specs.declared.Outcome.the-variants as Outcome
+use Rattle.table.specs.Numbers.{loadOutcome, askOutcome}
+use Rattle.table.proofs.Standing.{not-loaded}
+use Rattle.table.proofs.Asking.{words-written, first-words}
+use Rattle.theorems.proofs.Demands.{read-back}
 use Rattle.report.specs.Output.{planText, plansText, rulesText, outcomeText, outputOf, ended}
 use Rattle.report.specs.Putting.{Puts}
 use Rattle.report.proofs.Short.{names-short}
 use Rattle.report.proofs.Bounds.{plan-few}
 
--- a case that is another than the first
-not-first : OneOf (1 ∷ 2 ∷ 3 ∷ []) 0 → ⊥
-not-first h = ⊎-elim (λ z. omega arith) (⊎-elim (λ z. omega arith) (λ z. omega arith)) h
-
+-- a case that is another than the first is no plan
 pub told-other : (a : AskAnswer) → OneOf (1 ∷ 2 ∷ 3 ∷ []) (tagOf the-type a) → (n : ℕ) → a ≡ AskAnswer.Plan n → ⊥
-told-other a h n e = not-first (subst (λ (x : AskAnswer). OneOf (1 ∷ 2 ∷ 3 ∷ []) (tagOf the-type x)) e h)
+told-other a h n e = miss (1 ∷ 2 ∷ 3 ∷ []) 0 tt (subst (λ (x : AskAnswer). OneOf (1 ∷ 2 ∷ 3 ∷ []) (tagOf the-type x)) e h)
+
+-- an outcome that is another than a refusal on a line has no text
+pub no-line : (o : Outcome) → OneOf (0 ∷ 1 ∷ 2 ∷ 3 ∷ 4 ∷ 5 ∷ []) (tagOf outcome-type o) → outcomeText o ≡ []
+no-line Outcome.Done h = refl
+no-line (Outcome.Plan words) h = refl
+no-line Outcome.NoPlan h = refl
+no-line Outcome.Yes h = refl
+no-line (Outcome.Unmet rule) h = refl
+no-line (Outcome.Refused number carried) h = refl
+no-line (Outcome.RefusedLine number line place) h = absurd (miss (0 ∷ 1 ∷ 2 ∷ 3 ∷ 4 ∷ 5 ∷ []) 6 tt h)
 
 -- the outcome of a plan is a plan's alone
-is-plan : (a : AskAnswer) {n : ℕ} → askOutcome a ≡ Outcome.plan n → a ≡ AskAnswer.Plan n
+is-plan : (a : AskAnswer) {n : ℕ} → askOutcome a ≡ Outcome.Plan n → a ≡ AskAnswer.Plan n
 is-plan (AskAnswer.Plan k) {n} e = let z : k ≡ n = cc in ap AskAnswer.Plan z
 is-plan AskAnswer.NoPlan e = absurd (let z : _≡_ {A = ℕ} 0 1 = cc in omega arith)
 is-plan AskAnswer.NoRule e = absurd (let z : _≡_ {A = ℕ} 0 1 = cc in omega arith)
@@ -84,7 +94,7 @@ module _ (t : Table) (v : FromUs t) (some : SomeStand (rulesOf t)) (buffer : Lis
       go o (AskRow.given {p} z g l) f = absurd (other (length (wordsOf p)) (is-plan (r .answer) f))
 
   -- where it gives one
-  pub record Drew (n : ℕ) : Type 0 where
+  pub record Wrote (n : ℕ) : Type 0 where
     pub plan : Plan
     pub is : IsPlan plan
     pub only : plansOf rules ≡ plan ∷ []
@@ -92,11 +102,11 @@ module _ (t : Table) (v : FromUs t) (some : SomeStand (rulesOf t)) (buffer : Lis
     pub counted : n ≡ length (take n exit)
     pub words : take n exit ≡ wordsOf plan
 
-  pub drew : (n : ℕ) → r .answer ≡ AskAnswer.Plan n → Drew n
+  pub wrote-plan : (n : ℕ) → r .answer ≡ AskAnswer.Plan n → Wrote n
   unfolding over namesIn
-  drew n e = go (askOutcome (r .answer)) row (ap askOutcome e)
+  wrote-plan n e = go (askOutcome (r .answer)) row (ap askOutcome e)
     where
-      go : (o : Outcome) → AskRow (rulesOf t) (length buffer) o → o ≡ Outcome.plan n → Drew n
+      go : (o : Outcome) → AskRow (rulesOf t) (length buffer) o → o ≡ Outcome.Plan n → Wrote n
       go o (AskRow.none z) f = absurd (some z)
       go o (AskRow.without z never) f = absurd (let z : _≡_ {A = ℕ} 0 1 = cc in omega arith)
       go o (AskRow.short z g l) f = absurd (let z : _≡_ {A = ℕ} 0 1 = cc in omega arith)
@@ -104,7 +114,7 @@ module _ (t : Table) (v : FromUs t) (some : SomeStand (rulesOf t)) (buffer : Lis
           let size : length (wordsOf p) ≡ n = cc in
           let wrote : exit ≡ over (wordsOf p) buffer = asks .words ∙ words-written (rulesOf t) buffer some p g l in
           let words : take n exit ≡ wordsOf p
-          = ap (take n) wrote ∙ ap (λ (k : ℕ). take k (over (wordsOf p) buffer)) (sym size) ∙ take-append-seam (wordsOf p) _ in
+          = ap (take n) (asks .words) ∙ ap (λ (k : ℕ). take k (askWords (rulesOf t) buffer)) (sym size) ∙ first-words (rulesOf t) buffer some p g l in
           record {
             plan = p;
             is = subst IsPlan (sym (g .is)) (given-is-plan rules (v .standing .names) (g .row) (first-row-only-named rules (g .row) (g .first)));
@@ -115,8 +125,8 @@ module _ (t : Table) (v : FromUs t) (some : SomeStand (rulesOf t)) (buffer : Lis
           }
 
   module _ (n : ℕ) (e : r .answer ≡ AskAnswer.Plan n) (q : PlanRead) (reads : Reads (take n exit) q) (names : Names) (are : names ≡ arraysOf (namesIn (rulesOf t))) where
-    abbrev it : Drew n
-    it = drew n e
+    abbrev it : Wrote n
+    it = wrote-plan n e
 
     stored : Stored (q .plan) (it .plan)
     stored = read-back (it .plan) (it .is) q (subst (λ (ws : List ℕ). Reads ws q) (it .words) reads) .1
@@ -147,7 +157,7 @@ module _ (t : Table) (v : FromUs t) (some : SomeStand (rulesOf t)) (buffer : Lis
 -- ---- a sheet
 
 pub told-refused : (a : LoadAnswer) → OneOf (1 ∷ 2 ∷ 3 ∷ []) (tagOf load-type a) → a ≡ LoadAnswer.Loaded → ⊥
-told-refused a h e = not-first (subst (λ (x : LoadAnswer). OneOf (1 ∷ 2 ∷ 3 ∷ []) (tagOf load-type x)) e h)
+told-refused a h e = miss (1 ∷ 2 ∷ 3 ∷ []) 0 tt (subst (λ (x : LoadAnswer). OneOf (1 ∷ 2 ∷ 3 ∷ []) (tagOf load-type x)) e h)
 
 module _ (t : Table) (file : Text) (r : LoadResult) (loads : Loads t file r) where
   answer-is : r .answer ≡ judgeLoad file
@@ -175,7 +185,7 @@ module _ (t : Table) (file : Text) (r : LoadResult) (loads : Loads t file r) whe
     pub loaded-some : SomeStand (rulesOf (r .table))
     loaded-some z = go (loadOutcome (judgeLoad file)) (load-answered file) (ap loadOutcome good) (sym held ∙ z)
       where
-        go : (o : Outcome) → LoadRow file o → o ≡ Outcome.done → filled (linesOf file) ≡ [] → ⊥
+        go : (o : Outcome) → LoadRow file o → o ≡ Outcome.Done → filled (linesOf file) ≡ [] → ⊥
         go o (LoadRow.long h) f = absurd (let z : _≡_ {A = ℕ} 0 1 = cc in omega arith)
         go o (LoadRow.blank h k) f = absurd (let z : _≡_ {A = ℕ} 0 1 = cc in omega arith)
         go o (LoadRow.line h k) f = absurd (let z : _≡_ {A = ℕ} 0 1 = cc in omega arith)

@@ -23,8 +23,8 @@ use Rattle.names.proofs.Distinct.{distinct-in-list}
 use Rattle.names.proofs.Tokens.{past, token-lies, at-name, at-other, at-end}
 use Rattle.names.proofs.Texts.{names-of-rule, atoms-names}
 use Rattle.table.specs.Store.{Text}
-use Rattle.table.specs.Calls.{formulasOf, namesIn, AllRules}
-use Rattle.table.proofs.Standing.{is-rule, rules-at}
+use Rattle.table.specs.Calls.{formulasOf, namesIn}
+use Rattle.table.proofs.Standing.{is-rule}
 
 -- a name among the tokens of a text, from the i-th on
 here-or-later : (s : Text) (i : ℕ) → i < length (ruleTokens s) → (w : Name) → In w (namesAt (placesOf s (drop i (ruleTokens s))))
@@ -54,7 +54,7 @@ rule-short s h w at =
     (subst (λ (l : List Name). In w l) (sym (names-of-rule s (meaningOf s) (is-rule s h))) at)
 
 -- a name of the rules
-module _ (rs : List Text) (rules : AllRules rs) where
+module _ (rs : List Text) (rules : (s : Text) → In s rs → ruleOf s .answer ≡ RuleAnswer.Formula) where
   in-short : (w : Name) → In w (namesIn rs) → length w ≤ 16
   unfolding namesIn
   in-short w at =
@@ -63,7 +63,7 @@ module _ (rs : List Text) (rules : AllRules rs) where
       (distinct-in-list sameName same-name every w (any-intro (λ k. sameName k w) at (same-name w w .1 refl))) in
       let f = gather-elim atomsOf (formulasOf rs) (a .1) in
       let s = map-elim meaningOf rs (f .1) in
-      rule-short (s .0) (rules-at rules (s .2)) w
+      rule-short (s .0) (rules (s .0) (s .2)) w
       (subst (λ (g : Formula Name). In w (formulaNames g)) (s .1)
       (subst (λ (l : List Name). In w l) (atoms-names (f .0)) (gather-intro atomNames (f .2) (a .2))))
 

@@ -13,7 +13,9 @@ use Rattle.plan.specs.Words.{Plan}
 use Rattle.plan.specs.Given.{plansOf}
 use Rattle.table.specs.Store.{Text}
 use Rattle.table.specs.Calls.{formulasOf, linesOf, filled, judgeLoad, ifLoaded}
-use Rattle.table.specs.Numbers.{Outcome, done, plan, noPlan, yes, unmet, refused, refusedLine, loadOutcome}
+use Rattle.table.specs.declared.Outcome.{Outcome}
+use Rattle.table.specs.declared.Outcome.the-variants as Outcome
+use Rattle.table.specs.Numbers.{loadOutcome}
 
 -- ---- numbers, in decimal
 
@@ -87,13 +89,13 @@ refusedText number line place = ended (labelled (bytes "refused ") number ++ lab
 
 -- a load that is refused has a line and a place
 abbrev pub outcomeText : Outcome → List ℕ
-outcomeText done = []
-outcomeText (plan words) = []
-outcomeText noPlan = []
-outcomeText yes = []
-outcomeText (unmet rule) = []
-outcomeText (refused number carried) = []
-outcomeText (refusedLine number line place) = refusedText number line place
+outcomeText Outcome.Done = []
+outcomeText (Outcome.Plan words) = []
+outcomeText Outcome.NoPlan = []
+outcomeText Outcome.Yes = []
+outcomeText (Outcome.Unmet rule) = []
+outcomeText (Outcome.Refused number carried) = []
+outcomeText (Outcome.RefusedLine number line place) = refusedText number line place
 
 -- ---- a sheet
 

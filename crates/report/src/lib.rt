@@ -14,24 +14,18 @@ ghost use Rattle.table.specs.Calls.{formulasOf, FromUs};
 ghost use Rattle.table.specs.Rows.{SomeStand};
 ghost use Rattle.table.specs.Numbers.{addOutcome, onLine, loadOutcome};
 ghost use Rattle.report.specs.Output.{decimal, labelled, headLine, nameIf, pointNames, namesOrNone, blanked, pointLine, pointLines, contactLine, planText, refusedText, outcomeText, rulesText, outputOf};
-ghost use Rattle.report.specs.Putting.{Puts, Reports, outcomeOf};
+ghost use Rattle.report.specs.Putting.{Puts, Reports};
 use evalset::EvalSet;
 use names::Name;
 use names::Names;
 use plan::PlanArrays;
-use table::AddAnswer;
 use table::AskAnswer;
 use table::LoadAnswer;
+use table::Outcome;
 use table::Table;
 
 // The bytes of the buffer: the text of a plan has 10,551 at most.
 pub const ROOM: usize = 16384;
-
-// What a load's answer says: done, or the number of the refusal in document 01, the line and the place.
-enum Told {
-    Done,
-    Refused(usize, usize, usize),
-}
 
 // Some bytes.
 fn put_text(text: &[u8], out: &mut [u8], at: usize) -> usize
@@ -233,36 +227,6 @@ fn put_plan(plan: PlanArrays, names: Names, out: &mut [u8], at: usize) -> usize
     put_rows(rows, n, out, end)
 }
 
-// The number of add's refusal and what it carries, on a line.
-fn outcome_on_line(line: usize, answer: AddAnswer) -> Told
-    ensures { λ r. ⌜ outcomeOf r ≡ onLine line (addOutcome answer) ⌝ }
-{
-    match answer {
-        AddAnswer::Added => Told::Done,
-        AddAnswer::TooLong => Told::Refused(2, line, 256),
-        AddAnswer::NoToken => Told::Refused(1, line, 0),
-        AddAnswer::ForeignByte(i) => Told::Refused(3, line, i),
-        AddAnswer::LongName(i) => Told::Refused(4, line, i),
-        AddAnswer::Measured(i) => Told::Refused(5, line, i),
-        AddAnswer::GrammarAt(i) => Told::Refused(6, line, i),
-        AddAnswer::TableFull => Told::Refused(9, line, 0),
-        AddAnswer::SeventhName(i) => Told::Refused(7, line, i),
-        AddAnswer::TooManyAtoms => Told::Refused(8, line, 0),
-    }
-}
-
-// The number of load's refusal, the line and the place.
-fn outcome(answer: LoadAnswer) -> Told
-    ensures { λ r. ⌜ outcomeOf r ≡ loadOutcome answer ⌝ }
-{
-    match answer {
-        LoadAnswer::Loaded => Told::Done,
-        LoadAnswer::FileTooLong => Told::Refused(15, 0, 0),
-        LoadAnswer::AllBlank => Told::Refused(1, 0, 0),
-        LoadAnswer::Line { line, answer } => outcome_on_line(line, answer),
-    }
-}
-
 // The line of a refusal: three numbers of at most 20 digits, 79 bytes at most.
 fn put_refused(number: usize, line: usize, place: usize, out: &mut [u8], at: usize) -> usize
     requires { ⌜ at + 79 ≤ length (now out) ⌝ }
@@ -279,11 +243,11 @@ fn put_refusal(answer: LoadAnswer, out: &mut [u8], at: usize) -> usize
     requires { ⌜ at + 79 ≤ length (now out) ⌝ }
     ensures { λ r. ⌜ Puts at (outcomeText (loadOutcome answer)) (now (out .entry)) (now (out .exit)) r ⌝ }
 {
-    let said = outcome(answer);
-    match said {
-        Told::Done => at,
-        Told::Refused(number, line, place) => put_refused(number, line, place, out, at),
-    }
+    let said = table::load_outcome(answer);
+    let Outcome::RefusedLine(number, line, place) = said else {
+        return at;
+    };
+    put_refused(number, line, place, out, at)
 }
 
 // Room for the words of a plan.

@@ -35,6 +35,8 @@ pub const EXACTLY_IF: u8 = 14;
 
 pub const NAME: u8 = 15;
 
+pub const SECOND: u8 = 16;
+
 pub const RULE: u8 = 18;
 
 // The points of a floor, and for each evaluation those in contact with it.
@@ -62,11 +64,13 @@ pub struct Found {
     pub whole: bool,
 }
 
+// The set of evaluation e alone.
 pub fn bit(e: usize) -> u8 {
     let bits = [1u8, 2, 4, 8, 16, 32, 64, 128];
     bits[e % 8]
 }
 
+// Whether e is in the set.
 pub fn has(set: u8, e: usize) -> bool {
     set & bit(e) != 0
 }
@@ -99,8 +103,8 @@ pub fn evaluations(names: usize) -> u8 {
 // The evaluations in which a name holds: those with the bit of its number.
 fn name_set(name: u8) -> u8 {
     match name {
-        15 => 0xAA,
-        16 => 0xCC,
+        NAME => 0xAA,
+        SECOND => 0xCC,
         _ => 0xF0,
     }
 }
@@ -158,6 +162,7 @@ fn floors_on(points: u8) -> usize {
     }
 }
 
+// Nothing evaluated yet.
 pub fn start() -> Machine {
     let values = [0u8; 32];
     Machine {
@@ -196,6 +201,7 @@ fn operands(sign: u8) -> usize {
     0
 }
 
+// Whether a sign is an atom's.
 pub fn is_atom(sign: u8) -> bool {
     match sign {
         CONTACT | PART | EMPTY => true,
@@ -304,6 +310,7 @@ fn with_rule(m: Machine, value: u8) -> Machine {
     next
 }
 
+// One sign more.
 pub fn step(m: Machine, sign: u8, floor: Floor) -> Machine {
     let a = operand(m, 0);
     let b = operand(m, 1);

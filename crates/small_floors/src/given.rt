@@ -30,6 +30,7 @@ pub struct Atoms {
     pub vacant: u8,
 }
 
+// The first words of a buffer, so many.
 pub struct Words {
     pub words: [u32; 64],
     pub count: usize,
@@ -147,14 +148,17 @@ fn allowed(atoms: Atoms, e: usize) -> bool {
     !separated(atoms, e, e)
 }
 
+// Whether an evaluation is in a set, and allowed.
+fn allowed_in(atoms: Atoms, set: u8, e: usize) -> bool {
+    floors::has(set, e) && allowed(atoms, e)
+}
+
 // The least allowed evaluation in a set; 8 where there is none.
 fn least(atoms: Atoms, set: u8) -> usize {
     let mut e: usize = 0;
     while e < 8 {
-        if floors::has(set, e) {
-            if allowed(atoms, e) {
-                return e;
-            }
+        if allowed_in(atoms, set, e) {
+            return e;
         }
         e += 1;
     }
@@ -165,11 +169,9 @@ fn least(atoms: Atoms, set: u8) -> usize {
 fn partner(atoms: Atoms, e: usize, set: u8) -> usize {
     let mut f: usize = 0;
     while f < 8 {
-        if floors::has(set, f) {
-            if allowed(atoms, f) {
-                if !separated(atoms, e, f) {
-                    return f;
-                }
+        if allowed_in(atoms, set, f) {
+            if !separated(atoms, e, f) {
+                return f;
             }
         }
         f += 1;
@@ -181,11 +183,9 @@ fn partner(atoms: Atoms, e: usize, set: u8) -> usize {
 fn witness(atoms: Atoms, x: u8, y: u8) -> usize {
     let mut e: usize = 0;
     while e < 8 {
-        if floors::has(x, e) {
-            if allowed(atoms, e) {
-                if partner(atoms, e, y) < 8 {
-                    return e;
-                }
+        if allowed_in(atoms, x, e) {
+            if partner(atoms, e, y) < 8 {
+                return e;
             }
         }
         e += 1;
@@ -233,6 +233,7 @@ fn points_of(atoms: Atoms) -> u8 {
     points
 }
 
+// No word yet.
 pub fn no_words() -> Words {
     let words = [UNWRITTEN; 64];
     Words { words, count: 0 }
@@ -262,7 +263,7 @@ fn with_points(w: Words, points: u8) -> Words {
 }
 
 // Two positions or counts in one word.
-fn both(high: usize, low: usize) -> usize {
+fn two_bytes(high: usize, low: usize) -> usize {
     high % 256 * 256 + low % 256
 }
 
@@ -276,7 +277,7 @@ fn with_contacts(w: Words, points: u8, atoms: Atoms) -> Words {
                 next = with_word(
                     next,
                     3,
-                    both(
+                    two_bytes(
                         floors::position(points, i / 8),
                         floors::position(points, i % 8),
                     ),
@@ -294,14 +295,10 @@ pub fn words_of(atoms: Atoms) -> Words {
     let first = with_word(
         no_words(),
         1,
-        both(atoms.names, floors::position(points, 8)),
+        two_bytes(atoms.names, floors::position(points, 8)),
     );
     let whole = with_contacts(with_points(first, points), points, atoms);
     with_word(whole, 4, whole.count)
-}
-
-fn wide(b: u8) -> usize {
-    b as usize
 }
 
 fn with_read_point(r: Reading, e: usize) -> Reading {
@@ -324,7 +321,7 @@ fn with_read_contact(r: Reading, i: usize, j: usize) -> Reading {
     let count = r.count;
     let order = r.order;
     Reading {
-        floor: floors::joined(floor, wide(order[i % 8]), wide(order[j % 8])),
+        floor: floors::joined(floor, order[i % 8] as usize, order[j % 8] as usize),
         order,
         count,
     }

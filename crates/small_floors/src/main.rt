@@ -26,6 +26,7 @@ use floors::NOT;
 use floors::OR;
 use floors::PART;
 use floors::RULE;
+use floors::SECOND;
 use floors::TRUE;
 use given::UNWRITTEN;
 use making::Maker;
@@ -37,7 +38,6 @@ use table::Table;
 const SHEETS: u64 = 3000;
 
 // The second name of a form.
-const SECOND: u8 = 16;
 
 // ---- the table's answer
 
@@ -289,16 +289,22 @@ fn occurs(bytes: &[u8], b: u8) -> bool {
     false
 }
 
+// Whether the byte before a parenthesis is the end of C or of <=, whose arguments it opens.
+fn has_arguments(before: u8) -> bool {
+    match before {
+        b'C' | b'=' => true,
+        _ => false,
+    }
+}
+
 // Whether a parenthesis opens a term or a formula: it follows neither C nor <=.
 fn is_grouped(file: &[u8]) -> bool {
     let mut before = b'\n';
     let mut i: usize = 0;
     while i < file.len() {
         if file[i] == b'(' {
-            if before != b'C' {
-                if before != b'=' {
-                    return true;
-                }
+            if !has_arguments(before) {
+                return true;
             }
         }
         before = file[i];
@@ -342,23 +348,9 @@ fn count_finding(counts: &mut [u64; 26], f: Finding, file: &[u8]) {
 
 // ---- the sheets
 
-fn write_digit(d: u32) {
-    let digits = b"0123456789ABCDEF";
-    let i = (d % 16) as usize;
-    let one = [digits[i]];
-    write_bytes(&one);
-}
-
 fn write_word(w: u32) {
     write_bytes(b" ");
-    write_digit(w / 0x1000_0000);
-    write_digit(w / 0x100_0000);
-    write_digit(w / 0x10_0000);
-    write_digit(w / 0x1_0000);
-    write_digit(w / 0x1000);
-    write_digit(w / 0x100);
-    write_digit(w / 0x10);
-    write_digit(w);
+    io::print_hex(libc::STDOUT_FILENO, w as u64, 8);
 }
 
 fn write_words(words: &[u32; 530], n: usize) {

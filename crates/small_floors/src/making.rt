@@ -43,7 +43,7 @@ pub struct Maker {
     pub whole: bool,
 }
 
-fn turned_seed(seed: u64) -> u64 {
+fn next_seed(seed: u64) -> u64 {
     (seed % 0x8000_0000 * 1103515245 + 12345) % 0x8000_0000
 }
 
@@ -53,7 +53,7 @@ pub fn sheet_maker(k: u64) -> Maker {
     Maker {
         items,
         height: 0,
-        seed: turned_seed(turned_seed(k)),
+        seed: next_seed(next_seed(k)),
         names: 0,
         most: k % 3 + 1,
         style: k / 3 % 4,
@@ -109,9 +109,9 @@ fn choices(names: u64, most: u64) -> u64
 }
 
 impl Maker {
-    fn turned(self) -> Maker {
+    fn advanced(self) -> Maker {
         let mut next = self;
-        next.seed = turned_seed(self.seed);
+        next.seed = next_seed(self.seed);
         next
     }
 
@@ -220,8 +220,8 @@ impl Maker {
     fn push_binary(self, sort: u64, level: u64, leaves: u64) -> Maker
         requires { ⌜ 1 < leaves ⌝ }
     {
-        let chosen = self.turned();
-        let parted = chosen.turned();
+        let chosen = self.advanced();
+        let parted = chosen.advanced();
         let left = parted.drawn(leaves - 1) + 1;
         let right = leaves - left;
         if sort == FORMULA {
@@ -232,8 +232,8 @@ impl Maker {
 
     // Two terms in parentheses.
     fn push_arguments(self) -> Maker {
-        let one = self.turned();
-        let two = one.turned();
+        let one = self.advanced();
+        let two = one.advanced();
         let second = two.push(b')').push(item(TERM, 1, two.drawn(3) + 1));
         let first = second
             .push_blank()
@@ -243,7 +243,7 @@ impl Maker {
     }
 
     fn push_empty(self, spaced: bool) -> Maker {
-        let next = self.turned();
+        let next = self.advanced();
         let leaves = next.drawn(3) + 1;
         next.push(b'0')
             .push_if(spaced, b' ')
@@ -251,8 +251,8 @@ impl Maker {
             .push(item(TERM, 1, leaves))
     }
 
-    fn push_atom(self) -> Maker {
-        let next = self.turned();
+    fn push_formula_leaf(self) -> Maker {
+        let next = self.advanced();
         let r = next.drawn(16);
         if r < 1 {
             return next.signed(TRUE).push(b'T');
@@ -271,7 +271,7 @@ impl Maker {
 
     // A name that occurs already, or a new one: names are numbered as they come.
     fn push_name(self) -> Maker {
-        let mut next = self.turned();
+        let mut next = self.advanced();
         let names = self.names;
         let k = next.drawn(choices(names, self.most));
         if k == names {
@@ -280,8 +280,8 @@ impl Maker {
         next.signed(NAME + k as u8).push(192 + k as u8)
     }
 
-    fn push_leaf(self) -> Maker {
-        let next = self.turned();
+    fn push_term_leaf(self) -> Maker {
+        let next = self.advanced();
         let r = next.drawn(16);
         if r < 1 {
             return next.signed(NOTHING).push(b'0');
@@ -294,7 +294,7 @@ impl Maker {
 
     // A formula or a term, by its first sign: what is in it is pushed.
     fn grown(self, sort: u64, level: u64, leaves: u64) -> Maker {
-        let next = self.turned();
+        let next = self.advanced();
         let r = next.drawn(16);
         if r < 3 {
             return next.push_prefix(sort, leaves);
@@ -306,9 +306,9 @@ impl Maker {
             return next.push_binary(sort, level, leaves);
         }
         if sort == FORMULA {
-            return next.push_atom();
+            return next.push_formula_leaf();
         }
-        next.push_leaf()
+        next.push_term_leaf()
     }
 }
 
@@ -391,9 +391,9 @@ fn with_items(m: Maker, text: &mut [u8; 1100], form: &mut [u8; 512]) -> Maker {
     next.broken()
 }
 
-// A rule of one to four atoms.
+// A rule of one to four leaves: atoms, T or F.
 fn with_rule(m: Maker, text: &mut [u8; 1100], form: &mut [u8; 512]) -> Maker {
-    let begun = put_sign(m, form, RULE).turned();
+    let begun = put_sign(m, form, RULE).advanced();
     let leaves = begun.drawn(4) + 1;
     let made = with_items(begun.push(item(FORMULA, 0, leaves)), text, form);
     put_byte(made, text, b'\n')
@@ -401,7 +401,7 @@ fn with_rule(m: Maker, text: &mut [u8; 1100], form: &mut [u8; 512]) -> Maker {
 
 // One to four rules.
 pub fn with_rules(m: Maker, text: &mut [u8; 1100], form: &mut [u8; 512]) -> Maker {
-    let mut next = m.turned();
+    let mut next = m.advanced();
     let rules = next.drawn(4) + 1;
     let mut i: u64 = 0;
     while i < rules {

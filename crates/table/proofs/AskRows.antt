@@ -28,8 +28,10 @@ use Rattle.table.specs.declared.JudgeAnswer.the-variants as JudgeAnswer
 use Rattle.table.specs.Store.{Text}
 use Rattle.table.specs.Calls.{formulasOf, namesIn}
 use Rattle.table.specs.Asking.{planAnswer, foundAnswer, askAnswer, judgementAnswer, judgePlan, judgeReading, judgeAnswer}
-use Rattle.table.specs.Numbers.{Outcome, askOutcome, judgeOutcome}
-use Rattle.table.specs.Rows.{SomeStand, AskRow, Drawn, floorOf, JudgeRow}
+use Rattle.table.specs.declared.Outcome.{Outcome}
+use Rattle.table.proofs.Asking.{asked-some, judged-some}
+use Rattle.table.specs.Numbers.{askOutcome, judgeOutcome}
+use Rattle.table.specs.Rows.{SomeStand, AskRow, Decodes, floorOf, JudgeRow}
 
 -- ---- ask
 
@@ -49,13 +51,8 @@ module _ (room : ℕ) where
   ask-row [] = AskRow.none refl
   ask-row (s ∷ rs) = found-row (s ∷ rs) cons≢nil (plansOf (formulasOf (s ∷ rs))) refl (given-at-most-one (formulasOf (s ∷ rs)))
 
-  asked-found : (rs : List Text) → SomeStand rs → askAnswer rs room ≡ foundAnswer (plansOf (formulasOf rs)) room
-  unfolding askAnswer
-  asked-found [] some = absurd (some refl)
-  asked-found (s ∷ rs) some = refl
-
   asked-given : (rs : List Text) → SomeStand rs → (p : Plan) → IsGiven (formulasOf rs) p → askAnswer rs room ≡ planAnswer (length (wordsOf p)) room
-  asked-given rs some p g = asked-found rs some ∙ ap (λ (ps : List Plan). foundAnswer ps room) (given-exactly (formulasOf rs) p .1 g)
+  asked-given rs some p g = asked-some rs some room ∙ ap (λ (ps : List Plan). foundAnswer ps room) (given-exactly (formulasOf rs) p .1 g)
 
   by-room : (n : ℕ) (b : Bool) → leb n room ≡ b → cond b (AskAnswer.Plan n) (AskAnswer.ShortBuffer n) ≡ planAnswer n room
   by-room n b e = ap (λ (t : Bool). cond t (AskAnswer.Plan n) (AskAnswer.ShortBuffer n)) (sym e)
@@ -64,7 +61,7 @@ module _ (room : ℕ) where
   unfolding askAnswer
   ask-row-only rs o (AskRow.none e) = sym (ap (λ (l : List Text). askOutcome (askAnswer l room)) e)
   ask-row-only rs o (AskRow.without some never) =
-      sym (ap askOutcome (asked-found rs some ∙ ap (λ (ps : List Plan). foundAnswer ps room) (no-plan-given (formulasOf rs) .1 never)))
+      sym (ap askOutcome (asked-some rs some room ∙ ap (λ (ps : List Plan). foundAnswer ps room) (no-plan-given (formulasOf rs) .1 never)))
   ask-row-only rs o (AskRow.short {p} some g l) =
       ap askOutcome (by-room (length (wordsOf p)) false (lt-leb (length (wordsOf p)) room l) ∙ sym (asked-given rs some p g))
   ask-row-only rs o (AskRow.given {p} some g l) =
@@ -74,7 +71,7 @@ module _ (room : ℕ) where
 
 module _ (words : List ℕ) where
   -- where the words are a plan of as many names, its floor decides
-  met-row : (rs : List Text) → SomeStand rs → (p : Plan) (d : Drawn rs words p) (j : Judgement) → judge (floorOf d) (formulasOf rs) ≡ j → JudgeRow rs words (judgeOutcome (judgementAnswer j))
+  met-row : (rs : List Text) → SomeStand rs → (p : Plan) (d : Decodes rs words p) (j : Judgement) → judge (floorOf d) (formulasOf rs) ≡ j → JudgeRow rs words (judgeOutcome (judgementAnswer j))
   met-row rs some p d Judgement.yes e = JudgeRow.met some d (judge-yes (floorOf d) (formulasOf rs) .0 e)
   met-row rs some p d (Judgement.unmet k) e = JudgeRow.unmet some d (judge-unmet (floorOf d) (formulasOf rs) k .0 e)
 
@@ -99,11 +96,6 @@ module _ (words : List ℕ) where
   judge-row [] = JudgeRow.none refl
   judge-row (s ∷ rs) = reading-row (s ∷ rs) cons≢nil (readOf words) (exact words)
 
-  judged-read : (rs : List Text) → SomeStand rs → judgeAnswer rs words ≡ judgeReading (formulasOf rs) words (readOf words) (exact words)
-  unfolding judgeAnswer
-  judged-read [] some = absurd (some refl)
-  judged-read (s ∷ rs) some = refl
-
   -- the judgement of a plan is that of its floor, however it was shown to be a plan
   same-floor : (p : Plan) (a b : IsPlan p) → planFloor p a ≡ planFloor p b
   unfolding planFloor
@@ -118,7 +110,7 @@ module _ (words : List ℕ) where
 
   judged-plan : (rs : List Text) → SomeStand rs → (p : Plan) (h : IsPlan p) → wordsOf p ≡ words → judgeAnswer rs words ≡ judgePlan (formulasOf rs) p h
   judged-plan rs some p h w =
-      judged-read rs some ∙ go (readOf words) (exact words) (sym (ap readOf w) ∙ plan-is-read p h)
+      judged-some rs some words ∙ go (readOf words) (exact words) (sym (ap readOf w) ∙ plan-is-read p h)
     where
       go : (r : Reading) (s : Says words r) → r ≡ plan p → judgeReading (formulasOf rs) words r s ≡ judgePlan (formulasOf rs) p h
       go (plan q) s e = let z : q ≡ p = cc in same-plan (formulasOf rs) q p z (s .0) h
@@ -129,18 +121,18 @@ module _ (words : List ℕ) where
   unfolding namesIn
   by-names rs p h b e = ap (λ (t : Bool). cond t (judgementAnswer (judge (namedFloor (formulasOf rs) p h) (formulasOf rs))) (JudgeAnswer.NamesDiffer (p .names))) e
 
-  drawn-judged : (rs : List Text) → SomeStand rs → (p : Plan) (d : Drawn rs words p) → judgeAnswer rs words ≡ judgementAnswer (judge (floorOf d) (formulasOf rs))
-  drawn-judged rs some p d = judged-plan rs some p (d .is) (d .words-are) ∙ by-names rs p (d .is) true (eq-eqb (p .names) (length (namesIn rs)) (d .named))
+  decoded-judged : (rs : List Text) → SomeStand rs → (p : Plan) (d : Decodes rs words p) → judgeAnswer rs words ≡ judgementAnswer (judge (floorOf d) (formulasOf rs))
+  decoded-judged rs some p d = judged-plan rs some p (d .is) (d .words-are) ∙ by-names rs p (d .is) true (eq-eqb (p .names) (length (namesIn rs)) (d .named))
 
   pub judge-row-only : (rs : List Text) (o : Outcome) → JudgeRow rs words o → o ≡ judgeOutcome (judgeAnswer rs words)
   unfolding judgeAnswer
   judge-row-only rs o (JudgeRow.none e) = sym (ap (λ (l : List Text). judgeOutcome (judgeAnswer l words)) e)
-  judge-row-only rs o (JudgeRow.unread {j} some r) = sym (ap judgeOutcome (judged-read rs some ∙ go (readOf words) (exact words) (refused-exactly words j .1 r)))
+  judge-row-only rs o (JudgeRow.unread {j} some r) = sym (ap judgeOutcome (judged-some rs some words ∙ go (readOf words) (exact words) (refused-exactly words j .1 r)))
     where
       go : (x : Reading) (s : Says words x) → x ≡ refused j → judgeReading (formulasOf rs) words x s ≡ JudgeAnswer.NotAPlan j
       go (plan q) s e = absurd (let z : _≡_ {A = ℕ} 0 1 = cc in omega arith)
       go (refused i) s e = let z : i ≡ j = cc in ap JudgeAnswer.NotAPlan z
   judge-row-only rs o (JudgeRow.differ {p} some h w n) = sym (ap judgeOutcome (judged-plan rs some p h w ∙ by-names rs p h false (ne-eqb (p .names) (length (namesIn rs)) n)))
-  judge-row-only rs o (JudgeRow.met {p} some d m) = sym (ap judgeOutcome (drawn-judged rs some p d ∙ ap judgementAnswer (judge-yes (floorOf d) (formulasOf rs) .1 m)))
+  judge-row-only rs o (JudgeRow.met {p} some d m) = sym (ap judgeOutcome (decoded-judged rs some p d ∙ ap judgementAnswer (judge-yes (floorOf d) (formulasOf rs) .1 m)))
   judge-row-only rs o (JudgeRow.unmet {p} {k} some d u) =
-      sym (ap judgeOutcome (drawn-judged rs some p d ∙ ap judgementAnswer (judge-unmet (floorOf d) (formulasOf rs) k .1 u)))
+      sym (ap judgeOutcome (decoded-judged rs some p d ∙ ap judgementAnswer (judge-unmet (floorOf d) (formulasOf rs) k .1 u)))

@@ -6,8 +6,9 @@ use mathlib.Core.Bool.{Bool, true, false, cond}
 use mathlib.Core.List.{List, [], _∷_, map}
 use native.Mathlib.Omega.{arith}
 use lib.Dec.{leb}
-use lib.ListN.{length}
-use borrow.Author.Tests.{eq-eqb, ne-eqb}
+use lib.ListN.{length, take}
+use lib.Seq.{take-append-seam}
+use borrow.Author.Tests.{le-leb, lt-leb, eq-eqb, ne-eqb}
 use Rattle.formula.specs.Formula.{Formula, Name}
 use Rattle.contact.specs.Numbering.{namesOf}
 use Rattle.solver.specs.declared.Row.{Row as Found}
@@ -20,9 +21,10 @@ use Rattle.plan.specs.declared.Written.{Written}
 use Rattle.plan.specs.declared.Written.the-variants as Written
 use Rattle.plan.specs.Words.{Plan, IsPlan, wordsOf}
 use Rattle.plan.specs.Reader.{Reading, plan, refused, readOf}
-use Rattle.plan.specs.Arrays.{Stored, answerOf, planIn, Reads, planBy, Writes}
-use Rattle.plan.specs.Given.{rowPlan, plansOf}
+use Rattle.plan.specs.Arrays.{Stored, answerOf, planIn, Reads, planBy, Writes, over}
+use Rattle.plan.specs.Given.{rowPlan, plansOf, IsGiven}
 use Rattle.plan.specs.Judging.{Judgement, yes, unmet, judge}
+use Rattle.plan.proofs.Claims.{given-exactly}
 use Rattle.plan.proofs.Exact.{Says, exact}
 use Rattle.plan.proofs.Floors.{namedFloor}
 use Rattle.judging.specs.declared.Judged.{Judged}
@@ -38,8 +40,50 @@ use Rattle.table.specs.declared.JudgeAnswer.the-variants as JudgeAnswer
 use Rattle.table.specs.declared.JudgeResult.{JudgeResult}
 use Rattle.table.specs.Store.{Text, rulesOf}
 use Rattle.table.specs.Calls.{formulasOf, FromUs}
-use Rattle.table.specs.Asking.{writtenAnswer, foundAnswer, askAnswer, foundWords, askWords, asked, Asks, judgementAnswer, judgedAnswer, judgePlan, JudgeAnswerSays, judgeReading, judgeAnswer, judged, Judges}
+use Rattle.table.specs.Asking.{foundAnswer, askAnswer, foundWords, askWords, asked, Asks, judgementAnswer, judgePlan, judgeReading, judgeAnswer, judged, Judges}
+use Rattle.table.specs.Steps.{writtenAnswer, judgedAnswer, JudgeAnswerSays}
+use Rattle.table.specs.Rows.{SomeStand}
 use Rattle.table.proofs.Held.{count-is}
+
+-- ---- where some rule stands
+
+pub asked-some : (rs : List Text) → SomeStand rs → (room : ℕ) → askAnswer rs room ≡ foundAnswer (plansOf (formulasOf rs)) room
+unfolding askAnswer
+asked-some [] some room = absurd (some refl)
+asked-some (s ∷ rs) some room = refl
+
+words-some : (rs : List Text) → SomeStand rs → (buffer : List ℕ) → askWords rs buffer ≡ foundWords (plansOf (formulasOf rs)) buffer
+unfolding askWords
+words-some [] some buffer = absurd (some refl)
+words-some (s ∷ rs) some buffer = refl
+
+pub judged-some : (rs : List Text) → SomeStand rs → (words : List ℕ) → judgeAnswer rs words ≡ judgeReading (formulasOf rs) words (readOf words) (exact words)
+unfolding judgeAnswer
+judged-some [] some words = absurd (some refl)
+judged-some (s ∷ rs) some words = refl
+
+some-stand : (t : Table) → FromUs t → 0 < t .count → SomeStand (rulesOf t)
+some-stand t v h e = omega (arith, count-is t v, ap length e)
+
+-- the buffer, where a plan is given, where it is too long, and where there is none
+module _ (rs : List Text) (buffer : List ℕ) (some : SomeStand rs) where
+  pub words-none : plansOf (formulasOf rs) ≡ [] → askWords rs buffer ≡ buffer
+  words-none e = words-some rs some buffer ∙ ap (λ (ps : List Plan). foundWords ps buffer) e
+
+  module _ (p : Plan) (g : IsGiven (formulasOf rs) p) where
+    words-fit : (b : Bool) → leb (length (wordsOf p)) (length buffer) ≡ b → askWords rs buffer ≡ cond b (over (wordsOf p) buffer) buffer
+    words-fit b e =
+        words-some rs some buffer ∙ ap (λ (ps : List Plan). foundWords ps buffer) (given-exactly (formulasOf rs) p .1 g) ∙ ap (λ (t : Bool). cond t (over (wordsOf p) buffer) buffer) e
+
+    pub words-written : length (wordsOf p) ≤ length buffer → askWords rs buffer ≡ over (wordsOf p) buffer
+    words-written l = words-fit true (le-leb (length (wordsOf p)) (length buffer) l)
+
+    pub words-short : length buffer < length (wordsOf p) → askWords rs buffer ≡ buffer
+    words-short l = words-fit false (lt-leb (length (wordsOf p)) (length buffer) l)
+
+    pub first-words : length (wordsOf p) ≤ length buffer → take (length (wordsOf p)) (askWords rs buffer) ≡ wordsOf p
+    unfolding over
+    first-words l = ap (take (length (wordsOf p))) (words-written l) ∙ take-append-seam (wordsOf p) _
 
 -- ---- ask
 
@@ -47,7 +91,7 @@ abbrev askResult : Table → AskAnswer → AskResult
 askResult t a = record { table = t; answer = a }
 
 module _ (t : Table) (v : FromUs t) (buffer : List ℕ) where
-  asks-of : (a : AskAnswer) (exit : List ℕ) → a ≡ askAnswer (rulesOf t) (length buffer) → exit ≡ askWords (rulesOf t) buffer
+  pub asks-of : (a : AskAnswer) (exit : List ℕ) → a ≡ askAnswer (rulesOf t) (length buffer) → exit ≡ askWords (rulesOf t) buffer
       → Asks t buffer (askResult t a) exit
   unfolding asked
   asks-of a exit e f = record { result = ap₂ askResult (v .same) e; words = f; same = refl; from-us = v }
@@ -63,16 +107,10 @@ module _ (t : Table) (v : FromUs t) (buffer : List ℕ) where
   -- some rule stands, and these are its plans, none or one
   pub asks-some : 0 < t .count → (plans : List Plan) → plansOf (formulasOf (rulesOf t)) ≡ plans
       → (a : AskAnswer) (exit : List ℕ) → a ≡ foundAnswer plans (length buffer) → exit ≡ foundWords plans buffer → Asks t buffer (askResult t a) exit
-  unfolding askAnswer askWords
   asks-some h plans e a exit f g =
-      let found = some (rulesOf t) (omega (arith, count-is t v)) in
-      asks-of a exit (f ∙ ap (λ (ps : List Plan). foundAnswer ps (length buffer)) (sym e) ∙ found .0)
-      (g ∙ ap (λ (ps : List Plan). foundWords ps buffer) (sym e) ∙ found .1)
-    where
-      some : (rs : List Text) → 0 < length rs
-          → (foundAnswer (plansOf (formulasOf rs)) (length buffer) ≡ askAnswer rs (length buffer)) × (foundWords (plansOf (formulasOf rs)) buffer ≡ askWords rs buffer)
-      some [] l = absurd (omega arith)
-      some (s ∷ rs) l = (refl, refl)
+      let some = some-stand t v h in
+      asks-of a exit (f ∙ ap (λ (ps : List Plan). foundAnswer ps (length buffer)) (sym e) ∙ sym (asked-some (rulesOf t) some (length buffer)))
+      (g ∙ ap (λ (ps : List Plan). foundWords ps buffer) (sym e) ∙ sym (words-some (rulesOf t) some buffer))
 
 -- the plans of the rows that are found
 pub found-plans : (rules : List (Formula Name)) (c : Compiling) (code : List ℕ) (r : Found) → CompiledRules rules c code → FirstRowIs c code r
@@ -142,12 +180,7 @@ module _ (t : Table) (v : FromUs t) (words : List ℕ) where
 
   -- some rule stands
   judges-some : 0 < t .count → (a : JudgeAnswer) → a ≡ judgeReading (formulasOf (rulesOf t)) words (readOf words) (exact words) → Judges t words (judgeResult t a)
-  unfolding judgeAnswer
-  judges-some h a e = judges-of a (e ∙ some (rulesOf t) (omega (arith, count-is t v)))
-    where
-      some : (rs : List Text) → 0 < length rs → judgeReading (formulasOf rs) words (readOf words) (exact words) ≡ judgeAnswer rs words
-      some [] l = absurd (omega arith)
-      some (s ∷ rs) l = refl
+  judges-some h a e = judges-of a (e ∙ sym (judged-some (rulesOf t) (some-stand t v h) words))
 
   module _ (r : PlanRead) (reads : Reads words r) where
     -- the words are no plan

@@ -19,7 +19,7 @@ use Rattle.syntax.specs.declared.Rule.{Rule}
 use Rattle.syntax.proofs.Heads.{length-codes}
 use Rattle.syntax.proofs.Claims.{text-read}
 use Rattle.table.specs.Store.{Text}
-use Rattle.table.specs.Drafts.{isAtom, atomPlaces, WasRead}
+use Rattle.table.specs.Steps.{isAtom, atomPlaces, WasRead}
 use Rattle.table.proofs.Standing.{is-rule}
 
 places-append : (a b : List ℕ) → atomPlaces (a ++ b) ≡ atomPlaces a + atomPlaces b

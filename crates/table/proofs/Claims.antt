@@ -14,9 +14,10 @@ use Rattle.table.specs.declared.AskResult.{AskResult}
 use Rattle.table.specs.Store.{Text, tableOf, rulesOf}
 use Rattle.table.specs.Calls.{judgeAdd, judgeWithdraw, judgeLoad, CanStand, FromUs, Adds, Withdraws, Loads}
 use Rattle.table.specs.Asking.{askAnswer, Asks, judgeAnswer}
-use Rattle.table.specs.Numbers.{Outcome, addOutcome, withdrawOutcome, loadOutcome, askOutcome, judgeOutcome}
+use Rattle.table.specs.declared.Outcome.{Outcome}
+use Rattle.table.specs.Numbers.{addOutcome, withdrawOutcome, loadOutcome, askOutcome, judgeOutcome}
 use Rattle.table.specs.Rows.{AddRow, WithdrawRow, LoadRow, AskRow, JudgeRow}
-use Rattle.table.specs.Runs.{Call, add, withdraw, load, ask, step, run, after, Faithful}
+use Rattle.table.specs.Runs.{Call, add, withdraw, load, ask, step, run, after, standing, adds, Faithful}
 use Rattle.table.proofs.Stored as Stored
 use Rattle.table.proofs.Standing as Standing
 use Rattle.table.proofs.Running as Running
@@ -59,7 +60,14 @@ call-maps = Running.step-table
 
 -- ---- demand 3, for tables
 
--- after every list of calls the table is that of the standing rules, added in order to the empty table with no refusal
+-- rules that can stand are added in order to the empty table, and none of these adds is refused
+pub adds-stand : (ss : List Text) → CanStand ss → standing (adds ss) ≡ ss
+adds-stand = Running.adds-stand
+
+pub next-added : (rs : List Text) (s : Text) (ss : List Text) → CanStand (rs ++ s ∷ ss) → judgeAdd rs s ≡ AddAnswer.Added
+next-added = Running.next-added
+
+-- after every list of calls the table is that of the standing rules, added in order to the empty table
 pub same-table : (cs : List Call) → Faithful cs
 same-table = Running.faithful
 

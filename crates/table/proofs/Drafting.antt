@@ -1,4 +1,4 @@
--- One text put to a draft, and the draft of a table found text by text: names are gathered behind those of the texts before, atoms are
+-- One text put to a draft: names are gathered behind those of the texts before, atoms are
 -- counted, and the first refusal of the table of calls that applies is the answer. Assumes nothing.
 use Prim.Native.Nat.{ℕ, _+_, _≤_, _<_}
 use mathlib.Core.Path.{_≡_, sym, ap, subst, _∙_}
@@ -13,6 +13,7 @@ use Rattle.syntax.specs.declared.RuleAnswer.the-variants as RuleAnswer
 use Rattle.syntax.specs.declared.Rule.{Rule}
 use Rattle.names.specs.Gather.{arraysOf, knownOf, gathered, Gathers}
 use Rattle.names.specs.declared.Names.{Names}
+use Rattle.names.specs.declared.NamesAnswer.{NamesAnswer}
 use Rattle.names.specs.declared.NamesAnswer.the-variants as NamesAnswer
 use Rattle.names.specs.declared.Gathered.{Gathered}
 use Rattle.names.proofs.Claims.{may-gather, known-from, rule-gathered}
@@ -23,8 +24,8 @@ use Rattle.table.specs.declared.AddAnswer.{AddAnswer}
 use Rattle.table.specs.declared.AddAnswer.the-variants as AddAnswer
 use Rattle.table.specs.declared.AddResult.{AddResult}
 use Rattle.table.specs.Store.{Text, tableOf, rulesOf}
-use Rattle.table.specs.Calls.{formulasOf, namesIn, atomsIn, readAnswer, namesAnswer, ifAdded, orElse, judgeNames, judgeAtoms, judgeRoom, judgeText, judgeAdd, addRules, added, CanStand, FromUs}
-use Rattle.table.specs.Drafts.{WasRead, atomPlaces, draftOf, draftedOf, Drafts}
+use Rattle.table.specs.Calls.{formulasOf, namesIn, atomsIn, readAnswer, namesAnswer, ifAdded, firstRefusal, judgeNames, judgeAtoms, judgeRoom, judgeText, judgeAdd, addRules, added, CanStand, FromUs}
+use Rattle.table.specs.Steps.{WasRead, atomPlaces, draftOf, draftedOf, Drafts}
 use Rattle.table.proofs.Stored.{rules-table}
 use Rattle.table.proofs.Standing.{NotAdded, refused-else, is-rule, names-last, atoms-append, atoms-one, read-formula, names-enough, added-taken, added-refused}
 use Rattle.table.proofs.Atoms.{rule-atoms}
@@ -43,11 +44,11 @@ module _ (rs : List Text) (s : Text) where
 
   pub judge-full : judgeText s ≡ AddAnswer.Added → 16 ≤ length rs → judgeAdd rs s ≡ AddAnswer.TableFull
   unfolding judgeRoom
-  judge-full e h = judge-room e ∙ ap (λ (t : Bool). cond t AddAnswer.TableFull (orElse (judgeNames rs s) (judgeAtoms rs s))) (le-leb 16 (length rs) h)
+  judge-full e h = judge-room e ∙ ap (λ (t : Bool). cond t AddAnswer.TableFull (firstRefusal (judgeNames rs s) (judgeAtoms rs s))) (le-leb 16 (length rs) h)
 
-  judge-counted : judgeText s ≡ AddAnswer.Added → length rs < 16 → judgeAdd rs s ≡ orElse (judgeNames rs s) (judgeAtoms rs s)
+  judge-counted : judgeText s ≡ AddAnswer.Added → length rs < 16 → judgeAdd rs s ≡ firstRefusal (judgeNames rs s) (judgeAtoms rs s)
   unfolding judgeRoom
-  judge-counted e h = judge-room e ∙ ap (λ (t : Bool). cond t AddAnswer.TableFull (orElse (judgeNames rs s) (judgeAtoms rs s))) (lt-leb 16 (length rs) h)
+  judge-counted e h = judge-room e ∙ ap (λ (t : Bool). cond t AddAnswer.TableFull (firstRefusal (judgeNames rs s) (judgeAtoms rs s))) (lt-leb 16 (length rs) h)
 
   pub judge-names : judgeText s ≡ AddAnswer.Added → length rs < 16 → (a : AddAnswer) → judgeNames rs s ≡ a → NotAdded a → judgeAdd rs s ≡ a
   judge-names e h a f n = judge-counted e h ∙ refused-else (judgeNames rs s) (judgeAtoms rs s) (judgeNames rs s) (λ g. n (sym f ∙ g)) ∙ f
@@ -63,14 +64,20 @@ module _ (rs : List Text) (s : Text) where
   unfolding judgeAtoms
   judge-added e h f k = judge-named e h f ∙ ap (λ (t : Bool). cond t AddAnswer.TooManyAtoms AddAnswer.Added) (le-ltb 16 (atomsIn (rs ++ s ∷ [])) k)
 
+pub text-is : (s : Text) (a : RuleAnswer) → ruleOf s .answer ≡ a → judgeText s ≡ readAnswer a
+unfolding judgeText
+text-is s a e = ap readAnswer e
+
+pub names-are : (rs : List Text) (s : Text) (a : NamesAnswer) → gathered s (namesIn rs) .answer ≡ a → judgeNames rs s ≡ namesAnswer a
+unfolding judgeNames
+names-are rs s a e = ap namesAnswer e
+
 -- the reader's answer and the names' as the code has them
 pub text-judged : (s : Text) (rule : Rule) (a : AddAnswer) → rule ≡ ruleOf s → a ≡ readAnswer (rule .answer) → judgeText s ≡ a
-unfolding judgeText
-text-judged s rule a e f = sym (f ∙ ap (λ (x : Rule). readAnswer (x .answer)) e)
+text-judged s rule a e f = text-is s (rule .answer) (sym (ap (λ (x : Rule). x .answer) e)) ∙ sym f
 
 pub names-judged : (rs : List Text) (s : Text) (g : Gathered) (a : AddAnswer) → g ≡ gathered s (namesIn rs) → a ≡ namesAnswer (g .answer) → judgeNames rs s ≡ a
-unfolding judgeNames
-names-judged rs s g a e f = sym (f ∙ ap (λ (x : Gathered). namesAnswer (x .answer)) e)
+names-judged rs s g a e f = names-are rs s (g .answer) (sym (ap (λ (x : Gathered). x .answer) e)) ∙ sym f
 
 pub text-formula : (s : Text) → judgeText s ≡ AddAnswer.Added → ruleOf s .answer ≡ RuleAnswer.Formula
 unfolding judgeText

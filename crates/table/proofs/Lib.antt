@@ -8,7 +8,7 @@ pub mod Scan
 pub mod Results
 pub mod Atoms
 pub mod Drafting
-pub mod Told
+pub mod Refusals
 pub mod Recount
 pub mod Compiled
 pub mod Asking

@@ -4,11 +4,11 @@ use Prim.Native.Nat.{ℕ, suc, _+_, _≤_}
 use mathlib.Core.Path.{_≡_, refl, sym, ap, subst, _∙_}
 use mathlib.Core.Logic.{_⊎_, inl, inr, ⊎-elim}
 use mathlib.Core.Bool.{Bool, true, false, cond}
-use mathlib.Core.List.{List, [], _∷_, _++_, append-assoc, append-nil}
+use mathlib.Core.List.{List, [], _∷_, _++_, cons≢nil, append-assoc, append-nil}
 use native.Mathlib.Omega.{arith}
 use lib.ListN.{length, length-append}
 use lib.Dec.{ltb}
-use borrow.Author.Tests.{ltb-true, ltb-false, le-ltb}
+use borrow.Author.Tests.{ltb-true, ltb-false}
 use Rattle.evalset.proofs.Search.{cases}
 use Rattle.table.specs.declared.AddAnswer.{AddAnswer}
 use Rattle.table.specs.declared.AddAnswer.the-variants as AddAnswer
@@ -16,10 +16,12 @@ use Rattle.table.specs.declared.LoadAnswer.{LoadAnswer}
 use Rattle.table.specs.declared.LoadAnswer.the-variants as LoadAnswer
 use Rattle.table.specs.Store.{Text}
 use Rattle.table.specs.Calls.{judgeAdd, linesOf, blankLine, filled, judgeLines, isNone, judgeLoad, CanStand}
-use Rattle.table.specs.Numbers.{Outcome, refused, refusedLine, addOutcome, onLine, loadOutcome}
+use Rattle.table.specs.declared.Outcome.{Outcome}
+use Rattle.table.specs.declared.Outcome.the-variants as Outcome
+use Rattle.table.specs.Numbers.{addOutcome, onLine, loadOutcome}
 use Rattle.table.specs.Rows.{AddRow, RefusedLine, LoadRow, long, blank, line, loads}
 use Rattle.table.proofs.Standing.{NotAdded, added-or, stand-none, stand-first, stand-more, stand-added}
-use Rattle.table.proofs.Loading.{judge-blank, judge-added, judge-refused, filled-blank, filled-more, too-long}
+use Rattle.table.proofs.Loading.{judge-blank, judge-added, judge-refused, filled-blank, filled-more, not-none, too-long, all-blank, by-lines}
 use Rattle.table.proofs.Rows.{add-row, add-row-only}
 
 -- ---- lines that are not blank
@@ -46,21 +48,21 @@ one-filled done l e = filled-append done (l ∷ []) ∙ ap (λ (ls : List Text).
 -- ---- how the lines behind others are judged
 
 -- all of them added, or one refused
-abbrev Judged : List Text → List Text → Type 0
-Judged done ls =
+abbrev LinesJudged : List Text → List Text → Type 0
+LinesJudged done ls =
     ((judgeLines (length done + 1) (filled done) ls ≡ LoadAnswer.Loaded) × CanStand (filled (done ++ ls)))
-    ⊎ ((k : ℕ) × (n : ℕ) × (p : ℕ) × (loadOutcome (judgeLines (length done + 1) (filled done) ls) ≡ refusedLine k n p) × RefusedLine (done ++ ls) k n p)
+    ⊎ ((k : ℕ) × (n : ℕ) × (p : ℕ) × (loadOutcome (judgeLines (length done + 1) (filled done) ls) ≡ Outcome.RefusedLine k n p) × RefusedLine (done ++ ls) k n p)
 
 -- the line l taken over to those that are done
 over : (done : List Text) (l : Text) (ls : List Text) → judgeLines (length done + 1) (filled done) (l ∷ ls) ≡ judgeLines (length (done ++ l ∷ []) + 1) (filled (done ++ l ∷ [])) ls
-    → Judged (done ++ l ∷ []) ls → Judged done (l ∷ ls)
+    → LinesJudged (done ++ l ∷ []) ls → LinesJudged done (l ∷ ls)
 over done l ls e =
     ⊎-elim
     (λ r. inl (e ∙ r .0, subst (λ (x : List Text). CanStand (filled x)) (append-assoc done (l ∷ []) ls) (r .1)))
     (λ r. inr (r .0, r .1, r .2, ap loadOutcome e ∙ r .3, subst (λ (x : List Text). RefusedLine x (r .0) (r .1) (r .2)) (append-assoc done (l ∷ []) ls) (r .4)))
 
 -- a refused add has a number and what it carries
-refusal : (a : AddAnswer) → NotAdded a → (k : ℕ) × (p : ℕ) × (addOutcome a ≡ refused k p)
+refusal : (a : AddAnswer) → NotAdded a → (k : ℕ) × (p : ℕ) × (addOutcome a ≡ Outcome.Refused k p)
 refusal AddAnswer.Added m = absurd (m refl)
 refusal AddAnswer.TooLong m = (_, _, refl)
 refusal AddAnswer.NoToken m = (_, _, refl)
@@ -76,8 +78,8 @@ one-more : (done : List Text) (l : Text) → length done + 1 + 1 ≡ length (don
 one-more done l = omega (arith, length-append done (l ∷ []))
 
 -- one line, where those behind it are judged
-module _ (done : List Text) (l : Text) (ls : List Text) (h : CanStand (filled done)) (behind : CanStand (filled (done ++ l ∷ [])) → Judged (done ++ l ∷ []) ls) where
-  skip : blankLine l ≡ true → Judged done (l ∷ ls)
+module _ (done : List Text) (l : Text) (ls : List Text) (h : CanStand (filled done)) (behind : CanStand (filled (done ++ l ∷ [])) → LinesJudged (done ++ l ∷ []) ls) where
+  skip : blankLine l ≡ true → LinesJudged done (l ∷ ls)
   skip b =
       over done l ls
       (judge-blank (length done + 1) (filled done) l ls b
@@ -85,7 +87,7 @@ module _ (done : List Text) (l : Text) (ls : List Text) (h : CanStand (filled do
       ∙ ap (λ (rs : List Text). judgeLines (length (done ++ l ∷ []) + 1) rs ls) (sym (one-blank done l b)))
       (behind (subst CanStand (sym (one-blank done l b)) h))
 
-  take-over : blankLine l ≡ false → judgeAdd (filled done) l ≡ AddAnswer.Added → Judged done (l ∷ ls)
+  take-over : blankLine l ≡ false → judgeAdd (filled done) l ≡ AddAnswer.Added → LinesJudged done (l ∷ ls)
   take-over b e =
       over done l ls
       (judge-added (length done + 1) (filled done) l ls b e
@@ -93,7 +95,7 @@ module _ (done : List Text) (l : Text) (ls : List Text) (h : CanStand (filled do
       ∙ ap (λ (rs : List Text). judgeLines (length (done ++ l ∷ []) + 1) rs ls) (sym (one-filled done l b)))
       (behind (subst CanStand (sym (one-filled done l b)) (stand-more (filled done) l h e)))
 
-  refuse : blankLine l ≡ false → NotAdded (judgeAdd (filled done) l) → Judged done (l ∷ ls)
+  refuse : blankLine l ≡ false → NotAdded (judgeAdd (filled done) l) → LinesJudged done (l ∷ ls)
   refuse b m =
       let r = refusal (judgeAdd (filled done) l) m in
       inr (
@@ -104,31 +106,23 @@ module _ (done : List Text) (l : Text) (ls : List Text) (h : CanStand (filled do
         record { before = done; text = l; later = ls; split = refl; line-is = refl; filled-text = b; added = h; row = subst (AddRow (filled done) l) (r .2) (add-row (filled done) l h) },
       )
 
-  judged-line : Judged done (l ∷ ls)
+  judged-line : LinesJudged done (l ∷ ls)
   judged-line = cases (blankLine l) skip (λ b. ⊎-elim (take-over b) (refuse b) (added-or (judgeAdd (filled done) l)))
 
-judged : (ls done : List Text) → CanStand (filled done) → Judged done ls
+lines-judged : (ls done : List Text) → CanStand (filled done) → LinesJudged done ls
 unfolding judgeLines
-judged [] done h = inl (refl, subst (λ (x : List Text). CanStand (filled x)) (sym (append-nil done)) h)
-judged (l ∷ ls) done h = judged-line done l ls h (judged ls (done ++ l ∷ []))
+lines-judged [] done h = inl (refl, subst (λ (x : List Text). CanStand (filled x)) (sym (append-nil done)) h)
+lines-judged (l ∷ ls) done h = judged-line done l ls h (lines-judged ls (done ++ l ∷ []))
 
 -- ---- the answer is that of a row
 
 some-or : (ls : List Text) → ((isNone ls ≡ true) × (ls ≡ [])) ⊎ ((isNone ls ≡ false) × (ls ≡ [] → ⊥))
 some-or [] = inl (refl, refl)
-some-or (l ∷ ls) = inr (refl, λ e. let z : _≡_ {A = ℕ} 0 1 = cc in omega arith)
+some-or (l ∷ ls) = inr (refl, cons≢nil)
 
 module _ (f : Text) where
   gives : {a : LoadAnswer} → judgeLoad f ≡ a → LoadRow f (loadOutcome a) → LoadRow f (loadOutcome (judgeLoad f))
   gives e r = subst (λ (a : LoadAnswer). LoadRow f (loadOutcome a)) (sym e) r
-
-  all-blank : length f ≤ 8192 → isNone (filled (linesOf f)) ≡ true → judgeLoad f ≡ LoadAnswer.AllBlank
-  unfolding judgeLoad
-  all-blank h e = rw (le-ltb 8192 (length f) h, e)
-
-  by-lines : length f ≤ 8192 → isNone (filled (linesOf f)) ≡ false → judgeLoad f ≡ judgeLines 1 [] (linesOf f)
-  unfolding judgeLoad
-  by-lines h e = rw (le-ltb 8192 (length f) h, e)
 
   first-lines : judgeLines 1 (filled []) (linesOf f) ≡ judgeLines 1 [] (linesOf f)
   first-lines = ap (λ (rs : List Text). judgeLines 1 rs (linesOf f)) no-lines
@@ -136,16 +130,16 @@ module _ (f : Text) where
   load-lines : length f ≤ 8192 → isNone (filled (linesOf f)) ≡ false → (filled (linesOf f) ≡ [] → ⊥) → LoadRow f (loadOutcome (judgeLoad f))
   load-lines h e n =
       ⊎-elim
-      (λ r. gives (by-lines h e ∙ sym first-lines ∙ r .0) (loads h n (r .1)))
-      (λ r. subst (LoadRow f) (sym (ap loadOutcome (by-lines h e ∙ sym first-lines) ∙ r .3)) (line h (r .4)))
-      (judged (linesOf f) [] (subst CanStand (sym no-lines) stand-none))
+      (λ r. gives (by-lines f h e ∙ sym first-lines ∙ r .0) (loads h n (r .1)))
+      (λ r. subst (LoadRow f) (sym (ap loadOutcome (by-lines f h e ∙ sym first-lines) ∙ r .3)) (line h (r .4)))
+      (lines-judged (linesOf f) [] (subst CanStand (sym no-lines) stand-none))
 
   pub load-row : LoadRow f (loadOutcome (judgeLoad f))
   load-row =
       cases (ltb 8192 (length f))
       (λ t. gives (too-long f (ltb-true _ _ t)) (long (ltb-true _ _ t)))
       (λ t. ⊎-elim
-      (λ e. gives (all-blank (ltb-false _ _ t) (e .0)) (blank (ltb-false _ _ t) (e .1)))
+      (λ e. gives (all-blank f (ltb-false _ _ t) (e .0)) (blank (ltb-false _ _ t) (e .1)))
       (λ e. load-lines (ltb-false _ _ t) (e .0) (e .1))
       (some-or (filled (linesOf f))))
 
@@ -178,24 +172,20 @@ passed (l ∷ before) n rs rest h = go (blankLine l) refl h (passed before (n + 
 
 some-line : (before : List Text) (l : Text) (later : List Text) → blankLine l ≡ false → isNone (filled (before ++ l ∷ later)) ≡ false
 some-line before l later e =
-    ap isNone (filled-append before (l ∷ later) ∙ ap (λ (x : List Text). filled before ++ x) (filled-more l later e)) ∙ go (filled before)
-  where
-    go : (x : List Text) → isNone (x ++ l ∷ filled later) ≡ false
-    go [] = refl
-    go (y ∷ x) = refl
+    ap isNone (filled-append before (l ∷ later) ∙ ap (λ (x : List Text). filled before ++ x) (filled-more l later e)) ∙ not-none (filled before) l (filled later)
 
-refused-first : (ls : List Text) (k n p : ℕ) → RefusedLine ls k n p → loadOutcome (judgeLines 1 [] ls) ≡ refusedLine k n p
+refused-first : (ls : List Text) (k n p : ℕ) → RefusedLine ls k n p → loadOutcome (judgeLines 1 [] ls) ≡ Outcome.RefusedLine k n p
 refused-first ls k n p r =
     let z : 1 + length (r .before) ≡ n = omega (arith, r .line-is) in
     let answer : AddAnswer = judgeAdd (filled (r .before)) (r .text) in
-    let told : addOutcome answer ≡ refused k p = sym (add-row-only (filled (r .before)) (r .text) (r .added) (refused k p) (r .row)) in
-    let out : NotAdded answer = λ e. let y : Outcome.done ≡ refused k p = sym (ap addOutcome e) ∙ told in absurd (let x : _≡_ {A = ℕ} 0 1 = cc in omega arith) in
+    let told : addOutcome answer ≡ Outcome.Refused k p = sym (add-row-only (filled (r .before)) (r .text) (r .added) (Outcome.Refused k p) (r .row)) in
+    let out : NotAdded answer = λ e. let y : Outcome.Done ≡ Outcome.Refused k p = sym (ap addOutcome e) ∙ told in absurd (let x : _≡_ {A = ℕ} 0 1 = cc in omega arith) in
     ap loadOutcome
     (ap (judgeLines 1 []) (r .split)
     ∙ passed (r .before) 1 [] (r .text ∷ r .later) (r .added)
     ∙ judge-refused (1 + length (r .before)) (filled (r .before)) (r .text) (r .later) answer (r .filled-text) refl out)
     ∙ ap (onLine (1 + length (r .before))) told
-    ∙ ap (λ (m : ℕ). refusedLine k m p) z
+    ∙ ap (λ (m : ℕ). Outcome.RefusedLine k m p) z
 
 all-added : (ls : List Text) → CanStand (filled ls) → judgeLines 1 [] ls ≡ LoadAnswer.Loaded
 unfolding judgeLines

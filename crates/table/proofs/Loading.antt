@@ -15,7 +15,7 @@ use Rattle.table.specs.declared.LoadAnswer.{LoadAnswer}
 use Rattle.table.specs.declared.LoadAnswer.the-variants as LoadAnswer
 use Rattle.table.specs.Store.{Text, tableOf, rulesOf}
 use Rattle.table.specs.Calls.{ifAdded, judgeAdd, addRules, linesOf, linesFrom, blankLine, filled, judgeLines, isNone, judgeLoad}
-use Rattle.table.specs.Drafts.{draftOf, draftedOf, Drafts}
+use Rattle.table.specs.Steps.{draftOf, draftedOf, Drafts}
 use Rattle.table.proofs.Standing.{NotAdded, refused-else, stand-none, stand-add, added-taken}
 use Rattle.table.proofs.Drafting.{drafts-of, draft-rules, draft-from-us, draft-count}
 
@@ -36,7 +36,27 @@ lines-none : (file : Text) (from : ℕ) → length file < from → linesFrom fil
 unfolding linesFrom
 lines-none file from h = rw (lt-leb from (length file) h)
 
--- one line, blank, added or refused
+-- ---- the whole file
+
+pub too-long : (file : Text) → 8192 < length file → judgeLoad file ≡ LoadAnswer.FileTooLong
+unfolding judgeLoad
+too-long file h = rw (lt-ltb 8192 (length file) h)
+
+module _ (file : Text) (h : length file ≤ 8192) where
+  pub all-blank : isNone (filled (linesOf file)) ≡ true → judgeLoad file ≡ LoadAnswer.AllBlank
+  unfolding judgeLoad
+  all-blank e = rw (le-ltb 8192 (length file) h, e)
+
+  pub by-lines : isNone (filled (linesOf file)) ≡ false → judgeLoad file ≡ judgeLines 1 [] (linesOf file)
+  unfolding judgeLoad
+  by-lines e = rw (le-ltb 8192 (length file) h, e)
+
+pub not-none : (rs : List Text) (l : Text) (ls : List Text) → isNone (rs ++ l ∷ ls) ≡ false
+not-none [] l ls = refl
+not-none (r ∷ rs) l ls = refl
+
+-- ---- one line, blank, added or refused
+
 module _ (n : ℕ) (rs : List Text) (l : Text) (ls : List Text) where
   pub judge-blank : blankLine l ≡ true → judgeLines n rs (l ∷ ls) ≡ judgeLines (n + 1) rs ls
   unfolding judgeLines
@@ -127,19 +147,14 @@ module _ (file : Text) (d : Draft) (line from e : ℕ) (p : Progress file d line
     some-filled : isNone (filled (linesOf file)) ≡ false
     some-filled =
         ap isNone (sym (p .kept) ∙ ap (λ (ls : List Text). held ++ filled ls) whole ∙ ap (λ (ls : List Text). held ++ ls) (filled-more here (linesFrom file (e + 1)) b))
-        ∙ go held here (filled (linesFrom file (e + 1)))
-      where
-        go : (rs : List Text) (l : Text) (ls : List Text) → isNone (rs ++ l ∷ ls) ≡ false
-        go [] l ls = refl
-        go (r ∷ rs) l ls = refl
+        ∙ not-none held here (filled (linesFrom file (e + 1)))
 
     pub line-refused : NotAdded (r .answer) → judgeLoad file ≡ LoadAnswer.Line (line + 1) (r .answer)
-    unfolding judgeLoad
     line-refused m =
-        rw (le-ltb 8192 (length file) (p .short), some-filled)
-        (sym (p .judged)
+        by-lines file (p .short) some-filled
+        ∙ sym (p .judged)
         ∙ ap (judgeLines (line + 1) held) whole
-        ∙ judge-refused (line + 1) held here (linesFrom file (e + 1)) (r .answer) b answer-is m)
+        ∙ judge-refused (line + 1) held here (linesFrom file (e + 1)) (r .answer) b answer-is m
 
 -- the end of the file
 module _ (file : Text) (d : Draft) (line from : ℕ) (p : Progress file d line from) (h : length file < from) where
@@ -152,16 +167,14 @@ module _ (file : Text) (d : Draft) (line from : ℕ) (p : Progress file d line f
   all-judged = sym (ap (judgeLines (line + 1) (rulesOf (d .table))) (sym (lines-none file from h)) ∙ p .judged)
 
   pub nothing-kept : d .table .count ≤ 0 → judgeLoad file ≡ LoadAnswer.AllBlank
-  unfolding judgeLoad
-  nothing-kept k = rw (le-ltb 8192 (length file) (p .short), ap isNone (sym all-kept) ∙ go (rulesOf (d .table)) (omega (arith, draft-count d (p .drafts))))
+  nothing-kept k = all-blank file (p .short) (ap isNone (sym all-kept) ∙ go (rulesOf (d .table)) (omega (arith, draft-count d (p .drafts))))
     where
       go : (rs : List Text) → length rs ≤ 0 → isNone rs ≡ true
       go [] z = refl
       go (r ∷ rs) z = absurd (omega arith)
 
   pub something-kept : 0 < d .table .count → judgeLoad file ≡ LoadAnswer.Loaded
-  unfolding judgeLoad
-  something-kept k = rw (le-ltb 8192 (length file) (p .short), ap isNone (sym all-kept) ∙ go (rulesOf (d .table)) (omega (arith, draft-count d (p .drafts)))) all-judged
+  something-kept k = by-lines file (p .short) (ap isNone (sym all-kept) ∙ go (rulesOf (d .table)) (omega (arith, draft-count d (p .drafts)))) ∙ all-judged
     where
       go : (rs : List Text) → 0 < length rs → isNone rs ≡ false
       go [] z = absurd (omega arith)
@@ -169,7 +182,3 @@ module _ (file : Text) (d : Draft) (line from : ℕ) (p : Progress file d line f
 
   pub kept-table : d .table ≡ tableOf (filled (linesOf file))
   kept-table = draft-from-us d (p .drafts) .same ∙ ap tableOf all-kept
-
-pub too-long : (file : Text) → 8192 < length file → judgeLoad file ≡ LoadAnswer.FileTooLong
-unfolding judgeLoad
-too-long file h = rw (lt-ltb 8192 (length file) h)

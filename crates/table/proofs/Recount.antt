@@ -18,7 +18,7 @@ use Rattle.table.specs.declared.Line.{Line}
 use Rattle.table.specs.declared.Table.{Table}
 use Rattle.table.specs.Store.{Text, rulesOf, lineOf, textOf}
 use Rattle.table.specs.Calls.{namesIn, atomsIn, CanStand, FromUs}
-use Rattle.table.specs.Drafts.{atomPlaces, draftOf}
+use Rattle.table.specs.Steps.{atomPlaces, draftOf}
 use Rattle.table.proofs.Stored.{text-line}
 use Rattle.table.proofs.Standing.{stand-first, stand-added, room}
 use Rattle.table.proofs.Drafting.{names-with, atoms-with, read-atoms, draft-is}

@@ -14,7 +14,7 @@ use Rattle.table.specs.declared.LoadAnswer.{LoadAnswer}
 use Rattle.table.specs.declared.LoadResult.{LoadResult}
 use Rattle.table.specs.Store.{Text, tableOf, rulesOf}
 use Rattle.table.specs.Calls.{added, judgeWithdraw, without, ifWithdrawn, withdrawRules, withdrawn, linesOf, filled, judgeLoad, ifLoaded, loadRules, loaded, FromUs, Adds, Withdraws, Loads}
-use Rattle.table.specs.Drafts.{loadResult}
+use Rattle.table.specs.Steps.{loadResult}
 use Rattle.table.proofs.Stored.{from-us-table}
 use Rattle.table.proofs.Standing.{stand-add, stand-withdraw, stand-load}
 
@@ -23,11 +23,11 @@ pub adds-of : (t : Table) (s : Text) (r : AddResult) → FromUs t → r ≡ adde
 unfolding added
 adds-of t s r v e = record { result = e; from-us = rw e (from-us-table _ (stand-add _ s (v .standing))) }
 
-withdraws-of : (t : Table) (k : ℕ) (r : WithdrawResult) → FromUs t → r ≡ withdrawn (rulesOf t) k → Withdraws t k r
+pub withdraws-of : (t : Table) (k : ℕ) (r : WithdrawResult) → FromUs t → r ≡ withdrawn (rulesOf t) k → Withdraws t k r
 unfolding withdrawn
 withdraws-of t k r v e = record { result = e; from-us = rw e (from-us-table _ (stand-withdraw _ k (v .standing))) }
 
-loads-of : (t : Table) (f : Text) (r : LoadResult) → FromUs t → r ≡ loaded (rulesOf t) f → Loads t f r
+pub loads-of : (t : Table) (f : Text) (r : LoadResult) → FromUs t → r ≡ loaded (rulesOf t) f → Loads t f r
 unfolding loaded
 loads-of t f r v e = record { result = e; from-us = rw e (from-us-table _ (stand-load _ f (v .standing))) }
 

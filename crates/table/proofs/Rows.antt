@@ -27,11 +27,12 @@ use Rattle.table.specs.declared.AddAnswer.{AddAnswer}
 use Rattle.table.specs.declared.AddAnswer.the-variants as AddAnswer
 use Rattle.table.specs.declared.WithdrawAnswer.{WithdrawAnswer}
 use Rattle.table.specs.Store.{Text}
-use Rattle.table.specs.Calls.{formulasOf, namesIn, atomsIn, readAnswer, namesAnswer, judgeNames, judgeText, judgeAdd, judgeWithdraw, CanStand}
-use Rattle.table.specs.Numbers.{Outcome, addOutcome, withdrawOutcome}
+use Rattle.table.specs.Calls.{formulasOf, namesIn, atomsIn, readAnswer, judgeNames, judgeText, judgeAdd, judgeWithdraw, CanStand}
+use Rattle.table.specs.declared.Outcome.{Outcome}
+use Rattle.table.specs.Numbers.{addOutcome, withdrawOutcome}
 use Rattle.table.specs.Rows.{AddRow, full, seventh, many, stands, WithdrawRow, none, taken}
 use Rattle.table.proofs.Standing.{NotAdded, read-formula, is-rule, enough}
-use Rattle.table.proofs.Drafting.{judge-text, judge-full, judge-names, judge-atoms, judge-added}
+use Rattle.table.proofs.Drafting.{text-is, names-are, judge-text, judge-full, judge-names, judge-atoms, judge-added}
 use Rattle.table.proofs.Results.{withdraw-zero, withdraw-high, withdraw-good}
 
 -- ---- add
@@ -47,14 +48,6 @@ formula-or (RuleAnswer.GrammarAt i) = inr (λ e. let z : _≡_ {A = ℕ} 0 1 = c
 
 not-seventh : (p : ℕ) → NotAdded (AddAnswer.SeventhName p)
 not-seventh p e = let z : _≡_ {A = ℕ} 0 1 = cc in omega arith
-
-text-is : (s : Text) (a : RuleAnswer) → ruleOf s .answer ≡ a → judgeText s ≡ readAnswer a
-unfolding judgeText
-text-is s a e = ap readAnswer e
-
-names-are : (rs : List Text) (s : Text) (a : NamesAnswer) → gathered s (namesIn rs) .answer ≡ a → judgeNames rs s ≡ namesAnswer a
-unfolding judgeNames
-names-are rs s a e = ap namesAnswer e
 
 module _ (rs : List Text) (s : Text) (h : CanStand rs) where
   abbrev Holds : AddAnswer → Type 0

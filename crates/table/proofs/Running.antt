@@ -14,7 +14,7 @@ use Rattle.table.specs.declared.AskResult.{AskResult}
 use Rattle.table.specs.Store.{Text, tableOf, rulesOf}
 use Rattle.table.specs.Calls.{CanStand, FromUs, Adds, Withdraws, Loads, judgeAdd, added, withdrawn, loaded}
 use Rattle.table.specs.Asking.{Asks}
-use Rattle.table.specs.Runs.{Call, add, withdraw, load, ask, step, runFrom, run, after, standingFrom, standing, adds, NoneRefused, Faithful}
+use Rattle.table.specs.Runs.{Call, add, withdraw, load, ask, step, runFrom, run, after, standingFrom, standing, adds, Faithful}
 use Rattle.table.proofs.Stored.{rules-table, from-us-table}
 use Rattle.table.proofs.Standing.{stand-none, stand-first, stand-added, stand-add, stand-withdraw, stand-load, added-taken}
 
@@ -62,7 +62,7 @@ stand-run [] rs h = h
 stand-run (c ∷ cs) rs h = stand-run cs (after rs c) (stand-after rs c h)
 
 -- a list that can stand is added without a refusal
-next-added : (rs : List Text) (s : Text) (ss : List Text) → CanStand (rs ++ s ∷ ss) → judgeAdd rs s ≡ AddAnswer.Added
+pub next-added : (rs : List Text) (s : Text) (ss : List Text) → CanStand (rs ++ s ∷ ss) → judgeAdd rs s ≡ AddAnswer.Added
 next-added rs s ss h = stand-added rs s (stand-first (rs ++ s ∷ []) ss (subst CanStand (sym (append-assoc rs (s ∷ []) ss)) h))
 
 after-next : (rs : List Text) (s : Text) → judgeAdd rs s ≡ AddAnswer.Added → after rs (add s) ≡ rs ++ s ∷ []
@@ -77,12 +77,9 @@ adds-standing (s ∷ ss) rs h =
     ∙ adds-standing ss (rs ++ s ∷ []) (rw append-assoc h)
     ∙ append-assoc rs (s ∷ []) ss
 
-none-refused : (ss rs : List Text) → CanStand (rs ++ ss) → NoneRefused (tableOf rs) ss
-unfolding added
-none-refused [] rs h = tt
-none-refused (s ∷ ss) rs h =
-    let e = next-added rs s ss h in
-    (rw rules-table e, rw (step-table, after-next rs s e) (none-refused ss (rs ++ s ∷ []) (rw append-assoc h)))
+pub adds-stand : (ss : List Text) → CanStand ss → standing (adds ss) ≡ ss
+unfolding standing
+adds-stand ss h = adds-standing ss [] h
 
 pub faithful : (cs : List Call) → Faithful cs
 unfolding run standing
@@ -92,7 +89,6 @@ faithful cs =
       from-us = subst FromUs (sym (run-table cs [])) (from-us-table _ h);
       holds = ap rulesOf (run-table cs []) ∙ rules-table (standingFrom [] cs);
       table = run-table cs [] ∙ ap tableOf (sym (adds-standing (standingFrom [] cs) [] h)) ∙ sym (run-table (adds (standing cs)) []);
-      taken = none-refused (standing cs) [] h;
     }
 
 -- the tables from us are those after a list of calls

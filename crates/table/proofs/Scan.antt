@@ -1,4 +1,4 @@
--- One turn of each scan over a slice: what a definition by clauses says of the rest of the list from a place on: a list from a place on is its element there and the rest. Assumes nothing.
+-- One turn of each scan over a slice: a list from a place on is its element there and the rest. Assumes nothing.
 use Prim.Native.Nat.{ℕ, suc, _+_, _-_, _≤_, _<_}
 use mathlib.Core.Path.{_≡_, refl, sym, ap, _∙_}
 use mathlib.Core.List.{List, [], _∷_, _++_, append-assoc, append-nil}
@@ -11,7 +11,7 @@ use lib.Dec.{eqb}
 use borrow.Author.Tests.{eq-eqb, ne-eqb, le-leb, lt-leb}
 use Rattle.table.specs.Store.{Text}
 use Rattle.table.specs.Calls.{blankByte, blankLine, linesOf, linesFrom, onFirst}
-use Rattle.table.specs.Drafts.{isAtom, atomPlaces}
+use Rattle.table.specs.Steps.{isAtom, atomPlaces}
 
 -- the rest from a place on: its byte and the rest from the next
 pub rest : (s : Text) (i : ℕ) → i < length s → drop i s ≡ getD s i 0 ∷ drop (i + 1) s

@@ -1,4 +1,4 @@
--- Lines moved down by one place: a turn of withdraw's loop, and the table that it leaves: each line takes the place before it, and the last one is cleared. Assumes nothing.
+-- Withdraw's loop and the table that it leaves: each line takes the place before it, and the last one is cleared. Assumes nothing.
 use Prim.Native.Nat.{ℕ, suc, _+_, _-_, _≤_, _<_}
 use mathlib.Core.Path.{_≡_, sym, ap, _∙_}
 use mathlib.Core.List.{List, [], _∷_, _++_, map, map-append}

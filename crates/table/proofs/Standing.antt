@@ -16,8 +16,8 @@ use Rattle.syntax.specs.Rule.{ruleOf, meaningOf}
 use Rattle.syntax.specs.declared.RuleAnswer.{RuleAnswer}
 use Rattle.syntax.specs.declared.RuleAnswer.the-variants as RuleAnswer
 use Rattle.syntax.proofs.Claims.{text-answered, text-means}
-use Rattle.evalset.specs.Search.{In, here, next}
-use Rattle.evalset.proofs.Search.{in-left, in-right, in-either, map-intro, map-elim}
+use Rattle.evalset.specs.Search.{In, here}
+use Rattle.evalset.proofs.Search.{none-in, uncons, in-left, in-right, in-either, map-intro, map-elim}
 use Rattle.contact.specs.Numbering.{allAtoms, namesOf}
 use Rattle.names.specs.Gather.{gathered}
 use Rattle.names.specs.declared.NamesAnswer.{NamesAnswer}
@@ -31,15 +31,15 @@ use Rattle.table.specs.declared.WithdrawAnswer.the-variants as WithdrawA
 use Rattle.table.specs.declared.LoadAnswer.{LoadAnswer}
 use Rattle.table.specs.declared.LoadAnswer.the-variants as LoadAnswer
 use Rattle.table.specs.Store.{Text}
-use Rattle.table.specs.Calls.{formulasOf, namesIn, atomsIn, readAnswer, namesAnswer, ifAdded, orElse, judgeNames, judgeAtoms, judgeRoom, judgeText, judgeAdd, addRules, judgeWithdraw, without, ifWithdrawn, withdrawRules, linesOf, blankLine, filled, judgeLines, isNone, judgeLoad, ifLoaded, loadRules, AllRules, CanStand}
+use Rattle.table.specs.Calls.{formulasOf, namesIn, atomsIn, readAnswer, namesAnswer, ifAdded, firstRefusal, judgeNames, judgeAtoms, judgeRoom, judgeText, judgeAdd, addRules, judgeWithdraw, without, ifWithdrawn, withdrawRules, linesOf, blankLine, filled, judgeLines, isNone, judgeLoad, ifLoaded, loadRules, CanStand}
 use Rattle.table.proofs.Fewer.{in-take, in-drop, names-fewer}
 
 -- ---- answers
 
--- what says the same of every answer but Added says it of one that is not
 abbrev pub NotAdded : AddAnswer → Type 0
 NotAdded a = a ≡ AddAnswer.Added → ⊥
 
+-- of two the second, where the answer is a refusal
 pub refused-else : {A : Type 0} (a : AddAnswer) (x y : A) → NotAdded a → ifAdded a x y ≡ y
 refused-else AddAnswer.Added x y n = absurd (n refl)
 refused-else AddAnswer.TooLong x y n = refl
@@ -51,6 +51,16 @@ refused-else (AddAnswer.GrammarAt i) x y n = refl
 refused-else AddAnswer.TableFull x y n = refl
 refused-else (AddAnswer.SeventhName i) x y n = refl
 refused-else AddAnswer.TooManyAtoms x y n = refl
+
+pub not-withdrawn : {A : Type 0} (a : WithdrawAnswer) (x y : A) → (a ≡ WithdrawAnswer.Withdrawn → ⊥) → ifWithdrawn a x y ≡ y
+not-withdrawn WithdrawAnswer.Withdrawn x y n = absurd (n refl)
+not-withdrawn (WithdrawAnswer.NoSuchRule k) x y n = refl
+
+pub not-loaded : {A : Type 0} (a : LoadAnswer) (x y : A) → (a ≡ LoadAnswer.Loaded → ⊥) → ifLoaded a x y ≡ y
+not-loaded LoadAnswer.Loaded x y n = absurd (n refl)
+not-loaded LoadAnswer.FileTooLong x y n = refl
+not-loaded LoadAnswer.AllBlank x y n = refl
+not-loaded (LoadAnswer.Line l a) x y n = refl
 
 -- an answer is Added or not
 pub added-or : (a : AddAnswer) → (a ≡ AddAnswer.Added) ⊎ NotAdded a
@@ -65,7 +75,7 @@ added-or AddAnswer.TableFull = inr (λ e. let z : _≡_ {A = ℕ} 0 1 = cc in om
 added-or (AddAnswer.SeventhName i) = inr (λ e. let z : _≡_ {A = ℕ} 0 1 = cc in omega arith)
 added-or AddAnswer.TooManyAtoms = inr (λ e. let z : _≡_ {A = ℕ} 0 1 = cc in omega arith)
 
-both-added : (a b : AddAnswer) → orElse a b ≡ AddAnswer.Added → (a ≡ AddAnswer.Added) × (b ≡ AddAnswer.Added)
+both-added : (a b : AddAnswer) → firstRefusal a b ≡ AddAnswer.Added → (a ≡ AddAnswer.Added) × (b ≡ AddAnswer.Added)
 both-added a b e = ⊎-elim (λ f. (f, sym (ap (λ (x : AddAnswer). ifAdded x b a) f) ∙ e)) (λ n. absurd (n (sym (refused-else a b a n) ∙ e))) (added-or a)
 
 passed : (t : Bool) (a b : AddAnswer) → NotAdded a → cond t a b ≡ AddAnswer.Added → (t ≡ false) × (b ≡ AddAnswer.Added)
@@ -127,20 +137,12 @@ atoms-one s = ap length (append-nil (atomsOf (meaningOf s)))
 
 -- ---- part of a list that can stand
 
-pub rules-at : {rs : List Text} {s : Text} → AllRules rs → In s rs → ruleOf s .answer ≡ RuleAnswer.Formula
-rules-at h here = h .0
-rules-at h (next i) = rules-at (h .1) i
-
-rules-all : (rs : List Text) → ((s : Text) → In s rs → ruleOf s .answer ≡ RuleAnswer.Formula) → AllRules rs
-rules-all [] f = tt
-rules-all (r ∷ rs) f = (f r here, rules-all rs (λ s i. f s (next i)))
-
 stand-part : (rs ss : List Text) → CanStand ss → ((s : Text) → In s rs → In s ss) → length rs ≤ length ss → atomsIn rs ≤ atomsIn ss → CanStand rs
 unfolding namesIn
 stand-part rs ss h among few atoms =
     record {
       few = omega (arith, h .few);
-      rules = rules-all rs (λ s i. rules-at (h .rules) (among s i));
+      rules = λ s i. h .rules s (among s i);
       names = omega (arith, h .names, names-fewer (formulasOf rs) (formulasOf ss) formulas);
       atoms = omega (arith, h .atoms);
     }
@@ -152,7 +154,7 @@ stand-part rs ss h among few atoms =
 
 pub stand-none : CanStand []
 unfolding namesIn atomsIn
-stand-none = record { few = omega arith; rules = tt; names = omega arith; atoms = omega arith }
+stand-none = record { few = omega arith; rules = λ s i. none-in i; names = omega arith; atoms = omega arith }
 
 pub stand-first : (rs ss : List Text) → CanStand (rs ++ ss) → CanStand rs
 stand-first rs ss h = stand-part rs (rs ++ ss) h (λ s i. in-left ss i) (omega (arith, length-append rs ss)) (omega (arith, atoms-append rs ss))
@@ -183,7 +185,7 @@ pub room : (rs : List Text) (s : Text) → judgeAdd rs s ≡ AddAnswer.Added →
 unfolding judgeAdd judgeText judgeRoom judgeNames judgeAtoms
 room rs s e =
     let a = both-added (readAnswer (ruleOf s .answer)) (judgeRoom rs s) e in
-    let b = passed (leb 16 (length rs)) AddAnswer.TableFull (orElse (judgeNames rs s) (judgeAtoms rs s)) not-full (a .1) in
+    let b = passed (leb 16 (length rs)) AddAnswer.TableFull (firstRefusal (judgeNames rs s) (judgeAtoms rs s)) not-full (a .1) in
     let d = both-added (judgeNames rs s) (judgeAtoms rs s) (b .1) in
     let f = passed (ltb 16 (atomsIn (rs ++ s ∷ []))) AddAnswer.TooManyAtoms AddAnswer.Added not-many (d .1) in
     record { read = read-formula _ (a .0); few = leb-false _ _ (b .0); names = names-enough _ (d .0); atoms = ltb-false _ _ (f .0) }
@@ -200,25 +202,25 @@ enough rs s h e =
     let r = rule-enough (formulasOf rs) h s (meaningOf s) (is-rule s e) in
     (λ a. omega (arith, r .0 a, ap length (names-last rs s)), λ b. r .1 (omega (arith, ap length (names-last rs s))))
 
-rules-append : (rs ss : List Text) → AllRules rs → AllRules ss → AllRules (rs ++ ss)
-rules-append [] ss h k = k
-rules-append (r ∷ rs) ss h k = (h .0, rules-append rs ss (h .1) k)
-
 pub stand-more : (rs : List Text) (s : Text) → CanStand rs → judgeAdd rs s ≡ AddAnswer.Added → CanStand (rs ++ s ∷ [])
 stand-more rs s h e =
     let m = room rs s e in
     record {
       few = omega (arith, m .few, length-append rs (s ∷ []));
-      rules = rules-append rs (s ∷ []) (h .rules) (m .read, tt);
+      rules = λ t i. ⊎-elim (h .rules t) (λ j. last t (uncons j)) (in-either rs (s ∷ []) i);
       names = enough rs s (h .names) (m .read) .0 (m .names);
       atoms = m .atoms;
     }
+  where
+    last : (t : Text) → (t ≡ s) ⊎ In t [] → ruleOf t .answer ≡ RuleAnswer.Formula
+    last t (inl f) = ap (λ (x : Text). ruleOf x .answer) f ∙ room rs s e .read
+    last t (inr j) = none-in j
 
 -- what can stand is added
 pub stand-added : (rs : List Text) (s : Text) → CanStand (rs ++ s ∷ []) → judgeAdd rs s ≡ AddAnswer.Added
 stand-added rs s h =
     let b = stand-first rs (s ∷ []) h in
-    let read = rules-at (h .rules) (in-right rs here) in
+    let read = h .rules s (in-right rs here) in
     room-added rs s
     (record {
       read = read;

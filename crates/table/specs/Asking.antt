@@ -7,20 +7,15 @@ use lib.Dec.{leb, eqb}
 use lib.ListN.{length}
 use Rattle.formula.specs.Formula.{Formula, Name}
 use Rattle.contact.specs.Numbering.{namesOf}
-use Rattle.plan.specs.declared.Written.{Written}
 use Rattle.plan.specs.declared.Written.the-variants as Written
 use Rattle.plan.specs.Words.{Plan, IsPlan, wordsOf}
 use Rattle.plan.specs.Reader.{Reading, plan, refused, readOf}
-use Rattle.plan.specs.declared.PlanArrays.{PlanArrays}
-use Rattle.plan.specs.Arrays.{Stored, over}
+use Rattle.plan.specs.Arrays.{over}
 use Rattle.plan.specs.Given.{plansOf}
 use Rattle.plan.specs.Judging.{Judgement, yes, unmet, judge}
 use Rattle.plan.proofs.Floors.{namedFloor}
 use Rattle.plan.proofs.Exact.{Says, exact}
-use Rattle.judging.specs.declared.Judged.{Judged}
 use Rattle.judging.specs.declared.Judged.the-variants as Judged
-use Rattle.sheets.specs.declared.Compiling.{Compiling}
-use Rattle.sheets.specs.Texts.{CompiledRules}
 use Rattle.table.specs.declared.Table.{Table}
 use Rattle.table.specs.declared.AskAnswer.{AskAnswer}
 use Rattle.table.specs.declared.AskAnswer.the-variants as AskAnswer
@@ -36,11 +31,6 @@ use Rattle.table.specs.Calls.{formulasOf, FromUs}
 -- "Ask answers a plan, with its number of words"; refusal 12: "the plan has more words than the buffer | words needed"
 abbrev pub planAnswer : ℕ → ℕ → AskAnswer
 planAnswer needed room = cond (leb needed room) (AskAnswer.Plan needed) (AskAnswer.ShortBuffer needed)
-
--- the writer's answer
-abbrev pub writtenAnswer : Written → AskAnswer
-writtenAnswer (Written.Words n) = AskAnswer.Plan n
-writtenAnswer (Written.Needs n) = AskAnswer.ShortBuffer n
 
 -- "or no plan"
 abbrev pub foundAnswer : List Plan → ℕ → AskAnswer
@@ -78,20 +68,10 @@ abbrev pub judgementAnswer : Judgement → JudgeAnswer
 judgementAnswer yes = JudgeAnswer.Yes
 judgementAnswer (unmet k) = JudgeAnswer.Unmet k
 
--- the same of the code's answer
-abbrev pub judgedAnswer : Judged → JudgeAnswer
-judgedAnswer Judged.Yes = JudgeAnswer.Yes
-judgedAnswer (Judged.Unmet k) = JudgeAnswer.Unmet k
-
 -- a plan, as a floor over the rules' names in their numbering; refusal 14: "names differ in number | plan's names"
 abbrev pub judgePlan : List (Formula Name) → (p : Plan) → IsPlan p → JudgeAnswer
 judgePlan rules p h =
     cond (eqb (p .names) (length (namesOf rules))) (judgementAnswer (judge (namedFloor rules p h) rules)) (JudgeAnswer.NamesDiffer (p .names))
-
--- the answer for a plan that arrays hold, by the rules that are compiled
-unfoldable pub JudgeAnswerSays : Compiling → List ℕ → PlanArrays → JudgeAnswer → Type 0
-JudgeAnswerSays c code arrays r =
-    (rules : List (Formula Name)) → CompiledRules rules c code → (p : Plan) (h : IsPlan p) → Stored arrays p → r ≡ judgePlan rules p h
 
 -- refusal 13: "words up to here begin no plan, or end early | word index, or the length"; what is read is a plan (`exact`)
 abbrev pub judgeReading : List (Formula Name) → (words : List ℕ) → (r : Reading) → Says words r → JudgeAnswer

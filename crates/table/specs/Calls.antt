@@ -14,7 +14,7 @@ use Rattle.lexer.specs.declared.Class.the-variants as Class
 use Rattle.syntax.specs.Rule.{ruleOf, meaningOf}
 use Rattle.syntax.specs.declared.RuleAnswer.{RuleAnswer}
 use Rattle.syntax.specs.declared.RuleAnswer.the-variants as RuleAnswer
-use Rattle.evalset.specs.Search.{all}
+use Rattle.evalset.specs.Search.{In, all}
 use Rattle.contact.specs.Numbering.{allAtoms, namesOf}
 use Rattle.names.specs.Gather.{gathered}
 use Rattle.names.specs.declared.NamesAnswer.{NamesAnswer}
@@ -75,8 +75,8 @@ ifAdded (AddAnswer.SeventhName i) a b = b
 ifAdded AddAnswer.TooManyAtoms a b = b
 
 -- of two judgements the first that refuses
-abbrev pub orElse : AddAnswer → AddAnswer → AddAnswer
-orElse a b = ifAdded a b a
+abbrev pub firstRefusal : AddAnswer → AddAnswer → AddAnswer
+firstRefusal a b = ifAdded a b a
 
 -- "for 7 and 8, add's text is first put at its end"
 unfoldable pub judgeNames : List Text → Text → AddAnswer
@@ -88,14 +88,14 @@ judgeAtoms rs s = cond (ltb 16 (atomsIn (rs ++ s ∷ []))) AddAnswer.TooManyAtom
 
 -- refusals 9, 7 and 8; 9: "16 rules stand"
 unfoldable pub judgeRoom : List Text → Text → AddAnswer
-judgeRoom rs s = cond (leb 16 (length rs)) AddAnswer.TableFull (orElse (judgeNames rs s) (judgeAtoms rs s))
+judgeRoom rs s = cond (leb 16 (length rs)) AddAnswer.TableFull (firstRefusal (judgeNames rs s) (judgeAtoms rs s))
 
 unfoldable pub judgeText : Text → AddAnswer
 judgeText s = readAnswer (ruleOf s .answer)
 
 -- how add's text is judged where the texts rs stand
 unfoldable pub judgeAdd : List Text → Text → AddAnswer
-judgeAdd rs s = orElse (judgeText s) (judgeRoom rs s)
+judgeAdd rs s = firstRefusal (judgeText s) (judgeRoom rs s)
 
 -- "add puts its rule last"
 unfoldable pub addRules : List Text → Text → List Text
@@ -192,15 +192,10 @@ loaded rs f = record { table = tableOf (loadRules rs f); answer = judgeLoad f }
 
 -- ---- a table that came from us
 
--- each text is a rule
-abbrev pub AllRules : List Text → Type 0
-AllRules [] = Unit {0}
-AllRules (s ∷ ss) = (ruleOf s .answer ≡ RuleAnswer.Formula) × AllRules ss
-
 -- "It holds at most 16 rules, 6 names and 16 atoms."
 pub record CanStand (rs : List Text) : Type 0 where
   pub few : length rs ≤ 16
-  pub rules : AllRules rs
+  pub rules : (s : Text) → In s rs → ruleOf s .answer ≡ RuleAnswer.Formula
   pub names : length (namesIn rs) ≤ 6
   pub atoms : atomsIn rs ≤ 16
 

@@ -1,6 +1,6 @@
 pub mod Store
 pub mod Calls
-pub mod Drafts
+pub mod Steps
 pub mod Rows
 pub mod Numbers
 pub mod Runs

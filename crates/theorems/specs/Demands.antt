@@ -6,7 +6,7 @@ use Prim.Native.Nat.{ℕ, _≤_, _<_}
 use mathlib.Core.Path.{_≡_}
 use mathlib.Core.Logic.{_↔_}
 use mathlib.Core.Bool.{true}
-use mathlib.Core.List.{List, [], _∷_}
+use mathlib.Core.List.{List, [], _∷_, _++_}
 use lib.ListN.{length, take}
 use Rattle.formula.specs.Formula.{Formula, Name}
 use Rattle.syntax.specs.Rule.{meaningOf}
@@ -20,6 +20,8 @@ use Rattle.plan.specs.Arrays.{Stored, Reads, over}
 use Rattle.plan.specs.Given.{IsGiven}
 use Rattle.plan.proofs.Unmet.{FirstUnmet}
 use Rattle.table.specs.declared.Table.{Table}
+use Rattle.table.specs.declared.Outcome.{Outcome}
+use Rattle.table.specs.declared.Outcome.the-variants as Outcome
 use Rattle.table.specs.declared.AddResult.{AddResult}
 use Rattle.table.specs.declared.WithdrawResult.{WithdrawResult}
 use Rattle.table.specs.declared.LoadResult.{LoadResult}
@@ -28,9 +30,9 @@ use Rattle.table.specs.declared.JudgeResult.{JudgeResult}
 use Rattle.table.specs.Store.{Text, tableOf}
 use Rattle.table.specs.Calls.{formulasOf, FromUs, Adds, Withdraws, Loads}
 use Rattle.table.specs.Asking.{Asks, Judges}
-use Rattle.table.specs.Numbers.{Outcome, done, plan, noPlan, yes, unmet, refused, addOutcome, withdrawOutcome, loadOutcome, askOutcome, judgeOutcome}
-use Rattle.table.specs.Rows.{AddRow, WithdrawRow, LoadRow, SomeStand, AskRow, Drawn, floorOf, JudgeRow}
-use Rattle.table.specs.Runs.{Call, standing, adds, NoneRefused}
+use Rattle.table.specs.Numbers.{addOutcome, withdrawOutcome, loadOutcome, askOutcome, judgeOutcome}
+use Rattle.table.specs.Rows.{AddRow, WithdrawRow, LoadRow, SomeStand, AskRow, Decodes, floorOf, JudgeRow}
+use Rattle.table.specs.Runs.{Call, standing, adds}
 
 -- "each call taking the table as the last one gave it back": these calls of the code, the first on t, leave the table u
 pub data Called : Table → List Call → Table → Type 0 where
@@ -57,15 +59,17 @@ pub record Answered (cs : List Call) (t : Table) : Type 0 where
   -- "With a table that came from us, a caller may pass anything without looking at it first."
   pub may-call : FromUs t
   pub add : (s : Text) (r : AddResult) → Adds t s r → Exactly (AddRow (standing cs) s) (addOutcome (r .answer))
-  pub add-refused : (s : Text) (r : AddResult) → Adds t s r → (addOutcome (r .answer) ≡ done → ⊥) → r .table ≡ t
+  pub add-refused : (s : Text) (r : AddResult) → Adds t s r → (addOutcome (r .answer) ≡ Outcome.Done → ⊥) → r .table ≡ t
   pub withdraw : (k : ℕ) (r : WithdrawResult) → Withdraws t k r → Exactly (WithdrawRow (standing cs) k) (withdrawOutcome (r .answer))
-  pub withdraw-refused : (k : ℕ) (r : WithdrawResult) → Withdraws t k r → (withdrawOutcome (r .answer) ≡ done → ⊥) → r .table ≡ t
+  pub withdraw-refused : (k : ℕ) (r : WithdrawResult) → Withdraws t k r → (withdrawOutcome (r .answer) ≡ Outcome.Done → ⊥) → r .table ≡ t
   pub load : (f : Text) (r : LoadResult) → Loads t f r → Exactly (LoadRow f) (loadOutcome (r .answer))
-  pub load-refused : (f : Text) (r : LoadResult) → Loads t f r → (loadOutcome (r .answer) ≡ done → ⊥) → r .table ≡ t
+  pub load-refused : (f : Text) (r : LoadResult) → Loads t f r → (loadOutcome (r .answer) ≡ Outcome.Done → ⊥) → r .table ≡ t
   pub ask : (buffer : List ℕ) (r : AskResult) (exit : List ℕ) → Asks t buffer r exit → Exactly (AskRow (standing cs) (length buffer)) (askOutcome (r .answer))
   pub ask-same : (buffer : List ℕ) (r : AskResult) (exit : List ℕ) → Asks t buffer r exit → r .table ≡ t
-  -- "words past the plan, and all words for no plan, keep their values": only a plan is written
-  pub ask-kept : (buffer : List ℕ) (r : AskResult) (exit : List ℕ) → Asks t buffer r exit → ((n : ℕ) → askOutcome (r .answer) ≡ plan n → ⊥) → exit ≡ buffer
+  -- "words past the plan, and all words for no plan, keep their values"; a refusal too writes nothing
+  pub ask-written : (buffer : List ℕ) (r : AskResult) (exit : List ℕ) → Asks t buffer r exit → (p : Plan) → IsGiven (formulasOf (standing cs)) p
+      → askOutcome (r .answer) ≡ Outcome.Plan (length (wordsOf p)) → exit ≡ over (wordsOf p) buffer
+  pub ask-kept : (buffer : List ℕ) (r : AskResult) (exit : List ℕ) → Asks t buffer r exit → ((n : ℕ) → askOutcome (r .answer) ≡ Outcome.Plan n → ⊥) → exit ≡ buffer
   pub judge : (words : List ℕ) (r : JudgeResult) → Judges t words r → Exactly (JudgeRow (standing cs) words) (judgeOutcome (r .answer))
   pub judge-same : (words : List ℕ) (r : JudgeResult) → Judges t words r → r .table ≡ t
 
@@ -76,15 +80,15 @@ pub record Answered (cs : List Call) (t : Table) : Type 0 where
 pub record Met (rs : List Text) (words : List ℕ) : Type 0 where
   pub some : SomeStand rs
   pub plan : Plan
-  pub drawn : Drawn rs words plan
-  pub meets : meetsAll (floorOf drawn) (formulasOf rs) ≡ true
+  pub decodes : Decodes rs words plan
+  pub meets : meetsAll (floorOf decodes) (formulasOf rs) ≡ true
 
 -- they are those of a plan of which rule k, from 1, is the lowest that it does not meet
 pub record NotMet (rs : List Text) (words : List ℕ) (k : ℕ) : Type 0 where
   pub some : SomeStand rs
   pub plan : Plan
-  pub drawn : Drawn rs words plan
-  pub lowest : FirstUnmet (floorOf drawn) 1 (formulasOf rs) k
+  pub decodes : Decodes rs words plan
+  pub lowest : FirstUnmet (floorOf decodes) 1 (formulasOf rs) k
 
 -- the words of a plan that was given; what is read from them is the plan
 pub record Given (rs : List Text) (words : List ℕ) : Type 0 where
@@ -95,28 +99,29 @@ pub record Meant (cs : List Call) (t : Table) : Type 0 where
   -- each standing text is derived by the grammar, and means the one formula that is
   pub rules : (s : Text) → In s (standing cs) → IsRule s (meaningOf s)
   pub one : (s : Text) (f : Formula Name) → IsRule s f → meaningOf s ≡ f
-  pub given : (buffer : List ℕ) (r : AskResult) (exit : List ℕ) → Asks t buffer r exit → (n : ℕ) → askOutcome (r .answer) ≡ plan n → Given (standing cs) (take n exit)
+  pub given : (buffer : List ℕ) (r : AskResult) (exit : List ℕ) → Asks t buffer r exit → (n : ℕ) → askOutcome (r .answer) ≡ Outcome.Plan n → Given (standing cs) (take n exit)
   -- "Judge answers yes or the lowest unmet rule, from 1"
-  pub yes : (words : List ℕ) (r : JudgeResult) → Judges t words r → (judgeOutcome (r .answer) ≡ yes) ↔ Met (standing cs) words
-  pub unmet : (words : List ℕ) (r : JudgeResult) → Judges t words r → (k : ℕ) → (judgeOutcome (r .answer) ≡ unmet k) ↔ NotMet (standing cs) words k
+  pub yes : (words : List ℕ) (r : JudgeResult) → Judges t words r → (judgeOutcome (r .answer) ≡ Outcome.Yes) ↔ Met (standing cs) words
+  pub unmet : (words : List ℕ) (r : JudgeResult) → Judges t words r → (k : ℕ) → (judgeOutcome (r .answer) ≡ Outcome.Unmet k) ↔ NotMet (standing cs) words k
 
 -- ---- demand 3
 
 -- what ask gives after the list, with any plan buffer
 pub record Same (cs : List Call) (t : Table) (buffer : List ℕ) (r : AskResult) (exit : List ℕ) : Type 0 where
   -- "after the list, ask gives refusal 11 where no rule stands"
-  pub none : standing cs ≡ [] → askOutcome (r .answer) ≡ refused 11 0
+  pub none : standing cs ≡ [] → askOutcome (r .answer) ≡ Outcome.Refused 11 0
   -- "Where any stands, it says "no plan" exactly when no finite floor with any number of points, one or more, meets all the standing rules"
-  pub no-plan : SomeStand (standing cs) → (askOutcome (r .answer) ≡ noPlan) ↔ ((F : Floor Name) → meetsAll F (formulasOf (standing cs)) ≡ true → ⊥)
+  pub no-plan : SomeStand (standing cs) → (askOutcome (r .answer) ≡ Outcome.NoPlan) ↔ ((F : Floor Name) → meetsAll F (formulasOf (standing cs)) ≡ true → ⊥)
   -- "and otherwise gives the plan that document 01 defines, or refusal 12 where the buffer is too short for it"
   pub plan : SomeStand (standing cs) → (p : Plan) → IsGiven (formulasOf (standing cs)) p → length (wordsOf p) ≤ length buffer
-      → (askOutcome (r .answer) ≡ plan (length (wordsOf p))) × (exit ≡ over (wordsOf p) buffer)
+      → (askOutcome (r .answer) ≡ Outcome.Plan (length (wordsOf p))) × (exit ≡ over (wordsOf p) buffer)
   pub short : SomeStand (standing cs) → (p : Plan) → IsGiven (formulasOf (standing cs)) p → length buffer < length (wordsOf p)
-      → (askOutcome (r .answer) ≡ refused 12 (length (wordsOf p))) × (exit ≡ buffer)
+      → (askOutcome (r .answer) ≡ Outcome.Refused 12 (length (wordsOf p))) × (exit ≡ buffer)
   pub otherwise : (F : Floor Name) → meetsAll F (formulasOf (standing cs)) ≡ true → (p : Plan) × IsGiven (formulasOf (standing cs)) p
   -- "the table after the list .. equal to what comes from an empty table to which only the standing rules are added, in their order":
   -- "none of these adds is refused"
   pub table : (u : Table) → Leaves (adds (standing cs)) u → t ≡ u
-  pub taken : NoneRefused (tableOf []) (standing cs)
+  pub taken : (before : List Text) (s : Text) (later : List Text) → standing cs ≡ before ++ s ∷ later
+      → (u : Table) → Leaves (adds before) u → (r : AddResult) → Adds u s r → addOutcome (r .answer) ≡ Outcome.Done
   -- "the answer that ask then gives, a refusal too, and every word of its plan buffer .. when ask is lent the same plan buffer"
   pub same : (u : Table) → Leaves (adds (standing cs)) u → (s : AskResult) (words : List ℕ) → Asks u buffer s words → (r ≡ s) × (exit ≡ words)

@@ -8,7 +8,9 @@ use Rattle.plan.specs.Arrays.{over}
 use Rattle.table.specs.Store.{Text, rulesOf}
 use Rattle.table.specs.Runs.{Call, withdraw, adds, run, standing}
 use Rattle.table.specs.Asking.{askAnswer, askWords}
-use Rattle.table.specs.Numbers as Numbers
+use Rattle.table.specs.declared.Outcome.{Outcome}
+use Rattle.table.specs.declared.Outcome.the-variants as Outcome
+use Rattle.table.specs.Numbers.{askOutcome}
 
 -- ---- the rows
 
@@ -73,17 +75,17 @@ workedSheets = P1 ∷ P2 ∷ P3 ∷ P4 ∷ P5 ∷ P6 ∷ P7 ∷ P8 ∷ P9 ∷ P1
 -- ---- what a row says
 
 -- ask, where the rules rs stand and this buffer is lent, has the outcome o and leaves the words exit in it
-pub record Asked (rs : List Text) (buffer : List ℕ) (o : Numbers.Outcome) (exit : List ℕ) : Type 0 where
-  pub answer : Numbers.askOutcome (askAnswer rs (length buffer)) ≡ o
+pub record Asked (rs : List Text) (buffer : List ℕ) (o : Outcome) (exit : List ℕ) : Type 0 where
+  pub answer : askOutcome (askAnswer rs (length buffer)) ≡ o
   pub words : askWords rs buffer ≡ exit
 
 -- "Ask answers a plan, with its number of words, or no plan; words past the plan, and all words for no plan, keep their values";
 -- refusal 12: "the plan has more words than the buffer | words needed", so "P3 with 3 words of buffer gives 12, needed 4"
 abbrev pub AskedFor : Answer → List Text → List ℕ → Type 0
 AskedFor (words ws) rs buffer =
-    (length ws ≤ length buffer → Asked rs buffer (Numbers.plan (length ws)) (over ws buffer))
-    × (length buffer < length ws → Asked rs buffer (Numbers.refused 12 (length ws)) buffer)
-AskedFor noPlan rs buffer = Asked rs buffer Numbers.noPlan buffer
+    (length ws ≤ length buffer → Asked rs buffer (Outcome.Plan (length ws)) (over ws buffer))
+    × (length buffer < length ws → Asked rs buffer (Outcome.Refused 12 (length ws)) buffer)
+AskedFor noPlan rs buffer = Asked rs buffer Outcome.NoPlan buffer
 
 -- the row holds
 pub record Holds (row : WorkedSheet) : Type 0 where

@@ -15,12 +15,8 @@ ghost use mathlib.Core.Path.{_≡_};
 ghost use Prim.Native.Nat.{_≤_, _<_};
 ghost use lib.ListN.{length};
 ghost use Rattle.table.specs.Calls.{FromUs};
-ghost use Rattle.table.specs.Numbers.{addOutcome, withdrawOutcome, onLine, loadOutcome};
-ghost use Rattle.worked_sheets.specs.Outcomes.{outcomeOf};
-use table::AddAnswer;
 use table::AskAnswer;
-use table::JudgeAnswer;
-use table::LoadAnswer;
+use table::Outcome;
 use table::Table;
 use table::WithdrawAnswer;
 
@@ -35,20 +31,6 @@ enum Command {
     Every,
 }
 
-// Document 01's number of an answer with what it carries, as the table's own definition gives them.
-enum Outcome {
-    Done,
-    Refused {
-        number: usize,
-        carried: usize,
-    },
-    RefusedLine {
-        number: usize,
-        line: usize,
-        place: usize,
-    },
-}
-
 // ---- writing
 
 fn write_bytes(bytes: &[u8]) {
@@ -57,6 +39,11 @@ fn write_bytes(bytes: &[u8]) {
 
 fn write_number(n: usize) {
     io::print_decimal(libc::STDOUT_FILENO, n as u64);
+}
+
+fn write_labelled(label: &[u8], n: usize) {
+    write_bytes(label);
+    write_number(n);
 }
 
 // Writes the capital hexadecimal digit of a number modulo 16.
@@ -80,11 +67,36 @@ fn write_word(w: u32) {
     write_digit(w);
 }
 
-fn write_refusal(number: usize, place: usize) {
-    write_bytes(b"refused ");
-    write_number(number);
-    write_bytes(b" at ");
-    write_number(place);
+// Writes an answer by document 01's number and what it carries, or `done` where the call was done.
+fn write_outcome(done: &[u8], said: Outcome) {
+    match said {
+        Outcome::Done => {
+            write_bytes(done);
+        }
+        Outcome::Plan(n) => {
+            write_bytes(b"plan of ");
+            write_number(n);
+            write_bytes(b" words");
+        }
+        Outcome::NoPlan => {
+            write_bytes(b"no plan");
+        }
+        Outcome::Yes => {
+            write_bytes(b"yes");
+        }
+        Outcome::Unmet(k) => {
+            write_labelled(b"unmet rule ", k);
+        }
+        Outcome::Refused(number, carried) => {
+            write_labelled(b"refused ", number);
+            write_labelled(b" at ", carried);
+        }
+        Outcome::RefusedLine(number, line, place) => {
+            write_labelled(b"refused ", number);
+            write_labelled(b" line ", line);
+            write_labelled(b" at ", place);
+        }
+    }
 }
 
 // ---- what a line says
@@ -555,101 +567,15 @@ fn write_same(before: Table, after: Table)
 
 // ---- the calls
 
-fn refused(number: usize, carried: usize) -> Outcome
-    ensures { λ r. ⌜ r ≡ Outcome.Refused number carried ⌝ }
-{
-    Outcome::Refused { number, carried }
-}
-
-fn refused_line(number: usize, line: usize, place: usize) -> Outcome
-    ensures { λ r. ⌜ r ≡ Outcome.RefusedLine number line place ⌝ }
-{
-    Outcome::RefusedLine {
-        number,
-        line,
-        place,
-    }
-}
-
-fn add_outcome(a: AddAnswer) -> Outcome
-    ensures { λ r. ⌜ r ≡ outcomeOf (addOutcome a) ⌝ }
-{
-    match a {
-        AddAnswer::Added => Outcome::Done,
-        AddAnswer::TooLong => refused(2, 256),
-        AddAnswer::NoToken => refused(1, 0),
-        AddAnswer::ForeignByte(i) => refused(3, i),
-        AddAnswer::LongName(i) => refused(4, i),
-        AddAnswer::Measured(i) => refused(5, i),
-        AddAnswer::GrammarAt(i) => refused(6, i),
-        AddAnswer::TableFull => refused(9, 0),
-        AddAnswer::SeventhName(i) => refused(7, i),
-        AddAnswer::TooManyAtoms => refused(8, 0),
-    }
-}
-
-fn withdraw_outcome(a: WithdrawAnswer) -> Outcome
-    ensures { λ r. ⌜ r ≡ outcomeOf (withdrawOutcome a) ⌝ }
-{
-    match a {
-        WithdrawAnswer::Withdrawn => Outcome::Done,
-        WithdrawAnswer::NoSuchRule(k) => refused(10, k),
-    }
-}
-
-// The outcome of a line that add answers so.
-fn on_line(line: usize, a: AddAnswer) -> Outcome
-    ensures { λ r. ⌜ r ≡ outcomeOf (onLine line (addOutcome a)) ⌝ }
-{
-    let o = add_outcome(a);
-    match o {
-        Outcome::Done => Outcome::Done,
-        Outcome::Refused { number, carried } => refused_line(number, line, carried),
-        Outcome::RefusedLine {
-            number,
-            line: l,
-            place,
-        } => refused_line(number, l, place),
-    }
-}
-
-fn load_outcome(a: LoadAnswer) -> Outcome
-    ensures { λ r. ⌜ r ≡ outcomeOf (loadOutcome a) ⌝ }
-{
-    match a {
-        LoadAnswer::Loaded => Outcome::Done,
-        LoadAnswer::FileTooLong => refused_line(15, 0, 0),
-        LoadAnswer::AllBlank => refused_line(1, 0, 0),
-        LoadAnswer::Line { line, answer } => on_line(line, answer),
-    }
-}
-
 // Writes what a call answered that may change the table, and for a refusal whether the table is as it was.
-fn write_outcome(done: &[u8], o: Outcome, before: Table, after: Table)
+fn write_changed(done: &[u8], said: Outcome, before: Table, after: Table)
     requires { ⌜ FromUs before × FromUs after ⌝ }
 {
-    match o {
-        Outcome::Done => {
-            write_bytes(done);
-        }
-        Outcome::Refused { number, carried } => {
-            write_refusal(number, carried);
-            write_same(before, after);
-        }
-        Outcome::RefusedLine {
-            number,
-            line,
-            place,
-        } => {
-            write_bytes(b"refused ");
-            write_number(number);
-            write_bytes(b" line ");
-            write_number(line);
-            write_bytes(b" at ");
-            write_number(place);
-            write_same(before, after);
-        }
-    }
+    write_outcome(done, said);
+    let Outcome::Done = said else {
+        write_same(before, after);
+        return;
+    };
 }
 
 // Adds the first n bytes.
@@ -660,7 +586,7 @@ fn add_first(t: Table, text: [u8; 8200], n: usize) -> Table
     let r = t.add(&text[0..n]);
     let next = r.table;
     let answer = r.answer;
-    write_outcome(b"added", add_outcome(answer), t, next);
+    write_changed(b"added", table::add_outcome(answer), t, next);
     next
 }
 
@@ -680,7 +606,7 @@ fn withdraw_rule(t: Table, rest: &[u8]) -> Table
     let r = t.withdraw(number_of(rest));
     let next = r.table;
     let answer = r.answer;
-    write_outcome(b"withdrawn", withdraw_outcome(answer), t, next);
+    write_changed(b"withdrawn", table::withdraw_outcome(answer), t, next);
     next
 }
 
@@ -692,7 +618,7 @@ fn load_first(t: Table, text: [u8; 8200], n: usize) -> Table
     let r = t.load(&text[0..n]);
     let next = r.table;
     let answer = r.answer;
-    write_outcome(b"loaded", load_outcome(answer), t, next);
+    write_changed(b"loaded", table::load_outcome(answer), t, next);
     next
 }
 
@@ -705,27 +631,6 @@ fn load_sheet(t: Table, rest: &[u8]) -> Table
     load_first(t, text, n)
 }
 
-fn write_judgement(a: JudgeAnswer) {
-    match a {
-        JudgeAnswer::Yes => {
-            write_bytes(b"yes");
-        }
-        JudgeAnswer::Unmet(k) => {
-            write_bytes(b"unmet rule ");
-            write_number(k);
-        }
-        JudgeAnswer::NoRule => {
-            write_refusal(11, 0);
-        }
-        JudgeAnswer::NotAPlan(i) => {
-            write_refusal(13, i);
-        }
-        JudgeAnswer::NamesDiffer(n) => {
-            write_refusal(14, n);
-        }
-    }
-}
-
 // Judges the first n words.
 fn judge_first(t: Table, words: [u32; 2083], n: usize) -> Table
     requires { ⌜ FromUs t × (n ≤ 2083) ⌝ }
@@ -734,7 +639,7 @@ fn judge_first(t: Table, words: [u32; 2083], n: usize) -> Table
     let r = t.judge(&words[0..n]);
     let next = r.table;
     let answer = r.answer;
-    write_judgement(answer);
+    write_outcome(b"", table::judge_outcome(answer));
     write_same(t, next);
     next
 }
@@ -766,7 +671,7 @@ fn write_judged(t: Table, words: [u32; 600], n: usize)
         let r = t.judge(&words[0..n]);
         let answer = r.answer;
         write_bytes(b"; judged ");
-        write_judgement(answer);
+        write_outcome(b"", table::judge_outcome(answer));
     }
 }
 
@@ -774,28 +679,14 @@ fn write_judged(t: Table, words: [u32; 600], n: usize)
 fn write_asked(a: AskAnswer, t: Table, words: [u32; 600])
     requires { ⌜ FromUs t ⌝ }
 {
-    match a {
-        AskAnswer::Plan(n) => {
-            write_bytes(b"plan of ");
-            write_number(n);
-            write_bytes(b" words");
-            write_words(words, n);
-            write_kept(words, n);
-            write_judged(t, words, n);
-        }
-        AskAnswer::NoPlan => {
-            write_bytes(b"no plan");
-            write_kept(words, 0);
-        }
-        AskAnswer::NoRule => {
-            write_refusal(11, 0);
-            write_kept(words, 0);
-        }
-        AskAnswer::ShortBuffer(n) => {
-            write_refusal(12, n);
-            write_kept(words, 0);
-        }
-    }
+    write_outcome(b"", table::ask_outcome(a));
+    let AskAnswer::Plan(n) = a else {
+        write_kept(words, 0);
+        return;
+    };
+    write_words(words, n);
+    write_kept(words, n);
+    write_judged(t, words, n);
 }
 
 // Asks with the first n words of a buffer, at most 600.

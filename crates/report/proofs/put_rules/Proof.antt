@@ -2,7 +2,7 @@
 use borrow.Author.Needs.{needs}
 use native.Mathlib.Omega.{arith}
 use Rattle.report.proofs.Putting.{puts-text}
-use Rattle.report.proofs.Reporting.{told-other, no-text, drew, put-kept, put-count, put-text-is, put-fits}
+use Rattle.report.proofs.Reporting.{told-other, no-text, wrote-plan, put-kept, put-count, put-text-is, put-fits}
 use Rattle.report.proofs.put_rules.Statement.{statement}
 use Rattle.report.proofs.put_rules.Tie as tie
 
@@ -34,10 +34,10 @@ returns : tie.Need-returns
 returns c = puts-text (no-text (c .before .before .before .before .before .before .before .before .before .before .before .before .args .table) (c .before .before .before .before .before .before .before .before .before .before .before .before .pre .0) (c .before .before .before .before .before .before .before .before .before .before .before .before .pre .1) _ (c .before .before .before .before .before .before .before .before .before .no-words .ensures) _ _ (c .before .before .before .before .before .before .before .ask .ensures) (told-other _ (c .before .before .before .before .before .match .keys2))) (c .before .before .put-text .ensures)
 
 array-share-prefix-words : tie.Need-array-share-prefix-words
-array-share-prefix-words c = drew (c .before .before .before .before .before .before .before .before .before .args .table) (c .before .before .before .before .before .before .before .before .before .pre .0) (c .before .before .before .before .before .before .before .before .before .pre .1) _ (c .before .before .before .before .before .before .no-words .ensures) _ _ (c .before .before .before .before .ask .ensures) _ (c .before .answer .given .1) .within
+array-share-prefix-words c = wrote-plan (c .before .before .before .before .before .before .before .before .before .args .table) (c .before .before .before .before .before .before .before .before .before .pre .0) (c .before .before .before .before .before .before .before .before .before .pre .1) _ (c .before .before .before .before .before .before .no-words .ensures) _ _ (c .before .before .before .before .ask .ensures) _ (c .before .answer .given .1) .within
 
 slice-aggregate-read-plan : tie.Need-slice-aggregate-read-plan
-slice-aggregate-read-plan c = drew (c .before .before .before .before .before .before .before .before .before .before .args .table) (c .before .before .before .before .before .before .before .before .before .before .pre .0) (c .before .before .before .before .before .before .before .before .before .before .pre .1) _ (c .before .before .before .before .before .before .before .no-words .ensures) _ _ (c .before .before .before .before .before .ask .ensures) _ (c .before .before .answer .given .1) .counted
+slice-aggregate-read-plan c = wrote-plan (c .before .before .before .before .before .before .before .before .before .before .args .table) (c .before .before .before .before .before .before .before .before .before .before .pre .0) (c .before .before .before .before .before .before .before .before .before .before .pre .1) _ (c .before .before .before .before .before .before .before .no-words .ensures) _ _ (c .before .before .before .before .before .ask .ensures) _ (c .before .before .answer .given .1) .counted
 
 read-plan-requires : tie.Need-read-plan-requires
 read-plan-requires c κs = search needs

@@ -17,6 +17,9 @@ loop-holds c = search needs
 shared-slice-read-if1 : tie.Need-shared-slice-read-if1 Inv-loop μ-loop
 shared-slice-read-if1 c = search needs
 
+has-arguments-requires : tie.Need-has-arguments-requires Inv-loop μ-loop
+has-arguments-requires c κs = search needs
+
 returns : tie.Need-returns Inv-loop μ-loop
 returns c = search needs
 
@@ -43,6 +46,7 @@ is-grouped-spec =
     μ-loop
     loop-holds
     shared-slice-read-if1
+    has-arguments-requires
     returns
     shared-slice-read-before
     add-i

@@ -4,7 +4,7 @@ use Prim.Native.Nat.{_+_, _-_, _≤_}
 use mathlib.Core.Path.{_≡_, sym, _∙_}
 use mathlib.Core.Logic.{⊎-elim}
 use lib.ListN.{length, drop}
-use Rattle.table.specs.Drafts.{atomPlaces}
+use Rattle.table.specs.Steps.{atomPlaces}
 use Rattle.table.proofs.Scan.{atoms-here, atoms-next, atoms-end}
 use native.Mathlib.Omega.{arith}
 use Rattle.table.proofs.atom_places.Statement.{statement}

@@ -1,7 +1,7 @@
 -- Each arm knows the kind, or that it is none of the three. Assumes nothing.
 use mathlib.Core.Path.{sym, ap}
 use borrow.Author.Tests.{ne-eqb}
-use Rattle.table.specs.Drafts.{isAtom}
+use Rattle.table.specs.Steps.{isAtom}
 use Rattle.table.proofs.is_atom.Statement.{statement}
 use Rattle.table.proofs.is_atom.Tie as tie
 

@@ -1,7 +1,7 @@
 -- Each case is answered by its own. Assumes nothing.
 use borrow.Author.Needs.{needs}
 use mathlib.Core.Path.{sym, ap}
-use Rattle.table.specs.Asking.{judgedAnswer}
+use Rattle.table.specs.Steps.{judgedAnswer}
 use Rattle.table.proofs.judged_answer.Statement.{statement}
 use Rattle.table.proofs.judged_answer.Tie as tie
 

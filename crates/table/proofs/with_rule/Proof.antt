@@ -8,7 +8,7 @@ use Rattle.table.specs.declared.AddAnswer.the-variants as AddAnswer
 use Rattle.table.specs.Store.{rulesOf}
 use Rattle.table.specs.Calls.{judgeNames}
 use Rattle.table.proofs.Standing.{not-full, not-many, read-short}
-use Rattle.table.proofs.Told.{told-refused}
+use Rattle.table.proofs.Refusals.{told-refused}
 use Rattle.table.proofs.Drafting.{judge-full, judge-names, judge-atoms, judge-added, names-judged, text-formula, was-read, draft-is, draft-from-us, draft-atoms, draft-count, draft-gathers, draft-gathered, refused-draft, taken-draft, next-names, next-atoms}
 use native.Mathlib.Omega.{arith}
 use Rattle.table.proofs.with_rule.Statement.{statement}

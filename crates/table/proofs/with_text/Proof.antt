@@ -2,7 +2,7 @@
 use borrow.Author.Needs.{needs}
 use mathlib.Core.Path.{_∙_}
 use Rattle.table.specs.Store.{rulesOf}
-use Rattle.table.proofs.Told.{told-refused}
+use Rattle.table.proofs.Refusals.{told-refused}
 use Rattle.table.proofs.Drafting.{judge-text, text-judged, refused-draft}
 use Rattle.table.proofs.with_text.Statement.{statement}
 use Rattle.table.proofs.with_text.Tie as tie

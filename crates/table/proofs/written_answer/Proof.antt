@@ -1,7 +1,7 @@
 -- Each case is answered by its own. Assumes nothing.
 use borrow.Author.Needs.{needs}
 use mathlib.Core.Path.{sym, ap}
-use Rattle.table.specs.Asking.{writtenAnswer}
+use Rattle.table.specs.Steps.{writtenAnswer}
 use Rattle.table.proofs.written_answer.Statement.{statement}
 use Rattle.table.proofs.written_answer.Tie as tie
 

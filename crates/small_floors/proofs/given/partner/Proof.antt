@@ -13,11 +13,8 @@ abbrev μ-loop : tie.MeasureT-loop
 loop-holds : tie.Need-loop-holds Inv-loop μ-loop
 loop-holds c = search needs
 
-has-requires : tie.Need-has-requires Inv-loop μ-loop
-has-requires c κs = search needs
-
-allowed-requires : tie.Need-allowed-requires Inv-loop μ-loop
-allowed-requires c κs = search needs
+allowed-in-requires : tie.Need-allowed-in-requires Inv-loop μ-loop
+allowed-in-requires c κs = search needs
 
 separated-requires : tie.Need-separated-requires Inv-loop μ-loop
 separated-requires c κs = search needs
@@ -44,8 +41,7 @@ partner-spec =
     Inv-loop
     μ-loop
     loop-holds
-    has-requires
-    allowed-requires
+    allowed-in-requires
     separated-requires
     returns
     add-f

@@ -25,8 +25,8 @@ position-requires c κs = search needs
 position-requires-2 : tie.Need-position-requires-2 Inv-loop μ-loop
 position-requires-2 c κs = search needs
 
-both-requires : tie.Need-both-requires Inv-loop μ-loop
-both-requires c κs = search needs
+two-bytes-requires : tie.Need-two-bytes-requires Inv-loop μ-loop
+two-bytes-requires c κs = search needs
 
 with-word-requires : tie.Need-with-word-requires Inv-loop μ-loop
 with-word-requires c κs = search needs
@@ -54,7 +54,7 @@ with-contacts-spec =
     separated-requires
     position-requires
     position-requires-2
-    both-requires
+    two-bytes-requires
     with-word-requires
     add-i
     loop-less

@@ -10,8 +10,8 @@ Inv-loop text₀ form₀ next₀ rules i₀ text form next i = Unit {0}
 abbrev μ-loop : tie.MeasureT-loop
 μ-loop text₀ form₀ next₀ rules i₀ text form next i = rules - i
 
-turned-requires : tie.Need-turned-requires Inv-loop μ-loop
-turned-requires c κs = search needs
+advanced-requires : tie.Need-advanced-requires Inv-loop μ-loop
+advanced-requires c κs = search needs
 
 drawn-requires : tie.Need-drawn-requires Inv-loop μ-loop
 drawn-requires c κs = search needs
@@ -43,7 +43,7 @@ with-rules-spec =
     (tie.spec
     Inv-loop
     μ-loop
-    turned-requires
+    advanced-requires
     drawn-requires
     add-rules
     loop-holds

@@ -7,7 +7,7 @@ use borrow.Author.Tests.{not-true, not-false}
 use lib.ListN.{length}
 use Rattle.table.specs.declared.Draft.{Draft}
 use Rattle.table.specs.Calls.{Loads}
-use Rattle.table.proofs.Told.{told-refused}
+use Rattle.table.proofs.Refusals.{told-refused}
 use Rattle.table.proofs.Results.{loaded-by}
 use Rattle.table.proofs.Loading.{Progress, start, after-blank, after-added, line-refused, nothing-kept, something-kept, kept-table, too-long}
 use native.Mathlib.Omega.{arith}

@@ -2,7 +2,7 @@
 use borrow.Author.Needs.{needs}
 use mathlib.Core.Path.{ap}
 use Rattle.table.specs.declared.Draft.{Draft}
-use Rattle.table.specs.Drafts.{draftOf}
+use Rattle.table.specs.Steps.{draftOf}
 use Rattle.table.proofs.Table.names.Statement.{statement}
 use Rattle.table.proofs.Table.names.Tie as tie
 

@@ -1,5 +1,5 @@
--- What is computed step by step: the table so far with the names and the number of atoms of its rules, and one text more.
--- Assumes nothing.
+-- What the private functions do: the table so far with the names and the number of atoms of its rules, one text more, and the answers of
+-- the plan writer and of the judge of plans as those of the calls. Assumes nothing.
 use Prim.Native.Nat.{ℕ, suc}
 use mathlib.Core.Path.{_≡_}
 use mathlib.Core.Bool.{Bool, _||_, cond}
@@ -8,13 +8,28 @@ use lib.Dec.{eqb}
 use Rattle.syntax.specs.Rule.{ruleOf}
 use Rattle.syntax.specs.declared.RuleAnswer.the-variants as RuleAnswer
 use Rattle.syntax.specs.declared.Rule.{Rule}
+use Rattle.formula.specs.Formula.{Formula, Name}
 use Rattle.names.specs.Gather.{arraysOf}
+use Rattle.plan.specs.declared.Written.{Written}
+use Rattle.plan.specs.declared.Written.the-variants as Written
+use Rattle.plan.specs.declared.PlanArrays.{PlanArrays}
+use Rattle.plan.specs.Words.{Plan, IsPlan}
+use Rattle.plan.specs.Arrays.{Stored}
+use Rattle.judging.specs.declared.Judged.{Judged}
+use Rattle.judging.specs.declared.Judged.the-variants as Judged
+use Rattle.sheets.specs.declared.Compiling.{Compiling}
+use Rattle.sheets.specs.Texts.{CompiledRules}
+use Rattle.table.specs.declared.AskAnswer.{AskAnswer}
+use Rattle.table.specs.declared.AskAnswer.the-variants as AskAnswer
+use Rattle.table.specs.declared.JudgeAnswer.{JudgeAnswer}
+use Rattle.table.specs.declared.JudgeAnswer.the-variants as JudgeAnswer
 use Rattle.table.specs.declared.Table.{Table}
 use Rattle.table.specs.declared.LoadAnswer.{LoadAnswer}
 use Rattle.table.specs.declared.LoadResult.{LoadResult}
 use Rattle.table.specs.declared.Draft.{Draft}
 use Rattle.table.specs.declared.Drafted.{Drafted}
 use Rattle.table.specs.Store.{Text, tableOf, rulesOf}
+use Rattle.table.specs.Asking.{judgePlan}
 use Rattle.table.specs.Calls.{namesIn, atomsIn, judgeAdd, addRules, CanStand}
 
 -- a rule that was read from a text
@@ -45,3 +60,20 @@ pub record Drafts (d : Draft) : Type 0 where
 
 abbrev pub loadResult : Table → LoadAnswer → LoadResult
 loadResult t a = record { table = t; answer = a }
+
+-- ---- answers of the parts
+
+-- the plan writer's, as ask's
+abbrev pub writtenAnswer : Written → AskAnswer
+writtenAnswer (Written.Words n) = AskAnswer.Plan n
+writtenAnswer (Written.Needs n) = AskAnswer.ShortBuffer n
+
+-- the judge of plans', as judge's
+abbrev pub judgedAnswer : Judged → JudgeAnswer
+judgedAnswer Judged.Yes = JudgeAnswer.Yes
+judgedAnswer (Judged.Unmet k) = JudgeAnswer.Unmet k
+
+-- the answer for a plan that arrays hold, by the rules that are compiled
+unfoldable pub JudgeAnswerSays : Compiling → List ℕ → PlanArrays → JudgeAnswer → Type 0
+JudgeAnswerSays c code arrays r =
+    (rules : List (Formula Name)) → CompiledRules rules c code → (p : Plan) (h : IsPlan p) → Stored arrays p → r ≡ judgePlan rules p h

@@ -1,10 +1,8 @@
 -- An answer whose case is one of the nine refusals is not Added: Added is the first case of the enum. Assumes nothing.
 use Prim.Native.Nat.{ℕ}
 use mathlib.Core.Path.{subst}
-use mathlib.Core.Logic.{⊎-elim}
 use mathlib.Core.List.{List, [], _∷_}
-use native.Mathlib.Omega.{arith}
-use types.Run.{OneOf}
+use types.Run.{OneOf, miss}
 use denote.Enum.Declared.{tagOf}
 use Rattle.table.specs.declared.AddAnswer.{AddAnswer}
 use Rattle.table.proofs.AddAnswer.{the-type}
@@ -13,17 +11,5 @@ use Rattle.table.proofs.Standing.{NotAdded}
 abbrev refusals : List ℕ
 refusals = 1 ∷ 2 ∷ 3 ∷ 4 ∷ 5 ∷ 6 ∷ 7 ∷ 8 ∷ 9 ∷ []
 
-not-first : OneOf refusals 0 → ⊥
-not-first =
-    ⊎-elim (λ e. omega arith)
-    (⊎-elim (λ e. omega arith)
-    (⊎-elim (λ e. omega arith)
-    (⊎-elim (λ e. omega arith)
-    (⊎-elim (λ e. omega arith)
-    (⊎-elim (λ e. omega arith)
-    (⊎-elim (λ e. omega arith)
-    (⊎-elim (λ e. omega arith)
-    (λ e. omega arith))))))))
-
 pub told-refused : (a : AddAnswer) → OneOf refusals (tagOf the-type a) → NotAdded a
-told-refused a h e = not-first (subst (λ (x : AddAnswer). OneOf refusals (tagOf the-type x)) e h)
+told-refused a h e = miss refusals 0 tt (subst (λ (x : AddAnswer). OneOf refusals (tagOf the-type x)) e h)
