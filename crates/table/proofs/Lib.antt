@@ -7,7 +7,7 @@ pub mod Shift
 pub mod Scan
 pub mod Results
 pub mod Atoms
-pub mod Drafting
+pub mod Counting
 pub mod Refusals
 pub mod Recount
 pub mod Compiled

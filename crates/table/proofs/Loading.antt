@@ -1,32 +1,36 @@
 -- The lines of a file, taken one a turn: what was judged and kept so far, with what is left to judge and to keep, is the whole.
 -- Assumes nothing.
 use Prim.Native.Nat.{ℕ, _+_, _-_, _≤_, _<_}
-use mathlib.Core.Path.{_≡_, refl, sym, ap, _∙_}
+use mathlib.Core.Path.{_≡_, refl, sym, ap, subst, _∙_}
 use mathlib.Core.List.{List, [], _∷_, _++_, append-assoc, append-nil}
 use mathlib.Core.Bool.{Bool, true, false, cond}
 use native.Mathlib.Omega.{arith}
 use lib.ListN.{length, take, drop}
 use borrow.Author.Tests.{lt-leb, le-leb, le-ltb, lt-ltb}
-use Rattle.table.specs.declared.Draft.{Draft}
-use Rattle.table.specs.declared.Drafted.{Drafted}
+use Rattle.table.specs.declared.Table.{Table}
+use Rattle.table.specs.declared.Counts.{Counts}
+use Rattle.table.specs.declared.Counted.{Counted}
 use Rattle.table.specs.declared.AddAnswer.{AddAnswer}
 use Rattle.table.specs.declared.AddAnswer.the-variants as AddAnswer
 use Rattle.table.specs.declared.LoadAnswer.{LoadAnswer}
 use Rattle.table.specs.declared.LoadAnswer.the-variants as LoadAnswer
 use Rattle.table.specs.Store.{Text, tableOf, rulesOf}
-use Rattle.table.specs.Calls.{ifAdded, judgeAdd, addRules, linesOf, linesFrom, blankLine, filled, judgeLines, isNone, judgeLoad}
-use Rattle.table.specs.Steps.{draftOf, draftedOf, Drafts}
-use Rattle.table.proofs.Standing.{NotAdded, refused-else, stand-none, stand-add, added-taken}
-use Rattle.table.proofs.Drafting.{drafts-of, draft-rules, draft-from-us, draft-count}
+use Rattle.table.specs.Calls.{ifAdded, judgeAdd, linesOf, linesFrom, blankLine, filled, judgeLines, isNone, judgeLoad, FromUs}
+use Rattle.table.specs.Steps.{countsOf, Counting, CountsWith}
+use Rattle.table.proofs.Standing.{NotAdded, refused-else, stand-none, stand-more, room, read-short}
+use Rattle.table.proofs.Counting.{answer-is, counts-next}
+use Rattle.table.proofs.Stored.{rules-table, from-us-table}
+use Rattle.table.proofs.Held.{count-is}
 
--- the loop's invariant: the lines before `from` have been judged and kept, `line` of them
-pub record Progress (file : Text) (draft : Draft) (line from : ℕ) : Type 0 where
+-- the loop's invariant: the lines before `from` have been judged and kept, `line` of them, and their rules are counted
+pub record Progress (file : Text) (t : Table) (c : Counts) (line from : ℕ) : Type 0 where
   pub short : length file ≤ 8192
   pub within : from ≤ length file + 1
   pub lines : line ≤ from
-  pub drafts : Drafts draft
-  pub judged : judgeLines (line + 1) (rulesOf (draft .table)) (linesFrom file from) ≡ judgeLines 1 [] (linesOf file)
-  pub kept : rulesOf (draft .table) ++ filled (linesFrom file from) ≡ filled (linesOf file)
+  pub from-us : FromUs t
+  pub counted : c ≡ countsOf (rulesOf t)
+  pub judged : judgeLines (line + 1) (rulesOf t) (linesFrom file from) ≡ judgeLines 1 [] (linesOf file)
+  pub kept : rulesOf t ++ filled (linesFrom file from) ≡ filled (linesOf file)
 
 lines-here : (file : Text) (from : ℕ) → from ≤ length file → linesFrom file from ≡ linesOf (drop from file)
 unfolding linesFrom
@@ -83,66 +87,75 @@ pub filled-more : (l : Text) (ls : List Text) → blankLine l ≡ false → fill
 unfolding filled
 filled-more l ls e = ap (λ (b : Bool). cond b (filled ls) (l ∷ filled ls)) e
 
-pub start : (file : Text) (d : Draft) → length file ≤ 8192 → d ≡ draftOf [] → Progress file d 0 0
-start file d h e =
-    let r : rulesOf (d .table) ≡ [] = ap (λ (x : Draft). rulesOf (x .table)) e ∙ draft-rules [] in
+pub start : (file : Text) (t : Table) (c : Counts) → length file ≤ 8192 → t ≡ tableOf [] → c ≡ countsOf [] → Progress file t c 0 0
+start file t c h e f =
+    let r : rulesOf t ≡ [] = ap rulesOf e ∙ rules-table [] in
     record {
       short = h;
       within = omega arith;
       lines = omega arith;
-      drafts = drafts-of d [] e stand-none;
+      from-us = subst FromUs (sym e) (from-us-table [] stand-none);
+      counted = f ∙ ap countsOf (sym r);
       judged = ap (λ (rs : List Text). judgeLines 1 rs (linesFrom file 0)) r ∙ ap (judgeLines 1 []) (lines-here file 0 (omega arith));
       kept = ap (λ (rs : List Text). rs ++ filled (linesFrom file 0)) r ∙ ap filled (lines-here file 0 (omega arith));
     }
 
 -- a turn, at the line from `from` up to `e`
-module _ (file : Text) (d : Draft) (line from e : ℕ) (p : Progress file d line from) (h : from ≤ length file) (low : from ≤ e) (high : e ≤ length file)
+module _ (file : Text) (t : Table) (c : Counts) (line from e : ℕ) (p : Progress file t c line from) (h : from ≤ length file) (low : from ≤ e) (high : e ≤ length file)
     (cut : linesOf (drop from file) ≡ take (e - from) (drop from file) ∷ linesFrom file (e + 1)) where
   abbrev here : Text
   here = take (e - from) (drop from file)
 
   abbrev held : List Text
-  held = rulesOf (d .table)
+  held = rulesOf t
 
   whole : linesFrom file from ≡ here ∷ linesFrom file (e + 1)
   whole = lines-here file from h ∙ cut
 
-  pub after-blank : blankLine here ≡ true → Progress file d (line + 1) (e + 1)
+  pub after-blank : blankLine here ≡ true → Progress file t c (line + 1) (e + 1)
   after-blank b =
       record {
         short = p .short;
         within = omega arith;
         lines = omega (arith, p .lines);
-        drafts = p .drafts;
+        from-us = p .from-us;
+        counted = p .counted;
         judged = sym (judge-blank (line + 1) held here (linesFrom file (e + 1)) b) ∙ ap (judgeLines (line + 1) held) (sym whole) ∙ p .judged;
         kept = ap (λ (ls : List Text). held ++ ls) (sym (filled-blank here (linesFrom file (e + 1)) b) ∙ ap filled (sym whole)) ∙ p .kept;
       }
 
-  module _ (r : Drafted) (b : blankLine here ≡ false) (a : r ≡ draftedOf held here) where
-    answer-is : judgeAdd held here ≡ r .answer
-    unfolding draftedOf
-    answer-is = sym (ap (λ (x : Drafted). x .answer) a)
+  -- the text may be put to what is counted
+  pub counting : Counting c
+  counting = record { rules = held; counted = p .counted; standing = p .from-us .standing }
 
-    draft-after : r .draft ≡ draftOf (addRules held here)
-    unfolding draftedOf
-    draft-after = ap (λ (x : Drafted). x .draft) a
+  module _ (r : Counted) (b : blankLine here ≡ false) (a : CountsWith c here r) where
+    answered : r .answer ≡ judgeAdd held here
+    answered = answer-is c held (p .from-us .standing) (p .counted) here r a
 
-    pub after-added : r .answer ≡ AddAnswer.Added → Progress file (r .draft) (line + 1) (e + 1)
-    after-added k =
-        let j : judgeAdd held here ≡ AddAnswer.Added = answer-is ∙ k in
-        let q : rulesOf (r .draft .table) ≡ held ++ here ∷ [] = ap (λ (x : Draft). rulesOf (x .table)) draft-after ∙ draft-rules (addRules held here) ∙ added-taken held here j in
-        record {
-          short = p .short;
-          within = omega arith;
-          lines = omega (arith, p .lines);
-          drafts = drafts-of (r .draft) (addRules held here) draft-after (stand-add held here (p .drafts .standing));
-          judged = ap (λ (x : List Text). judgeLines (line + 1 + 1) x (linesFrom file (e + 1))) q
-              ∙ sym (judge-added (line + 1) held here (linesFrom file (e + 1)) b j) ∙ ap (judgeLines (line + 1) held) (sym whole) ∙ p .judged;
-          kept = ap (λ (x : List Text). x ++ filled (linesFrom file (e + 1))) q
-              ∙ append-assoc held (here ∷ []) (filled (linesFrom file (e + 1)))
-              ∙ ap (λ (ls : List Text). held ++ ls) (sym (filled-more here (linesFrom file (e + 1)) b) ∙ ap filled (sym whole))
-              ∙ p .kept;
-        }
+    module _ (k : r .answer ≡ AddAnswer.Added) where
+      taken : judgeAdd held here ≡ AddAnswer.Added
+      taken = sym answered ∙ k
+
+      -- there is a line for it
+      pub fits : FromUs t × (t .count < 16) × (length here ≤ 256)
+      fits = let m = room held here taken in (p .from-us, omega (arith, m .few, count-is t (p .from-us)), read-short here (m .read))
+
+      pub after-added : (u : Table) → u ≡ tableOf (held ++ here ∷ []) → Progress file u (r .counts) (line + 1) (e + 1)
+      after-added u f =
+          let q : rulesOf u ≡ held ++ here ∷ [] = ap rulesOf f ∙ rules-table (held ++ here ∷ []) in
+          record {
+            short = p .short;
+            within = omega arith;
+            lines = omega (arith, p .lines);
+            from-us = subst FromUs (sym f) (from-us-table (held ++ here ∷ []) (stand-more held here (p .from-us .standing) taken));
+            counted = counts-next c held (p .from-us .standing) (p .counted) here r a k ∙ ap countsOf (sym q);
+            judged = ap (λ (x : List Text). judgeLines (line + 1 + 1) x (linesFrom file (e + 1))) q
+                ∙ sym (judge-added (line + 1) held here (linesFrom file (e + 1)) b taken) ∙ ap (judgeLines (line + 1) held) (sym whole) ∙ p .judged;
+            kept = ap (λ (x : List Text). x ++ filled (linesFrom file (e + 1))) q
+                ∙ append-assoc held (here ∷ []) (filled (linesFrom file (e + 1)))
+                ∙ ap (λ (ls : List Text). held ++ ls) (sym (filled-more here (linesFrom file (e + 1)) b) ∙ ap filled (sym whole))
+                ∙ p .kept;
+          }
 
     some-filled : isNone (filled (linesOf file)) ≡ false
     some-filled =
@@ -154,31 +167,31 @@ module _ (file : Text) (d : Draft) (line from e : ℕ) (p : Progress file d line
         by-lines file (p .short) some-filled
         ∙ sym (p .judged)
         ∙ ap (judgeLines (line + 1) held) whole
-        ∙ judge-refused (line + 1) held here (linesFrom file (e + 1)) (r .answer) b answer-is m
+        ∙ judge-refused (line + 1) held here (linesFrom file (e + 1)) (r .answer) b (sym answered) m
 
 -- the end of the file
-module _ (file : Text) (d : Draft) (line from : ℕ) (p : Progress file d line from) (h : length file < from) where
-  all-kept : rulesOf (d .table) ≡ filled (linesOf file)
+module _ (file : Text) (t : Table) (c : Counts) (line from : ℕ) (p : Progress file t c line from) (h : length file < from) where
+  all-kept : rulesOf t ≡ filled (linesOf file)
   unfolding filled
-  all-kept = sym (append-nil (rulesOf (d .table))) ∙ ap (λ (ls : List Text). rulesOf (d .table) ++ filled ls) (sym (lines-none file from h)) ∙ p .kept
+  all-kept = sym (append-nil (rulesOf t)) ∙ ap (λ (ls : List Text). rulesOf t ++ filled ls) (sym (lines-none file from h)) ∙ p .kept
 
   all-judged : judgeLines 1 [] (linesOf file) ≡ LoadAnswer.Loaded
   unfolding judgeLines
-  all-judged = sym (ap (judgeLines (line + 1) (rulesOf (d .table))) (sym (lines-none file from h)) ∙ p .judged)
+  all-judged = sym (ap (judgeLines (line + 1) (rulesOf t)) (sym (lines-none file from h)) ∙ p .judged)
 
-  pub nothing-kept : d .table .count ≤ 0 → judgeLoad file ≡ LoadAnswer.AllBlank
-  nothing-kept k = all-blank file (p .short) (ap isNone (sym all-kept) ∙ go (rulesOf (d .table)) (omega (arith, draft-count d (p .drafts))))
+  pub nothing-kept : t .count ≤ 0 → judgeLoad file ≡ LoadAnswer.AllBlank
+  nothing-kept k = all-blank file (p .short) (ap isNone (sym all-kept) ∙ go (rulesOf t) (omega (arith, count-is t (p .from-us))))
     where
       go : (rs : List Text) → length rs ≤ 0 → isNone rs ≡ true
       go [] z = refl
       go (r ∷ rs) z = absurd (omega arith)
 
-  pub something-kept : 0 < d .table .count → judgeLoad file ≡ LoadAnswer.Loaded
-  something-kept k = by-lines file (p .short) (ap isNone (sym all-kept) ∙ go (rulesOf (d .table)) (omega (arith, draft-count d (p .drafts)))) ∙ all-judged
+  pub something-kept : 0 < t .count → judgeLoad file ≡ LoadAnswer.Loaded
+  something-kept k = by-lines file (p .short) (ap isNone (sym all-kept) ∙ go (rulesOf t) (omega (arith, count-is t (p .from-us)))) ∙ all-judged
     where
       go : (rs : List Text) → 0 < length rs → isNone rs ≡ false
       go [] z = absurd (omega arith)
       go (r ∷ rs) z = refl
 
-  pub kept-table : d .table ≡ tableOf (filled (linesOf file))
-  kept-table = draft-from-us d (p .drafts) .same ∙ ap tableOf all-kept
+  pub kept-table : t ≡ tableOf (filled (linesOf file))
+  kept-table = p .from-us .same ∙ ap tableOf all-kept

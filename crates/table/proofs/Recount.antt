@@ -18,26 +18,26 @@ use Rattle.table.specs.declared.Line.{Line}
 use Rattle.table.specs.declared.Table.{Table}
 use Rattle.table.specs.Store.{Text, rulesOf, lineOf, textOf}
 use Rattle.table.specs.Calls.{namesIn, atomsIn, CanStand, FromUs}
-use Rattle.table.specs.Steps.{atomPlaces, draftOf}
+use Rattle.table.specs.Steps.{atomPlaces, countsOf}
 use Rattle.table.proofs.Stored.{text-line}
 use Rattle.table.proofs.Standing.{stand-first, stand-added, room}
-use Rattle.table.proofs.Drafting.{names-with, atoms-with, read-atoms, draft-is}
+use Rattle.table.proofs.Counting.{names-with, atoms-with, read-atoms, counts-are}
 use Rattle.table.proofs.Held.{count-is, line-is}
 
 -- the loop's invariant: the names and atoms are those of the first i texts
-pub record Counted (t : Table) (ns : Names) (n i : ℕ) : Type 0 where
+pub record CountedTo (t : Table) (ns : Names) (n i : ℕ) : Type 0 where
   pub within : i ≤ length (rulesOf t)
   pub names : ns ≡ arraysOf (namesIn (take i (rulesOf t)))
   pub atoms : n ≡ atomsIn (take i (rulesOf t))
 
-pub counted-none : (t : Table) (ns : Names) → ns ≡ arraysOf [] → Counted t ns 0 0
+pub counted-none : (t : Table) (ns : Names) → ns ≡ arraysOf [] → CountedTo t ns 0 0
 unfolding namesIn atomsIn
 counted-none t ns e = record { within = omega arith; names = e; atoms = refl }
 
-pub counted-all : (t : Table) (ns : Names) (n i : ℕ) → FromUs t → Counted t ns n i → t .count ≤ i → record { table = t; names = ns; atoms = n } ≡ draftOf (rulesOf t)
+pub counted-all : (t : Table) (ns : Names) (n i : ℕ) → FromUs t → CountedTo t ns n i → t .count ≤ i → record { rules = t .count; names = ns; atoms = n } ≡ countsOf (rulesOf t)
 counted-all t ns n i v p h =
     let e : take i (rulesOf t) ≡ rulesOf t = take-all i (rulesOf t) (omega (arith, count-is t v)) in
-    draft-is t ns n (rulesOf t) (v .same) (p .names ∙ ap (λ (rs : List Text). arraysOf (namesIn rs)) e) (p .atoms ∙ ap atomsIn e)
+    counts-are (t .count) ns n (rulesOf t) (count-is t v) (p .names ∙ ap (λ (rs : List Text). arraysOf (namesIn rs)) e) (p .atoms ∙ ap atomsIn e)
 
 -- the i-th line
 module _ (t : Table) (v : FromUs t) (i : ℕ) (d : Line) (h : i < t .count) where
@@ -72,7 +72,7 @@ module _ (t : Table) (v : FromUs t) (i : ℕ) (d : Line) (h : i < t .count) wher
   pub text-read : ruleOf text .answer ≡ RuleAnswer.Formula
   text-read = room (take i (rulesOf t)) text (stand-added (take i (rulesOf t)) text stands) .read
 
-  module _ (ns : Names) (n : ℕ) (p : Counted t ns n i) where
+  module _ (ns : Names) (n : ℕ) (p : CountedTo t ns n i) where
     pub counted-gathers : (rule : Rule) → rule ≡ ruleOf text → Gathers text rule ns
     counted-gathers rule e = may-gather text rule ns (namesIn (take i (rulesOf t))) e (p .names) (stand-first (take i (rulesOf t)) (text ∷ []) stands .names)
 
@@ -80,7 +80,7 @@ module _ (t : Table) (v : FromUs t) (i : ℕ) (d : Line) (h : i < t .count) wher
     counted-few = omega (arith, p .atoms, stand-first (take i (rulesOf t)) (text ∷ []) stands .atoms)
 
     pub counted-next : (rule : Rule) (g : Gathered) (k : ℕ) → rule ≡ ruleOf text → g ≡ gathered text (knownOf ns) → k ≡ atomPlaces (take (rule .len) (rule .order))
-        → Counted t (g .names) (n + k) (i + 1)
+        → CountedTo t (g .names) (n + k) (i + 1)
     counted-next rule g k e f q =
         let rs = take i (rulesOf t) in
         let r = room rs text (stand-added rs text stands) in

@@ -2,10 +2,15 @@
 -- list. Assumes nothing.
 use Prim.Native.Nat.{ℕ, _-_, _≤_, _<_}
 use mathlib.Core.Path.{_≡_, sym, ap, _∙_}
-use mathlib.Core.List.{List}
+use mathlib.Core.List.{List, [], _∷_, _++_}
+use native.Mathlib.Omega.{arith}
 use lib.ListN.{length}
 use borrow.Author.Tests.{le-ltb, lt-leb, le-leb, lt-ltb}
 use Rattle.table.specs.declared.Table.{Table}
+use Rattle.table.specs.declared.AddAnswer.{AddAnswer}
+use Rattle.table.specs.declared.AddAnswer.the-variants as AddAnswer
+use Rattle.table.specs.declared.Counts.{Counts}
+use Rattle.table.specs.declared.Counted.{Counted}
 use Rattle.table.specs.declared.AddResult.{AddResult}
 use Rattle.table.specs.declared.WithdrawAnswer.{WithdrawAnswer}
 use Rattle.table.specs.declared.WithdrawAnswer.the-variants as WithdrawAnswer
@@ -13,10 +18,15 @@ use Rattle.table.specs.declared.WithdrawResult.{WithdrawResult}
 use Rattle.table.specs.declared.LoadAnswer.{LoadAnswer}
 use Rattle.table.specs.declared.LoadResult.{LoadResult}
 use Rattle.table.specs.Store.{Text, tableOf, rulesOf}
-use Rattle.table.specs.Calls.{added, judgeWithdraw, without, ifWithdrawn, withdrawRules, withdrawn, linesOf, filled, judgeLoad, ifLoaded, loadRules, loaded, FromUs, Adds, Withdraws, Loads}
-use Rattle.table.specs.Steps.{loadResult}
+use Rattle.table.specs.Calls.{judgeAdd, addRules, added, judgeWithdraw, without, ifWithdrawn, withdrawRules, withdrawn, linesOf, filled, judgeLoad, ifLoaded, loadRules, loaded, FromUs, Adds, Withdraws, Loads}
+use Rattle.table.specs.Steps.{countsOf, CountsWith, loadResult}
 use Rattle.table.proofs.Stored.{from-us-table}
-use Rattle.table.proofs.Standing.{stand-add, stand-withdraw, stand-load}
+use Rattle.table.proofs.Standing.{NotAdded, room, read-short, added-taken, added-refused, stand-add, stand-withdraw, stand-load}
+use Rattle.table.proofs.Counting.{answer-is}
+use Rattle.table.proofs.Held.{count-is}
+
+abbrev addResult : Table → AddAnswer → AddResult
+addResult t a = record { table = t; answer = a }
 
 -- a contract from its equation
 pub adds-of : (t : Table) (s : Text) (r : AddResult) → FromUs t → r ≡ added (rulesOf t) s → Adds t s r
@@ -30,6 +40,31 @@ withdraws-of t k r v e = record { result = e; from-us = rw e (from-us-table _ (s
 pub loads-of : (t : Table) (f : Text) (r : LoadResult) → FromUs t → r ≡ loaded (rulesOf t) f → Loads t f r
 unfolding loaded
 loads-of t f r v e = record { result = e; from-us = rw e (from-us-table _ (stand-load _ f (v .standing))) }
+
+-- ---- add
+
+module _ (t : Table) (s : Text) (c : Counts) (r : Counted) (v : FromUs t) (e : c ≡ countsOf (rulesOf t)) (h : CountsWith c s r) where
+  answered : r .answer ≡ judgeAdd (rulesOf t) s
+  answered = answer-is c (rulesOf t) (v .standing) e s r h
+
+  pub adds-refused : NotAdded (r .answer) → Adds t s (addResult t (r .answer))
+  unfolding added
+  adds-refused n =
+      adds-of t s _ v
+      (ap (λ (u : Table). addResult u (r .answer)) (v .same ∙ ap tableOf (sym (added-refused (rulesOf t) s (λ f. n (answered ∙ f)))))
+      ∙ ap (addResult (tableOf (addRules (rulesOf t) s))) answered)
+
+  module _ (k : r .answer ≡ AddAnswer.Added) where
+    -- there is a line for the text
+    pub may-put : FromUs t × (t .count < 16) × (length s ≤ 256)
+    may-put = let m = room (rulesOf t) s (sym answered ∙ k) in (v, omega (arith, m .few, count-is t v), read-short s (m .read))
+
+    pub adds-taken : (u : Table) → u ≡ tableOf (rulesOf t ++ s ∷ []) → Adds t s (addResult u (r .answer))
+    unfolding added
+    adds-taken u f =
+        adds-of t s _ v
+        (ap (λ (w : Table). addResult w (r .answer)) (f ∙ ap tableOf (sym (added-taken (rulesOf t) s (sym answered ∙ k))))
+        ∙ ap (addResult (tableOf (addRules (rulesOf t) s))) answered)
 
 -- ---- withdraw
 

@@ -32,7 +32,7 @@ use Rattle.table.specs.declared.Outcome.{Outcome}
 use Rattle.table.specs.Numbers.{addOutcome, withdrawOutcome}
 use Rattle.table.specs.Rows.{AddRow, full, seventh, many, stands, WithdrawRow, none, taken}
 use Rattle.table.proofs.Standing.{NotAdded, read-formula, is-rule, enough}
-use Rattle.table.proofs.Drafting.{text-is, names-are, judge-text, judge-full, judge-names, judge-atoms, judge-added}
+use Rattle.table.proofs.Counting.{text-is, names-are, judge-text, judge-full, judge-names, judge-atoms, judge-added}
 use Rattle.table.proofs.Results.{withdraw-zero, withdraw-high, withdraw-good}
 
 -- ---- add

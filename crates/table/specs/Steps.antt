@@ -1,10 +1,11 @@
--- What the private functions do: the table so far with the names and the number of atoms of its rules, one text more, and the answers of
+-- What the private functions do: rules, names and atoms counted text by text, and the answers of
 -- the plan writer and of the judge of plans as those of the calls. Assumes nothing.
 use Prim.Native.Nat.{ℕ, suc}
 use mathlib.Core.Path.{_≡_}
 use mathlib.Core.Bool.{Bool, _||_, cond}
 use mathlib.Core.List.{List, [], _∷_}
 use lib.Dec.{eqb}
+use lib.ListN.{length}
 use Rattle.syntax.specs.Rule.{ruleOf}
 use Rattle.syntax.specs.declared.RuleAnswer.the-variants as RuleAnswer
 use Rattle.syntax.specs.declared.Rule.{Rule}
@@ -26,9 +27,9 @@ use Rattle.table.specs.declared.JudgeAnswer.the-variants as JudgeAnswer
 use Rattle.table.specs.declared.Table.{Table}
 use Rattle.table.specs.declared.LoadAnswer.{LoadAnswer}
 use Rattle.table.specs.declared.LoadResult.{LoadResult}
-use Rattle.table.specs.declared.Draft.{Draft}
-use Rattle.table.specs.declared.Drafted.{Drafted}
-use Rattle.table.specs.Store.{Text, tableOf, rulesOf}
+use Rattle.table.specs.declared.Counts.{Counts}
+use Rattle.table.specs.declared.Counted.{Counted}
+use Rattle.table.specs.Store.{Text}
 use Rattle.table.specs.Asking.{judgePlan}
 use Rattle.table.specs.Calls.{namesIn, atomsIn, judgeAdd, addRules, CanStand}
 
@@ -47,16 +48,22 @@ unfoldable pub atomPlaces : List ℕ → ℕ
 atomPlaces [] = 0
 atomPlaces (k ∷ ks) = cond (isAtom k) (suc (atomPlaces ks)) (atomPlaces ks)
 
-unfoldable pub draftOf : List Text → Draft
-draftOf rs = record { table = tableOf rs; names = arraysOf (namesIn rs); atoms = atomsIn rs }
+-- "Rules, names and atoms are counted in this list"
+unfoldable pub countsOf : List Text → Counts
+countsOf rs = record { rules = length rs; names = arraysOf (namesIn rs); atoms = atomsIn rs }
 
-unfoldable pub draftedOf : List Text → Text → Drafted
-draftedOf rs s = record { draft = draftOf (addRules rs s); answer = judgeAdd rs s }
+unfoldable pub countedOf : List Text → Text → Counted
+countedOf rs s = record { counts = countsOf (addRules rs s); answer = judgeAdd rs s }
 
--- a draft of rules that can stand
-pub record Drafts (d : Draft) : Type 0 where
-  pub same : d ≡ draftOf (rulesOf (d .table))
-  pub standing : CanStand (rulesOf (d .table))
+-- what is counted of rules that can stand
+pub record Counting (c : Counts) : Type 0 where
+  pub rules : List Text
+  pub counted : c ≡ countsOf rules
+  pub standing : CanStand rules
+
+-- whatever rules were counted, the text is judged where they stand
+unfoldable pub CountsWith : Counts → Text → Counted → Type 0
+CountsWith c s r = (rs : List Text) → CanStand rs → c ≡ countsOf rs → r ≡ countedOf rs s
 
 abbrev pub loadResult : Table → LoadAnswer → LoadResult
 loadResult t a = record { table = t; answer = a }

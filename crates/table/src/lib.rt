@@ -14,7 +14,7 @@ ghost use Rattle.sheets.specs.Texts.{CompiledTexts, Whole};
 ghost use Rattle.table.specs.Store.{lineOf, tableOf, rulesOf};
 ghost use Rattle.table.specs.Calls.{namesIn, readAnswer, namesAnswer, judgeText, blankByte, blankLine, linesOf, linesFrom, FromUs, Adds, Withdraws, Loads};
 ghost use Rattle.table.specs.Asking.{Asks, Judges};
-ghost use Rattle.table.specs.Steps.{writtenAnswer, judgedAnswer, JudgeAnswerSays, WasRead, isAtom, atomPlaces, draftOf, draftedOf, Drafts, loadResult};
+ghost use Rattle.table.specs.Steps.{writtenAnswer, judgedAnswer, JudgeAnswerSays, WasRead, isAtom, atomPlaces, countsOf, Counting, CountsWith, loadResult};
 ghost use Rattle.table.specs.Numbers.{addOutcome, withdrawOutcome, onLine, loadOutcome, askOutcome, judgeOutcome};
 ghost use Rattle.table.specs.declared.AddAnswer.the-variants as AddAnswer;
 use judging::Judged;
@@ -146,16 +146,16 @@ pub enum Outcome {
     RefusedLine(usize, usize, usize),
 }
 
-// The table so far, with the names and the number of atoms of its rules.
-struct Draft {
-    table: Table,
+// How many rules stand, their names, and how many atoms they have.
+struct Counts {
+    rules: usize,
     names: Names,
     atoms: usize,
 }
 
-// A draft after a text was put to it, and how the text was answered.
-struct Drafted {
-    draft: Draft,
+// What is counted after a text was put to rules, and how the text was answered.
+struct Counted {
+    counts: Counts,
     answer: AddAnswer,
 }
 
@@ -309,73 +309,71 @@ fn put_last(table: Table, text: &[u8]) -> Table
     next
 }
 
-// The draft in which no rule stands.
-fn no_draft() -> Draft
-    ensures { λ r. ⌜ r ≡ draftOf [] ⌝ }
+// What is counted where no rule stands.
+fn no_counts() -> Counts
+    ensures { λ r. ⌜ r ≡ countsOf [] ⌝ }
 {
-    let table = Table::empty();
     let names = names::no_names();
-    Draft {
-        table,
+    Counts {
+        rules: 0,
         names,
         atoms: 0,
     }
 }
 
-// The draft with a rule put last that was read from its text, or the same draft and why there is no room.
-fn with_rule(d: Draft, text: &[u8], rule: Rule) -> Drafted
-    requires { ⌜ Drafts d × (rule ≡ ruleOf (now text)) × (judgeText (now text) ≡ AddAnswer.Added) ⌝ }
-    ensures { λ r. ⌜ r ≡ draftedOf (rulesOf (d .table)) (now (text .entry)) ⌝ }
+// What is counted with a rule put last that was read from its text, or what was before and why there is no room.
+fn with_rule(c: Counts, text: &[u8], rule: Rule) -> Counted
+    requires { ⌜ Counting c × (rule ≡ ruleOf (now text)) × (judgeText (now text) ≡ AddAnswer.Added) ⌝ }
+    ensures { λ r. ⌜ CountsWith c (now (text .entry)) r ⌝ }
 {
-    let table = d.table;
-    if RULES <= table.count {
+    let rules = c.rules;
+    if RULES <= rules {
         let answer = AddAnswer::TableFull;
-        return Drafted { draft: d, answer };
+        return Counted { counts: c, answer };
     }
-    let known = d.names;
+    let known = c.names;
     let g = names::gather(text, rule, known);
     let enough = g.answer;
     let named = names_answer(enough);
     let AddAnswer::Added = named else {
-        return Drafted {
-            draft: d,
+        return Counted {
+            counts: c,
             answer: named,
         };
     };
     let names = g.names;
     let here = atoms_of(rule);
-    let atoms = d.atoms + here;
+    let atoms = c.atoms + here;
     if ATOMS < atoms {
         let answer = AddAnswer::TooManyAtoms;
-        return Drafted { draft: d, answer };
+        return Counted { counts: c, answer };
     }
-    let table = put_last(table, text);
-    let draft = Draft {
-        table,
+    let counts = Counts {
+        rules: rules + 1,
         names,
         atoms,
     };
-    Drafted {
-        draft,
+    Counted {
+        counts,
         answer: named,
     }
 }
 
-// The draft with a text put last, or the same draft and why the text is refused.
-fn with_text(d: Draft, text: &[u8]) -> Drafted
-    requires { ⌜ Drafts d ⌝ }
-    ensures { λ r. ⌜ r ≡ draftedOf (rulesOf (d .table)) (now (text .entry)) ⌝ }
+// What is counted with a text put last, or what was before and why the text is refused.
+fn with_text(c: Counts, text: &[u8]) -> Counted
+    requires { ⌜ Counting c ⌝ }
+    ensures { λ r. ⌜ CountsWith c (now (text .entry)) r ⌝ }
 {
     let rule = syntax::read_rule(text);
     let found = rule.answer;
     let read = read_answer(found);
     let AddAnswer::Added = read else {
-        return Drafted {
-            draft: d,
+        return Counted {
+            counts: c,
             answer: read,
         };
     };
-    with_rule(d, text, rule)
+    with_rule(c, text, rule)
 }
 
 // A table, with load's answer.
@@ -516,10 +514,10 @@ impl Table {
         Table { lines, count: 0 }
     }
 
-    // The names and the number of atoms of the standing rules, found from their texts.
-    fn to_draft(self) -> Draft
+    // How many rules stand, their names and the number of their atoms, found from their texts.
+    fn counts(self) -> Counts
         requires { ⌜ FromUs self ⌝ }
-        ensures { λ r. ⌜ r ≡ draftOf (rulesOf self) ⌝ }
+        ensures { λ r. ⌜ r ≡ countsOf (rulesOf self) ⌝ }
     {
         let rules = self.count;
         let mut names = names::no_names();
@@ -537,8 +535,8 @@ impl Table {
             atoms += here;
             i += 1;
         }
-        Draft {
-            table: self,
+        Counts {
+            rules,
             names,
             atoms,
         }
@@ -549,8 +547,8 @@ impl Table {
         requires { ⌜ FromUs self ⌝ }
         ensures { λ r. ⌜ r ≡ arraysOf (namesIn (rulesOf self)) ⌝ }
     {
-        let d = self.to_draft();
-        d.names
+        let c = self.counts();
+        c.names
     }
 
     // The table with a rule put last, its text as it came. A refused text leaves the table as it was; the
@@ -559,11 +557,16 @@ impl Table {
         requires { ⌜ FromUs self ⌝ }
         ensures { λ r. ⌜ Adds self (now (text .entry)) r ⌝ }
     {
-        let d = self.to_draft();
-        let r = with_text(d, text);
-        let next = r.draft;
-        let table = next.table;
+        let c = self.counts();
+        let r = with_text(c, text);
         let answer = r.answer;
+        let AddAnswer::Added = answer else {
+            return AddResult {
+                table: self,
+                answer,
+            };
+        };
+        let table = put_last(self, text);
         AddResult { table, answer }
     }
 
@@ -611,7 +614,8 @@ impl Table {
         if FILE < file.len() {
             return kept(self, LoadAnswer::FileTooLong);
         }
-        let mut draft = no_draft();
+        let mut table = Table::empty();
+        let mut counts = no_counts();
         let mut line: usize = 0;
         let mut from: usize = 0;
         while from <= file.len() {
@@ -619,7 +623,7 @@ impl Table {
             line += 1;
             let text = &file[from..end];
             if !blank_line(text) {
-                let result = with_text(draft, text);
+                let result = with_text(counts, text);
                 let answer = result.answer;
                 let AddAnswer::Added = answer else {
                     return LoadResult {
@@ -627,11 +631,11 @@ impl Table {
                         answer: LoadAnswer::Line { line, answer },
                     };
                 };
-                draft = result.draft;
+                counts = result.counts;
+                table = put_last(table, text);
             }
             from = end + 1;
         }
-        let table = draft.table;
         if table.count <= 0 {
             return kept(self, LoadAnswer::AllBlank);
         }

@@ -1,9 +1,8 @@
 -- `with_text` meets its contract: the reader decides first, and a rule is left to `with_rule`. Assumes nothing.
 use borrow.Author.Needs.{needs}
 use mathlib.Core.Path.{_∙_}
-use Rattle.table.specs.Store.{rulesOf}
 use Rattle.table.proofs.Refusals.{told-refused}
-use Rattle.table.proofs.Drafting.{judge-text, text-judged, refused-draft}
+use Rattle.table.proofs.Counting.{text-judged, with-refused}
 use Rattle.table.proofs.with_text.Statement.{statement}
 use Rattle.table.proofs.with_text.Tie as tie
 
@@ -17,11 +16,7 @@ enum-told : tie.Need-enum-told
 enum-told c = search needs
 
 returns : tie.Need-returns
-returns c =
-    let d = c .before .before .before .before .args .d in
-    let s = c .before .before .before .before .args .text .now in
-    let refused = told-refused _ (c .match .keys2) in
-    refused-draft d (c .before .before .before .before .pre) s _ (judge-text (rulesOf (d .table)) s _ (text-judged s _ _ (c .before .before .read-rule .ensures) (c .before .read-answer .ensures)) refused) refused
+returns c = with-refused _ _ _ (text-judged _ _ _ (c .before .before .read-rule .ensures) (c .before .read-answer .ensures)) (told-refused _ (c .match .keys2))
 
 with-rule-requires : tie.Need-with-rule-requires
 with-rule-requires c κs =

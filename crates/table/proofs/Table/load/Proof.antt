@@ -5,20 +5,21 @@ use mathlib.Core.Path.{sym, subst, _∙_}
 use mathlib.Core.Logic.{⊎-elim}
 use borrow.Author.Tests.{not-true, not-false}
 use lib.ListN.{length}
-use Rattle.table.specs.declared.Draft.{Draft}
+use Rattle.table.specs.declared.Table.{Table}
+use Rattle.table.specs.declared.Counts.{Counts}
 use Rattle.table.specs.Calls.{Loads}
 use Rattle.table.proofs.Refusals.{told-refused}
 use Rattle.table.proofs.Results.{loaded-by}
-use Rattle.table.proofs.Loading.{Progress, start, after-blank, after-added, line-refused, nothing-kept, something-kept, kept-table, too-long}
+use Rattle.table.proofs.Loading.{Progress, start, after-blank, counting, fits, after-added, line-refused, nothing-kept, something-kept, kept-table, too-long}
 use native.Mathlib.Omega.{arith}
 use Rattle.table.proofs.Table.load.Statement.{statement}
 use Rattle.table.proofs.Table.load.Tie as tie
 
 abbrev Inv-loop : tie.InvT-loop
-Inv-loop self file draft₀ line₀ from₀ draft line from = Progress file draft line from
+Inv-loop self file table₀ counts₀ line₀ from₀ table counts line from = Progress file table counts line from
 
 abbrev μ-loop : tie.MeasureT-loop
-μ-loop self file draft₀ line₀ from₀ draft line from = length file + 1 - from
+μ-loop self file table₀ counts₀ line₀ from₀ table counts line from = length file + 1 - from
 
 kept-requires : tie.Need-kept-requires Inv-loop μ-loop
 kept-requires c κs = search needs
@@ -28,11 +29,14 @@ returns c =
     let old = c .before .before .before in
     subst (Loads (old .args .self) (old .args .file .now)) (sym (c .kept .ensures)) (loaded-by (old .args .self) _ _ _ (old .pre) (too-long _ (c .before .if1 .taken)) (old .pre .same))
 
-no-draft-requires : tie.Need-no-draft-requires Inv-loop μ-loop
-no-draft-requires c κs = search needs
+empty-requires : tie.Need-empty-requires Inv-loop μ-loop
+empty-requires c κs = search needs
+
+no-counts-requires : tie.Need-no-counts-requires Inv-loop μ-loop
+no-counts-requires c κs = search needs
 
 loop-holds : tie.Need-loop-holds Inv-loop μ-loop
-loop-holds c = start _ _ (c .before .if1 .left) (c .no-draft .ensures)
+loop-holds c = start _ _ _ (c .before .before .if1 .left) (c .before .empty .ensures .0) (c .no-counts .ensures)
 
 line-end-requires : tie.Need-line-end-requires Inv-loop μ-loop
 line-end-requires c κs = c .loop-test .taken
@@ -53,20 +57,29 @@ blank-line-requires : tie.Need-blank-line-requires Inv-loop μ-loop
 blank-line-requires c κs = search needs
 
 with-text-requires : tie.Need-with-text-requires Inv-loop μ-loop
-with-text-requires c κs = c .before .before .before .before .before .loop .inv .drafts
+with-text-requires c κs =
+    let cut = c .before .before .before .line-end .ensures in
+    counting _ _ _ _ _ _ (c .before .before .before .before .before .loop .inv) (c .before .before .before .before .loop-test .taken) (cut .0) (cut .1) (cut .2)
 
 enum-told : tie.Need-enum-told Inv-loop μ-loop
 enum-told c = search needs
 
 returns-2 : tie.Need-returns-2 Inv-loop μ-loop
 returns-2 c =
-    let old = c .before .before .before .before .before .before .before .before .before .before .before in
+    let old = c .before .before .before .before .before .before .before .before .before .before .before .before in
     let at = c .before .before .before .before .before .before .before .loop in
     let cut = c .before .before .before .before .before .line-end .ensures in
     let filled = sym (c .before .before .before .blank-line .ensures) ∙ not-true _ (c .before .before .if2 .taken) in
     loaded-by (old .args .self) _ _ _ (old .pre)
-    (line-refused _ _ _ _ _ (at .inv) (c .before .before .before .before .before .before .loop-test .taken) (cut .0) (cut .1) (cut .2) _ filled (c .before .with-text .ensures) (told-refused _ (c .match .keys2)))
+    (line-refused _ _ _ _ _ _ (at .inv) (c .before .before .before .before .before .before .loop-test .taken) (cut .0) (cut .1) (cut .2) _ filled (c .before .with-text .ensures) (told-refused _ (c .match .keys2)))
     (old .pre .same)
+
+put-last-requires : tie.Need-put-last-requires Inv-loop μ-loop
+put-last-requires c κs =
+    let at = c .before .before .before .before .before .before .before .before .before .loop in
+    let cut = c .before .before .before .before .before .before .before .line-end .ensures in
+    let filled = sym (c .before .before .before .before .before .blank-line .ensures) ∙ not-true _ (c .before .before .before .before .if2 .taken) in
+    fits _ _ _ _ _ _ (at .inv) (c .before .before .before .before .before .before .before .before .loop-test .taken) (cut .0) (cut .1) (cut .2) _ filled (c .before .before .before .with-text .ensures) (c .before .enum-told .given .1)
 
 add-from : tie.Need-add-from Inv-loop μ-loop
 add-from c = omega (arith, c .before .before .before .line-end .ensures .1, c .before .before .before .before .before .loop .inv .short)
@@ -77,15 +90,18 @@ loop-less c = omega (arith, c .before .before .before .line-end .ensures .0, c .
 loop-again : tie.Need-loop-again Inv-loop μ-loop
 loop-again c =
     let at = c .before .before .before .before .before .loop in
-    let file = c .before .before .before .before .before .before .before .before .before .args .file .now in
-    let e = c .before .before .before .line-end .result in
+    let file = c .before .before .before .before .before .before .before .before .before .before .args .file .now in
+    let line = at .line + 1 in
+    let from = c .before .before .before .line-end .result + 1 in
     let cut = c .before .before .before .line-end .ensures in
     let h = c .before .before .before .before .loop-test .taken in
     ⊎-elim
-    (λ w. subst (λ (d : Draft). Progress file d (at .line + 1) (e + 1)) (sym (w .5))
-    (after-added _ _ _ _ _ (at .inv) h (cut .0) (cut .1) (cut .2) _ (sym (c .before .blank-line .ensures) ∙ not-true _ (w .0 .taken)) (w .1 .ensures) (w .3 .given .1)))
-    (λ w. subst (λ (d : Draft). Progress file d (at .line + 1) (e + 1)) (sym (w .1))
-    (after-blank _ _ _ _ _ (at .inv) h (cut .0) (cut .1) (cut .2) (sym (c .before .blank-line .ensures) ∙ not-false _ (w .0 .left))))
+    (λ w. subst (λ (t : Table). Progress file t (c .if2 .counts) line from) (sym (w .6))
+    (subst (λ (x : Counts). Progress file (w .5 .result) x line from) (sym (w .7))
+    (after-added _ _ _ _ _ _ (at .inv) h (cut .0) (cut .1) (cut .2) _ (sym (c .before .blank-line .ensures) ∙ not-true _ (w .0 .taken)) (w .1 .ensures) (w .3 .given .1) _ (w .5 .ensures))))
+    (λ w. subst (λ (t : Table). Progress file t (c .if2 .counts) line from) (sym (w .1))
+    (subst (λ (x : Counts). Progress file (at .table) x line from) (sym (w .2))
+    (after-blank _ _ _ _ _ _ (at .inv) h (cut .0) (cut .1) (cut .2) (sym (c .before .blank-line .ensures) ∙ not-false _ (w .0 .left)))))
     (c .if2 .came)
 
 kept-requires-2 : tie.Need-kept-requires-2 Inv-loop μ-loop
@@ -95,13 +111,13 @@ returns-3 : tie.Need-returns-3 Inv-loop μ-loop
 returns-3 c =
     let old = c .before .before .before .before .before .before .before .before .before in
     subst (Loads (old .args .self) (old .args .file .now)) (sym (c .kept2 .ensures))
-    (loaded-by (old .args .self) _ _ _ (old .pre) (nothing-kept _ _ _ _ (c .before .before .before .before .before .loop .inv) (c .before .before .before .before .loop-test .left) (c .before .if3 .taken)) (old .pre .same))
+    (loaded-by (old .args .self) _ _ _ (old .pre) (nothing-kept _ _ _ _ _ (c .before .before .before .before .loop .inv) (c .before .before .before .loop-test .left) (c .before .if3 .taken)) (old .pre .same))
 
 returns-4 : tie.Need-returns-4 Inv-loop μ-loop
 returns-4 c =
     let old = c .before .before .before .before .before .before .before .before in
-    let end = c .before .before .before .loop-test .left in
-    loaded-by (old .args .self) _ _ _ (old .pre) (something-kept _ _ _ _ (c .before .before .before .before .loop .inv) end (c .if3 .left)) (kept-table _ _ _ _ (c .before .before .before .before .loop .inv) end)
+    let end = c .before .before .loop-test .left in
+    loaded-by (old .args .self) _ _ _ (old .pre) (something-kept _ _ _ _ _ (c .before .before .before .loop .inv) end (c .if3 .left)) (kept-table _ _ _ _ _ (c .before .before .before .loop .inv) end)
 
 pub load-spec : {M : Type 1} → statement M
 load-spec =
@@ -111,7 +127,8 @@ load-spec =
     μ-loop
     kept-requires
     returns
-    no-draft-requires
+    empty-requires
+    no-counts-requires
     loop-holds
     line-end-requires
     add-line
@@ -122,6 +139,7 @@ load-spec =
     with-text-requires
     enum-told
     returns-2
+    put-last-requires
     add-from
     loop-less
     loop-again

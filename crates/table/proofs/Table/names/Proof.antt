@@ -1,17 +1,17 @@
--- The draft of the table has the names. Assumes nothing.
+-- What is counted has the names. Assumes nothing.
 use borrow.Author.Needs.{needs}
 use mathlib.Core.Path.{ap}
-use Rattle.table.specs.declared.Draft.{Draft}
-use Rattle.table.specs.Steps.{draftOf}
+use Rattle.table.specs.declared.Counts.{Counts}
+use Rattle.table.specs.Steps.{countsOf}
 use Rattle.table.proofs.Table.names.Statement.{statement}
 use Rattle.table.proofs.Table.names.Tie as tie
 
-to-draft-requires : tie.Need-to-draft-requires
-to-draft-requires c κs = search needs
+counts-requires : tie.Need-counts-requires
+counts-requires c κs = search needs
 
 returns : tie.Need-returns
-unfolding draftOf
-returns c = ap (λ (d : Draft). d .names) (c .before .to-draft .ensures)
+unfolding countsOf
+returns c = ap (λ (x : Counts). x .names) (c .before .counts .ensures)
 
 pub names-spec : {M : Type 1} → statement M
-names-spec = tie.close (tie.spec to-draft-requires returns)
+names-spec = tie.close (tie.spec counts-requires returns)

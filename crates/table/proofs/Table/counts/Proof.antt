@@ -2,14 +2,14 @@
 use borrow.Author.Needs.{needs}
 use Prim.Native.Nat.{_-_, _<_}
 use Rattle.table.proofs.Held.{none, count-is}
-use Rattle.table.proofs.Drafting.{was-read}
-use Rattle.table.proofs.Recount.{Counted, counted-none, counted-all, text-within, text-length, text-read, counted-gathers, counted-few, counted-next}
+use Rattle.table.proofs.Counting.{was-read}
+use Rattle.table.proofs.Recount.{CountedTo, counted-none, counted-all, text-within, text-length, text-read, counted-gathers, counted-few, counted-next}
 use native.Mathlib.Omega.{arith}
-use Rattle.table.proofs.Table.to_draft.Statement.{statement}
-use Rattle.table.proofs.Table.to_draft.Tie as tie
+use Rattle.table.proofs.Table.counts.Statement.{statement}
+use Rattle.table.proofs.Table.counts.Tie as tie
 
 abbrev Inv-loop : tie.InvT-loop
-Inv-loop self rules names₀ atoms₀ i₀ names atoms i = Counted self names atoms i
+Inv-loop self rules names₀ atoms₀ i₀ names atoms i = CountedTo self names atoms i
 
 abbrev μ-loop : tie.MeasureT-loop
 μ-loop self rules names₀ atoms₀ i₀ names atoms i = rules - i
@@ -59,8 +59,8 @@ loop-again c = counted-next (c .before .before .before .before .before .before .
 returns : tie.Need-returns Inv-loop μ-loop
 returns c = counted-all _ _ _ _ (c .before .before .before .pre) (c .before .loop .inv) (c .loop-test .left)
 
-pub to-draft-spec : {M : Type 1} → statement M
-to-draft-spec =
+pub counts-spec : {M : Type 1} → statement M
+counts-spec =
     tie.close
     (tie.spec
     Inv-loop
