@@ -22,7 +22,7 @@ use Rattle.lexer.proofs.Lists.{rest}
 use Rattle.lexer.proofs.Pieces.{Sized, sized}
 
 -- the bytes of the token before are skipped
-pub skip : (k i : ℕ) (s : List ℕ) → k ≤ length s → cutFrom i k s ≡ cutFrom (i + k) 0 (drop k s)
+skip : (k i : ℕ) (s : List ℕ) → k ≤ length s → cutFrom i k s ≡ cutFrom (i + k) 0 (drop k s)
 unfolding cutFrom
 skip ℕ.zero i s h = ap (λ (j : ℕ). cutFrom j 0 s) (sym (add-zero i))
 skip (suc k) i [] h = absurd (omega arith)

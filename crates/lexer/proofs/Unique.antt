@@ -82,6 +82,7 @@ unfolding runLength
 run-whole [] s a h = run-none s h
 run-whole (b ∷ w) s a h = ap (λ (c : Class). cond (inRun c) (suc (runLength (w ++ s))) 0) (a .0) ∙ ap suc (run-whole w s (a .1) h)
 
+-- ---- a sign at the start of a text
 by-sign : (b : ℕ) (s : List ℕ) → classOf b ≡ Class.Sign → (m : Match) → Longest signs (b ∷ s) m → pieceOf (b ∷ s) ≡ matchPiece m
 unfolding signPiece
 by-sign b s e m h = class-decides b s Class.Sign e ∙ ap matchPiece (found (b ∷ s) m h)
