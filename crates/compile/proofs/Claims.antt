@@ -9,14 +9,14 @@ use lib.ListN.{length, take, drop, replicate, length-append}
 use lib.Seq.{take-at}
 use borrow.Author.Tests.{lt-ltb}
 use Rattle.formula.specs.Formula.{Term, Atom, Formula, Name}
-use Rattle.formula.specs.Names.{atomsOf}
+use Rattle.formula.specs.Atoms.{atomsOf}
+use Rattle.lexer.specs.Arrays.{pad}
 use Rattle.syntax.specs.Postfix.{postfix}
 use Rattle.syntax.specs.RuleText.{IsRule}
 use Rattle.syntax.specs.Reader.{codes}
 use Rattle.syntax.specs.Rule.{ruleOf}
 use Rattle.syntax.specs.declared.Rule.{Rule}
-use Rattle.syntax.proofs.Heads.{length-codes}
-use Rattle.syntax.proofs.Claims.{text-read}
+use Rattle.syntax.proofs.Claims.{length-codes, text-read}
 use Rattle.evalset.specs.Sets.{room, memAt}
 use Rattle.evalset.proofs.Bounded.{each}
 use Rattle.contact.specs.Numbering.{mapAtom, mapForm, numberForm}
@@ -69,10 +69,10 @@ module _ (s : List ℕ) (f : Formula Name) (h : IsRule s f) where
   pub order-read : take (ruleOf s .len) (ruleOf s .order) ≡ codes (postfix f)
   order-read =
       ap (λ (r : Rule). take (r .len) (r .order)) (text-read s f h)
-      ∙ take-at (codes (postfix f)) (replicate (256 - length (postfix f)) 0) (length (postfix f)) (length-codes (postfix f))
+      ∙ take-at (codes (postfix f)) (replicate (256 - length (codes (postfix f))) 0) (length (postfix f)) (length-codes (postfix f))
 
   -- and short enough, since it has a place in the array
   pub order-short : length (ruleOf s .order) ≡ 256 → length (codes (postfix f)) ≤ 256
   order-short l =
-      let e : length (codes (postfix f) ++ replicate (256 - length (postfix f)) 0) ≡ 256 = sym (ap (λ (r : Rule). length (r .order)) (text-read s f h)) ∙ l in
-      omega (arith, length-append (codes (postfix f)) (replicate (256 - length (postfix f)) 0))
+      let e : length (pad (codes (postfix f))) ≡ 256 = sym (ap (λ (r : Rule). length (r .order)) (text-read s f h)) ∙ l in
+      omega (arith, length-append (codes (postfix f)) (replicate (256 - length (codes (postfix f))) 0))

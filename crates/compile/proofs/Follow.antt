@@ -14,8 +14,7 @@ use Rattle.syntax.specs.Symbol.{Leaf, leaf, opening}
 use Rattle.syntax.specs.Postfix.{postfix, symbolNames, namesIn}
 use Rattle.syntax.specs.Machine.{Sym}
 use Rattle.syntax.specs.Reader.{code, codes}
-use Rattle.syntax.proofs.Heads.{length-codes}
-use Rattle.syntax.proofs.Claims.{order-names}
+use Rattle.syntax.proofs.Claims.{length-codes, order-names}
 use Rattle.evalset.specs.declared.EvalSet.{EvalSet}
 use Rattle.evalset.specs.Sets.{mem, memAt}
 use Rattle.search.specs.declared.Sheet.{Sheet}

@@ -8,7 +8,7 @@ use native.Mathlib.Omega.{arith}
 use lib.ListN.{length, length-append, length-map}
 use Rattle.formula.specs.declared.Sign.the-variants.{Implies, Iff, Or, And, Plus, Times}
 use Rattle.formula.specs.Formula.{Term, Atom, Form, Formula}
-use Rattle.formula.specs.Names.{atomsOf}
+use Rattle.formula.specs.Atoms.{atomsOf}
 use Rattle.syntax.specs.Symbol.{Symbol, leaf, minus, tilde, opening, closing, comma, isZero, binary, constant, relation, contact, part}
 use Rattle.syntax.specs.Postfix.{termAfter, formulaAfter}
 use Rattle.contact.specs.Numbering.{mapTerm, mapAtom, mapForm, numberForm}

@@ -4,7 +4,8 @@ use mathlib.Core.List.{List, _++_, map}
 use Prim.Native.Nat.{ℕ, _+_, _≤_}
 use lib.ListN.{length}
 use Rattle.formula.specs.Formula.{Atom, Formula, Name}
-use Rattle.formula.specs.Names.{atomsOf, formulaNames}
+use Rattle.formula.specs.Atoms.{atomsOf}
+use Rattle.formula.specs.Names.{formulaNames}
 use Rattle.syntax.specs.Postfix.{postfix}
 use Rattle.syntax.specs.Reader.{codes}
 use Rattle.contact.specs.Numbering.{mapForm, mapAtom, numberForm}

@@ -14,7 +14,8 @@ use Rattle.formula.specs.Formula.{Term, Atom, Form, Formula, Name}
 use Rattle.evalset.specs.Search.{In, here, next, any, all, gather, below}
 use Rattle.evalset.proofs.Search.{clash, cases, and-intro, both, none-in, uncons, at-head, in-left, in-right, map-elim, all-map, keep-intro, gather-intro}
 use Rattle.contact.specs.Meaning.{Floor, holds, within, partTerm, atomOn, value, meets, meetsAll}
-use Rattle.formula.specs.Names.{termNames, atomNames, atomsOf}
+use Rattle.formula.specs.Atoms.{atomsOf}
+use Rattle.formula.specs.Names.{termNames, atomNames}
 use Rattle.contact.specs.Numbering.{allAtoms, distinct, position, sameName, namesOf, mapTerm, mapAtom, mapForm, numberedNames, numberedAtoms, TermBelow, AtomBelow, RulesBelow}
 use Rattle.contact.specs.Row.{IsFirstRow, Row, Realises, Realisable, rulesTrue}
 use Rattle.contact.specs.Plan.{firstRowOf}

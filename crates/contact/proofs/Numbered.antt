@@ -10,7 +10,7 @@ use Rattle.formula.specs.Formula.{Atom, Form, Formula}
 use Rattle.evalset.specs.Search.{In, all, from, below}
 use Rattle.evalset.proofs.Search.{from-append, below-elim}
 use Rattle.contact.specs.Meaning.{Floor, atomOn, value, meetsAll}
-use Rattle.formula.specs.Names.{atomsOf}
+use Rattle.formula.specs.Atoms.{atomsOf}
 use Rattle.contact.specs.Numbering.{allAtoms, mapForm, numberForm, numberFrom, numberedAtoms}
 use Rattle.contact.specs.Row.{rulesTrue}
 

@@ -14,7 +14,7 @@ use Rattle.formula.specs.Formula.{Atom, Form, Formula}
 use Rattle.evalset.specs.Search.{In, here, next, any, all, first, orElse}
 use Rattle.evalset.proofs.Search.{clash, cases, untrue, both, or-cases, none-in, uncons, at-head, in-left, in-right, map-elim, any-elim, none-intro, all-elim, first-none, first-append}
 use Rattle.contact.specs.Meaning.{value}
-use Rattle.formula.specs.Names.{atomsOf}
+use Rattle.formula.specs.Atoms.{atomsOf}
 use Rattle.contact.specs.Numbering.{allAtoms, numberedAtoms, AtomBelow, RulesBelow}
 use Rattle.contact.specs.Row.{Row, rulesTrue, Three, is, unknown, PartialRow, Extends}
 use Rattle.contact.specs.Plan.{Mark, mark, marksOf, rowMarks, check, rows, good, firstRow, firstRowOf}

@@ -5,7 +5,8 @@ use Prim.Native.Nat.{ℕ, zero, suc, _+_, _<_}
 use lib.Dec.{eqb}
 use lib.ListN.{length}
 use Rattle.formula.specs.Formula.{Term, Atom, Form, Formula, Name}
-use Rattle.formula.specs.Names.{atomsOf, atomNames}
+use Rattle.formula.specs.Atoms.{atomsOf}
+use Rattle.formula.specs.Names.{atomNames}
 use Rattle.evalset.specs.Search.{In, keep, gather}
 
 module _ {A : Type 0} where

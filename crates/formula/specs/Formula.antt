@@ -11,7 +11,7 @@ pub data Term (N : Type 0) : Type 0 where
   intersection : Term N → Term N → Term N
   union : Term N → Term N → Term N
 
--- "An atom is a C, <= or =0 place in a rule."
+-- "An atom is a C, <= or =0 place in a rule; every place counts."
 pub data Atom (N : Type 0) : Type 0 where
   contact : Term N → Term N → Atom N
   part : Term N → Term N → Atom N

@@ -1,3 +1,4 @@
 pub mod Sign
 pub mod Formula
+pub mod Atoms
 pub mod Names

@@ -1,18 +1,6 @@
--- The names and the atoms of a formula, each place, left to right. Assumes nothing.
+-- The names of a formula, each place, left to right. Assumes nothing.
 use mathlib.Core.List.{List, [], _∷_, _++_}
 use Rattle.formula.specs.Formula.{Term, Atom, Form, Formula}
-
--- "An atom is a C, <= or =0 place in a rule; every place counts."
-module _ {A : Type 0} where
-  abbrev pub atomsOf : Form A → List A
-  atomsOf Form.truth = []
-  atomsOf Form.falsity = []
-  atomsOf (Form.atom a) = a ∷ []
-  atomsOf (Form.negation f) = atomsOf f
-  atomsOf (Form.conjunction f g) = atomsOf f ++ atomsOf g
-  atomsOf (Form.disjunction f g) = atomsOf f ++ atomsOf g
-  atomsOf (Form.implication f g) = atomsOf f ++ atomsOf g
-  atomsOf (Form.equivalence f g) = atomsOf f ++ atomsOf g
 
 module _ {N : Type 0} where
   abbrev pub termNames : Term N → List N

@@ -7,7 +7,7 @@ use Prim.Native.Nat.{ℕ, suc, _+_, _<_}
 use native.Mathlib.Omega.{arith}
 use lib.ListN.{length, getD}
 use Rattle.formula.specs.Formula.{Atom, Formula}
-use Rattle.formula.specs.Names.{atomsOf}
+use Rattle.formula.specs.Atoms.{atomsOf}
 use Rattle.contact.specs.Meaning.{Floor, atomOn}
 use Rattle.contact.specs.Numbering.{allAtoms, numberFrom}
 use Rattle.contact.proofs.Numbered.{Agrees, agrees-left, agrees-right, number-value}

@@ -7,7 +7,7 @@ use Prim.Native.Nat.{ℕ, suc, _+_, _-_, _≤_, _<_}
 use native.Mathlib.Omega.{arith}
 use lib.ListN.{length, length-append}
 use Rattle.formula.specs.Formula.{Form}
-use Rattle.formula.specs.Names.{atomsOf}
+use Rattle.formula.specs.Atoms.{atomsOf}
 use Rattle.evalset.specs.Search.{In, here}
 use Rattle.evalset.proofs.Search.{in-left, in-right}
 use Rattle.kleene.specs.Code.{postfix, Class, classOf, joins, after, Takes, Safe}

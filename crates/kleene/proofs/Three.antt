@@ -5,7 +5,7 @@ use mathlib.Core.Path.{_≡_, refl, sym, ap, ap₂, _∙_}
 use mathlib.Core.List.{List, [], _∷_, head-eq-of-cons-eq}
 use Prim.Native.Nat.{ℕ}
 use Rattle.formula.specs.Formula.{Form}
-use Rattle.formula.specs.Names.{atomsOf}
+use Rattle.formula.specs.Atoms.{atomsOf}
 use Rattle.evalset.specs.Search.{In, here}
 use Rattle.evalset.specs.Sets.{mem}
 use Rattle.evalset.proofs.Search.{in-left, in-right}

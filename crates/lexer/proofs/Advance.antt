@@ -1,36 +1,61 @@
 -- How the cutting goes on from a place: past a blank byte or a token the rest is cut from there, and a token filled into the arrays or
 -- still to come gives the same answer. Assumes nothing.
-use mathlib.Core.Path.{_≡_, refl, sym, ap, ap₂, _∙_}
+use mathlib.Core.Path.{_≡_, refl, sym, ap, ap₂, subst, _∙_}
 use mathlib.Core.List.{List, [], _∷_}
 use Prim.Native.Nat.{ℕ, suc, _+_, _-_, _≤_, _<_}
 use native.Mathlib.Omega.{arith}
 use native.Mathlib.Nat.{add-zero}
-use lib.ListN.{length, drop, set, replicate, length-drop, drop-of-length-le}
+use lib.ListN.{length, getD, drop, set, replicate, drop-of-length-le}
 use lib.Seq.{drop-drop}
 use Rattle.lexer.specs.Token.{tokenOf}
 use Rattle.lexer.specs.Cutting.{Cutting, tokens, refused, first}
 use Rattle.lexer.specs.Cutter.{pieceOf, more, put, cutFrom}
-use Rattle.lexer.specs.Arrays.{codeOf}
-use Rattle.lexer.specs.Steps.{arrays, none, push, fill, refusal, finish, resume}
+use Rattle.lexer.specs.Arrays.{codeOf, tokensOf}
+use Rattle.lexer.specs.Steps.{arrays, push, fill, refusal, finish, resume}
 use Rattle.lexer.specs.declared.Kind.{Kind}
 use Rattle.lexer.specs.declared.Piece.{Piece}
 use Rattle.lexer.specs.declared.Piece.the-variants as Piece
 use Rattle.lexer.specs.declared.LexAnswer.the-variants as LexAnswer
 use Rattle.lexer.specs.declared.Tokens.{Tokens}
 use Rattle.lexer.specs.declared.Lexed.{Lexed}
-use Rattle.lexer.proofs.Runs.{rest}
-use Rattle.lexer.proofs.Pieces.{token-sized}
+use Rattle.lexer.proofs.Lists.{rest}
+use Rattle.lexer.proofs.Pieces.{Sized, sized}
 
 -- the bytes of the token before are skipped
-pub skip : (k i : ℕ) (s : List ℕ) → k ≤ length s → cutFrom i k s ≡ cutFrom (i + k) 0 (drop k s)
+skip : (k i : ℕ) (s : List ℕ) → k ≤ length s → cutFrom i k s ≡ cutFrom (i + k) 0 (drop k s)
 unfolding cutFrom
 skip ℕ.zero i s h = ap (λ (j : ℕ). cutFrom j 0 s) (sym (add-zero i))
 skip (suc k) i [] h = absurd (omega arith)
 skip (suc k) i (b ∷ s) h = skip k (i + 1) s (omega arith) ∙ ap (λ (j : ℕ). cutFrom j 0 (drop k s)) (omega arith)
 
-pub none-made : (k s l : List ℕ) → k ≡ replicate 256 0 → s ≡ replicate 256 0 → l ≡ replicate 256 0 → arrays k s l 0 ≡ none
-unfolding none
+pub none-made : (k s l : List ℕ) → k ≡ replicate 256 0 → s ≡ replicate 256 0 → l ≡ replicate 256 0 → arrays k s l 0 ≡ tokensOf []
+unfolding tokensOf
 none-made k s l e f g = cc
+
+-- ---- one piece at the start of a text
+
+module _ (i b : ℕ) (s : List ℕ) where
+  pub by-piece : (p : Piece) → pieceOf (b ∷ s) ≡ p → cutFrom i 0 (b ∷ s) ≡ put p i (cutFrom (i + 1) (more p) s)
+  unfolding cutFrom
+  by-piece p e = ap (λ (q : Piece). put q i (cutFrom (i + 1) (more q) s)) e
+
+  pub by-token : (k : Kind) (n : ℕ) (r : Cutting) → pieceOf (b ∷ s) ≡ Piece.Token k n → r ≡ cutFrom (i + n) 0 (drop n (b ∷ s)) → first (tokenOf k i n) r ≡ cutFrom i 0 (b ∷ s)
+  by-token k n r e f = go n refl
+    where
+      z : Sized (Piece.Token k n) (suc (length s))
+      z = subst (λ (p : Piece). Sized p (suc (length s))) e (sized b s)
+
+      go : (m : ℕ) → n ≡ m → first (tokenOf k i n) r ≡ cutFrom i 0 (b ∷ s)
+      go ℕ.zero g = absurd (omega (arith, z .0))
+      go (suc m) g =
+          let j : n - 1 ≡ m = omega arith in
+          let l : i + 1 + m ≡ i + n = omega arith in
+          ap (first (tokenOf k i n))
+          (f ∙ ap (λ (a : ℕ). cutFrom (i + n) 0 (drop a (b ∷ s))) g ∙ ap (λ (a : ℕ). cutFrom a 0 (drop m s)) (sym l)
+          ∙ sym (skip m (i + 1) s (omega (arith, z .1))) ∙ ap (λ (a : ℕ). cutFrom (i + 1) a s) (sym j))
+          ∙ sym (by-piece (Piece.Token k n) e)
+
+-- ---- one piece at a place of a text
 
 resume-first : (t : Tokens) (k : Kind) (i n : ℕ) (r : Cutting) → resume t (first (tokenOf k i n) r) ≡ resume (push t k i n) r
 unfolding resume fill
@@ -48,10 +73,9 @@ module _ (s : List ℕ) (i : ℕ) where
 
   module _ (h : i < length s) where
     here : (p : Piece) → p ≡ pieceOf (drop i s) → cutFrom i 0 (drop i s) ≡ put p i (cutFrom (i + 1) (more p) (drop (i + 1) s))
-    unfolding cutFrom
     here p e =
-        let d = rest s i h in
-        ap (cutFrom i 0) d ∙ ap (λ (q : Piece). put q i (cutFrom (i + 1) (more q) (drop (i + 1) s))) (sym (e ∙ ap pieceOf d))
+        let d = rest s i 0 h in
+        ap (cutFrom i 0) d ∙ by-piece i (getD s i 0) (drop (i + 1) s) p (sym (e ∙ ap pieceOf d))
 
     pub at-blank : (t : Tokens) → Piece.Blank ≡ pieceOf (drop i s) → resume t (cutFrom (i + 1) 0 (drop (i + 1) s)) ≡ answer-from t
     at-blank t e = sym (ap (resume t) (here Piece.Blank e))
@@ -70,14 +94,10 @@ module _ (s : List ℕ) (i : ℕ) where
 
     after-token : (k : Kind) (n : ℕ) → Piece.Token k n ≡ pieceOf (drop i s) → cutFrom i 0 (drop i s) ≡ first (tokenOf k i n) (cutFrom (i + n) 0 (drop (i + n) s))
     after-token k n e =
-        let z = token-sized s i h k n (sym e) in
-        let fits : n - 1 ≤ length (drop (i + 1) s) = omega (arith, z .0, z .1, length-drop (i + 1) s) in
-        let same : i + 1 + (n - 1) ≡ i + n = omega (arith, z .0) in
-        here (Piece.Token k n) e
-        ∙ ap (first (tokenOf k i n))
-        (skip (n - 1) (i + 1) (drop (i + 1) s) fits
-        ∙ ap (cutFrom (i + 1 + (n - 1)) 0) (drop-drop (n - 1) (i + 1) s)
-        ∙ ap (λ (j : ℕ). cutFrom j 0 (drop j s)) same)
+        let d = rest s i 0 h in
+        ap (cutFrom i 0) d
+        ∙ sym (by-token i (getD s i 0) (drop (i + 1) s) k n (cutFrom (i + n) 0 (drop (i + n) s)) (sym (e ∙ ap pieceOf d))
+        (ap (cutFrom (i + n) 0) (sym (ap (drop n) (sym d) ∙ drop-drop n i s))))
 
     pub at-token : (kinds starts lens : List ℕ) (m : ℕ) (k : Kind) (n code wide : ℕ) → code ≡ codeOf k → wide ≡ n → Piece.Token k n ≡ pieceOf (drop i s)
         → resume (arrays (set kinds m code) (set starts m i) (set lens m n) (m + 1)) (cutFrom (i + wide) 0 (drop (i + wide) s)) ≡ answer-from (arrays kinds starts lens m)

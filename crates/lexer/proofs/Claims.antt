@@ -58,12 +58,6 @@ module _ (s : List ℕ) (ts : List Token) (e : cutting s ≡ tokens ts) where
     pub token-in : TokenIn s 0 (getD ts i d)
     token-in = placed-at s 0 ts placed i d h
 
-    pub inside : getD ts i d .start + getD ts i d .len ≤ length s
-    inside = token-in .inside
-
-    pub nonempty : 1 ≤ getD ts i d .len
-    nonempty = token-in .some
-
     -- refusal 4 is "name over 16 bytes", so a name that is cut has at most 16
     pub name-bytes : getD ts i d .kind ≡ Kind.Name → (1 ≤ getD ts i d .len) × (getD ts i d .len ≤ 16) × AllAlphanumeric (bytesOf s (getD ts i d))
     name-bytes k = (token-in .some, token-in .short, token-in .name k)

@@ -8,7 +8,7 @@ use native.Mathlib.Omega.{arith}
 use lib.Dec.{T, eqb, eqb→eq}
 use lib.ListN.{length, getD}
 use Rattle.lexer.specs.Class.{classOf}
-use Rattle.lexer.specs.Cutter.{classNumber, ClassTable}
+use Rattle.lexer.specs.ClassTable.{classNumber, ClassTable}
 use Rattle.lexer.specs.declared.Class.{Class}
 use Rattle.lexer.specs.declared.Class.the-variants as Class
 use Rattle.lexer.proofs.Table.{every, at}

@@ -30,8 +30,8 @@ cuts s ts = record { text = s; gives = ts }
 abbrev refuses : List ℕ → LexAnswer → Refuses
 refuses s a = record { text = s; answer = a }
 
-abbrev pub good : List Cuts
-good =
+abbrev pub cutTexts : List Cuts
+cutTexts =
     cuts (bytes "a=01") (tokenOf Name 0 1 ∷ tokenOf IsZero 1 2 ∷ tokenOf One 3 1 ∷ [])
     ∷ cuts (bytes "a= 00") (tokenOf Name 0 1 ∷ tokenOf IsZero 1 3 ∷ tokenOf Zero 4 1 ∷ [])
     ∷ cuts (bytes "01|Ta") (tokenOf Name 0 2 ∷ tokenOf Or 2 1 ∷ tokenOf Name 3 2 ∷ [])
@@ -42,8 +42,8 @@ good =
     ∷ cuts (bytes "0123456789abcdef") (tokenOf Name 0 16 ∷ [])
     ∷ []
 
-abbrev pub bad : List Refuses
-bad =
+abbrev pub refusedTexts : List Refuses
+refusedTexts =
     refuses (bytes "a<=m b") (Measured 1)
     ∷ refuses (bytes "<=max(a,b)") (Measured 0)
     ∷ refuses (bytes "a=" ++ replicate 20 48) (LongName 3)
@@ -60,7 +60,7 @@ bad =
     ∷ refuses [] NoToken
     ∷ []
 
-pub examples : (map (λ (c : Cuts). cutting (c .text)) good ≡ map (λ (c : Cuts). tokens (c .gives)) good)
-    × (map (λ (r : Refuses). lexed (r .text) .answer) bad ≡ map (λ (r : Refuses). r .answer) bad)
+pub examples : (map (λ (c : Cuts). cutting (c .text)) cutTexts ≡ map (λ (c : Cuts). tokens (c .gives)) cutTexts)
+    × (map (λ (r : Refuses). lexed (r .text) .answer) refusedTexts ≡ map (λ (r : Refuses). r .answer) refusedTexts)
 unfolding classOf isBlank isAlphanumeric isSign signs starts constantKind longest signPiece runLength runPiece pieceOf cutFrom tokensOf lexed
 examples = (refl, refl)

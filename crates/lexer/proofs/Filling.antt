@@ -12,9 +12,10 @@ use Rattle.lexer.specs.Token.{Token}
 use Rattle.lexer.specs.Cutting.{Cutting, tokens, refused}
 use Rattle.lexer.specs.Cutter.{cutting}
 use Rattle.lexer.specs.Arrays.{codeOf, pad, tokensOf, answerOf, lexedOf, lexed}
-use Rattle.lexer.specs.Steps.{arrays, none, push, fill, refusal, answered, finish, resume}
+use Rattle.lexer.specs.Steps.{arrays, push, fill, refusal, answered, finish, resume}
 use Rattle.lexer.specs.declared.Tokens.{Tokens}
 use Rattle.lexer.specs.declared.LexAnswer.the-variants as LexAnswer
+use Rattle.lexer.proofs.Lists.{map-at}
 use Rattle.lexer.proofs.Sound.{sound}
 use Rattle.lexer.proofs.Placement.{placed-from, few}
 
@@ -50,10 +51,6 @@ fill-from (y ∷ ys) xs h =
     ∙ fill-from ys (xs ++ y ∷ []) (omega (arith, length-append xs (y ∷ [])))
     ∙ ap tokensOf (append-assoc xs (y ∷ []) ys)
 
-none-is : none ≡ tokensOf []
-unfolding none tokensOf
-none-is = refl
-
 -- ---- the answer
 
 finish-is : (ts : List Token) → finish (tokensOf ts) ≡ answered (answerOf ts) (tokensOf ts)
@@ -61,10 +58,10 @@ unfolding finish tokensOf
 finish-is [] = refl
 finish-is (t ∷ ts) = simp (eqb·suc-zero)
 
-resume-is : (r : Cutting) → ((ts : List Token) → r ≡ tokens ts → length ts ≤ 256) → resume none r ≡ lexedOf r
+resume-is : (r : Cutting) → ((ts : List Token) → r ≡ tokens ts → length ts ≤ 256) → resume (tokensOf []) r ≡ lexedOf r
 unfolding resume refusal
-resume-is (tokens ts) h = let l = h ts refl in ap finish (ap (λ (t : Tokens). fill t ts) none-is ∙ fill-from ts [] (omega arith)) ∙ finish-is ts
-resume-is (refused a) h = ap (answered a) none-is
+resume-is (tokens ts) h = let l = h ts refl in ap finish (fill-from ts [] (omega arith)) ∙ finish-is ts
+resume-is (refused a) h = refl
 
 pub lexed-long : (s : List ℕ) → 256 < length s → lexed s ≡ answered LexAnswer.TooLong (tokensOf [])
 unfolding lexed
@@ -76,19 +73,14 @@ lexed-short s h = simp (le-ltb 256 (length s) h)
 
 pub too-long : (s : List ℕ) → 256 < length s → refusal LexAnswer.TooLong ≡ lexed s
 unfolding refusal
-too-long s h = ap (answered LexAnswer.TooLong) none-is ∙ sym (lexed-long s h)
+too-long s h = sym (lexed-long s h)
 
-pub not-too-long : (s : List ℕ) → length s ≤ 256 → resume none (cutting s) ≡ lexed s
+pub not-too-long : (s : List ℕ) → length s ≤ 256 → resume (tokensOf []) (cutting s) ≡ lexed s
 not-too-long s h =
     resume-is (cutting s) (λ ts e. omega (arith, few s 0 ts (placed-from (sound s) s refl ts e) (omega arith)))
     ∙ sym (lexed-short s h)
 
 -- ---- the arrays read back
 
-map-at : (f : Token → ℕ) (ts : List Token) (i : ℕ) (d : Token) → i < length ts → getD (map f ts) i 0 ≡ f (getD ts i d)
-map-at f [] i d h = absurd (omega arith)
-map-at f (t ∷ ts) ℕ.zero d h = refl
-map-at f (t ∷ ts) (suc i) d h = map-at f ts i d (omega arith)
-
 pub field-at : (f : Token → ℕ) (ts : List Token) (i : ℕ) (d : Token) → i < length ts → getD (pad (map f ts)) i 0 ≡ f (getD ts i d)
-field-at f ts i d h = List·getD-append (map f ts) (replicate (256 - length (map f ts)) 0) 0 i (omega (arith, length-map ts f)) ∙ map-at f ts i d h
+field-at f ts i d h = List·getD-append (map f ts) (replicate (256 - length (map f ts)) 0) 0 i (omega (arith, length-map ts f)) ∙ map-at f ts i d 0 h

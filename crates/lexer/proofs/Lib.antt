@@ -1,5 +1,6 @@
 pub mod Table
 pub mod Classes
+pub mod Lists
 pub mod Runs
 pub mod Signs
 pub mod Longest

@@ -1,7 +1,7 @@
 -- The computed longest spelling is the meant one, by induction on the list: a spelling more is longer than the longest of the others or
 -- not. Assumes nothing.
-use mathlib.Core.Path.{_≡_, refl, sym, subst}
-use mathlib.Core.Bool.{Bool, true, false, cond}
+use mathlib.Core.Path.{_≡_, refl, sym, subst, _∙_}
+use mathlib.Core.Bool.{Bool, true, false, cond, true≢false}
 use mathlib.Core.List.{List, [], _∷_, List·Memᴰ, List·Memᴰ·head, List·Memᴰ·tail}
 use Prim.Native.Nat.{ℕ, _≤_}
 use native.Mathlib.Omega.{arith}
@@ -13,7 +13,7 @@ use Rattle.lexer.specs.Cutting.{Match, nothing, match, Every, Longest}
 use Rattle.lexer.specs.Cutter.{longer, longest}
 
 pub clash : {b : Bool} → b ≡ true → b ≡ false → ⊥
-clash p q = let z : true ≡ false = cc in let y : _≡_ {A = ℕ} 0 1 = cc in omega arith
+clash p q = true≢false (sym p ∙ q)
 
 -- what holds of every spelling of a list holds of each
 pub every-at : {x : Spelling} {xs : List Spelling} → List·Memᴰ x xs → (P : Spelling → Type 0) → Every P xs → P x

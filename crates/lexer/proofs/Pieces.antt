@@ -21,18 +21,23 @@ use Rattle.lexer.specs.declared.Kind.{Kind}
 use Rattle.lexer.specs.declared.Piece.{Piece}
 use Rattle.lexer.specs.declared.Piece.the-variants as Piece
 use Rattle.lexer.proofs.Longest.{longest-is, every-at}
-use Rattle.lexer.proofs.Runs.{rest, run-fits}
+use Rattle.lexer.proofs.Lists.{rest}
+use Rattle.lexer.proofs.Runs.{run-fits}
 use Rattle.lexer.proofs.Signs.{sign-right}
 
-pub by-class : (s : List ℕ) (i : ℕ) → i < length s → (k : Class) → k ≡ classOf (getD s i 0) → byClass k (drop i s) ≡ pieceOf (drop i s)
+pub class-decides : (b : ℕ) (s : List ℕ) (c : Class) → classOf b ≡ c → pieceOf (b ∷ s) ≡ byClass c (b ∷ s)
 unfolding pieceOf
-by-class s i h k e = rw (rest s i h) (ap (λ (x : Class). byClass x (getD s i 0 ∷ drop (i + 1) s)) e)
+class-decides b s c e = ap (λ (d : Class). byClass d (b ∷ s)) e
+
+-- the same at a place of a text
+pub by-class : (s : List ℕ) (i : ℕ) → i < length s → (k : Class) → k ≡ classOf (getD s i 0) → byClass k (drop i s) ≡ pieceOf (drop i s)
+by-class s i h k e = rw (rest s i 0 h) (sym (class-decides (getD s i 0) (drop (i + 1) s) k (sym e)))
 
 pub sign-here : (s : List ℕ) (i : ℕ) → i < length s → signOf (getD s i 0) (getD s (i + 1) 0) (getD s (i + 2) 0) ≡ signPiece (drop i s)
 sign-here s i h =
     ap (λ (x : ℕ). signOf (getD s i 0) x (getD s (i + 2) 0)) (sym (getD-drop (i + 1) s 0 0 ∙ ap (λ (m : ℕ). getD s m 0) (omega arith)))
     ∙ ap (λ (x : ℕ). signOf (getD s i 0) (getD (drop (i + 1) s) 0 0) x) (sym (getD-drop (i + 1) s 1 0 ∙ ap (λ (m : ℕ). getD s m 0) (omega arith)))
-    ∙ sign-right (getD s i 0) (drop (i + 1) s) ∙ ap signPiece (sym (rest s i h))
+    ∙ sign-right (getD s i 0) (drop (i + 1) s) ∙ ap signPiece (sym (rest s i 0 h))
 
 -- ---- the signs
 
@@ -101,6 +106,6 @@ sized b s = go (classOf b) refl
 
 pub token-sized : (s : List ℕ) (i : ℕ) → i < length s → (k : Kind) (n : ℕ) → pieceOf (drop i s) ≡ Piece.Token k n → (1 ≤ n) × (i + n ≤ length s)
 token-sized s i h k n e =
-    let d = rest s i h in
+    let d = rest s i 0 h in
     let z = subst (λ (p : Piece). Sized p (length (getD s i 0 ∷ drop (i + 1) s))) (sym (ap pieceOf d) ∙ e) (sized (getD s i 0) (drop (i + 1) s)) in
     (z .0, omega (arith, z .1, length-drop (i + 1) s))

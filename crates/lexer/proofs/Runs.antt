@@ -4,10 +4,8 @@ use mathlib.Core.Bool.{Bool, true, false, cond}
 use mathlib.Core.List.{List, [], _∷_}
 use Prim.Native.Nat.{ℕ, suc, _+_, _-_, _≤_, _<_}
 use native.Mathlib.Omega.{arith}
-use native.Mathlib.Numerals.{add-one}
 use lib.Dec.{ltb}
 use lib.ListN.{length, take, drop, getD, drop-of-length-le}
-use lib.Seq.{drop-cons}
 use borrow.Author.Tests.{lt-ltb, le-ltb}
 use Rattle.lexer.specs.Class.{classOf}
 use Rattle.lexer.specs.Spelling.{runKind, constantKind}
@@ -17,19 +15,16 @@ use Rattle.lexer.specs.declared.Kind.{Kind}
 use Rattle.lexer.specs.declared.Kind.the-variants as Kind
 use Rattle.lexer.specs.declared.Piece.{Piece}
 use Rattle.lexer.specs.declared.Piece.the-variants as Piece
-
--- the rest from a place on: its byte and the rest from the next
-pub rest : (s : List ℕ) (i : ℕ) → i < length s → drop i s ≡ getD s i 0 ∷ drop (i + 1) s
-rest s i h = rw (add-one, drop-cons s i 0)
+use Rattle.lexer.proofs.Lists.{rest}
 
 module _ (s : List ℕ) (i : ℕ) where
   pub run-more : i < length s → inRun (classOf (getD s i 0)) ≡ true → runLength (drop i s) ≡ suc (runLength (drop (i + 1) s))
   unfolding runLength
-  run-more h w = rw (rest s i h, w)
+  run-more h w = rw (rest s i 0 h, w)
 
   pub run-stop : i < length s → inRun (classOf (getD s i 0)) ≡ false → runLength (drop i s) ≡ 0
   unfolding runLength
-  run-stop h w = rw (rest s i h, w)
+  run-stop h w = rw (rest s i 0 h, w)
 
   pub run-end : length s ≤ i → runLength (drop i s) ≡ 0
   unfolding runLength
@@ -47,7 +42,7 @@ run-fits (b ∷ s) = go (inRun (classOf b)) (run-fits s)
 abbrev two : ℕ → Bool → Bool → ℕ
 two n t u = cond t (suc (cond u (suc n) 0)) 0
 
--- a runLength that is not one byte long is a name
+-- a run that is not one byte long is a name
 run-name : (s : List ℕ) → (_≡_ {A = ℕ} (runLength s) 1 → ⊥) → runKind (take (runLength s) s) ≡ Kind.Name
 unfolding runLength
 run-name [] h = refl
@@ -78,7 +73,7 @@ pub alone : (s : List ℕ) (i : ℕ) → i < length s → (n : ℕ) → n ≡ ru
 unfolding runPiece
 alone s i l n e o k f =
     let g : runLength (drop i s) ≡ 1 = sym e ∙ o in
-    ap (λ (x : Kind). Piece.Token x 1) (f ∙ sym (ap (λ (r : List ℕ). runKind (take 1 r)) (rest s i l)))
+    ap (λ (x : Kind). Piece.Token x 1) (f ∙ sym (ap (λ (r : List ℕ). runKind (take 1 r)) (rest s i 0 l)))
     ∙ sym (ap (λ (m : ℕ). cond (ltb 16 m) Piece.LongName (Piece.Token (runKind (take m (drop i s))) m)) g)
 
 -- a run whose first byte is known goes on at the next place

@@ -53,8 +53,8 @@ abbrev Claim : List ℕ → Type 0
 Claim s = (i k : ℕ) → k ≤ length s → Cut (i + k) (drop k s) (cutFrom i k s)
 
 module _ (b : ℕ) (s : List ℕ) (i : ℕ) (ih : Claim s) where
-  abbrev rest : Piece → Cutting
-  rest p = cutFrom (i + 1) (more p) s
+  abbrev after : Piece → Cutting
+  after p = cutFrom (i + 1) (more p) s
 
   -- after a token of n bytes
   next : (n : ℕ) → 1 ≤ n → n ≤ suc (length s) → Cut (i + n) (drop n (b ∷ s)) (cutFrom (i + 1) (n - 1) s)
@@ -65,7 +65,7 @@ module _ (b : ℕ) (s : List ℕ) (i : ℕ) (ih : Claim s) where
       subst (λ (m : ℕ). Cut m (drop n s) (cutFrom (i + 1) (suc n - 1) s)) f
       (subst (λ (m : ℕ). Cut (i + 1 + n) (drop n s) (cutFrom (i + 1) m s)) (sym e) (ih (i + 1) n (omega arith)))
 
-  on-run : 1 ≤ runLength (b ∷ s) → Cut i (b ∷ s) (put (runPiece (b ∷ s)) i (rest (runPiece (b ∷ s))))
+  on-run : 1 ≤ runLength (b ∷ s) → Cut i (b ∷ s) (put (runPiece (b ∷ s)) i (after (runPiece (b ∷ s))))
   unfolding runPiece
   on-run l = go (ltb 16 (runLength (b ∷ s))) refl
     where
@@ -86,23 +86,23 @@ module _ (b : ℕ) (s : List ℕ) (i : ℕ) (ih : Claim s) where
       piece : Bool → Piece
       piece t = cond t Piece.LongName (Piece.Token (runKind w) (runLength (b ∷ s)))
 
-      go : (t : Bool) → ltb 16 (runLength (b ∷ s)) ≡ t → Cut i (b ∷ s) (put (piece t) i (rest (piece t)))
+      go : (t : Bool) → ltb 16 (runLength (b ∷ s)) ≡ t → Cut i (b ∷ s) (put (piece t) i (after (piece t)))
       go true e = longName whole (omega (arith, size, ltb-true 16 (runLength (b ∷ s)) e))
       go false e =
-          subst (λ (n : ℕ). Cut i (b ∷ s) (first (tokenOf (runKind w) i n) (rest (piece false)))) size
+          subst (λ (n : ℕ). Cut i (b ∷ s) (first (tokenOf (runKind w) i n) (after (piece false)))) size
           (run whole (omega (arith, size, ltb-false 16 (runLength (b ∷ s)) e))
-          (subst (λ (n : ℕ). Cut (i + n) (drop (runLength (b ∷ s)) (b ∷ s)) (rest (piece false))) (sym size) (next (runLength (b ∷ s)) l (run-fits (b ∷ s)))))
+          (subst (λ (n : ℕ). Cut (i + n) (drop (runLength (b ∷ s)) (b ∷ s)) (after (piece false))) (sym size) (next (runLength (b ∷ s)) l (run-fits (b ∷ s)))))
 
   on-meaning : classOf b ≡ Class.Sign → (x : Spelling) → Longest signs (b ∷ s) (match x) → (a : Meaning) → x .means ≡ a → Sized (meaningPiece a (length (x .bytes))) (suc (length s))
-      → Cut i (b ∷ s) (put (meaningPiece a (length (x .bytes))) i (rest (meaningPiece a (length (x .bytes)))))
+      → Cut i (b ∷ s) (put (meaningPiece a (length (x .bytes))) i (after (meaningPiece a (length (x .bytes)))))
   on-meaning c x h (token k) e z = sign c h e (next (length (x .bytes)) (z .0) (z .1))
   on-meaning c x h measured e z = measuredSign c h e
 
-  on-match : classOf b ≡ Class.Sign → (m : Match) → Longest signs (b ∷ s) m → Sized (matchPiece m) (suc (length s)) → Cut i (b ∷ s) (put (matchPiece m) i (rest (matchPiece m)))
+  on-match : classOf b ≡ Class.Sign → (m : Match) → Longest signs (b ∷ s) m → Sized (matchPiece m) (suc (length s)) → Cut i (b ∷ s) (put (matchPiece m) i (after (matchPiece m)))
   on-match c nothing h z = noSign c h
   on-match c (match x) h z = on-meaning c x h (x .means) refl z
 
-  on-class : (c : Class) → classOf b ≡ c → Sized (byClass c (b ∷ s)) (suc (length s)) → Cut i (b ∷ s) (put (byClass c (b ∷ s)) i (rest (byClass c (b ∷ s))))
+  on-class : (c : Class) → classOf b ≡ c → Sized (byClass c (b ∷ s)) (suc (length s)) → Cut i (b ∷ s) (put (byClass c (b ∷ s)) i (after (byClass c (b ∷ s))))
   unfolding signPiece runLength
   on-class Class.Blank e z = blank e (subst (λ (m : ℕ). Cut m s (cutFrom (i + 1) 0 s)) (add-zero (i + 1)) (ih (i + 1) 0 (omega arith)))
   on-class Class.Alphanumeric e z = on-run (rw e (omega arith))

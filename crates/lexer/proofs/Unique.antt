@@ -1,28 +1,27 @@
 -- What is meant determines the cutting: at each place one rule of the relation fits, with one longest sign or one whole run, and it gives
 -- what the cutter computes there. Assumes nothing.
-use mathlib.Core.Path.{_≡_, refl, sym, ap, subst, _∙_}
+use mathlib.Core.Path.{_≡_, refl, sym, ap, _∙_}
 use mathlib.Core.Bool.{Bool, true, false, _&&_, cond}
 use mathlib.Core.List.{List, [], _∷_, _++_}
-use Prim.Native.Nat.{ℕ, suc, _+_, _-_, _≤_, _<_}
+use Prim.Native.Nat.{ℕ, suc, _+_, _≤_, _<_}
 use native.Mathlib.Omega.{arith}
 use lib.Dec.{ltb, eqb}
-use lib.ListN.{length, take, drop}
+use lib.ListN.{length, take}
 use lib.Seq.{take-append-seam, drop-append-seam}
 use borrow.Author.Tests.{lt-ltb, le-ltb, eqb-true}
 use Rattle.lexer.specs.Class.{classOf}
 use Rattle.lexer.specs.Token.{tokenOf}
 use Rattle.lexer.specs.Spelling.{Meaning, Spelling, signs, starts, runKind}
 use Rattle.lexer.specs.Cutting.{Cutting, refused, first, Match, nothing, match, Every, Longest, AllAlphanumeric, NoAlphanumericFirst, Run, Cut, end, blank, run, longName, sign, measuredSign, noSign, foreign}
-use Rattle.lexer.specs.Cutter.{meaningPiece, matchPiece, longest, signPiece, inRun, runLength, runPiece, byClass, pieceOf, more, put, cutFrom}
+use Rattle.lexer.specs.Cutter.{meaningPiece, matchPiece, longest, signPiece, inRun, runLength, runPiece, pieceOf, cutFrom}
 use Rattle.lexer.specs.declared.Class.{Class}
 use Rattle.lexer.specs.declared.Class.the-variants as Class
-use Rattle.lexer.specs.declared.Kind.{Kind}
 use Rattle.lexer.specs.declared.Piece.{Piece}
 use Rattle.lexer.specs.declared.Piece.the-variants as Piece
 use Rattle.lexer.specs.declared.LexAnswer.the-variants as LexAnswer
 use Rattle.lexer.proofs.Longest.{longest-is, every-at, clash}
-use Rattle.lexer.proofs.Pieces.{Sized, sized}
-use Rattle.lexer.proofs.Advance.{skip}
+use Rattle.lexer.proofs.Pieces.{class-decides}
+use Rattle.lexer.proofs.Advance.{by-piece, by-token}
 
 -- ---- the longest spelling is one only
 
@@ -83,41 +82,16 @@ unfolding runLength
 run-whole [] s a h = run-none s h
 run-whole (b ∷ w) s a h = ap (λ (c : Class). cond (inRun c) (suc (runLength (w ++ s))) 0) (a .0) ∙ ap suc (run-whole w s (a .1) h)
 
--- ---- one piece at the start of a text
-module _ (i b : ℕ) (s : List ℕ) where
-  by-piece : (p : Piece) → pieceOf (b ∷ s) ≡ p → cutFrom i 0 (b ∷ s) ≡ put p i (cutFrom (i + 1) (more p) s)
-  unfolding cutFrom
-  by-piece p e = ap (λ (q : Piece). put q i (cutFrom (i + 1) (more q) s)) e
-
-  by-class : (c : Class) → classOf b ≡ c → pieceOf (b ∷ s) ≡ byClass c (b ∷ s)
-  unfolding pieceOf
-  by-class c e = ap (λ (d : Class). byClass d (b ∷ s)) e
-
-  by-sign : classOf b ≡ Class.Sign → (m : Match) → Longest signs (b ∷ s) m → pieceOf (b ∷ s) ≡ matchPiece m
-  unfolding signPiece
-  by-sign e m h = by-class Class.Sign e ∙ ap matchPiece (found (b ∷ s) m h)
-
-  by-token : (k : Kind) (n : ℕ) (r : Cutting) → pieceOf (b ∷ s) ≡ Piece.Token k n → r ≡ cutFrom (i + n) 0 (drop n (b ∷ s)) → first (tokenOf k i n) r ≡ cutFrom i 0 (b ∷ s)
-  by-token k n r e f = go n refl
-    where
-      z : Sized (Piece.Token k n) (suc (length s))
-      z = subst (λ (p : Piece). Sized p (suc (length s))) e (sized b s)
-
-      go : (m : ℕ) → n ≡ m → first (tokenOf k i n) r ≡ cutFrom i 0 (b ∷ s)
-      go ℕ.zero g = absurd (omega (arith, z .0))
-      go (suc m) g =
-          let j : n - 1 ≡ m = omega arith in
-          let l : i + 1 + m ≡ i + n = omega arith in
-          ap (first (tokenOf k i n))
-          (f ∙ ap (λ (a : ℕ). cutFrom (i + n) 0 (drop a (b ∷ s))) g ∙ ap (λ (a : ℕ). cutFrom a 0 (drop m s)) (sym l)
-          ∙ sym (skip m (i + 1) s (omega (arith, z .1))) ∙ ap (λ (a : ℕ). cutFrom (i + 1) a s) (sym j))
-          ∙ sym (by-piece (Piece.Token k n) e)
+-- ---- a sign at the start of a text
+by-sign : (b : ℕ) (s : List ℕ) → classOf b ≡ Class.Sign → (m : Match) → Longest signs (b ∷ s) m → pieceOf (b ∷ s) ≡ matchPiece m
+unfolding signPiece
+by-sign b s e m h = class-decides b s Class.Sign e ∙ ap matchPiece (found (b ∷ s) m h)
 
 -- ---- a run at the start of a text
 run-at : (b : ℕ) (w s : List ℕ) → AllAlphanumeric (b ∷ w) → NoAlphanumericFirst s → length (b ∷ w) ≤ 16 → pieceOf ((b ∷ w) ++ s) ≡ Piece.Token (runKind (b ∷ w)) (length (b ∷ w))
 unfolding runPiece
 run-at b w s a h l =
-    by-class 0 b (w ++ s) Class.Alphanumeric (a .0)
+    class-decides b (w ++ s) Class.Alphanumeric (a .0)
     ∙ ap (λ (n : ℕ). cond (ltb 16 n) Piece.LongName (Piece.Token (runKind (take n ((b ∷ w) ++ s))) n)) (run-whole (b ∷ w) s a h)
     ∙ ap (λ (t : Bool). cond t Piece.LongName (Piece.Token (runKind (take (length (b ∷ w)) ((b ∷ w) ++ s))) (length (b ∷ w)))) (le-ltb 16 (length (b ∷ w)) l)
     ∙ ap (λ (v : List ℕ). Piece.Token (runKind v) (length (b ∷ w))) (take-append-seam (b ∷ w) s)
@@ -125,7 +99,7 @@ run-at b w s a h l =
 long-at : (b : ℕ) (w s : List ℕ) → AllAlphanumeric (b ∷ w) → NoAlphanumericFirst s → 16 < length (b ∷ w) → pieceOf ((b ∷ w) ++ s) ≡ Piece.LongName
 unfolding runPiece
 long-at b w s a h l =
-    by-class 0 b (w ++ s) Class.Alphanumeric (a .0)
+    class-decides b (w ++ s) Class.Alphanumeric (a .0)
     ∙ ap (λ (n : ℕ). cond (ltb 16 n) Piece.LongName (Piece.Token (runKind (take n ((b ∷ w) ++ s))) n)) (run-whole (b ∷ w) s a h)
     ∙ ap (λ (t : Bool). cond t Piece.LongName (Piece.Token (runKind (take (length (b ∷ w)) ((b ∷ w) ++ s))) (length (b ∷ w)))) (lt-ltb 16 (length (b ∷ w)) l)
 
@@ -144,11 +118,11 @@ on-long i (b ∷ w) s t h l = sym (by-piece i b (w ++ s) Piece.LongName (long-at
 pub determined : {i : ℕ} {t : List ℕ} {r : Cutting} → Cut i t r → r ≡ cutFrom i 0 t
 unfolding cutFrom
 determined end = refl
-determined (blank {i} {b} {s} {r} e c) = determined c ∙ sym (by-piece i b s Piece.Blank (by-class i b s Class.Blank e))
+determined (blank {i} {b} {s} {r} e c) = determined c ∙ sym (by-piece i b s Piece.Blank (class-decides b s Class.Blank e))
 determined (run {i} {w} {s} {t} {r} h l c) = on-run i w s t r h l (determined c)
 determined (longName {i} {w} {s} {t} h l) = on-long i w s t h l
 determined (sign {i} {b} {s} {x} {k} {r} e h p c) =
-    by-token i b s k (length (x .bytes)) r (by-sign i b s e (match x) h ∙ ap (λ (a : Meaning). meaningPiece a (length (x .bytes))) p) (determined c)
-determined (measuredSign {i} {b} {s} {x} e h p) = sym (by-piece i b s Piece.Measured (by-sign i b s e (match x) h ∙ ap (λ (a : Meaning). meaningPiece a (length (x .bytes))) p))
-determined (noSign {i} {b} {s} e h) = sym (by-piece i b s Piece.Foreign (by-sign i b s e nothing h))
-determined (foreign {i} {b} {s} e) = sym (by-piece i b s Piece.Foreign (by-class i b s Class.Foreign e))
+    by-token i b s k (length (x .bytes)) r (by-sign b s e (match x) h ∙ ap (λ (a : Meaning). meaningPiece a (length (x .bytes))) p) (determined c)
+determined (measuredSign {i} {b} {s} {x} e h p) = sym (by-piece i b s Piece.Measured (by-sign b s e (match x) h ∙ ap (λ (a : Meaning). meaningPiece a (length (x .bytes))) p))
+determined (noSign {i} {b} {s} e h) = sym (by-piece i b s Piece.Foreign (by-sign b s e nothing h))
+determined (foreign {i} {b} {s} e) = sym (by-piece i b s Piece.Foreign (class-decides b s Class.Foreign e))

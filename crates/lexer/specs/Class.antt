@@ -29,6 +29,6 @@ isAlphanumeric b =
 unfoldable pub isSign : ℕ → Bool
 isSign b = oneOf (bytes "(),*+-&|~<=>") b
 
--- "Each of the 256 byte values has one class: blank, letter or digit, a sign, or foreign."
+-- "Each of the 256 byte values has one class: blank (space 32, tab 9), letter or digit (A-Z, a-z, 0-9), a sign, or foreign."
 unfoldable pub classOf : ℕ → Class
 classOf b = cond (isBlank b) Class.Blank (cond (isAlphanumeric b) Class.Alphanumeric (cond (isSign b) Class.Sign Class.Foreign))

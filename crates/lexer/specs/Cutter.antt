@@ -1,10 +1,9 @@
 -- What is computed: the cutter, from the left, one byte after the other. Assumes nothing.
-use mathlib.Core.Path.{_≡_}
 use mathlib.Core.Bool.{Bool, true, false, cond}
 use mathlib.Core.List.{List, [], _∷_}
-use Prim.Native.Nat.{ℕ, suc, _+_, _-_, _<_}
+use Prim.Native.Nat.{ℕ, suc, _+_, _-_}
 use lib.Dec.{ltb}
-use lib.ListN.{length, take, getD}
+use lib.ListN.{length, take}
 use Rattle.lexer.specs.Class.{classOf}
 use Rattle.lexer.specs.Token.{Token, tokenOf}
 use Rattle.lexer.specs.Spelling.{Meaning, token, measured, Spelling, signs, starts, runKind}
@@ -14,19 +13,6 @@ use Rattle.lexer.specs.declared.Class.the-variants as Class
 use Rattle.lexer.specs.declared.Piece.{Piece}
 use Rattle.lexer.specs.declared.Piece.the-variants as Piece
 use Rattle.lexer.specs.declared.LexAnswer.the-variants as LexAnswer
-
--- ---- classes
-
--- the number of a class in the constant table
-abbrev pub classNumber : Class → ℕ
-classNumber Class.Blank = 0
-classNumber Class.Alphanumeric = 1
-classNumber Class.Sign = 2
-classNumber Class.Foreign = 3
-
--- a table that has the class of each of the 256 byte values
-pub record ClassTable (table : List ℕ) : Type 0 where
-  pub right : (b : ℕ) → b < 256 → getD table b 0 ≡ classNumber (classOf b)
 
 -- ---- signs
 

@@ -23,7 +23,7 @@ abbrev pub first : Token → Cutting → Cutting
 first t (tokens ts) = tokens (t ∷ ts)
 first t (refused a) = refused a
 
-abbrev pub Every : (Spelling → Type 0) → List Spelling → Type 0
+abbrev pub Every : {A : Type 0} → (A → Type 0) → List A → Type 0
 Every P [] = Unit {0}
 Every P (x ∷ xs) = P x × Every P xs
 
@@ -39,12 +39,10 @@ Longest xs s (match x) =
     List·Memᴰ x xs × (starts (x .bytes) s ≡ true) × Every (λ (y : Spelling). starts (y .bytes) s ≡ true → length (y .bytes) ≤ length (x .bytes)) xs
 
 abbrev pub AllAlphanumeric : List ℕ → Type 0
-AllAlphanumeric [] = Unit {0}
-AllAlphanumeric (b ∷ w) = (classOf b ≡ Class.Alphanumeric) × AllAlphanumeric w
+AllAlphanumeric w = Every (λ (b : ℕ). classOf b ≡ Class.Alphanumeric) w
 
 abbrev pub AllBlank : List ℕ → Type 0
-AllBlank [] = Unit {0}
-AllBlank (b ∷ s) = (classOf b ≡ Class.Blank) × AllBlank s
+AllBlank s = Every (λ (b : ℕ). classOf b ≡ Class.Blank) s
 
 -- the text does not start with a letter or digit
 abbrev pub NoAlphanumericFirst : List ℕ → Type 0

@@ -1,5 +1,6 @@
 pub mod Text
 pub mod Class
+pub mod ClassTable
 pub mod Token
 pub mod Spelling
 pub mod Cutting

@@ -3,11 +3,11 @@ use mathlib.Core.Bool.{cond}
 use mathlib.Core.List.{List, [], _∷_}
 use Prim.Native.Nat.{ℕ, _+_}
 use lib.Dec.{eqb}
-use lib.ListN.{set, replicate}
+use lib.ListN.{set}
 use Rattle.lexer.specs.Text.{byte}
 use Rattle.lexer.specs.Token.{Token}
 use Rattle.lexer.specs.Cutting.{Cutting, tokens, refused}
-use Rattle.lexer.specs.Arrays.{codeOf}
+use Rattle.lexer.specs.Arrays.{codeOf, tokensOf}
 use Rattle.lexer.specs.declared.Kind.{Kind}
 use Rattle.lexer.specs.declared.Kind.the-variants as Kind
 use Rattle.lexer.specs.declared.Piece.{Piece}
@@ -51,9 +51,6 @@ signOf a b c =
 abbrev pub arrays : List ℕ → List ℕ → List ℕ → ℕ → Tokens
 arrays kinds starts lens n = record { kinds = kinds; starts = starts; lens = lens; n = n }
 
-unfoldable pub none : Tokens
-none = arrays (replicate 256 0) (replicate 256 0) (replicate 256 0) 0
-
 -- one token more
 unfoldable pub push : Tokens → Kind → ℕ → ℕ → Tokens
 push t k i n = arrays (set (t .kinds) (t .n) (codeOf k)) (set (t .starts) (t .n) i) (set (t .lens) (t .n) n) (t .n + 1)
@@ -67,7 +64,7 @@ abbrev pub answered : LexAnswer → Tokens → Lexed
 answered a t = record { answer = a; tokens = t }
 
 unfoldable pub refusal : LexAnswer → Lexed
-refusal a = answered a none
+refusal a = answered a (tokensOf [])
 
 unfoldable pub finish : Tokens → Lexed
 finish t = answered (cond (eqb (t .n) 0) LexAnswer.NoToken LexAnswer.Tokens) t

@@ -3,13 +3,15 @@
 // kinds, first bytes and lengths beside the answer. No public function has a requires. What a
 // cutting is meant to be is in specs/Cutting.antt, and proofs/Claims.antt has what is proved of it.
 ghost use mathlib.Core.Path.{_≡_};
-ghost use Prim.Native.Nat.{ℕ, _+_, _≤_, _<_};
+ghost use mathlib.Core.List.{[]};
+ghost use Prim.Native.Nat.{_+_, _≤_, _<_};
 ghost use lib.ListN.{length, getD, drop, replicate};
 ghost use Rattle.lexer.specs.Class.{classOf};
 ghost use Rattle.lexer.specs.Spelling.{constantKind};
-ghost use Rattle.lexer.specs.Cutter.{ClassTable, inRun, runLength, runPiece, pieceOf, cutting};
-ghost use Rattle.lexer.specs.Arrays.{codeOf, lexed};
-ghost use Rattle.lexer.specs.Steps.{signOf, minusSign, lessSign, equalsSign, none, resume, refusal, finish};
+ghost use Rattle.lexer.specs.ClassTable.{ClassTable};
+ghost use Rattle.lexer.specs.Cutter.{inRun, runLength, runPiece, pieceOf, cutting};
+ghost use Rattle.lexer.specs.Arrays.{codeOf, tokensOf, lexed};
+ghost use Rattle.lexer.specs.Steps.{signOf, minusSign, lessSign, equalsSign, resume, refusal, finish};
 
 // The class of a byte.
 pub enum Class {
@@ -558,8 +560,8 @@ fn piece_at(text: &[u8], table: &[u8; 256], at: usize) -> Piece
     }
 }
 
-// An array with no token in it.
-fn zeros() -> [u8; 256]
+// 256 zeros: an array with nothing in it.
+pub fn zeros() -> [u8; 256]
     ensures { λ r. ⌜ r ≡ replicate 256 0 ⌝ }
 {
     [0u8; 256]
@@ -597,8 +599,8 @@ fn finished(tokens: Tokens) -> Lexed
     }
 }
 
-// A token's length as a distance in the text.
-fn wide(n: u8) -> usize
+// A byte as an index or a distance in a text.
+pub fn wide(n: u8) -> usize
     ensures { λ r. ⌜ r ≡ n ⌝ }
 {
     n as usize
@@ -608,7 +610,7 @@ fn wide(n: u8) -> usize
 // other.
 fn cut(text: &[u8]) -> Lexed
     requires { ⌜ length (now text) ≤ 256 ⌝ }
-    ensures { λ r. ⌜ r ≡ resume none (cutting (now (text .entry))) ⌝ }
+    ensures { λ r. ⌜ r ≡ resume (tokensOf []) (cutting (now (text .entry))) ⌝ }
 {
     let table = class_table();
     let mut kinds = zeros();

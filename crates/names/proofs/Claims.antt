@@ -4,14 +4,16 @@
 use mathlib.Core.Path.{_≡_, refl, sym, ap, ap₂, subst, _∙_}
 use mathlib.Core.Logic.{_↔_}
 use mathlib.Core.List.{List, [], _∷_, _++_, map}
-use Prim.Native.Nat.{ℕ, suc, _-_, _≤_, _<_}
+use Prim.Native.Nat.{ℕ, _-_, _≤_, _<_}
 use native.Mathlib.Omega.{arith}
 use lib.ListN.{length, getD, replicate, length-map, List·getD-append}
 use Rattle.formula.specs.Formula.{Formula, Name}
-use Rattle.formula.specs.Names.{atomsOf, atomNames, formulaNames}
+use Rattle.formula.specs.Atoms.{atomsOf}
+use Rattle.formula.specs.Names.{atomNames, formulaNames}
 use Rattle.lexer.specs.Token.{Token}
 use Rattle.lexer.specs.Arrays.{pad}
 use Rattle.lexer.specs.Cutter.{cutting}
+use Rattle.lexer.proofs.Lists.{map-at}
 use Rattle.syntax.specs.RuleText.{IsRule}
 use Rattle.syntax.specs.Rule.{tokensIn, ruleOf}
 use Rattle.syntax.specs.declared.RuleAnswer.{RuleAnswer}
@@ -77,11 +79,6 @@ gathers-tokens = tokens-of-rule
 pub gathers-names : (s : List ℕ) (f : Formula Name) → IsRule s f → namesAt (placesOf s (ruleTokens s)) ≡ formulaNames f
 gathers-names = names-of-rule
 
-read-at : (g : Name → ℕ) (ws : List Name) (j : ℕ) → j < length ws → getD (map g ws) j 0 ≡ g (getD ws j [])
-read-at g [] j h = absurd (omega arith)
-read-at g (w ∷ ws) ℕ.zero h = refl
-read-at g (w ∷ ws) (suc j) h = read-at g ws j (omega arith)
-
 -- ---- a rule behind earlier names, of which at most six are different
 
 -- the arrays of the names ks, with the number of each of the names ws
@@ -120,7 +117,7 @@ module _ (s : List ℕ) (f : Formula Name) (rule : IsRule s f) (earlier : List N
       ap (λ (g : Gathered). getD (g .numbers) j 0) (enough-gathered e)
       ∙ List·getD-append (map (position sameName every) (formulaNames f)) (replicate (256 - length (map (position sameName every) (formulaNames f))) 0) 0 j
       (omega (arith, length-map (formulaNames f) (position sameName every)))
-      ∙ read-at (position sameName every) (formulaNames f) j h
+      ∙ map-at (position sameName every) (formulaNames f) j [] 0 h
 
   -- a seventh is answered exactly if more than six are different
   pub seventh-if-many : ((p : ℕ) × (after .answer ≡ NamesAnswer.SeventhName p)) ↔ (room < length every)

@@ -7,17 +7,15 @@ use Prim.Native.Nat.{ℕ, suc, _+_, _-_, _≤_, _<_}
 use native.Mathlib.Omega.{arith}
 use native.Mathlib.Numerals.{add-one}
 use lib.ListN.{length, take, drop, getD, set, replicate, drop-of-length-le, length-take}
-use lib.Seq.{drop-cons, set-at, take-suc, append-snoc, length-take-le, getD-take}
+use lib.Seq.{set-at, take-suc, append-snoc, length-take-le, getD-take}
 use borrow.Author.Tests.{eq-eqb, ne-eqb, lt-ltb, le-ltb}
 use Rattle.formula.specs.Formula.{Name}
+use Rattle.lexer.proofs.Lists.{rest}
 use Rattle.contact.specs.Numbering.{sameName}
 use Rattle.names.specs.declared.Name.{Name as KeptName}
 use Rattle.names.specs.declared.Names.{Names}
 use Rattle.names.specs.Gather.{nameOf}
 use Rattle.names.specs.Steps.{sameKept, placeIn, push, withKept}
-
-pub rest : {A : Type 0} (s : List A) (i : ℕ) (d : A) → i < length s → drop i s ≡ getD s i d ∷ drop (i + 1) s
-rest s i d h = rw (add-one, drop-cons s i d)
 
 -- ---- same
 

@@ -4,7 +4,8 @@ use mathlib.Core.Path.{_≡_, refl, sym, ap, ap₂, _∙_}
 use mathlib.Core.List.{List, [], _∷_, _++_, map, map-append, append-assoc, append-nil}
 use Prim.Native.Nat.{ℕ}
 use Rattle.formula.specs.Formula.{Form, Formula, Name}
-use Rattle.formula.specs.Names.{atomsOf, atomNames, formulaNames}
+use Rattle.formula.specs.Atoms.{atomsOf}
+use Rattle.formula.specs.Names.{atomNames, formulaNames}
 use Rattle.lexer.specs.Token.{Token, bytesOf}
 use Rattle.syntax.specs.Symbol.{symbolOf}
 use Rattle.syntax.specs.Postfix.{symbolNames, namesIn}

@@ -7,7 +7,7 @@
 ghost use mathlib.Core.Path.{_≡_};
 ghost use Prim.Native.Nat.{_≤_, _<_};
 ghost use mathlib.Core.List.{[]};
-ghost use lib.ListN.{length, take, replicate};
+ghost use lib.ListN.{length, take};
 ghost use Rattle.names.specs.Gather.{arraysOf, nameOf, knownOf, Gathers, gathered};
 ghost use Rattle.names.specs.Steps.{sameKept, placeIn, withKept};
 use syntax::Rule;
@@ -44,18 +44,6 @@ pub struct Gathered {
     pub answer: NamesAnswer,
 }
 
-fn zeros() -> [u8; 256]
-    ensures { λ r. ⌜ r ≡ replicate 256 0 ⌝ }
-{
-    [0u8; 256]
-}
-
-fn wide(n: u8) -> usize
-    ensures { λ r. ⌜ r ≡ n ⌝ }
-{
-    n as usize
-}
-
 // No name at all.
 pub fn no_names() -> Names
     ensures { λ r. ⌜ r ≡ arraysOf [] ⌝ }
@@ -71,7 +59,7 @@ fn same(k: Name, w: &[u8]) -> bool
     requires { ⌜ length (now w) ≤ 16 ⌝ }
     ensures { λ r. ⌜ r ≡ sameKept k (now (w .entry)) ⌝ }
 {
-    let n = wide(k.len);
+    let n = lexer::wide(k.len);
     if n != w.len() {
         return false;
     }
@@ -147,7 +135,7 @@ pub fn gather(text: &[u8], rule: Rule, names: Names) -> Gathered
     let lens = t.lens;
     let n = t.n;
     let mut known = names;
-    let mut numbers = zeros();
+    let mut numbers = lexer::zeros();
     let mut m: usize = 0;
     let mut i: usize = 0;
     while i < n {
@@ -155,8 +143,8 @@ pub fn gather(text: &[u8], rule: Rule, names: Names) -> Gathered
             i += 1;
             continue;
         }
-        let start = wide(starts[i]);
-        let end = start + wide(lens[i]);
+        let start = lexer::wide(starts[i]);
+        let end = start + lexer::wide(lens[i]);
         let number = number_of(known, &text[start..end]);
         if number == ROOM {
             return Gathered {

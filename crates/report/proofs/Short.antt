@@ -7,7 +7,8 @@ use native.Mathlib.Omega.{arith}
 use native.Mathlib.Decide.{ℕ-discrete}
 use lib.ListN.{length, getD, drop, length-take, List·getD-eq-default}
 use Rattle.formula.specs.Formula.{Formula, Name}
-use Rattle.formula.specs.Names.{atomsOf, atomNames, formulaNames}
+use Rattle.formula.specs.Atoms.{atomsOf}
+use Rattle.formula.specs.Names.{atomNames, formulaNames}
 use Rattle.lexer.specs.Arrays.{codeOf}
 use Rattle.lexer.specs.Token.{Token}
 use Rattle.syntax.specs.Rule.{ruleOf, meaningOf}

@@ -4,7 +4,7 @@
 // and two hexadecimal digits.
 use lexer::Tokens;
 use syntax::Rule;
-use syntax::Verdict;
+use syntax::RuleAnswer;
 
 // The kind of a name.
 const NAME: u8 = 18;
@@ -53,11 +53,6 @@ fn write_text(text: &[u8]) {
         write_shown(text[i]);
         i += 1;
     }
-}
-
-// A byte as an index.
-fn wide(b: u8) -> usize {
-    b as usize
 }
 
 // Writes the bytes of a token, where they lie in the text.
@@ -121,7 +116,7 @@ fn write_name(text: &[u8], tokens: Tokens, t: usize) {
     let starts = tokens.starts;
     let lens = tokens.lens;
     if t < 256 {
-        write_token(text, wide(starts[t]), wide(lens[t]));
+        write_token(text, lexer::wide(starts[t]), lexer::wide(lens[t]));
     }
 }
 
@@ -168,13 +163,14 @@ fn show(text: &[u8]) {
     io::write_all(libc::STDOUT_FILENO, b" => ");
     let rule = syntax::read_rule(text);
     let answer = rule.answer;
-    match syntax::verdict_of(answer) {
-        Verdict::Read => {
-            write_formula(text, rule);
-        }
-        Verdict::Refused { number, place } => {
-            write_refusal(number, place);
-        }
+    match answer {
+        RuleAnswer::Formula => write_formula(text, rule),
+        RuleAnswer::TooLong => write_refusal(2, 256),
+        RuleAnswer::NoToken => write_refusal(1, 0),
+        RuleAnswer::ForeignByte(i) => write_refusal(3, i),
+        RuleAnswer::LongName(i) => write_refusal(4, i),
+        RuleAnswer::Measured(i) => write_refusal(5, i),
+        RuleAnswer::GrammarAt(i) => write_refusal(6, i),
     }
     write_byte(b'\n');
 }
@@ -593,8 +589,8 @@ fn blank_texts() {
     );
 }
 
-// A parenthesis keeps both readings alive until a token decides.
-fn item_ten() {
+// A parenthesis may open a term or a formula: both are read on until a token decides.
+fn either_sort() {
     show_each(
         b"(a=0)*b\n\
         ((a)&\n\
@@ -1052,7 +1048,7 @@ fn main() {
     line_ends();
     foreign_marks();
     blank_texts();
-    item_ten();
+    either_sort();
     terms_in_parentheses();
     formulas_in_parentheses();
     early_ends();

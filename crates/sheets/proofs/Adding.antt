@@ -8,13 +8,13 @@ use native.Mathlib.Numerals.{add-one}
 use lib.ListN.{length, take, set, replicate, length-append, length-map}
 use lib.Seq.{take-at, take-suc-set}
 use Rattle.formula.specs.Formula.{Atom, Form, Formula, Name}
-use Rattle.formula.specs.Names.{atomsOf, formulaNames}
+use Rattle.formula.specs.Atoms.{atomsOf}
+use Rattle.formula.specs.Names.{formulaNames}
 use Rattle.syntax.specs.Postfix.{postfix}
 use Rattle.syntax.specs.Reader.{codes}
 use Rattle.syntax.specs.Rule.{ruleOf}
 use Rattle.syntax.specs.declared.Rule.{Rule}
-use Rattle.syntax.proofs.Heads.{length-codes}
-use Rattle.syntax.proofs.Claims.{text-read}
+use Rattle.syntax.proofs.Claims.{length-codes, text-read}
 use Rattle.evalset.specs.Search.{In}
 use Rattle.evalset.proofs.Search.{in-right}
 use Rattle.contact.specs.Numbering.{allAtoms, namesOf, mapAtom, mapForm, numberForm, numberFrom, numberedNames, numberedAtoms}

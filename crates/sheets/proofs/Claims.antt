@@ -8,7 +8,7 @@ use Prim.Native.Nat.{ℕ, _≤_}
 use native.Mathlib.Omega.{arith}
 use lib.ListN.{length, take}
 use Rattle.formula.specs.Formula.{Form, Formula, Name}
-use Rattle.formula.specs.Names.{atomsOf}
+use Rattle.formula.specs.Atoms.{atomsOf}
 use Rattle.syntax.specs.RuleText.{IsRule}
 use Rattle.syntax.specs.Rule.{meaningOf}
 use Rattle.evalset.proofs.Search.{in-either, uncons, none-in}

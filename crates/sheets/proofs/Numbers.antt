@@ -6,7 +6,8 @@ use Prim.Native.Nat.{ℕ, _+_}
 use native.Mathlib.Omega.{arith}
 use lib.ListN.{length, length-append}
 use Rattle.formula.specs.Formula.{Term, Atom, Form, Formula, Name}
-use Rattle.formula.specs.Names.{termNames, atomNames, atomsOf}
+use Rattle.formula.specs.Atoms.{atomsOf}
+use Rattle.formula.specs.Names.{termNames, atomNames}
 use Rattle.evalset.specs.Search.{In, here}
 use Rattle.evalset.proofs.Search.{in-left, in-right, gather-intro}
 use Rattle.contact.specs.Numbering.{allAtoms, position, sameName, namesOf, mapTerm, mapAtom, mapForm, numberedNames, numberForm, numberFrom, numberedAtoms}

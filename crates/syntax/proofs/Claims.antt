@@ -2,12 +2,12 @@
 -- is derived and what is derived is read, so that the grammar itself gives one reading and one place of refusal.
 -- Assumes nothing.
 use mathlib.Core.Path.{_≡_}
-use mathlib.Core.List.{List, _++_}
-use Prim.Native.Nat.{ℕ, _-_}
-use lib.ListN.{length, replicate}
+use mathlib.Core.List.{List}
+use Prim.Native.Nat.{ℕ}
+use lib.ListN.{length}
 use Rattle.formula.specs.Formula.{Formula, Name}
 use Rattle.formula.specs.Names.{formulaNames}
-use Rattle.lexer.specs.Arrays.{tokensOf}
+use Rattle.lexer.specs.Arrays.{pad, tokensOf}
 use Rattle.syntax.specs.Grammar.{Derives}
 use Rattle.syntax.specs.Symbol.{Symbol}
 use Rattle.syntax.specs.Postfix.{postfix, formulaOf, namesIn}
@@ -18,6 +18,7 @@ use Rattle.syntax.specs.Reader.{codes}
 use Rattle.syntax.specs.Rule.{ruleOf, meaningOf}
 use Rattle.syntax.specs.declared.RuleAnswer.{RuleAnswer}
 use Rattle.syntax.specs.declared.RuleAnswer.the-variants as RuleAnswer
+use Rattle.syntax.proofs.Heads as heads
 use Rattle.syntax.proofs.Sound.{sound}
 use Rattle.syntax.proofs.Complete.{complete}
 use Rattle.syntax.proofs.Unique.{unique, formula-back}
@@ -57,6 +58,10 @@ token-names = names-of-tokens
 pub order-names : {N : Type 0} (f : Formula N) → namesIn (postfix f) ≡ formulaNames f
 order-names = names-of-order
 
+-- the kinds of an order are as many as its symbols
+pub length-codes : (o : List Sym) → length (codes o) ≡ length o
+length-codes = heads.length-codes
+
 -- ---- texts
 
 -- each text is answered as the table of calls has it
@@ -69,7 +74,7 @@ text-answered-only = answered-only
 
 -- a rule is read with its tokens and the kinds of its formula's order
 pub text-read : (s : List ℕ) (f : Formula Name) (h : IsRule s f)
-    → ruleOf s ≡ record { answer = RuleAnswer.Formula; tokens = tokensOf (h .tokens-of); order = codes (postfix f) ++ replicate (256 - length (postfix f)) 0; len = length (postfix f) }
+    → ruleOf s ≡ record { answer = RuleAnswer.Formula; tokens = tokensOf (h .tokens-of); order = pad (codes (postfix f)); len = length (postfix f) }
 text-read = rule-read
 
 -- and means that formula

@@ -4,7 +4,7 @@ use Prim.Native.Nat.{ℕ, suc, _+_, _≤_}
 use native.Mathlib.Omega.{arith}
 use mathlib.Core.Path.{_≡_, refl, sym, ap, _∙_}
 use mathlib.Core.List.{List, [], _∷_, _++_, append-assoc, append-nil}
-use mathlib.Core.Bool.{Bool, true, false, not}
+use mathlib.Core.Bool.{Bool, true, false, not, true≢false, Bool·beq}
 use Rattle.formula.specs.declared.Sign.{Sign}
 use Rattle.formula.specs.declared.Sign.the-variants.{Implies, Iff, Or, And, Plus, Times}
 use Rattle.formula.specs.Sign.{joinsTerms}
@@ -12,9 +12,9 @@ use Rattle.formula.specs.Formula.{Term, Atom, Form, Formula, Name}
 use Rattle.syntax.specs.Symbol.{Leaf, Relation, leaf, minus, tilde, opening, closing, comma, isZero, binary, constant, relation, contact, part}
 use Rattle.syntax.specs.Grammar.{leafTerm, IsTerm, IsFormula, t-leaf, t-minus, t-times, t-plus, t-parenthesis, t-looser, f-truth, f-falsity, f-contact, f-part, f-empty, f-tilde, f-and, f-or, f-implies, f-iff, f-parenthesis, f-looser, Derives}
 use Rattle.syntax.specs.Postfix.{termAfter, formulaAfter, postfix}
-use Rattle.syntax.specs.Machine.{Sym, pickRank, rankOf, loosest, Frame, inParenthesis, afterMinus, afterTilde, afterBinary, firstOf, secondOf, allow, want, have, call, Popped, guard, same, close, zeroed, join, accepted, run, reading}
+use Rattle.syntax.specs.Machine.{Sym, pickRank, rankOf, loosest, Frame, inParenthesis, afterMinus, afterTilde, afterBinary, firstOf, secondOf, allow, want, have, call, Popped, guard, close, zeroed, join, accepted, run, reading}
 use Rattle.syntax.specs.Reader.{top, goes, goesOn}
-use Rattle.syntax.proofs.Laws.{true≢false, pop-keep, feed, goes-formula, goes-term}
+use Rattle.syntax.proofs.Laws.{pop-keep, feed, goes-formula, goes-term}
 use Rattle.syntax.proofs.Ranks.{Tree, tightestRank, after, joined, constantOf, related, after-leaf, after-constant, after-related, after-joined}
 
 -- the place after some tokens
@@ -27,11 +27,7 @@ unfolding past
 past-append i [] m = refl
 past-append i (x ∷ l) m = past-append (i + 1) l m
 
-not-false : (b : Bool) → b ≡ false → not b ≡ true
-not-false true h = sym h
-not-false false h = refl
-
-same-self : (b : Bool) → same b b ≡ true
+same-self : (b : Bool) → Bool·beq b b ≡ true
 same-self true = refl
 same-self false = refl
 
@@ -103,9 +99,9 @@ unfolding run past
 comes-binary b ts us t u g h K o rest i a d c =
     ap (λ (l : List Sym). run l i (want K o)) (append-assoc ts (binary b ∷ us) rest)
     ∙ g K o (binary b ∷ us ++ rest) i a d (goes-self b)
-    ∙ ap (λ (q : Popped). run (us ++ rest) (past i ts + 1) (guard (same (joinsTerms b) (joinsTerms b)) (join b q) (past i ts))) (pop-keep (rankOf b) K (after (joinsTerms b) t o) d)
+    ∙ ap (λ (q : Popped). run (us ++ rest) (past i ts + 1) (guard (Bool·beq (joinsTerms b) (joinsTerms b)) (join b q) (past i ts))) (pop-keep (rankOf b) K (after (joinsTerms b) t o) d)
     ∙ ap (λ (w : Bool). run (us ++ rest) (past i ts + 1) (guard w (want (afterBinary b ∷ K) (after (joinsTerms b) t o)) (past i ts))) (same-self (joinsTerms b))
-    ∙ h (afterBinary b ∷ K) (after (joinsTerms b) t o) rest (past i ts + 1) (not-false (joinsTerms b)) (omega arith) (omega (arith, c))
+    ∙ h (afterBinary b ∷ K) (after (joinsTerms b) t o) rest (past i ts + 1) (λ e. ap not e) (omega arith) (omega (arith, c))
     ∙ feed rest (past (past i ts + 1) us) (joinsTerms b) (afterBinary b) K (after (joinsTerms b) u (after (joinsTerms b) t o)) refl c
     ∙ ap (λ (q : List Sym). run rest (past (past i ts + 1) us) (have (joinsTerms b) K q)) (sym (after-joined b t u o))
     ∙ ap (λ (n : ℕ). run rest n (have (joinsTerms b) K (after (joinsTerms b) (joined b t u) o))) (sym (past-append i ts (binary b ∷ us)))

@@ -5,8 +5,9 @@ use Prim.Native.Nat.{ℕ, _+_, _≤_, _<_}
 use native.Mathlib.Omega.{arith}
 use mathlib.Core.Path.{_≡_, refl, sym, ap, subst, _∙_}
 use mathlib.Core.List.{List, [], _∷_, _++_, append-assoc, append-nil}
-use mathlib.Core.Bool.{Bool, true, false, not}
+use mathlib.Core.Bool.{Bool, true, false, true≢false, Bool·beq}
 use lib.ListN.{length}
+use borrow.Author.Tests.{not-true}
 use Rattle.formula.specs.declared.Sign.{Sign}
 use Rattle.formula.specs.declared.Sign.the-variants.{Implies, Iff, Or, And, Plus, Times}
 use Rattle.formula.specs.Sign.{joinsTerms}
@@ -14,10 +15,10 @@ use Rattle.formula.specs.Formula.{Formula, Name}
 use Rattle.syntax.specs.Symbol.{Leaf, Relation, leaf, minus, tilde, opening, closing, comma, isZero, binary, constant, relation}
 use Rattle.syntax.specs.Grammar.{Derives, Begins}
 use Rattle.syntax.specs.Postfix.{postfix}
-use Rattle.syntax.specs.Machine.{Sym, rankOf, loosest, Frame, inParenthesis, afterMinus, afterTilde, afterBinary, firstOf, secondOf, signOf, allow, State, want, have, call, dead, Popped, pop, guard, same, shut, zeroed, parted, part, join, step, Result, accepted, refused, done, finish, run, reading}
+use Rattle.syntax.specs.Machine.{Sym, rankOf, loosest, Frame, inParenthesis, afterMinus, afterTilde, afterBinary, firstOf, secondOf, signOf, allow, State, want, have, call, dead, Popped, pop, guard, shut, zeroed, parted, partAt, join, step, Result, accepted, refused, done, finish, run, reading}
 use Rattle.syntax.specs.Reader.{top, goesOn}
 use Rattle.syntax.specs.Refusal.{Stops, Refusal}
-use Rattle.syntax.proofs.Laws.{true≢false, run-dead, pop-keep, feed}
+use Rattle.syntax.proofs.Laws.{run-dead, pop-keep, feed}
 use Rattle.syntax.proofs.Sound.{Begun, b-none, b-parenthesis, b-minus, b-tilde, b-binary, b-first, b-second, Stands, step-stands, refused≢accepted, sound}
 use Rattle.syntax.proofs.Complete.{complete}
 
@@ -99,10 +100,6 @@ formula-tilde : (K : List Frame) → allow K ≡ true → EndsFormula K → Ends
 unfolding endFormula
 formula-tilde K f r i o a = along (endFormula K) (endFormula K) i i (have false (afterTilde ∷ K) o) (have false K (o ++ tilde ∷ [])) (feed (endFormula K) i false afterTilde K o refl (omega (arith, goes-formula-end K))) (r i (o ++ tilde ∷ []) f)
 
-not-true : (b : Bool) → not b ≡ true → b ≡ false
-not-true true h = sym h
-not-true false h = refl
-
 formula-binary : (b : Sign) (K : List Frame) → (joinsTerms b ≡ false → allow K ≡ true) → EndsFormula K → EndsFormula (afterBinary b ∷ K)
 unfolding endFormula
 formula-binary b K f r i o a =
@@ -177,13 +174,13 @@ ends-term (b-first {c = c} {K = K} f g) = term-first c K f (ends-formula g)
 ends-term (b-second {c = c} {K = K} f g r) = term-second c K f (ends-formula g)
 
 -- the state is not dead
-abbrev Alive : State → Type 0
-Alive (want K o) = Unit {0}
-Alive (have s K o) = Unit {0}
-Alive (call c K o) = Unit {0}
-Alive (dead j) = ⊥
+abbrev Going : State → Type 0
+Going (want K o) = Unit {0}
+Going (have s K o) = Unit {0}
+Going (call c K o) = Unit {0}
+Going (dead j) = ⊥
 
-ends : (s : State) (i : ℕ) (all : List Sym) → Stands s all → Alive s → (l : List Sym) × Ends l i s
+ends : (s : State) (i : ℕ) (all : List Sym) → Stands s all → Going s → (l : List Sym) × Ends l i s
 unfolding run
 ends (want K o) i all k a = (leaf filler ∷ endTerm K, ends-term k (i + 1) (o ++ leaf filler ∷ []))
 ends (call c K o) i all k a = (opening ∷ leaf filler ∷ comma ∷ leaf filler ∷ closing ∷ endFormula K, ends-formula (k .2) (i + 1 + 1 + 1 + 1 + 1) (((o ++ leaf filler ∷ []) ++ leaf filler ∷ []) ++ relation c ∷ []) (k .3))
@@ -192,7 +189,7 @@ ends (have false K o) i all k a = (endFormula K, ends-formula (k .begun) i o (k 
 ends (dead j) i all k a = absurd a
 
 -- ---- a token is refused at its place
--- a dead state died at i
+-- a dead state was refused at i
 abbrev DeadAt : ℕ → State → Type 0
 DeadAt i (want K o) = Unit {0}
 DeadAt i (have s K o) = Unit {0}
@@ -221,7 +218,7 @@ parted-at (afterBinary b ∷ K) o i = refl
 parted-at (firstOf c ∷ K) o i = tt
 parted-at (secondOf c ∷ K) o i = refl
 
-step-at : (s : State) (x : Sym) (i : ℕ) → Alive s → DeadAt i (step s x i)
+step-at : (s : State) (x : Sym) (i : ℕ) → Going s → DeadAt i (step s x i)
 step-at (dead j) x i a = absurd a
 step-at (want K o) (leaf x) i a = tt
 step-at (want K o) minus i a = tt
@@ -248,9 +245,9 @@ step-at (have s K o) minus i a = refl
 step-at (have s K o) tilde i a = refl
 step-at (have s K o) opening i a = refl
 step-at (have s K o) closing i a = shut-at s (pop (loosest s) K o .stack) (pop (loosest s) K o .order) i
-step-at (have s K o) comma i a = guard-at s (part (pop 4 K o) i) i (parted-at (pop 4 K o .stack) (pop 4 K o .order) i)
+step-at (have s K o) comma i a = guard-at s (partAt (pop 4 K o) i) i (parted-at (pop 4 K o .stack) (pop 4 K o .order) i)
 step-at (have s K o) isZero i a = guard-at s (zeroed (pop 4 K o) i) i (guard-at (allow (pop 4 K o .stack)) (have false (pop 4 K o .stack) (pop 4 K o .order ++ isZero ∷ [])) i tt)
-step-at (have s K o) (binary b) i a = guard-at (same s (joinsTerms b)) (join b (pop (rankOf b) K o)) i tt
+step-at (have s K o) (binary b) i a = guard-at (Bool·beq s (joinsTerms b)) (join b (pop (rankOf b) K o)) i tt
 step-at (have s K o) (constant c) i a = refl
 step-at (have s K o) (relation c) i a = refl
 
@@ -261,7 +258,7 @@ done-place : (K : List Frame) (o : List Sym) (i j : ℕ) → done K o i ≡ refu
 done-place [] o i j e = absurd (refused≢accepted j o (sym e))
 done-place (f ∷ K) o i j e = refused-place i j e
 
-finish-place : (s : State) (i j : ℕ) → Alive s → finish s i ≡ refused j → j ≡ i
+finish-place : (s : State) (i j : ℕ) → Going s → finish s i ≡ refused j → j ≡ i
 finish-place (dead k) i j a e = absurd a
 finish-place (want K o) i j a e = refused-place i j e
 finish-place (call c K o) i j a e = refused-place i j e
@@ -283,11 +280,11 @@ record Stopped (xs : List Sym) (i : ℕ) (s : State) (j : ℕ) : Type 0 where
   begins : (rest : List Sym) × Ends (pre ++ rest) i s
   refuses : Refuses pre post i s j
 
-stopped-end : (i : ℕ) (s : State) (all : List Sym) (j : ℕ) → Stands s all → Alive s → run [] i s ≡ refused j → Stopped [] i s j
+stopped-end : (i : ℕ) (s : State) (all : List Sym) (j : ℕ) → Stands s all → Going s → run [] i s ≡ refused j → Stopped [] i s j
 unfolding run
 stopped-end i s all j k a e = record { pre = []; post = []; parts = refl; place = omega (arith, finish-place s i j a e); begins = ends s i all k a; refuses = e }
 
-stopped-here : (x : Sym) (xs : List Sym) (i : ℕ) (s : State) (all : List Sym) (j d : ℕ) → Stands s all → Alive s → step s x i ≡ dead d → run (x ∷ xs) i s ≡ refused j → Stopped (x ∷ xs) i s j
+stopped-here : (x : Sym) (xs : List Sym) (i : ℕ) (s : State) (all : List Sym) (j d : ℕ) → Stands s all → Going s → step s x i ≡ dead d → run (x ∷ xs) i s ≡ refused j → Stopped (x ∷ xs) i s j
 unfolding run
 stopped-here x xs i s all j d k a h e =
     let q : DeadAt i (dead d) = subst (DeadAt i) h (step-at s x i a) in
@@ -317,24 +314,24 @@ stopped-later x xs i s j r = record {
   refuses = refuses-later x (r .pre) (r .post) i s j (r .refuses);
 }
 
-data Life : State → Type 0 where
-  living : {s : State} → Alive s → Life s
-  died : {s : State} (d : ℕ) → s ≡ dead d → Life s
+data GoingOrDead : State → Type 0 where
+  is-going : {s : State} → Going s → GoingOrDead s
+  is-dead : {s : State} (d : ℕ) → s ≡ dead d → GoingOrDead s
 
-life : (s : State) → Life s
-life (want K o) = living tt
-life (call c K o) = living tt
-life (have s K o) = living tt
-life (dead j) = died j refl
+going-or-dead : (s : State) → GoingOrDead s
+going-or-dead (want K o) = is-going tt
+going-or-dead (call c K o) = is-going tt
+going-or-dead (have s K o) = is-going tt
+going-or-dead (dead j) = is-dead j refl
 
-stopped-life : (x : Sym) (xs : List Sym) (i : ℕ) (s : State) (all : List Sym) (j : ℕ) → Stands s all → Alive s → run (x ∷ xs) i s ≡ refused j → (Alive (step s x i) → Stopped xs (i + 1) (step s x i) j) → Life (step s x i) → Stopped (x ∷ xs) i s j
-stopped-life x xs i s all j k a e r (living y) = stopped-later x xs i s j (r y)
-stopped-life x xs i s all j k a e r (died d h) = stopped-here x xs i s all j d k a h e
+stopped-next : (x : Sym) (xs : List Sym) (i : ℕ) (s : State) (all : List Sym) (j : ℕ) → Stands s all → Going s → run (x ∷ xs) i s ≡ refused j → (Going (step s x i) → Stopped xs (i + 1) (step s x i) j) → GoingOrDead (step s x i) → Stopped (x ∷ xs) i s j
+stopped-next x xs i s all j k a e r (is-going y) = stopped-later x xs i s j (r y)
+stopped-next x xs i s all j k a e r (is-dead d h) = stopped-here x xs i s all j d k a h e
 
-stopped : (xs : List Sym) (i : ℕ) (s : State) (all : List Sym) (j : ℕ) → Stands s all → Alive s → run xs i s ≡ refused j → Stopped xs i s j
+stopped : (xs : List Sym) (i : ℕ) (s : State) (all : List Sym) (j : ℕ) → Stands s all → Going s → run xs i s ≡ refused j → Stopped xs i s j
 unfolding run
 stopped [] i s all j k a e = stopped-end i s all j k a e
-stopped (x ∷ xs) i s all j k a e = stopped-life x xs i s all j k a e (λ y. stopped xs (i + 1) (step s x i) (all ++ x ∷ []) j (step-stands s x i all k) y e) (life (step s x i))
+stopped (x ∷ xs) i s all j k a e = stopped-next x xs i s all j k a e (λ y. stopped xs (i + 1) (step s x i) (all ++ x ∷ []) j (step-stands s x i all k) y e) (going-or-dead (step s x i))
 
 -- ---- the claims
 refuses-stops : (pre post : List Sym) (j : ℕ) → Refuses pre post 0 (want [] []) j → Stops pre post

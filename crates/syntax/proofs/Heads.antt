@@ -6,16 +6,15 @@ use native.Mathlib.Numerals.{add-one}
 use native.Mathlib.Omega.{arith}
 use mathlib.Core.Path.{_≡_, refl, sym, ap, _∙_}
 use mathlib.Core.List.{List, [], _∷_, _++_}
-use mathlib.Core.Bool.{Bool, true, false, cond}
+use mathlib.Core.Bool.{Bool, true, false, cond, Bool·beq}
 use lib.Dec.{eqb}
-use lib.ListN.{length, getD, drop}
+use lib.ListN.{length, getD, drop, length-map}
 use Rattle.formula.specs.declared.Sign.{Sign}
 use Rattle.formula.specs.declared.Sign.the-variants.{Implies, Iff, Or, And, Plus, Times}
 use Rattle.formula.specs.Sign.{joinsTerms}
 use Rattle.formula.specs.Formula.{Name}
 use Rattle.syntax.specs.Symbol.{Leaf, Relation, leaf, minus, tilde, opening, closing, comma, isZero, binary, constant, relation, contact, part}
-use Rattle.syntax.specs.Machine.{Sym, Frame, rankOf, allow, loosest, same, State, want, have, call, dead, Popped, shut, close, zeroed, parted, step, refused, done, run, guard}
-use Rattle.syntax.specs.Machine as machine
+use Rattle.syntax.specs.Machine.{Sym, Frame, rankOf, allow, loosest, State, want, have, call, dead, Popped, shut, close, zeroed, parted, step, refused, done, run, guard, partAt, afterTilde}
 use Rattle.syntax.specs.Reader.{code, codes, kindAt, top, goes, goesOn, bindingOf, goesAt}
 use Rattle.syntax.proofs.Laws.{run-dead, pop-keep, goes-formula}
 
@@ -43,8 +42,7 @@ later-drop (x ∷ xs) (suc p) = later-drop xs p
 
 pub length-codes : (xs : List Sym) → length (codes xs) ≡ length xs
 unfolding codes
-length-codes [] = refl
-length-codes (x ∷ xs) = ap suc (length-codes xs)
+length-codes xs = length-map xs code
 
 -- ---- which symbol
 
@@ -135,7 +133,7 @@ goes-first t (x ∷ l) = goes-code t x
 
 -- the binary sign b goes on a term (true) or a formula, and m is one more than its rank
 abbrev pub Joins : Bool → Sign → ℕ → Type 0
-Joins t b m = (t ≡ joinsTerms b) × (m ≡ suc (rankOf b)) × (same t (joinsTerms b) ≡ true)
+Joins t b m = (t ≡ joinsTerms b) × (m ≡ suc (rankOf b)) × (Bool·beq t (joinsTerms b) ≡ true)
 
 binary-code : (t : Bool) (x : Sym) → 0 < bindingOf t (code x) → (b : Sign) × Joins t b (bindingOf t (code x)) × (x ≡ binary b)
 unfolding bindingOf
@@ -208,14 +206,14 @@ binding-end t = refl
 
 -- ---- what is refused
 
--- where no sign above rank m goes on the value, and neither ) nor , nor =0 is what the first frame waits for
+-- where no sign of rank m or tighter goes on the value, and neither ) nor , nor =0 is what the first frame waits for
 rejects : (t : Bool) (m p : ℕ) (K : List Frame) (o : List Sym) (x : Sym) → goes t x ≤ m → m ≤ loosest t → top K ≤ loosest t → (code x ≡ 9 → shut t K o p ≡ dead p) → (code x ≡ 11 → parted K o p ≡ dead p) → (4 ≤ m → allow K ≡ false) → step (have t K o) x p ≡ dead p
 rejects t m p K o (leaf b) g a k s c z = refl
 rejects t m p K o minus g a k s c z = refl
 rejects t m p K o tilde g a k s c z = refl
 rejects t m p K o opening g a k s c z = refl
 rejects t m p K o closing g a k s c z = ap (λ (q : Popped). close t q p) (pop-keep (loosest t) K o k) ∙ s refl
-rejects true m p K o comma g a k s c z = ap (λ (q : Popped). machine.part q p) (pop-keep 4 K o k) ∙ c refl
+rejects true m p K o comma g a k s c z = ap (λ (q : Popped). partAt q p) (pop-keep 4 K o k) ∙ c refl
 rejects false m p K o comma g a k s c z = refl
 rejects true m p K o isZero g a k s c z = ap (λ (q : Popped). zeroed q p) (pop-keep 4 K o k) ∙ ap (λ (b : Bool). guard b (have false K (o ++ isZero ∷ [])) p) (z g)
 rejects false m p K o isZero g a k s c z = refl
@@ -253,7 +251,7 @@ no-term-step p K o (leaf Leaf.zero) h = absurd (let y : 19 ≤ 16 = h .2 (omega 
 no-term-step p K o (leaf Leaf.one) h = absurd (let y : 19 ≤ 17 = h .2 (omega arith) in let z : ⊥ = omega arith in z)
 no-term-step p K o (leaf (Leaf.name b)) h = absurd (let y : 19 ≤ 18 = h .2 (omega arith) in let z : ⊥ = omega arith in z)
 no-term-step p K o minus h = absurd (h .0 refl)
-no-term-step p K o tilde h = ap (λ (b : Bool). guard b (want (machine.afterTilde ∷ K) o) p) (unlike (allow K) (λ w. h .3 w .0 refl))
+no-term-step p K o tilde h = ap (λ (b : Bool). guard b (want (afterTilde ∷ K) o) p) (unlike (allow K) (λ w. h .3 w .0 refl))
 no-term-step p K o opening h = absurd (h .1 refl)
 no-term-step p K o closing h = refl
 no-term-step p K o comma h = refl

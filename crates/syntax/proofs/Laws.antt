@@ -4,17 +4,14 @@ use Prim.Native.Nat.{ℕ, _+_, _≤_, _<_}
 use native.Mathlib.Omega.{arith}
 use mathlib.Core.Path.{_≡_, refl, ap}
 use mathlib.Core.List.{List, [], _∷_, _++_}
-use mathlib.Core.Bool.{Bool, true, false}
+use mathlib.Core.Bool.{Bool, true, false, cond}
 use borrow.Author.Tests.{lt-ltb, le-ltb}
 use Rattle.formula.specs.declared.Sign.{Sign}
 use Rattle.formula.specs.declared.Sign.the-variants.{Implies, Iff, Or, And, Plus, Times}
 use Rattle.formula.specs.Sign.{joinsTerms}
 use Rattle.syntax.specs.Symbol.{leaf, minus, tilde, opening, closing, comma, isZero, binary, constant, relation}
-use Rattle.syntax.specs.Machine.{Sym, Frame, inParenthesis, afterMinus, afterTilde, afterBinary, firstOf, secondOf, need, signOf, loosest, have, dead, Popped, pickPopped, pop, close, zeroed, part, join, step, refused, done, finish, run}
+use Rattle.syntax.specs.Machine.{Sym, Frame, inParenthesis, afterMinus, afterTilde, afterBinary, firstOf, secondOf, need, signOf, loosest, have, dead, Popped, pop, close, zeroed, join, step, refused, done, finish, run, partAt}
 use Rattle.syntax.specs.Reader.{top, goes, goesOn}
-
-pub true≢false : true ≡ false → ⊥
-true≢false e = let z : _≡_ {A = ℕ} 0 1 = cc in omega arith
 
 pub run-dead : (l : List Sym) (i j : ℕ) → run l i (dead j) ≡ refused j
 unfolding run
@@ -22,11 +19,11 @@ run-dead [] i j = refl
 run-dead (x ∷ l) i j = run-dead l (i + 1) j
 
 pub pop-feed : (l : ℕ) (f : Frame) (K : List Frame) (o : List Sym) → l < need f → pop l (f ∷ K) o ≡ pop l K (o ++ signOf f ∷ [])
-pop-feed l f K o h = ap (λ (b : Bool). pickPopped b (pop l K (o ++ signOf f ∷ [])) (record { stack = f ∷ K; order = o })) (lt-ltb l (need f) h)
+pop-feed l f K o h = ap (λ (b : Bool). cond b (pop l K (o ++ signOf f ∷ [])) (record { stack = f ∷ K; order = o })) (lt-ltb l (need f) h)
 
 pub pop-keep : (l : ℕ) (K : List Frame) (o : List Sym) → top K ≤ l → pop l K o ≡ record { stack = K; order = o }
 pop-keep l [] o h = refl
-pop-keep l (f ∷ K) o h = ap (λ (b : Bool). pickPopped b (pop l K (o ++ signOf f ∷ [])) (record { stack = f ∷ K; order = o })) (le-ltb l (need f) h)
+pop-keep l (f ∷ K) o h = ap (λ (b : Bool). cond b (pop l K (o ++ signOf f ∷ [])) (record { stack = f ∷ K; order = o })) (le-ltb l (need f) h)
 
 -- the frame is a sign that waits for a term (true) or a formula
 abbrev pub Waits : Bool → Frame → Type 0
@@ -73,7 +70,7 @@ feed-step t f K o closing p w h = ap (λ (q : Popped). close t q p) (pop-feed (l
 feed-step true f K o isZero p w h = ap (λ (q : Popped). zeroed q p) (pop-feed 4 f K o (loosest-below true f w))
 feed-step false f K o isZero p w h = refl
 feed-step t f K o (binary b) p w h = feed-binary t b f K o p h
-feed-step true f K o comma p w h = ap (λ (q : Popped). part q p) (pop-feed 4 f K o (loosest-below true f w))
+feed-step true f K o comma p w h = ap (λ (q : Popped). partAt q p) (pop-feed 4 f K o (loosest-below true f w))
 feed-step false f K o comma p w h = refl
 feed-step t f K o (constant c) p w h = refl
 feed-step t f K o (relation c) p w h = refl

@@ -1,8 +1,8 @@
 pub mod Laws
-pub mod Leaves
+pub mod Returns
 pub mod Heads
 pub mod Steps
-pub mod Answers
+pub mod Readers
 pub mod Ranks
 pub mod Sound
 pub mod Complete

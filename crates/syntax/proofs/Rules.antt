@@ -5,7 +5,7 @@ use mathlib.Core.Bool.{Bool, true, false}
 use lib.Dec.{ltb}
 use borrow.Author.Tests.{ltb-true, ltb-false}
 use mathlib.Core.Logic.{_⊎_, inl, inr, ⊎-elim}
-use mathlib.Core.List.{List, [], _∷_, _++_, map}
+use mathlib.Core.List.{List, [], _∷_, map}
 use Prim.Native.Nat.{ℕ, _-_, _≤_, _<_}
 use native.Mathlib.Omega.{arith}
 use lib.ListN.{length, getD, take, replicate, length-map, List·getD-map, List·getD-eq-default}
@@ -13,7 +13,7 @@ use lib.Seq.{take-at}
 use Rattle.lexer.specs.Token.{Token, bytesOf}
 use Rattle.lexer.specs.Cutting.{Cutting, tokens, refused as refusedCut}
 use Rattle.lexer.specs.Cutter.{cutting}
-use Rattle.lexer.specs.Arrays.{codeOf, tokensOf, lexedOf, lexed}
+use Rattle.lexer.specs.Arrays.{codeOf, pad, tokensOf, lexedOf, lexed}
 use Rattle.lexer.specs.declared.LexAnswer.{LexAnswer}
 use Rattle.lexer.specs.declared.LexAnswer.the-variants as LexAnswer
 use Rattle.lexer.specs.declared.Lexed.{Lexed}
@@ -100,7 +100,7 @@ module _ (s : List ℕ) (ts : List Token) (t : Tokens) (e : t ≡ tokensOf ts) (
       let h : Parsed (symbolsOf s ts) (Value u p n) B = subst (λ (x : Read). Parsed (symbolsOf s ts) x B) f parsed in
       let o : List Sym = h .0 in
       let m : n ≡ length o = sym (h .1 .1) in
-      let q : B ≡ codes o ++ replicate (256 - length o) 0 = h .1 .0 ∙ ap (λ (x : ℕ). codes o ++ replicate (256 - x) 0) m in
+      let q : B ≡ pad (codes o) = h .1 .0 in
       (cc) ∙ sym (ap (readTokens s ts) (h .2))
 
   pub read-refused : (i p : ℕ) → r ≡ Refused i → p ≡ placeOf s ts i → refusalOf (RuleAnswer.GrammarAt p) ≡ readTokens s ts (reading (symbolsOf s ts))
@@ -119,8 +119,8 @@ unfolding tokensOf
 cut-few s h (tokens ts) e = omega (arith, at-most s ts e)
 cut-few s h (refusedCut a) e = omega arith
 
-pub sized : (n : ℕ) → (n ≤ 256) ⊎ (256 < n)
-sized n = go (ltb 256 n) refl
+pub short-or-long : (n : ℕ) → (n ≤ 256) ⊎ (256 < n)
+short-or-long n = go (ltb 256 n) refl
   where
     go : (b : Bool) → ltb 256 n ≡ b → (n ≤ 256) ⊎ (256 < n)
     go true e = inr (ltb-true 256 n e)
@@ -133,7 +133,7 @@ module _ (s : List ℕ) (l : Lexed) (e : l ≡ lexed s) where
 
   pub few-tokens : l .tokens .n ≤ 256
   unfolding tokensOf
-  few-tokens = subst (λ (x : Lexed). x .tokens .n ≤ 256) (sym e) (⊎-elim short long (sized (length s)))
+  few-tokens = subst (λ (x : Lexed). x .tokens .n ≤ 256) (sym e) (⊎-elim short long (short-or-long (length s)))
     where
       short : length s ≤ 256 → lexed s .tokens .n ≤ 256
       short h = rw (lexed-cutting s h) (cut-few s h (cutting s) refl)
@@ -142,7 +142,7 @@ module _ (s : List ℕ) (l : Lexed) (e : l ≡ lexed s) where
       long h = rw (lexed-too-long s h) (omega arith)
 
   pub arrays-of : l .answer ≡ LexAnswer.Tokens → l .tokens ≡ tokensOf (tokensIn (cutting s))
-  arrays-of h = ap (λ (x : Lexed). x .tokens) e ∙ ⊎-elim short long (sized (length s))
+  arrays-of h = ap (λ (x : Lexed). x .tokens) e ∙ ⊎-elim short long (short-or-long (length s))
     where
       short : length s ≤ 256 → lexed s .tokens ≡ tokensOf (tokensIn (cutting s))
       short k = ap (λ (x : Lexed). x .tokens) (lexed-cutting s k) ∙ cut-arrays (cutting s)

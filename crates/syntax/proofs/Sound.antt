@@ -5,7 +5,7 @@ use native.Mathlib.Nat.{le-refl}
 use native.Mathlib.Omega.{arith}
 use mathlib.Core.Path.{_≡_, refl, sym, ap, subst, _∙_}
 use mathlib.Core.List.{List, [], _∷_, _++_, append-assoc, append-nil}
-use mathlib.Core.Bool.{Bool, true, false}
+use mathlib.Core.Bool.{Bool, true, false, true≢false, Bool·beq}
 use lib.Dec.{ltb}
 use borrow.Author.Tests.{ltb-true, ltb-false}
 use Rattle.formula.specs.declared.Sign.{Sign}
@@ -15,9 +15,9 @@ use Rattle.formula.specs.Formula.{Term, Atom, Form, Formula, Name}
 use Rattle.syntax.specs.Symbol.{Leaf, Relation, leaf, minus, tilde, opening, closing, comma, isZero, binary, constant, relation}
 use Rattle.syntax.specs.Grammar.{leafTerm, IsTerm, t-leaf, t-minus, t-looser, f-empty, f-tilde, Derives}
 use Rattle.syntax.specs.Postfix.{termAfter, formulaAfter, postfix}
-use Rattle.syntax.specs.Machine.{Sym, rankOf, loosest, Frame, inParenthesis, afterMinus, afterTilde, afterBinary, firstOf, secondOf, need, signOf, allow, State, want, have, call, dead, Popped, pop, guard, same, shut, zeroed, parted, join, step, accepted, refused, done, finish, run, reading}
+use Rattle.syntax.specs.Machine.{Sym, rankOf, loosest, Frame, inParenthesis, afterMinus, afterTilde, afterBinary, firstOf, secondOf, need, signOf, allow, State, want, have, call, dead, Popped, pop, guard, shut, zeroed, parted, join, step, accepted, refused, done, finish, run, reading}
 use Rattle.syntax.specs.Reader.{top}
-use Rattle.syntax.proofs.Laws.{true≢false, pop-feed, pop-keep}
+use Rattle.syntax.proofs.Laws.{pop-feed, pop-keep}
 use Rattle.syntax.proofs.Ranks.{Tree, tightestRank, Reads, after, joined, constantOf, related, after-leaf, after-constant, after-related, after-joined, r-constant, r-related, r-parenthesis, r-binary, to-rank}
 
 -- the frames stand for the tokens before the place, with the order o
@@ -92,12 +92,12 @@ top-tightest false K a = top-formula K (a refl)
 
 -- ---- frames that get their value
 -- what popping leaves
-pub record Popping (s : Bool) (l : ℕ) (q : Popped) (all : List Sym) : Type 0 where
-  pub before : List Sym
-  pub order-before : List Sym
-  pub begun : Begun (q .stack) before order-before
-  pub value : Valued s l (q .stack) before order-before (q .order) all
-  pub low : top (q .stack) ≤ l
+record Popping (s : Bool) (l : ℕ) (q : Popped) (all : List Sym) : Type 0 where
+  before : List Sym
+  order-before : List Sym
+  begun : Begun (q .stack) before order-before
+  value : Valued s l (q .stack) before order-before (q .order) all
+  low : top (q .stack) ≤ l
 
 abbrev Pops : List Frame → List Sym → List Sym → Type 0
 Pops K ts c = (s : Bool) (l m : ℕ) (o all : List Sym) → loosest s ≤ l → l ≤ m → top K ≤ m → Valued s m K ts c o all → Popping s l (pop l K o) all
@@ -359,13 +359,14 @@ rank-tightest And = omega arith
 rank-tightest Plus = omega arith
 rank-tightest Times = omega arith
 
-same-is : (s b : Bool) → same s b ≡ true → s ≡ b
-same-is true b h = sym h
+same-is : (s b : Bool) → Bool·beq s b ≡ true → s ≡ b
+same-is true true h = refl
+same-is true false h = sym h
 same-is false true h = h
 same-is false false h = refl
 
 binary-stands : (s : Bool) (b : Sign) (K : List Frame) (o : List Sym) (i : ℕ) (all : List Sym) → Holding s K o all → Stands (step (have s K o) (binary b) i) (all ++ binary b ∷ [])
-binary-stands s b K o i all v = guard-stands (same s (joinsTerms b)) (join b (pop (rankOf b) K o)) i (all ++ binary b ∷ []) (λ e.
+binary-stands s b K o i all v = guard-stands (Bool·beq s (joinsTerms b)) (join b (pop (rankOf b) K o)) i (all ++ binary b ∷ []) (λ e.
     join-stands b (pop (rankOf b) K o) all (popped (joinsTerms b) (rankOf b) K o all (rank-loosest b) (rank-tightest b) (subst (λ (z : Bool). Holding z K o all) (same-is s (joinsTerms b) e) v)))
 
 loosest-tightest : (s : Bool) → loosest s ≤ tightestRank s
@@ -413,8 +414,8 @@ step-stands (have s K o) (relation c) i all k = tt
 
 -- ---- the whole text
 -- the tokens are a formula of the order o
-abbrev Found : List Sym → List Sym → Type 0
-Found xs o = (f : Formula Name) × Derives xs f × (postfix f ≡ o)
+abbrev FormulaWith : List Sym → List Sym → Type 0
+FormulaWith xs o = (f : Formula Name) × Derives xs f × (postfix f ≡ o)
 
 nothing-before : {ts c : List Sym} → Begun [] ts c → (ts ≡ []) × (c ≡ [])
 nothing-before b-none = (refl, refl)
@@ -422,7 +423,7 @@ nothing-before b-none = (refl, refl)
 pub refused≢accepted : (i : ℕ) (d : List Sym) → refused i ≡ accepted d → ⊥
 refused≢accepted i d e = let z : _≡_ {A = ℕ} 0 1 = cc in omega arith
 
-done-found : (K : List Frame) (before c o d : List Sym) (i : ℕ) (all : List Sym) → Begun K before c → Valued false 0 K before c o all → done K o i ≡ accepted d → Found all d
+done-found : (K : List Frame) (before c o d : List Sym) (i : ℕ) (all : List Sym) → Begun K before c → Valued false 0 K before c o all → done K o i ≡ accepted d → FormulaWith all d
 done-found [] before c o d i all g v e =
     let n : (before ≡ []) × (c ≡ []) = nothing-before g in
     let y : o ≡ d = cc in (
@@ -432,7 +433,7 @@ done-found [] before c o d i all g v e =
     )
 done-found (f ∷ K) before c o d i all g v e = absurd (refused≢accepted i d e)
 
-finish-found : (s : State) (i : ℕ) (all d : List Sym) → Stands s all → finish s i ≡ accepted d → Found all d
+finish-found : (s : State) (i : ℕ) (all d : List Sym) → Stands s all → finish s i ≡ accepted d → FormulaWith all d
 finish-found (dead j) i all d k e = absurd (refused≢accepted j d e)
 finish-found (want K o) i all d k e = absurd (refused≢accepted i d e)
 finish-found (call c K o) i all d k e = absurd (refused≢accepted i d e)
@@ -441,10 +442,10 @@ finish-found (have false K o) i all d k e =
     let p : Popping false 0 (pop 0 K o) all = popped false 0 K o all (omega arith) (omega arith) k in
     done-found (pop 0 K o .stack) (p .before) (p .order-before) (pop 0 K o .order) d i all (p .begun) (p .value) e
 
-run-found : (xs : List Sym) (i : ℕ) (s : State) (all d : List Sym) → Stands s all → run xs i s ≡ accepted d → Found (all ++ xs) d
+run-found : (xs : List Sym) (i : ℕ) (s : State) (all d : List Sym) → Stands s all → run xs i s ≡ accepted d → FormulaWith (all ++ xs) d
 unfolding run
-run-found [] i s all d k e = subst (λ (x : List Sym). Found x d) (sym (append-nil all)) (finish-found s i all d k e)
-run-found (x ∷ xs) i s all d k e = subst (λ (y : List Sym). Found y d) (append-assoc all (x ∷ []) xs) (run-found xs (i + 1) (step s x i) (all ++ x ∷ []) d (step-stands s x i all k) e)
+run-found [] i s all d k e = subst (λ (x : List Sym). FormulaWith x d) (sym (append-nil all)) (finish-found s i all d k e)
+run-found (x ∷ xs) i s all d k e = subst (λ (y : List Sym). FormulaWith y d) (append-assoc all (x ∷ []) xs) (run-found xs (i + 1) (step s x i) (all ++ x ∷ []) d (step-stands s x i all k) e)
 
 -- what is accepted is a formula, with its order
 pub sound : (xs : List Sym) (o : List Sym) → reading xs ≡ accepted o → (f : Formula Name) × Derives xs f × (postfix f ≡ o)

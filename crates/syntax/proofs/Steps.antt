@@ -1,42 +1,36 @@
 -- What one turn of the code does to an answer: a kind is written, a sign is read, a value is handed to the frame that waits
 -- for it, or what stands there is refused. Each is a step of the machine, or the law of its feeding or of its refusal, by
 -- cases on the answer. Assumes nothing.
-use Prim.Native.Nat.{ℕ, suc, _+_, _-_, _≤_, _<_}
+use Prim.Native.Nat.{ℕ, suc, _+_, _≤_, _<_}
 use native.Mathlib.Omega.{arith}
 use mathlib.Core.Path.{_≡_, refl, sym, ap, subst, _∙_}
-use mathlib.Core.List.{List, [], _∷_, _++_}
-use mathlib.Core.Bool.{Bool, true, false, not, cond}
+use mathlib.Core.List.{List, [], _∷_, _++_, map-append}
+use mathlib.Core.Bool.{Bool, true, false, not, cond, true≢false}
 use lib.Dec.{eqb}
-use lib.ListN.{length, drop, set, replicate, length-append}
-use lib.Seq.{set-at, append-snoc}
+use lib.ListN.{length, drop, set, length-append}
 use borrow.Author.Tests.{eqb-true, eqb-false, ne-eqb}
 use Rattle.formula.specs.declared.Sign.the-variants.{Implies, Iff, Or, And, Plus, Times}
+use Rattle.lexer.specs.Arrays.{pad}
+use Rattle.lexer.proofs.Filling.{pad-set}
 use Rattle.syntax.specs.Symbol.{Relation, isZero, relation}
 use Rattle.syntax.specs.Machine.{Sym, Frame, inParenthesis, afterMinus, afterTilde, afterBinary, firstOf, secondOf, need, signOf, allow, loosest, want, have, dead, Popped, guard, shut, close, zeroed, parted, Result, refused, run}
-use Rattle.syntax.specs.Reader.{code, codes, kindAt, top, goesOn, bindingOf, goesAt, Holds, Goes, Stops, Sorted, Within, Inside, Room, expectedOf, endedOf, endedIn, relatedOf, relatedIn, zeroedOf, zeroedIn, startOf}
+use Rattle.syntax.specs.Reader.{code, codes, kindAt, top, goesOn, bindingOf, goesAt, Holds, EndsAs, StopsBelow, Sorted, Within, Inside, Room, expectedOf, endedOf, endedIn, relatedOf, relatedIn, zeroedOf, zeroedIn, startOf}
 use Rattle.syntax.specs.declared.Read.{Read}
 use Rattle.syntax.specs.declared.Read.the-variants.{Value, Refused}
-use Rattle.syntax.proofs.Laws.{true≢false, pop-keep, Waits, feed}
-use Rattle.syntax.proofs.Leaves.{kind-inside}
+use Rattle.syntax.proofs.Laws.{pop-keep, Waits, feed}
+use Rattle.syntax.proofs.Returns.{kind-inside}
 use Rattle.syntax.proofs.Heads.{length-codes, binding-term, binding-formula, rejected, kind-at, goes-at, at-sign}
 
 -- ---- one number more in the order
 
-codes-one : (o : List Sym) (x : Sym) → codes (o ++ x ∷ []) ≡ codes o ++ code x ∷ []
-unfolding codes
-codes-one [] x = refl
-codes-one (y ∷ o) x = ap (λ (l : List ℕ). code y ∷ l) (codes-one o x)
-
 pub holds-one : (A : List ℕ) (n : ℕ) (o : List Sym) (x : Sym) → Holds A n o → n < 256 → Holds (set A n (code x)) (n + 1) (o ++ x ∷ [])
-holds-one A n o x h l =
-    let z : List ℕ = replicate (256 - (n + 1)) 0 in
-    let s : 256 - n ≡ suc (256 - (n + 1)) = omega arith in
-    let e : length o ≡ n = h .1 in (
-      ap (λ (B : List ℕ). set B n (code x)) (h .0 ∙ ap (λ (m : ℕ). codes o ++ replicate m 0) s)
-          ∙ set-at (codes o) 0 z (code x) n (length-codes o ∙ e)
-          ∙ sym (ap (λ (B : List ℕ). B ++ z) (codes-one o x) ∙ append-snoc (codes o) (code x) z),
-      simp length-append (omega arith),
-    )
+unfolding codes
+holds-one A n o x h l = (
+  ap (λ (B : List ℕ). set B n (code x)) (h .0)
+      ∙ pad-set (codes o) n (code x) (length-codes o ∙ h .1) l
+      ∙ ap pad (sym (map-append code o (x ∷ []))),
+  let e : length o ≡ n = h .1 in simp length-append (omega arith),
+)
 
 -- ---- places and ranks
 
@@ -52,7 +46,7 @@ pub within-from : (l a m b q : ℕ) (r : Read) → a ≤ b → q + a ≤ m + b �
 within-from l a m b q (Value t p n) h k w = (omega arith, w .1, omega arith)
 within-from l a m b q (Refused p) h k w = tt
 
-pub stops-looser : (ks : List ℕ) (j k : ℕ) (r : Read) → j ≤ k → Stops ks j r → Stops ks k r
+pub stops-looser : (ks : List ℕ) (j k : ℕ) (r : Read) → j ≤ k → StopsBelow ks j r → StopsBelow ks k r
 stops-looser ks j k (Value t p n) h s = omega arith
 stops-looser ks j k (Refused p) h s = tt
 
@@ -77,34 +71,35 @@ goes-last true c = by-cond (eqb c 10)
     by-cond false = binding-term c .0
 goes-last false c = omega (arith, goes-false c)
 
-pub stops-last : (ks : List ℕ) (r : Read) → Stops ks 6 r
+pub stops-last : (ks : List ℕ) (r : Read) → StopsBelow ks 6 r
 stops-last ks (Value t p n) = goes-last t (kindAt ks p)
 stops-last ks (Refused p) = tt
 
 -- ---- a sign after its last value
 
-record Formal (f : Frame) : Type 0 where
+-- a frame that waits for a formula is a sign: neither ) nor , ends it
+record FormulaFrame (f : Frame) : Type 0 where
   low : need f ≤ 3
   unshut : (t : Bool) (K : List Frame) (o : List Sym) (i : ℕ) → shut t (f ∷ K) o i ≡ dead i
   unparted : (K : List Frame) (o : List Sym) (i : ℕ) → parted (f ∷ K) o i ≡ dead i
 
-formal : (f : Frame) → Waits false f → Formal f
-formal inParenthesis h = absurd h
-formal afterMinus h = absurd (true≢false (sym h))
-formal afterTilde h = record { low = omega arith; unshut = λ t K o i. refl; unparted = λ K o i. refl }
-formal (afterBinary Implies) h = record { low = omega arith; unshut = λ t K o i. refl; unparted = λ K o i. refl }
-formal (afterBinary Iff) h = record { low = omega arith; unshut = λ t K o i. refl; unparted = λ K o i. refl }
-formal (afterBinary Or) h = record { low = omega arith; unshut = λ t K o i. refl; unparted = λ K o i. refl }
-formal (afterBinary And) h = record { low = omega arith; unshut = λ t K o i. refl; unparted = λ K o i. refl }
-formal (afterBinary Plus) h = absurd (true≢false (sym h))
-formal (afterBinary Times) h = absurd (true≢false (sym h))
-formal (firstOf d) h = absurd h
-formal (secondOf d) h = absurd h
+formula-frame : (f : Frame) → Waits false f → FormulaFrame f
+formula-frame inParenthesis h = absurd h
+formula-frame afterMinus h = absurd (true≢false (sym h))
+formula-frame afterTilde h = record { low = omega arith; unshut = λ t K o i. refl; unparted = λ K o i. refl }
+formula-frame (afterBinary Implies) h = record { low = omega arith; unshut = λ t K o i. refl; unparted = λ K o i. refl }
+formula-frame (afterBinary Iff) h = record { low = omega arith; unshut = λ t K o i. refl; unparted = λ K o i. refl }
+formula-frame (afterBinary Or) h = record { low = omega arith; unshut = λ t K o i. refl; unparted = λ K o i. refl }
+formula-frame (afterBinary And) h = record { low = omega arith; unshut = λ t K o i. refl; unparted = λ K o i. refl }
+formula-frame (afterBinary Plus) h = absurd (true≢false (sym h))
+formula-frame (afterBinary Times) h = absurd (true≢false (sym h))
+formula-frame (firstOf d) h = absurd h
+formula-frame (secondOf d) h = absurd h
 
 -- a term where a sign of formulas waits
 stuck : (l : List Sym) (p : ℕ) (f : Frame) (K : List Frame) (o : List Sym) → Waits false f → goesOn true l ≤ need f → run l p (have true (f ∷ K) o) ≡ refused p
 stuck l p f K o w h =
-    let q : Formal f = formal f w in
+    let q : FormulaFrame f = formula-frame f w in
     let m : need f ≤ 3 = q .low in
     rejected l true (need f) p (f ∷ K) o h (omega arith) (omega arith) (λ e. q .unshut true K o p) (λ e. q .unparted K o p) (λ e. absurd (let y : ⊥ = omega arith in y)) (λ e s. absurd (true≢false s))
 
@@ -114,7 +109,7 @@ Turns xs R d K (Value t p n) A = (o : List Sym) × Holds A n o × (R ≡ run (dr
 Turns xs R d K (Refused p) A = R ≡ refused p
 
 module _ (xs : List Sym) (ks : List ℕ) (e : codes xs ≡ ks) (R : Result) where
-  pub ended-goes : (term : Bool) (f : Frame) (K : List Frame) (r : Read) (A : List ℕ) → Waits term f → Stops ks (need f) r → Sorted (not term) r → Room r → Goes xs R (f ∷ K) r A → Goes xs R K (endedOf term r) (endedIn term (code (signOf f)) r A)
+  pub ended-goes : (term : Bool) (f : Frame) (K : List Frame) (r : Read) (A : List ℕ) → Waits term f → StopsBelow ks (need f) r → Sorted (not term) r → Room r → EndsAs xs R (f ∷ K) r A → EndsAs xs R K (endedOf term r) (endedIn term (code (signOf f)) r A)
   ended-goes true f K (Value true p n) A w s k m g = (g .0 ++ signOf f ∷ [], holds-one A n (g .0) (signOf f) (g .1) m, g .2 ∙ feed (drop p xs) p true f K (g .0) w (goes-at xs ks e p true (need f) s))
   ended-goes true f K (Value false p n) A w s k m g = absurd (true≢false (sym (k refl)))
   ended-goes false f K (Value true p n) A w s k m g = g .2 ∙ stuck (drop p xs) p f K (g .0) w (goes-at xs ks e p true (need f) s)
@@ -122,7 +117,7 @@ module _ (xs : List Sym) (ks : List ℕ) (e : codes xs ≡ ks) (R : Result) wher
   ended-goes term f K (Refused p) A w s k m g = g
 
   -- ) after the value in a parenthesis
-  pub closed-goes : (w : Bool) (K : List Frame) (r : Read) (A : List ℕ) → allow K ≡ w → Sorted w r → Stops ks (startOf w) r → Goes xs R (inParenthesis ∷ K) r A → Goes xs R K (expectedOf ks 9 r) A
+  pub closed-goes : (w : Bool) (K : List Frame) (r : Read) (A : List ℕ) → allow K ≡ w → Sorted w r → StopsBelow ks (startOf w) r → EndsAs xs R (inParenthesis ∷ K) r A → EndsAs xs R K (expectedOf ks 9 r) A
   closed-goes w K (Value t p n) A a k s g = by-test (eqb (kindAt ks p) 9) refl
     where
       unclosed : (v : Bool) → w ≡ v → startOf v ≤ loosest t
@@ -133,13 +128,13 @@ module _ (xs : List Sym) (ks : List ℕ) (e : codes xs ≡ ks) (R : Result) wher
       barred true q h = absurd (let y : ⊥ = omega arith in y)
       barred false q h = a ∙ q
 
-      by-test : (b : Bool) → eqb (kindAt ks p) 9 ≡ b → Goes xs R K (cond b (Value t (p + 1) n) (Refused p)) A
+      by-test : (b : Bool) → eqb (kindAt ks p) 9 ≡ b → EndsAs xs R K (cond b (Value t (p + 1) n) (Refused p)) A
       by-test true q = (g .0, g .1, g .2 ∙ at-sign xs ks e p 9 (have t (inParenthesis ∷ K) (g .0)) (eqb-true (kindAt ks p) 9 q) (omega arith) ∙ ap (λ (z : Popped). run (drop (p + 1) xs) (p + 1) (close t z p)) (pop-keep (loosest t) (inParenthesis ∷ K) (g .0) (omega arith)))
       by-test false q = g .2 ∙ rejected (drop p xs) t (startOf w) p (inParenthesis ∷ K) (g .0) (goes-at xs ks e p t (startOf w) s) (unclosed w refl) (omega arith) (λ h. absurd (eqb-false (kindAt ks p) 9 q (kind-at xs ks e p ∙ h))) (λ h. refl) (barred w refl) (λ h z. refl)
   closed-goes w K (Refused p) A a k s g = g
 
   -- , after the first term of C or <=
-  pub parted-goes : (d : Relation) (K : List Frame) (r : Read) (A : List ℕ) → Sorted false r → Stops ks 4 r → Goes xs R (firstOf d ∷ K) r A → Turns xs R d K (expectedOf ks 11 r) A
+  pub parted-goes : (d : Relation) (K : List Frame) (r : Read) (A : List ℕ) → Sorted false r → StopsBelow ks 4 r → EndsAs xs R (firstOf d ∷ K) r A → Turns xs R d K (expectedOf ks 11 r) A
   parted-goes d K (Value false p n) A k s g = absurd (true≢false (sym (k refl)))
   parted-goes d K (Value true p n) A k s g = by-test (eqb (kindAt ks p) 11) refl
     where
@@ -149,20 +144,20 @@ module _ (xs : List Sym) (ks : List ℕ) (e : codes xs ≡ ks) (R : Result) wher
   parted-goes d K (Refused p) A k s g = g
 
   -- ) after the second
-  pub related-goes : (d : Relation) (c : ℕ) (K : List Frame) (r : Read) (A : List ℕ) → code (relation d) ≡ c → Sorted false r → Stops ks 4 r → Room r → Goes xs R (secondOf d ∷ K) r A → Goes xs R K (relatedOf (expectedOf ks 9 r)) (relatedIn c (expectedOf ks 9 r) A)
+  pub related-goes : (d : Relation) (c : ℕ) (K : List Frame) (r : Read) (A : List ℕ) → code (relation d) ≡ c → Sorted false r → StopsBelow ks 4 r → Room r → EndsAs xs R (secondOf d ∷ K) r A → EndsAs xs R K (relatedOf (expectedOf ks 9 r)) (relatedIn c (expectedOf ks 9 r) A)
   related-goes d c K (Value false p n) A u k s m g = absurd (true≢false (sym (k refl)))
   related-goes d c K (Value true p n) A u k s m g = by-test (eqb (kindAt ks p) 9) refl
     where
-      by-test : (b : Bool) → eqb (kindAt ks p) 9 ≡ b → Goes xs R K (relatedOf (cond b (Value true (p + 1) n) (Refused p))) (relatedIn c (cond b (Value true (p + 1) n) (Refused p)) A)
+      by-test : (b : Bool) → eqb (kindAt ks p) 9 ≡ b → EndsAs xs R K (relatedOf (cond b (Value true (p + 1) n) (Refused p))) (relatedIn c (cond b (Value true (p + 1) n) (Refused p)) A)
       by-test true q = (g .0 ++ relation d ∷ [], subst (λ (v : ℕ). Holds (set A n v) (n + 1) (g .0 ++ relation d ∷ [])) u (holds-one A n (g .0) (relation d) (g .1) m), g .2 ∙ at-sign xs ks e p 9 (have true (secondOf d ∷ K) (g .0)) (eqb-true (kindAt ks p) 9 q) (omega arith))
       by-test false q = g .2 ∙ rejected (drop p xs) true 4 p (secondOf d ∷ K) (g .0) (goes-at xs ks e p true 4 s) (omega arith) (omega arith) (λ h. absurd (eqb-false (kindAt ks p) 9 q (kind-at xs ks e p ∙ h))) (λ h. refl) (λ h. refl) (λ h z. absurd (true≢false z))
   related-goes d c K (Refused p) A u k s m g = g
 
   -- =0 after a term
-  pub zeroed-goes : (K : List Frame) (r : Read) (A : List ℕ) → allow K ≡ true → top K ≤ 4 → length ks ≤ 256 → Inside (length ks) r → Goes xs R K r A → Goes xs R K (zeroedOf ks r) (zeroedIn ks r A)
+  pub zeroed-goes : (K : List Frame) (r : Read) (A : List ℕ) → allow K ≡ true → top K ≤ 4 → length ks ≤ 256 → Inside (length ks) r → EndsAs xs R K r A → EndsAs xs R K (zeroedOf ks r) (zeroedIn ks r A)
   zeroed-goes K (Value true p n) A a h m i g = by-test (eqb (kindAt ks p) 10) refl
     where
-      by-test : (b : Bool) → eqb (kindAt ks p) 10 ≡ b → Goes xs R K (cond b (Value false (p + 1) (n + 1)) (Value true p n)) (cond b (set A n 10) A)
+      by-test : (b : Bool) → eqb (kindAt ks p) 10 ≡ b → EndsAs xs R K (cond b (Value false (p + 1) (n + 1)) (Value true p n)) (cond b (set A n 10) A)
       by-test true q =
           let k : kindAt ks p ≡ 10 = eqb-true (kindAt ks p) 10 q in
           let l : p < length ks = kind-inside ks p (omega arith) in (
@@ -179,7 +174,7 @@ module _ (xs : List Sym) (ks : List ℕ) (e : codes xs ≡ ks) (R : Result) wher
 
 -- ---- where the answers stop
 
-pub ended-stops : (ks : List ℕ) (term : Bool) (k : ℕ) (r : Read) → Stops ks k r → Stops ks k (endedOf term r)
+pub ended-stops : (ks : List ℕ) (term : Bool) (k : ℕ) (r : Read) → StopsBelow ks k r → StopsBelow ks k (endedOf term r)
 ended-stops ks true k (Value true p n) s = s
 ended-stops ks true k (Value false p n) s = tt
 ended-stops ks false k (Value true p n) s = tt
@@ -231,9 +226,9 @@ zeroed-within ks a m (Value true p n) w = by-test (eqb (kindAt ks p) 10) refl
 zeroed-within ks a m (Value false p n) w = w
 zeroed-within ks a m (Refused p) w = tt
 
-gap : (m : ℕ) → (0 < m → 5 ≤ m) → m ≤ 4 → m ≤ 3
-gap ℕ.zero h l = omega arith
-gap (suc m) h l = absurd (let z : 5 ≤ suc m = h (omega arith) in let y : ⊥ = omega arith in y)
+below-five : (m : ℕ) → (0 < m → 5 ≤ m) → m ≤ 4 → m ≤ 3
+below-five ℕ.zero h l = omega arith
+below-five (suc m) h l = absurd (let z : 5 ≤ suc m = h (omega arith) in let y : ⊥ = omega arith in y)
 
 -- a term on which neither =0 nor a binary sign of terms goes
 goes-no-zero : (c : ℕ) → (c ≡ 10 → ⊥) → goesAt true c ≤ 4 → goesAt true c ≤ 3
@@ -242,12 +237,12 @@ goes-no-zero c h s = by-cond (eqb c 10) (ne-eqb c 10 h) s
   where
     by-cond : (b : Bool) → b ≡ false → cond b 4 (bindingOf true c) ≤ 4 → cond b 4 (bindingOf true c) ≤ 3
     by-cond true q l = absurd (true≢false q)
-    by-cond false q l = gap (bindingOf true c) (binding-term c .1) l
+    by-cond false q l = below-five (bindingOf true c) (binding-term c .1) l
 
-pub zeroed-stops : (ks : List ℕ) (r : Read) → Stops ks 4 r → Stops ks 3 (zeroedOf ks r)
+pub zeroed-stops : (ks : List ℕ) (r : Read) → StopsBelow ks 4 r → StopsBelow ks 3 (zeroedOf ks r)
 zeroed-stops ks (Value true p n) s = by-test (eqb (kindAt ks p) 10) refl
   where
-    by-test : (b : Bool) → eqb (kindAt ks p) 10 ≡ b → Stops ks 3 (cond b (Value false (p + 1) (n + 1)) (Value true p n))
+    by-test : (b : Bool) → eqb (kindAt ks p) 10 ≡ b → StopsBelow ks 3 (cond b (Value false (p + 1) (n + 1)) (Value true p n))
     by-test true q = goes-false (kindAt ks (p + 1))
     by-test false q = goes-no-zero (kindAt ks p) (eqb-false (kindAt ks p) 10 q) s
 zeroed-stops ks (Value false p n) s = goes-false (kindAt ks p)

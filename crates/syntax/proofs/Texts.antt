@@ -2,14 +2,14 @@
 -- tokens are read exactly as the grammar has them. Assumes nothing.
 use mathlib.Core.Logic.{⊎-elim}
 use mathlib.Core.Path.{_≡_, refl, sym, ap, subst, _∙_}
-use mathlib.Core.List.{List, [], _∷_, _++_}
-use Prim.Native.Nat.{ℕ, _-_, _≤_, _<_}
+use mathlib.Core.List.{List, [], _∷_}
+use Prim.Native.Nat.{ℕ, _≤_, _<_}
 use native.Mathlib.Omega.{arith}
-use lib.ListN.{length, replicate}
+use lib.ListN.{length}
 use Rattle.lexer.specs.Token.{Token}
 use Rattle.lexer.specs.Cutting.{Cutting, tokens, refused, first, Cut, end, blank, run, longName, sign, measuredSign, noSign, foreign}
 use Rattle.lexer.specs.Cutter.{cutting}
-use Rattle.lexer.specs.Arrays.{tokensOf, lexedOf}
+use Rattle.lexer.specs.Arrays.{pad, tokensOf, lexedOf}
 use Rattle.lexer.specs.declared.LexAnswer.{LexAnswer}
 use Rattle.lexer.specs.declared.LexAnswer.the-variants as LexAnswer
 use Rattle.lexer.specs.declared.Lexed.{Lexed}
@@ -27,7 +27,7 @@ use Rattle.syntax.specs.declared.Rule.{Rule}
 use Rattle.syntax.proofs.Sound.{sound}
 use Rattle.syntax.proofs.Complete.{complete}
 use Rattle.syntax.proofs.Exact.{exact, exact-only}
-use Rattle.syntax.proofs.Rules.{sized}
+use Rattle.syntax.proofs.Rules.{short-or-long}
 use Rattle.syntax.proofs.Unique.{formula-back}
 
 -- ---- the rule of a text, by its cut
@@ -44,31 +44,31 @@ rule-cut s h r e =
 
 -- ---- only refusals 3, 4 and 5 come from a cut
 
-abbrev Refusing : LexAnswer → Type 0
-Refusing LexAnswer.Tokens = ⊥
-Refusing LexAnswer.TooLong = ⊥
-Refusing LexAnswer.NoToken = ⊥
-Refusing (LexAnswer.ForeignByte i) = Unit {0}
-Refusing (LexAnswer.LongName i) = Unit {0}
-Refusing (LexAnswer.Measured i) = Unit {0}
+abbrev OfCut : LexAnswer → Type 0
+OfCut LexAnswer.Tokens = ⊥
+OfCut LexAnswer.TooLong = ⊥
+OfCut LexAnswer.NoToken = ⊥
+OfCut (LexAnswer.ForeignByte i) = Unit {0}
+OfCut (LexAnswer.LongName i) = Unit {0}
+OfCut (LexAnswer.Measured i) = Unit {0}
 
-abbrev Fine : Cutting → Type 0
-Fine (tokens ts) = Unit {0}
-Fine (refused a) = Refusing a
+abbrev RefusedByCut : Cutting → Type 0
+RefusedByCut (tokens ts) = Unit {0}
+RefusedByCut (refused a) = OfCut a
 
-fine-first : (t : Token) (r : Cutting) → Fine r → Fine (first t r)
-fine-first t (tokens ts) h = tt
-fine-first t (refused a) h = h
+refused-by-first : (t : Token) (r : Cutting) → RefusedByCut r → RefusedByCut (first t r)
+refused-by-first t (tokens ts) h = tt
+refused-by-first t (refused a) h = h
 
-fine : {i : ℕ} {s : List ℕ} {r : Cutting} → Cut i s r → Fine r
-fine end = tt
-fine (blank k c) = fine c
-fine (run {r = r} w l c) = fine-first _ r (fine c)
-fine (longName w l) = tt
-fine (sign {r = r} k m e c) = fine-first _ r (fine c)
-fine (measuredSign k m e) = tt
-fine (noSign k m) = tt
-fine (foreign k) = tt
+refused-by-cut : {i : ℕ} {s : List ℕ} {r : Cutting} → Cut i s r → RefusedByCut r
+refused-by-cut end = tt
+refused-by-cut (blank k c) = refused-by-cut c
+refused-by-cut (run {r = r} w l c) = refused-by-first _ r (refused-by-cut c)
+refused-by-cut (longName w l) = tt
+refused-by-cut (sign {r = r} k m e c) = refused-by-first _ r (refused-by-cut c)
+refused-by-cut (measuredSign k m e) = tt
+refused-by-cut (noSign k m) = tt
+refused-by-cut (foreign k) = tt
 
 -- no tokens are no formula
 no-formula : (f : Formula Name) → Derives [] f → ⊥
@@ -84,7 +84,7 @@ of-tokens s short t ts c (accepted o) e =
     formula (record { short = short; tokens-of = t ∷ ts; cut = c; derived = sound (symbolsOf s (t ∷ ts)) o e .1 })
 of-tokens s short t ts c (refusedAt j) e = grammar short c (exact (symbolsOf s (t ∷ ts)) j e)
 
-of-cut : (s : List ℕ) → length s ≤ 256 → (r : Cutting) → Cut 0 s r → Fine r → Answers s (byAnswer (lexedOf r .answer) s (tokensIn r) .answer)
+of-cut : (s : List ℕ) → length s ≤ 256 → (r : Cutting) → Cut 0 s r → RefusedByCut r → Answers s (byAnswer (lexedOf r .answer) s (tokensIn r) .answer)
 unfolding refusalOf
 of-cut s short (tokens []) c h = no-token short c
 of-cut s short (tokens (t ∷ ts)) c h = of-tokens s short t ts c (reading (symbolsOf s (t ∷ ts))) refl
@@ -97,12 +97,12 @@ of-cut s short (refused (LexAnswer.Measured i)) c h = measured short c
 
 pub answered : (s : List ℕ) → Answers s (ruleOf s .answer)
 unfolding refusalOf
-answered s = ⊎-elim short long (sized (length s))
+answered s = ⊎-elim short long (short-or-long (length s))
   where
     short : length s ≤ 256 → Answers s (ruleOf s .answer)
     short h =
         subst (λ (x : Rule). Answers s (x .answer)) (sym (rule-cut s h (cutting s) refl))
-        (of-cut s h (cutting s) (computed-is-meant s) (fine (computed-is-meant s)))
+        (of-cut s h (cutting s) (computed-is-meant s) (refused-by-cut (computed-is-meant s)))
 
     long : 256 < length s → Answers s (ruleOf s .answer)
     long h = subst (λ (x : Rule). Answers s (x .answer)) (sym (rule-long s h)) (too-long h)
@@ -115,7 +115,7 @@ by-cut s short r c = rule-cut s short r (sym (meant-is-computed s r c))
 
 -- a rule is read, with its tokens and its formula's order
 pub rule-read : (s : List ℕ) (f : Formula Name) (h : IsRule s f)
-    → ruleOf s ≡ record { answer = RuleAnswer.Formula; tokens = tokensOf (h .tokens-of); order = codes (postfix f) ++ replicate (256 - length (postfix f)) 0; len = length (postfix f) }
+    → ruleOf s ≡ record { answer = RuleAnswer.Formula; tokens = tokensOf (h .tokens-of); order = pad (codes (postfix f)); len = length (postfix f) }
 rule-read s f h =
     let e : ruleOf s ≡ byAnswer (lexedOf (tokens (h .tokens-of)) .answer) s (h .tokens-of) = by-cut s (h .short) (tokens (h .tokens-of)) (h .cut) in
     e ∙ some (h .tokens-of) (h .derived) ∙ ap (readTokens s (h .tokens-of)) (complete (symbolsOf s (h .tokens-of)) f (h .derived))

@@ -1,6 +1,6 @@
 -- The reader: tokens are read one by one, with a stack of the signs that wait for a value and the postfix order so far.
 -- A parenthesis may open a term or a formula: it allows a formula inside where it may itself be one. Assumes nothing.
-use mathlib.Core.Bool.{Bool, true, false, not}
+use mathlib.Core.Bool.{Bool, true, false, not, Bool·beq, cond}
 use mathlib.Core.List.{List, [], _∷_, _++_}
 use Prim.Native.Nat.{ℕ, suc, _+_}
 use lib.Dec.{ltb}
@@ -9,6 +9,7 @@ use Rattle.formula.specs.Sign.{levelOf, joinsTerms}
 use Rattle.formula.specs.Formula.{Name}
 use Rattle.syntax.specs.Symbol.{Relation, Symbol, leaf, minus, tilde, opening, closing, comma, isZero, binary, constant, relation}
 
+-- a symbol whose name is its bytes
 abbrev pub Sym : Type 0
 Sym = Symbol Name
 
@@ -36,7 +37,7 @@ pub data Frame : Type 0 where
   firstOf : Relation → Frame
   secondOf : Relation → Frame
 
--- the loosest rank of the value that a frame waits for
+-- the loosest rank of the value that a frame waits for; 0 for a parenthesis and for C and <=, which take none before their ) or ,
 abbrev pub need : Frame → ℕ
 need inParenthesis = 0
 need afterMinus = 6
@@ -76,22 +77,14 @@ pub record Popped : Type 0 where
   pub stack : List Frame
   pub order : List Sym
 
-abbrev pub pickPopped : Bool → Popped → Popped → Popped
-pickPopped true a b = a
-pickPopped false a b = b
-
 -- the frames that wait for a value of a rank above l get it
 abbrev pub pop : ℕ → List Frame → List Sym → Popped
 pop l [] o = record { stack = []; order = o }
-pop l (f ∷ K) o = pickPopped (ltb l (need f)) (pop l K (o ++ signOf f ∷ [])) (record { stack = f ∷ K; order = o })
+pop l (f ∷ K) o = cond (ltb l (need f)) (pop l K (o ++ signOf f ∷ [])) (record { stack = f ∷ K; order = o })
 
 abbrev pub guard : Bool → State → ℕ → State
 guard true s i = s
 guard false s i = dead i
-
-abbrev pub same : Bool → Bool → Bool
-same true b = b
-same false b = not b
 
 -- ) after a value
 abbrev pub shut : Bool → List Frame → List Sym → ℕ → State
@@ -120,8 +113,8 @@ parted (afterBinary b ∷ K) o i = dead i
 parted (firstOf c ∷ K) o i = want (secondOf c ∷ K) o
 parted (secondOf c ∷ K) o i = dead i
 
-abbrev pub part : Popped → ℕ → State
-part p i = parted (p .stack) (p .order) i
+abbrev pub partAt : Popped → ℕ → State
+partAt p i = parted (p .stack) (p .order) i
 
 -- a binary sign after its left value
 abbrev pub join : Sign → Popped → State
@@ -155,9 +148,9 @@ step (have t K o) minus i = dead i
 step (have t K o) tilde i = dead i
 step (have t K o) opening i = dead i
 step (have t K o) closing i = close t (pop (loosest t) K o) i
-step (have t K o) comma i = guard t (part (pop 4 K o) i) i
+step (have t K o) comma i = guard t (partAt (pop 4 K o) i) i
 step (have t K o) isZero i = guard t (zeroed (pop 4 K o) i) i
-step (have t K o) (binary b) i = guard (same t (joinsTerms b)) (join b (pop (rankOf b) K o)) i
+step (have t K o) (binary b) i = guard (Bool·beq t (joinsTerms b)) (join b (pop (rankOf b) K o)) i
 step (have t K o) (constant c) i = dead i
 step (have t K o) (relation c) i = dead i
 

@@ -1,15 +1,15 @@
 -- What the recursive readers are asked and answer, over the machine: a reader lent the kinds of the tokens answers how the
 -- machine goes on, whatever frames wait and whatever order is written before. Assumes nothing.
-use mathlib.Core.Bool.{Bool, true, false, cond}
-use mathlib.Core.List.{List, [], _∷_, _++_}
+use mathlib.Core.Bool.{Bool, true, false, cond, Bool·beq}
+use mathlib.Core.List.{List, [], _∷_, map}
 use mathlib.Core.Path.{_≡_}
-use Prim.Native.Nat.{ℕ, _+_, _-_, _≤_, _<_}
+use Prim.Native.Nat.{ℕ, _+_, _≤_, _<_}
 use lib.Dec.{eqb, ltb}
 use lib.ListN.{length, getD, drop, set, replicate}
 use Rattle.formula.specs.declared.Sign.the-variants.{Implies, Iff, Or, And, Plus, Times}
-use Rattle.lexer.specs.Arrays.{codeOf}
+use Rattle.lexer.specs.Arrays.{codeOf, pad}
 use Rattle.syntax.specs.Symbol.{Relation, kindOf, leaf, minus, tilde, opening, closing, comma, isZero, binary, constant, relation}
-use Rattle.syntax.specs.Machine.{Sym, Frame, inParenthesis, need, allow, same, want, have, call, Result, accepted, refused, run, reading}
+use Rattle.syntax.specs.Machine.{Sym, Frame, inParenthesis, need, allow, want, have, call, Result, accepted, refused, run, reading}
 use Rattle.syntax.specs.declared.Read.{Read}
 use Rattle.syntax.specs.declared.Read.the-variants.{Value, Refused}
 
@@ -19,8 +19,7 @@ abbrev pub code : Sym → ℕ
 code x = codeOf (kindOf x)
 
 unfoldable pub codes : List Sym → List ℕ
-codes [] = []
-codes (x ∷ xs) = code x ∷ codes xs
+codes xs = map code xs
 
 -- the kind at a place, 19 past the last
 abbrev pub kindAt : List ℕ → ℕ → ℕ
@@ -80,17 +79,17 @@ goesAt t c = cond (eqb c 10) (cond t 4 0) (bindingOf t c)
 
 -- the array holds the kinds of the order o and zeros
 abbrev pub Holds : List ℕ → ℕ → List Sym → Type 0
-Holds A n o = (A ≡ codes o ++ replicate (256 - n) 0) × (length o ≡ n)
+Holds A n o = (A ≡ pad (codes o)) × (length o ≡ n)
 
 -- the run ends as one from the place of the answer on, where the frames K wait
-abbrev pub Goes : List Sym → Result → List Frame → Read → List ℕ → Type 0
-Goes xs R K (Value t p n) A = (o : List Sym) × Holds A n o × (R ≡ run (drop p xs) p (have t K o))
-Goes xs R K (Refused p) A = R ≡ refused p
+abbrev pub EndsAs : List Sym → Result → List Frame → Read → List ℕ → Type 0
+EndsAs xs R K (Value t p n) A = (o : List Sym) × Holds A n o × (R ≡ run (drop p xs) p (have t K o))
+EndsAs xs R K (Refused p) A = R ≡ refused p
 
--- no sign above rank k goes on the value
-abbrev pub Stops : List ℕ → ℕ → Read → Type 0
-Stops ks k (Value t p n) = goesAt t (kindAt ks p) ≤ k
-Stops ks k (Refused p) = Unit {0}
+-- no sign of rank k or tighter goes on the value
+abbrev pub StopsBelow : List ℕ → ℕ → Read → Type 0
+StopsBelow ks k (Value t p n) = goesAt t (kindAt ks p) ≤ k
+StopsBelow ks k (Refused p) = Unit {0}
 
 -- a formula only where one may stand (w)
 abbrev pub Sorted : Bool → Read → Type 0
@@ -114,7 +113,7 @@ Room (Refused p) = Unit {0}
 
 -- ---- the functions that call no reader
 
--- whether a binary sign above rank k goes on the value
+-- whether a binary sign of rank k or tighter goes on the value
 abbrev pub followsOf : List ℕ → ℕ → Read → Bool
 followsOf ks k (Value t p n) = ltb k (bindingOf t (kindAt ks p))
 followsOf ks k (Refused p) = false
@@ -126,11 +125,11 @@ expectedOf ks c (Refused p) = Refused p
 
 -- a sign after its last value, which must be of the sort that is wanted
 abbrev pub endedOf : Bool → Read → Read
-endedOf term (Value t p n) = cond (same t term) (Value t p (n + 1)) (Refused p)
+endedOf term (Value t p n) = cond (Bool·beq t term) (Value t p (n + 1)) (Refused p)
 endedOf term (Refused p) = Refused p
 
 abbrev pub endedIn : Bool → ℕ → Read → List ℕ → List ℕ
-endedIn term c (Value t p n) A = cond (same t term) (set A n c) A
+endedIn term c (Value t p n) A = cond (Bool·beq t term) (set A n c) A
 endedIn term c (Refused p) A = A
 
 -- C or <= after its second term
@@ -165,8 +164,8 @@ pub record Asked (ks : List ℕ) (at k : ℕ) (w : Bool) (n : ℕ) : Type 0 wher
   pub plain : 4 ≤ k → w ≡ true → (kindAt ks at ≡ 7 → ⊥) × (12 ≤ kindAt ks at → 16 ≤ kindAt ks at)
 
 pub record Said (ks : List ℕ) (at k : ℕ) (w : Bool) (n : ℕ) (A : List ℕ) (r : Read) (B : List ℕ) : Type 0 where
-  pub says : (xs : List Sym) → codes xs ≡ ks → (K : List Frame) → allow K ≡ w → top K ≤ k → (o : List Sym) → Holds A n o → Goes xs (run (drop at xs) at (want K o)) K r B
-  pub stops : Stops ks k r
+  pub says : (xs : List Sym) → codes xs ≡ ks → (K : List Frame) → allow K ≡ w → top K ≤ k → (o : List Sym) → Holds A n o → EndsAs xs (run (drop at xs) at (want K o)) K r B
+  pub stops : StopsBelow ks k r
   pub sorted : Sorted w r
   pub within : Within (length ks) at n r
 
@@ -175,16 +174,16 @@ pub record MoreAsked (ks : List ℕ) (k : ℕ) (s : Read) : Type 0 where
   pub short : length ks ≤ 256
   pub deep : k ≤ 6
   pub inside : Inside (length ks) s
-  pub stopped : k < 4 → Stops ks 3 s
+  pub stopped : k < 4 → StopsBelow ks 3 s
 
 pub record MoreSaid (ks : List ℕ) (k : ℕ) (s : Read) (A : List ℕ) (r : Read) (B : List ℕ) : Type 0 where
-  pub says : (xs : List Sym) → codes xs ≡ ks → (K : List Frame) → top K ≤ k → (R : Result) → Goes xs R K s A → Goes xs R K r B
-  pub stops : Stops ks k r
+  pub says : (xs : List Sym) → codes xs ≡ ks → (K : List Frame) → top K ≤ k → (R : Result) → EndsAs xs R K s A → EndsAs xs R K r B
+  pub stops : StopsBelow ks k r
   pub sorted : (w : Bool) → Sorted w s → Sorted w r
   pub within : (at m : ℕ) → Within (length ks) at m s → Within (length ks) at m r
 
 pub record ParenthesisSaid (ks : List ℕ) (at : ℕ) (w : Bool) (n : ℕ) (A : List ℕ) (r : Read) (B : List ℕ) : Type 0 where
-  pub says : (xs : List Sym) → codes xs ≡ ks → (K : List Frame) → allow K ≡ w → (o : List Sym) → Holds A n o → Goes xs (run (drop at xs) at (want (inParenthesis ∷ K) o)) K r B
+  pub says : (xs : List Sym) → codes xs ≡ ks → (K : List Frame) → allow K ≡ w → (o : List Sym) → Holds A n o → EndsAs xs (run (drop at xs) at (want (inParenthesis ∷ K) o)) K r B
   pub sorted : Sorted w r
   pub within : Within (length ks) at n r
 
@@ -195,8 +194,8 @@ pub record RelationAsked (ks : List ℕ) (at n : ℕ) : Type 0 where
   pub room : n < at
 
 pub record RelationSaid (ks : List ℕ) (at c n : ℕ) (A : List ℕ) (r : Read) (B : List ℕ) : Type 0 where
-  pub says : (xs : List Sym) → codes xs ≡ ks → (d : Relation) → code (relation d) ≡ c → (K : List Frame) → allow K ≡ true → (o : List Sym) → Holds A n o → Goes xs (run (drop at xs) at (call d K o)) K r B
-  pub stops : Stops ks 3 r
+  pub says : (xs : List Sym) → codes xs ≡ ks → (d : Relation) → code (relation d) ≡ c → (K : List Frame) → allow K ≡ true → (o : List Sym) → Holds A n o → EndsAs xs (run (drop at xs) at (call d K o)) K r B
+  pub stops : StopsBelow ks 3 r
   pub within : Within (length ks) at (n + 1) r
 
 -- the rank at which what stands in a parenthesis is read

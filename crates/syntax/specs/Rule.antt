@@ -1,11 +1,11 @@
 -- What is computed: the answer for a rule text, with its tokens and its formula's order as arrays. Assumes nothing.
-use mathlib.Core.List.{List, [], _++_}
-use Prim.Native.Nat.{ℕ, _-_}
+use mathlib.Core.List.{List, []}
+use Prim.Native.Nat.{ℕ}
 use lib.ListN.{length, replicate}
 use Rattle.lexer.specs.Token.{Token}
 use Rattle.lexer.specs.Cutting.{Cutting, tokens, refused}
 use Rattle.lexer.specs.Cutter.{cutting}
-use Rattle.lexer.specs.Arrays.{tokensOf, lexed}
+use Rattle.lexer.specs.Arrays.{pad, tokensOf, lexed}
 use Rattle.lexer.specs.declared.LexAnswer.{LexAnswer}
 use Rattle.lexer.specs.declared.LexAnswer.the-variants as LexAnswer
 use Rattle.syntax.specs.Machine.{Result, accepted, refused as refusedAt, reading}
@@ -16,8 +16,6 @@ use Rattle.syntax.specs.RuleText.{symbolsOf, placeOf}
 use Rattle.syntax.specs.declared.RuleAnswer.{RuleAnswer}
 use Rattle.syntax.specs.declared.RuleAnswer.the-variants as RuleAnswer
 use Rattle.syntax.specs.declared.Rule.{Rule}
-use Rattle.syntax.specs.declared.Verdict.{Verdict}
-use Rattle.syntax.specs.declared.Verdict.the-variants as Verdict
 
 -- a refusal comes with no token and no order
 unfoldable pub refusalOf : RuleAnswer → Rule
@@ -26,7 +24,7 @@ refusalOf a = record { answer = a; tokens = tokensOf []; order = replicate 256 0
 -- the formula's order in an array, what is past it 0; or refusal 6 at the token's place
 abbrev pub readTokens : List ℕ → List Token → Result → Rule
 readTokens s ts (accepted o) =
-    record { answer = RuleAnswer.Formula; tokens = tokensOf ts; order = codes o ++ replicate (256 - length o) 0; len = length o }
+    record { answer = RuleAnswer.Formula; tokens = tokensOf ts; order = pad (codes o); len = length o }
 readTokens s ts (refusedAt i) = refusalOf (RuleAnswer.GrammarAt (placeOf s ts i))
 
 abbrev pub tokensIn : Cutting → List Token
@@ -52,13 +50,3 @@ formulaRead (refusedAt i) = Form.falsity
 
 unfoldable pub meaningOf : List ℕ → Formula Name
 meaningOf s = formulaRead (reading (symbolsOf s (tokensIn (cutting s))))
-
--- document 01's number of each refusal, and what it carries, by the table of calls
-abbrev pub verdictOf : RuleAnswer → Verdict
-verdictOf RuleAnswer.Formula = Verdict.Read
-verdictOf RuleAnswer.TooLong = Verdict.Refused 2 256
-verdictOf RuleAnswer.NoToken = Verdict.Refused 1 0
-verdictOf (RuleAnswer.ForeignByte i) = Verdict.Refused 3 i
-verdictOf (RuleAnswer.LongName i) = Verdict.Refused 4 i
-verdictOf (RuleAnswer.Measured i) = Verdict.Refused 5 i
-verdictOf (RuleAnswer.GrammarAt i) = Verdict.Refused 6 i

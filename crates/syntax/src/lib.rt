@@ -6,14 +6,14 @@ ghost use mathlib.Core.Path.{_≡_};
 ghost use mathlib.Core.Bool.{true};
 ghost use mathlib.Core.List.{List};
 ghost use Prim.Native.Nat.{ℕ, _+_, _≤_, _<_};
-ghost use lib.ListN.{length, set, replicate};
+ghost use lib.ListN.{length};
 ghost use Rattle.lexer.specs.Token.{Token};
 ghost use Rattle.lexer.specs.Arrays.{tokensOf};
 ghost use Rattle.syntax.specs.Symbol.{binary};
 ghost use Rattle.syntax.specs.Machine.{reading};
 ghost use Rattle.syntax.specs.Reader.{kindAt, goes, bindingOf, followsOf, Inside, Room, expectedOf, endedOf, endedIn, relatedOf, relatedIn, zeroedOf, zeroedIn, Asked, Said, MoreAsked, MoreSaid, ParenthesisSaid, RelationAsked, RelationSaid, startOf, ParseSaid};
 ghost use Rattle.syntax.specs.RuleText.{symbolsOf, placeOf};
-ghost use Rattle.syntax.specs.Rule.{refusalOf, readTokens, ruleOf, verdictOf};
+ghost use Rattle.syntax.specs.Rule.{refusalOf, readTokens, ruleOf};
 use formula::Sign;
 use lexer::LexAnswer;
 use lexer::Tokens;
@@ -75,12 +75,6 @@ pub struct Rule {
     pub tokens: Tokens,
     pub order: [u8; 256],
     pub len: usize,
-}
-
-// Document 01's number of a refusal and what it carries.
-pub enum Verdict {
-    Read,
-    Refused { number: u8, place: usize },
 }
 
 // What a reader answers: a value, whether it is a term, the token after it and the length of the order
@@ -355,13 +349,6 @@ fn parse(kinds: &[u8], order: &mut [u8; 256]) -> Read
     }
 }
 
-// An array with nothing in it.
-fn zeros() -> [u8; 256]
-    ensures { λ r. ⌜ r ≡ replicate 256 0 ⌝ }
-{
-    [0u8; 256]
-}
-
 // A refusal, which comes with no token and no order.
 fn refusal(a: RuleAnswer) -> Rule
     ensures { λ r. ⌜ r ≡ refusalOf a ⌝ }
@@ -369,34 +356,34 @@ fn refusal(a: RuleAnswer) -> Rule
     Rule {
         answer: a,
         tokens: Tokens {
-            kinds: zeros(),
-            starts: zeros(),
-            lens: zeros(),
+            kinds: lexer::zeros(),
+            starts: lexer::zeros(),
+            lens: lexer::zeros(),
             n: 0,
         },
-        order: zeros(),
+        order: lexer::zeros(),
         len: 0,
     }
 }
 
 // The place in the text of token i, or the text's length.
-fn place(t: Tokens, length: usize, i: usize) -> usize
+fn place(t: Tokens, size: usize, i: usize) -> usize
     requires { ⌜ t .n ≤ 256 ⌝ }
-    ensures { λ r. ⌜ ((s : List ℕ) (ts : List Token) → t ≡ tokensOf ts → length ≡ lib.ListN.length s → r ≡ placeOf s ts i) ⌝ }
+    ensures { λ r. ⌜ ((s : List ℕ) (ts : List Token) → t ≡ tokensOf ts → size ≡ length s → r ≡ placeOf s ts i) ⌝ }
 {
     let starts = t.starts;
     let n = t.n;
-    if i < n { starts[i] as usize } else { length }
+    if i < n { starts[i] as usize } else { size }
 }
 
 // The formula of the tokens of a text.
-fn parsed(t: Tokens, length: usize) -> Rule
+fn parsed(t: Tokens, size: usize) -> Rule
     requires { ⌜ t .n ≤ 256 ⌝ }
-    ensures { λ r. ⌜ ((s : List ℕ) (ts : List Token) → t ≡ tokensOf ts → length ≡ lib.ListN.length s → r ≡ readTokens s ts (reading (symbolsOf s ts))) ⌝ }
+    ensures { λ r. ⌜ ((s : List ℕ) (ts : List Token) → t ≡ tokensOf ts → size ≡ length s → r ≡ readTokens s ts (reading (symbolsOf s ts))) ⌝ }
 {
     let kinds = t.kinds;
     let n = t.n;
-    let mut order = zeros();
+    let mut order = lexer::zeros();
     let r = parse(&kinds[..n], &mut order);
     match r {
         Read::Value(_, _, m) => Rule {
@@ -406,7 +393,7 @@ fn parsed(t: Tokens, length: usize) -> Rule
             len: m,
         },
         Read::Refused(i) => {
-            let p = place(t, length, i);
+            let p = place(t, size, i);
             refusal(RuleAnswer::GrammarAt(p))
         }
     }
@@ -426,38 +413,5 @@ pub fn read_rule(text: &[u8]) -> Rule
         LexAnswer::ForeignByte(i) => refusal(RuleAnswer::ForeignByte(i)),
         LexAnswer::LongName(i) => refusal(RuleAnswer::LongName(i)),
         LexAnswer::Measured(i) => refusal(RuleAnswer::Measured(i)),
-    }
-}
-
-// The number of a refusal and what it carries, by the table of calls.
-pub fn verdict_of(a: RuleAnswer) -> Verdict
-    ensures { λ r. ⌜ r ≡ verdictOf a ⌝ }
-{
-    match a {
-        RuleAnswer::Formula => Verdict::Read,
-        RuleAnswer::TooLong => Verdict::Refused {
-            number: 2,
-            place: 256,
-        },
-        RuleAnswer::NoToken => Verdict::Refused {
-            number: 1,
-            place: 0,
-        },
-        RuleAnswer::ForeignByte(i) => Verdict::Refused {
-            number: 3,
-            place: i,
-        },
-        RuleAnswer::LongName(i) => Verdict::Refused {
-            number: 4,
-            place: i,
-        },
-        RuleAnswer::Measured(i) => Verdict::Refused {
-            number: 5,
-            place: i,
-        },
-        RuleAnswer::GrammarAt(i) => Verdict::Refused {
-            number: 6,
-            place: i,
-        },
     }
 }

@@ -3,12 +3,13 @@
 use Prim.Native.Nat.{ℕ, suc, _+_, _-_, _≤_}
 use mathlib.Core.Path.{_≡_, refl, sym, ap, ap₂, _∙_}
 use mathlib.Core.Bool.{Bool, true, false, cond}
-use mathlib.Core.List.{List, [], _∷_, _++_}
+use mathlib.Core.List.{List, [], _∷_, _++_, map-append}
 use native.Mathlib.Omega.{arith}
-use lib.ListN.{length, take, replicate, length-append, length-replicate}
+use lib.ListN.{length, take, replicate, length-append}
 use lib.Seq.{take-at}
 use Rattle.formula.specs.Formula.{Term, Atom, Form, Formula, Name}
-use Rattle.formula.specs.Names.{atomsOf}
+use Rattle.formula.specs.Atoms.{atomsOf}
+use Rattle.lexer.specs.Arrays.{pad}
 use Rattle.syntax.specs.Symbol.{relation, contact, part, isZero}
 use Rattle.syntax.specs.Postfix.{termAfter, formulaAfter, postfix}
 use Rattle.syntax.specs.Machine.{Sym}
@@ -16,8 +17,7 @@ use Rattle.syntax.specs.Reader.{code, codes}
 use Rattle.syntax.specs.Rule.{ruleOf, meaningOf}
 use Rattle.syntax.specs.declared.RuleAnswer.the-variants as RuleAnswer
 use Rattle.syntax.specs.declared.Rule.{Rule}
-use Rattle.syntax.proofs.Heads.{length-codes}
-use Rattle.syntax.proofs.Claims.{text-read}
+use Rattle.syntax.proofs.Claims.{length-codes, text-read}
 use Rattle.table.specs.Store.{Text}
 use Rattle.table.specs.Steps.{isAtom, atomPlaces, WasRead}
 use Rattle.table.proofs.Standing.{is-rule}
@@ -43,8 +43,7 @@ places-most (k ∷ ks) = go (isAtom k) (places-most ks)
 
 codes-append : (a b : List Sym) → codes (a ++ b) ≡ codes a ++ codes b
 unfolding codes
-codes-append [] b = refl
-codes-append (x ∷ a) b = ap (λ (l : List ℕ). code x ∷ l) (codes-append a b)
+codes-append a b = map-append code a b
 
 -- how many symbols are atoms
 abbrev count : List Sym → ℕ
@@ -97,7 +96,7 @@ order-count f = omega (arith, formula-count f [])
 -- ---- of a rule that was read
 
 rule-order : (s : Text) → ruleOf s .answer ≡ RuleAnswer.Formula
-    → (ruleOf s .order ≡ codes (postfix (meaningOf s)) ++ replicate (256 - length (postfix (meaningOf s))) 0) × (ruleOf s .len ≡ length (postfix (meaningOf s)))
+    → (ruleOf s .order ≡ pad (codes (postfix (meaningOf s)))) × (ruleOf s .len ≡ length (postfix (meaningOf s)))
 rule-order s e =
     let r = text-read s (meaningOf s) (is-rule s e) in
     (ap (λ (x : Rule). x .order) r, ap (λ (x : Rule). x .len) r)
@@ -107,7 +106,7 @@ rule-atoms s e =
     let r = rule-order s e in
     let o = postfix (meaningOf s) in
     ap₂ (λ (n : ℕ) (l : List ℕ). atomPlaces (take n l)) (r .1) (r .0)
-    ∙ ap atomPlaces (take-at (codes o) (replicate (256 - length o) 0) (length o) (length-codes o))
+    ∙ ap atomPlaces (take-at (codes o) (replicate (256 - length (codes o)) 0) (length o) (length-codes o))
     ∙ order-count (meaningOf s)
 
 -- its length is within the array
@@ -116,5 +115,5 @@ read-within rule w =
     let r = rule-order (w .text) (w .formula) in
     let o = postfix (meaningOf (w .text)) in
     let a : rule .len ≡ length o = ap (λ (x : Rule). x .len) (w .read) ∙ r .1 in
-    let b : length (rule .order) ≡ length o + (256 - length o) = ap (λ (x : Rule). length (x .order)) (w .read) ∙ ap length (r .0) ∙ length-append (codes o) (replicate (256 - length o) 0) ∙ ap₂ _+_ (length-codes o) (length-replicate (256 - length o) 0) in
-    omega arith
+    let b : length (rule .order) ≡ length (codes o) + length (replicate {A = ℕ} (256 - length (codes o)) 0) = ap (λ (x : Rule). length (x .order)) (w .read) ∙ ap length (r .0) ∙ length-append (codes o) (replicate (256 - length (codes o)) 0) in
+    omega (arith, length-codes o)

@@ -8,7 +8,8 @@ use mathlib.Core.List.{List, [], _∷_}
 use native.Mathlib.Omega.{arith}
 use lib.ListN.{length, take, drop}
 use Rattle.formula.specs.Formula.{Formula, Name}
-use Rattle.formula.specs.Names.{atomsOf, atomNames}
+use Rattle.formula.specs.Atoms.{atomsOf}
+use Rattle.formula.specs.Names.{atomNames}
 use Rattle.evalset.specs.Search.{In, here, next, keep, gather}
 use Rattle.evalset.proofs.Search.{clash, none-in, uncons, at-head, keep-elim, gather-intro, gather-elim}
 use Rattle.contact.specs.Numbering.{allAtoms, distinct, sameName, namesOf}

@@ -5,6 +5,7 @@ use mathlib.Core.List.{List, [], _∷_, _++_, map, map-append}
 use native.Mathlib.Omega.{arith}
 use lib.ListN.{length, take, drop, getD, set, replicate, length-map, List·getD-append, length-append}
 use lib.Seq.{set-at, append-snoc}
+use Rattle.lexer.proofs.Lists.{map-at}
 use Rattle.table.specs.declared.Line.{Line}
 use Rattle.table.specs.declared.Table.{Table}
 use Rattle.table.specs.Store.{Text, tableOf, rulesOf, lineOf}
@@ -31,12 +32,7 @@ module _ (t : Table) (v : FromUs t) where
 line-at : (rs : List Text) (i : ℕ) (d : Line) → i < length rs → getD (linesWith rs) i d ≡ lineOf (getD rs i [])
 line-at rs i d h =
     List·getD-append (map lineOf rs) _ d i (simp length-map h)
-    ∙ map-at rs i d h
-  where
-    map-at : (rs : List Text) (i : ℕ) (d : Line) → i < length rs → getD (map lineOf rs) i d ≡ lineOf (getD rs i [])
-    map-at [] i d h = absurd (omega arith)
-    map-at (r ∷ rs) zero d h = refl
-    map-at (r ∷ rs) (suc i) d h = map-at rs i d (omega arith)
+    ∙ map-at lineOf rs i [] d h
 
 module _ (t : Table) (v : FromUs t) (i : ℕ) (d : Line) (h : i < t .count) where
   in-rules : i < length (rulesOf t)

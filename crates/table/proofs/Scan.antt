@@ -6,44 +6,38 @@ use mathlib.Core.Bool.{Bool, true, false, cond}
 use native.Mathlib.Omega.{arith}
 use native.Mathlib.Numerals.{add-one}
 use lib.ListN.{length, take, drop, getD, set, replicate, drop-of-length-le, length-drop}
-use lib.Seq.{drop-cons, getD-drop, set-at, take-suc, append-snoc, length-take-le}
+use lib.Seq.{getD-drop, set-at, take-suc, append-snoc, length-take-le}
 use lib.Dec.{eqb}
 use borrow.Author.Tests.{eq-eqb, ne-eqb, le-leb, lt-leb}
+use Rattle.lexer.proofs.Lists.{rest}
 use Rattle.table.specs.Store.{Text}
 use Rattle.table.specs.Calls.{blankByte, blankLine, linesOf, linesFrom, onFirst}
 use Rattle.table.specs.Steps.{isAtom, atomPlaces}
 
--- the rest from a place on: its byte and the rest from the next
-pub rest : (s : Text) (i : ℕ) → i < length s → drop i s ≡ getD s i 0 ∷ drop (i + 1) s
-rest s i h = rw (add-one, drop-cons s i 0)
-
-no-rest : (s : Text) (i : ℕ) → length s ≤ i → drop i s ≡ []
-no-rest s i h = drop-of-length-le s h
-
 module _ (s : Text) (i : ℕ) (h : i < length s) where
   pub blank-next : blankByte (getD s i 0) ≡ true → blankLine (drop i s) ≡ blankLine (drop (i + 1) s)
   unfolding blankLine
-  blank-next k = rw (rest s i h, k)
+  blank-next k = rw (rest s i 0 h, k)
 
   pub blank-not : blankByte (getD s i 0) ≡ false → blankLine (drop i s) ≡ false
   unfolding blankLine
-  blank-not k = rw (rest s i h, k)
+  blank-not k = rw (rest s i 0 h, k)
 
   pub atoms-here : isAtom (getD s i 0) ≡ true → atomPlaces (drop i s) ≡ suc (atomPlaces (drop (i + 1) s))
   unfolding atomPlaces
-  atoms-here k = rw (rest s i h, k)
+  atoms-here k = rw (rest s i 0 h, k)
 
   pub atoms-next : isAtom (getD s i 0) ≡ false → atomPlaces (drop i s) ≡ atomPlaces (drop (i + 1) s)
   unfolding atomPlaces
-  atoms-next k = rw (rest s i h, k)
+  atoms-next k = rw (rest s i 0 h, k)
 
 pub blank-end : (s : Text) (i : ℕ) → length s ≤ i → blankLine (drop i s) ≡ true
 unfolding blankLine
-blank-end s i h = rw (no-rest s i h)
+blank-end s i h = rw (drop-of-length-le s h)
 
 pub atoms-end : (s : Text) (i : ℕ) → length s ≤ i → atomPlaces (drop i s) ≡ 0
 unfolding atomPlaces
-atoms-end s i h = rw (no-rest s i h)
+atoms-end s i h = rw (drop-of-length-le s h)
 
 -- a turn of the loop that copies a text into zeros, m places in all
 pub copy-next : (m : ℕ) (s : Text) (i : ℕ) → i < length s → i < m
@@ -89,7 +83,7 @@ module _ (f : Text) (at i : ℕ) (low : at ≤ i) where
       → onHead (take (i - at) (drop at f)) (linesOf (drop i f)) ≡ onHead (take (i + 1 - at) (drop at f)) (linesOf (drop (i + 1) f))
   unfolding linesOf
   lines-next h n =
-      rw (rest f i h, ne-eqb (getD f i 0) 10 n)
+      rw (rest f i 0 h, ne-eqb (getD f i 0) 10 n)
       (head-more (take (i - at) (drop at f)) (getD f i 0) (linesOf (drop (i + 1) f))
       ∙ ap (λ (p : Text). onHead p (linesOf (drop (i + 1) f))) (part-more h))
 
@@ -98,11 +92,11 @@ module _ (f : Text) (at i : ℕ) (low : at ≤ i) where
   unfolding linesOf linesFrom
   lines-cut h e =
       let k : i + 1 ≤ length f = omega arith in
-      rw (rest f i h, eq-eqb (getD f i 0) 10 e, le-leb (i + 1) (length f) k, append-nil)
+      rw (rest f i 0 h, eq-eqb (getD f i 0) 10 e, le-leb (i + 1) (length f) k, append-nil)
 
   pub lines-last : i ≡ length f → onHead (take (i - at) (drop at f)) (linesOf (drop i f)) ≡ take (i - at) (drop at f) ∷ linesFrom f (i + 1)
   unfolding linesOf linesFrom
   lines-last e =
       let k : length f < i + 1 = omega arith in
       let m : length f ≤ i = omega arith in
-      rw (no-rest f i m, lt-leb (i + 1) (length f) k, append-nil)
+      rw (drop-of-length-le f m, lt-leb (i + 1) (length f) k, append-nil)

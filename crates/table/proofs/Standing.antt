@@ -10,7 +10,7 @@ use lib.ListN.{length, take, drop, length-append, length-take, length-drop, take
 use lib.Dec.{ltb, leb}
 use borrow.Author.Tests.{ltb-false, leb-false, le-ltb, lt-leb}
 use Rattle.formula.specs.Formula.{Formula, Name}
-use Rattle.formula.specs.Names.{atomsOf}
+use Rattle.formula.specs.Atoms.{atomsOf}
 use Rattle.syntax.specs.RuleText.{IsRule, Answers, formula, too-long, no-token, foreign-byte, long-name, measured, grammar}
 use Rattle.syntax.specs.Rule.{ruleOf, meaningOf}
 use Rattle.syntax.specs.declared.RuleAnswer.{RuleAnswer}

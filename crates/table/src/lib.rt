@@ -7,7 +7,7 @@
 ghost use mathlib.Core.Path.{_≡_};
 ghost use mathlib.Core.List.{List, [], _∷_, _++_};
 ghost use Prim.Native.Nat.{ℕ, _+_, _-_, _≤_, _<_};
-ghost use lib.ListN.{length, take, drop, replicate};
+ghost use lib.ListN.{length, take, drop};
 ghost use Rattle.syntax.specs.Rule.{ruleOf};
 ghost use Rattle.names.specs.Gather.{arraysOf};
 ghost use Rattle.sheets.specs.Texts.{CompiledTexts, Whole};
@@ -159,18 +159,11 @@ struct Counted {
     answer: AddAnswer,
 }
 
-// An array with nothing in it.
-fn zeros() -> [u8; 256]
-    ensures { λ r. ⌜ r ≡ replicate 256 0 ⌝ }
-{
-    [0u8; 256]
-}
-
 // A line with nothing in it.
 fn no_line() -> Line
     ensures { λ r. ⌜ r ≡ lineOf [] ⌝ }
 {
-    let bytes = zeros();
+    let bytes = lexer::zeros();
     Line { bytes, len: 0 }
 }
 
@@ -179,7 +172,7 @@ fn line_of(text: &[u8]) -> Line
     requires { ⌜ length (now text) ≤ 256 ⌝ }
     ensures { λ r. ⌜ r ≡ lineOf (now (text .entry)) ⌝ }
 {
-    let mut bytes = zeros();
+    let mut bytes = lexer::zeros();
     let mut i: usize = 0;
     while i < text.len() {
         bytes[i] = text[i];

@@ -1,11 +1,14 @@
 -- The invariant: the tokens that are in the arrays and the cutting of the rest of the text give the answer for the whole text. The
 -- measure is what is left of the text. Assumes nothing.
 use mathlib.Core.Path.{_≡_, sym, ap, _∙_}
+use mathlib.Core.List.{[]}
 use Prim.Native.Nat.{_≤_, _-_}
 use native.Mathlib.Omega.{arith}
 use lib.ListN.{length, drop}
-use Rattle.lexer.specs.Cutter.{ClassTable, cutFrom, cutting}
-use Rattle.lexer.specs.Steps.{arrays, none, resume}
+use Rattle.lexer.specs.ClassTable.{ClassTable}
+use Rattle.lexer.specs.Cutter.{cutFrom, cutting}
+use Rattle.lexer.specs.Arrays.{tokensOf}
+use Rattle.lexer.specs.Steps.{arrays, resume}
 use Rattle.lexer.specs.declared.Tokens.{Tokens}
 use Rattle.lexer.proofs.Pieces.{token-sized}
 use Rattle.lexer.proofs.Advance.{none-made, at-end, at-blank, at-foreign, at-long, at-measured, at-token}
@@ -15,7 +18,7 @@ use Rattle.lexer.proofs.cut.Tie as tie
 
 abbrev Inv-loop : tie.InvT-loop
 Inv-loop text table kinds₀ starts₀ lens₀ n₀ at₀ kinds starts lens n at =
-    (at ≤ length text) × (length text ≤ 256) × (n ≤ at) × ClassTable table × (resume (arrays kinds starts lens n) (cutFrom at 0 (drop at text)) ≡ resume none (cutting text))
+    (at ≤ length text) × (length text ≤ 256) × (n ≤ at) × ClassTable table × (resume (arrays kinds starts lens n) (cutFrom at 0 (drop at text)) ≡ resume (tokensOf []) (cutting text))
 
 abbrev μ-loop : tie.MeasureT-loop
 μ-loop text table kinds₀ starts₀ lens₀ n₀ at₀ kinds starts lens n at = length text - at

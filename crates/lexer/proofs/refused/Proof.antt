@@ -1,5 +1,6 @@
--- Each array is 256 zeros, as in `none`. Assumes nothing.
-use Rattle.lexer.specs.Steps.{none, refusal}
+-- Each array is 256 zeros, as in the arrays of no token. Assumes nothing.
+use Rattle.lexer.specs.Arrays.{tokensOf}
+use Rattle.lexer.specs.Steps.{refusal}
 use borrow.Author.Needs.{needs}
 use Rattle.lexer.proofs.refused.Statement.{statement}
 use Rattle.lexer.proofs.refused.Tie as tie
@@ -14,7 +15,7 @@ zeros-requires-3 : tie.Need-zeros-requires-3
 zeros-requires-3 c κs = search needs
 
 returns : tie.Need-returns
-unfolding refusal none
+unfolding refusal tokensOf
 returns c = let a = c .before .before .zeros .ensures in let b = c .before .zeros2 .ensures in let d = c .zeros3 .ensures in cc
 
 pub refused-spec : {M : Type 1} → statement M

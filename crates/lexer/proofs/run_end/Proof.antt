@@ -4,7 +4,8 @@ use mathlib.Core.Path.{_≡_, sym, _∙_}
 use Prim.Native.Nat.{_≤_, _+_, _-_}
 use native.Mathlib.Omega.{arith}
 use lib.ListN.{length, drop}
-use Rattle.lexer.specs.Cutter.{ClassTable, runLength}
+use Rattle.lexer.specs.ClassTable.{ClassTable}
+use Rattle.lexer.specs.Cutter.{runLength}
 use Rattle.lexer.proofs.Runs.{run-more, run-stop, run-end}
 use Rattle.lexer.proofs.run_end.Statement.{statement}
 use Rattle.lexer.proofs.run_end.Tie as tie

@@ -7,8 +7,8 @@ use native.Mathlib.Omega.{arith}
 use borrow.Author.Needs.{needs}
 use borrow.Fn.Kinds.{In}
 use borrow.Fn.PlainCycle.{Measures, is, falls, and}
-use Rattle.syntax.proofs.Leaves.{inside-value}
-use Rattle.syntax.proofs.Answers.{left, leftAt, leftAfter, level-formula-asked, level-term-asked, level-more-asked, level-said, level-alone, found, more-level-asked, more-ended-room, more-more-asked, more-said, more-none, more-refused, ended-room, here-room, said-inside, tilde-asked, relation-asked, plain-asked, tilde-said, constant-said, relation-prefix-said, zeroed-said, minus-asked, parenthesis-asked, minus-said, parenthesis-prefix-said, leaf-said, no-term-said, opening-asked, opening-more-asked, opening-joined, opening-alone, parenthesis-level-asked, parenthesis-said, first-asked, no-opening-said, first-inside, first-refused, second-asked, second-inside, related-room, relation-said}
+use Rattle.syntax.proofs.Returns.{inside-value}
+use Rattle.syntax.proofs.Readers.{left, leftAt, leftAfter, level-formula-asked, level-term-asked, level-more-asked, level-said, level-alone, found, more-level-asked, more-ended-room, more-more-asked, more-said, more-none, more-refused, ended-room, here-room, said-inside, tilde-asked, relation-asked, plain-asked, tilde-said, constant-said, relation-prefix-said, zeroed-said, minus-asked, parenthesis-asked, minus-said, parenthesis-prefix-said, leaf-said, no-term-said, opening-asked, opening-more-asked, opening-joined, opening-alone, parenthesis-level-asked, parenthesis-said, first-asked, no-opening-said, first-inside, first-refused, second-asked, second-inside, related-room, relation-said}
 use Rattle.syntax.proofs.formula_prefix.Reads as formula-prefix
 use Rattle.syntax.proofs.formula_prefix.Kinds as formula-prefix-kinds
 use Rattle.syntax.proofs.+formula_prefix+level+more+parenthesis+relation+term_prefix.Lts-formula_prefix as formula-prefix-lts

@@ -1,7 +1,7 @@
 -- The kind picks the sign; any other kind is none of the six. Assumes nothing.
 use mathlib.Core.Path.{sym, ap, _∙_}
 use Rattle.syntax.specs.Reader.{bindingOf}
-use Rattle.syntax.proofs.Leaves.{binding-none}
+use Rattle.syntax.proofs.Returns.{binding-none}
 use borrow.Author.Needs.{needs}
 use Rattle.syntax.proofs.binding.Statement.{statement}
 use Rattle.syntax.proofs.binding.Tie as tie

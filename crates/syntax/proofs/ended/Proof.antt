@@ -1,6 +1,6 @@
 -- The sort of the value decides, and there is room for one number more. Assumes nothing.
 use native.Mathlib.Omega.{arith}
-use Rattle.syntax.proofs.Leaves.{room-value, ended-yes, ended-no, ended-refused}
+use Rattle.syntax.proofs.Returns.{room-value, ended-yes, ended-no, ended-refused}
 use borrow.Author.Needs.{needs}
 use Rattle.syntax.proofs.ended.Statement.{statement}
 use Rattle.syntax.proofs.ended.Tie as tie

@@ -1,7 +1,7 @@
 -- The kind at the place of the value decides. Assumes nothing.
 use native.Mathlib.Omega.{arith}
 use mathlib.Core.Path.{sym, _∙_}
-use Rattle.syntax.proofs.Leaves.{inside-value, expected-yes, expected-no, expected-refused}
+use Rattle.syntax.proofs.Returns.{inside-value, expected-yes, expected-no, expected-refused}
 use borrow.Author.Needs.{needs}
 use Rattle.syntax.proofs.expected.Statement.{statement}
 use Rattle.syntax.proofs.expected.Tie as tie

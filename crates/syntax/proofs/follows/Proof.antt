@@ -1,5 +1,5 @@
 -- The sign at the place of the value decides; a refusal has none. Assumes nothing.
-use Rattle.syntax.proofs.Leaves.{follows-value}
+use Rattle.syntax.proofs.Returns.{follows-value}
 use borrow.Author.Needs.{needs}
 use Rattle.syntax.proofs.follows.Statement.{statement}
 use Rattle.syntax.proofs.follows.Tie as tie

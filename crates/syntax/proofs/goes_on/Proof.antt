@@ -1,8 +1,8 @@
 -- The level of a binary sign is counted from 4 for terms and from 1 for formulas: one equation a sign. Assumes nothing.
 use native.Mathlib.Omega.{arith}
 use mathlib.Core.Path.{sym, _∙_}
-use Rattle.syntax.proofs.Laws.{true≢false}
-use Rattle.syntax.proofs.Leaves.{on-term, on-formula, on-no, level-low}
+use mathlib.Core.Bool.{true≢false}
+use Rattle.syntax.proofs.Returns.{on-term, on-formula, on-no, level-low}
 use borrow.Author.Needs.{needs}
 use Rattle.syntax.proofs.goes_on.Statement.{statement}
 use Rattle.syntax.proofs.goes_on.Tie as tie

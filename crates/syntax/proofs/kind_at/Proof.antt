@@ -1,7 +1,7 @@
 -- Inside the slice the default of `getD` does not matter; past its end the default is 19. Assumes nothing.
 use mathlib.Core.Path.{sym}
 use lib.ListN.{List·getD-eq-default}
-use Rattle.syntax.proofs.Leaves.{kind-here}
+use Rattle.lexer.proofs.Lists.{default-unread}
 use borrow.Author.Needs.{needs}
 use Rattle.syntax.proofs.kind_at.Statement.{statement}
 use Rattle.syntax.proofs.kind_at.Tie as tie
@@ -10,7 +10,7 @@ shared-slice-read-result : tie.Need-shared-slice-read-result
 shared-slice-read-result c = search needs
 
 returns : tie.Need-returns
-returns c = kind-here (c .before .before .args .kinds .now) (c .before .before .args .at) (c .before .if1 .taken)
+returns c = default-unread (c .before .before .args .kinds .now) (c .before .before .args .at) 0 19 (c .before .if1 .taken)
 
 returns-2 : tie.Need-returns-2
 returns-2 c = sym (List·getD-eq-default (c .before .args .kinds .now) 19 (c .if1 .left))

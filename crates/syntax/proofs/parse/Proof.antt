@@ -1,6 +1,6 @@
 -- No frame waits around all the tokens, so that the answer of `level` is the reading; what stands after it decides. Assumes nothing.
 use borrow.Author.Needs.{needs}
-use Rattle.syntax.proofs.Answers.{whole-term, whole-longer, whole-formula, whole-refused}
+use Rattle.syntax.proofs.Readers.{whole-term, whole-longer, whole-formula, whole-refused}
 use Rattle.syntax.proofs.parse.Statement.{statement}
 use Rattle.syntax.proofs.parse.Tie as tie
 

@@ -7,12 +7,6 @@ use Rattle.syntax.specs.RuleText.{symbolsOf}
 use Rattle.syntax.proofs.Rules.{kinds-read, read-value, read-refused}
 use Rattle.syntax.proofs.parsed.Statement.{statement}
 use Rattle.syntax.proofs.parsed.Tie as tie
-use Rattle.syntax.proofs.parsed.Reads as reads
-use Rattle.syntax.proofs.parsed.Lts as lts
-use Rattle.syntax.proofs.parse.Reads as parse-reads
-use Rattle.syntax.proofs.place.Reads as place-reads
-use Rattle.syntax.proofs.refusal.Reads as refusal-reads
-use Rattle.syntax.proofs.zeros.Reads as zeros-reads
 
 zeros-requires : tie.Need-zeros-requires
 zeros-requires c κs = search needs

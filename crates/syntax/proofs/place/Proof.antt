@@ -4,8 +4,6 @@ use mathlib.Core.Path.{_∙_}
 use Rattle.syntax.proofs.Rules.{place-in, place-out}
 use Rattle.syntax.proofs.place.Statement.{statement}
 use Rattle.syntax.proofs.place.Tie as tie
-use Rattle.syntax.proofs.place.Reads as reads
-use Rattle.syntax.proofs.place.Lts as lts
 
 array-read-result : tie.Need-array-read-result
 array-read-result c = search needs

@@ -5,11 +5,6 @@ use Rattle.lexer.specs.declared.LexAnswer.the-variants as LexAnswer
 use Rattle.syntax.proofs.Rules.{few-tokens, arrays-of, rule-by}
 use Rattle.syntax.proofs.read_rule.Statement.{statement}
 use Rattle.syntax.proofs.read_rule.Tie as tie
-use Rattle.syntax.proofs.read_rule.Reads as reads
-use Rattle.syntax.proofs.read_rule.Lts as lts
-use Rattle.lexer.proofs.lex.Reads as lex-reads
-use Rattle.syntax.proofs.parsed.Reads as parsed-reads
-use Rattle.syntax.proofs.refusal.Reads as refusal-reads
 
 lex-requires : tie.Need-lex-requires
 lex-requires c κs = search needs

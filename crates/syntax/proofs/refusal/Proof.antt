@@ -3,9 +3,6 @@ use borrow.Author.Needs.{needs}
 use Rattle.syntax.proofs.Rules.{empty-rule}
 use Rattle.syntax.proofs.refusal.Statement.{statement}
 use Rattle.syntax.proofs.refusal.Tie as tie
-use Rattle.syntax.proofs.refusal.Reads as reads
-use Rattle.syntax.proofs.refusal.Lts as lts
-use Rattle.syntax.proofs.zeros.Reads as zeros-reads
 
 zeros-requires : tie.Need-zeros-requires
 zeros-requires c κs = search needs

@@ -1,6 +1,6 @@
 -- A value gets its sign, for which there is room; a refusal stays. Assumes nothing.
 use native.Mathlib.Omega.{arith}
-use Rattle.syntax.proofs.Leaves.{room-value, related-value, related-refused}
+use Rattle.syntax.proofs.Returns.{room-value, related-value, related-refused}
 use borrow.Author.Needs.{needs}
 use Rattle.syntax.proofs.related.Statement.{statement}
 use Rattle.syntax.proofs.related.Tie as tie

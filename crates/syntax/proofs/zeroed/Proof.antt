@@ -1,7 +1,7 @@
 -- The sort of the value and the kind after it decide; a token that stands there leaves room for a number. Assumes nothing.
 use native.Mathlib.Omega.{arith}
 use mathlib.Core.Path.{sym, _∙_}
-use Rattle.syntax.proofs.Leaves.{inside-value, kind-inside, zeroed-yes, zeroed-no, zeroed-formula, zeroed-refused}
+use Rattle.syntax.proofs.Returns.{inside-value, kind-inside, zeroed-yes, zeroed-no, zeroed-formula, zeroed-refused}
 use borrow.Author.Needs.{needs}
 use Rattle.syntax.proofs.zeroed.Statement.{statement}
 use Rattle.syntax.proofs.zeroed.Tie as tie

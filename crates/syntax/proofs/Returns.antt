@@ -3,19 +3,17 @@ use Prim.Native.Nat.{ℕ, suc, _+_, _≤_, _<_}
 use native.Mathlib.Omega.{arith}
 use mathlib.Core.Path.{_≡_, refl, sym, ap, subst, _∙_}
 use mathlib.Core.List.{List, [], _∷_}
-use mathlib.Core.Bool.{Bool, true, false, Bool·beq, cond}
+use mathlib.Core.Bool.{Bool, true, false, Bool·beq, cond, true≢false}
 use lib.Dec.{ltb}
-use lib.ListN.{length, getD, set}
+use lib.ListN.{length, set}
 use borrow.Author.Tests.{eq-eqb, ne-eqb}
 use Rattle.formula.specs.declared.Sign.{Sign}
 use Rattle.formula.specs.declared.Sign.the-variants.{Implies, Iff, Or, And, Plus, Times}
 use Rattle.formula.specs.Sign.{levelOf, joinsTerms}
 use Rattle.syntax.specs.Symbol.{binary}
-use Rattle.syntax.specs.Machine.{same}
 use Rattle.syntax.specs.Reader.{kindAt, goes, bindingOf, followsOf, Inside, Room, expectedOf, endedOf, endedIn, relatedOf, relatedIn, zeroedOf, zeroedIn}
 use Rattle.syntax.specs.declared.Read.{Read}
 use Rattle.syntax.specs.declared.Read.the-variants.{Value, Refused}
-use Rattle.syntax.proofs.Laws.{true≢false}
 
 -- ---- what goes on a value
 
@@ -73,11 +71,6 @@ binding-none t c h = sym (simp (ne-eqb c 0 (h .0 .0 .0 .0 .0 .1), ne-eqb c 1 (h 
 
 -- ---- what is known of a value
 
-pub kind-here : (ks : List ℕ) (p : ℕ) → p < length ks → getD ks p 0 ≡ kindAt ks p
-kind-here [] p h = absurd (let y : ⊥ = omega arith in y)
-kind-here (k ∷ ks) ℕ.zero h = refl
-kind-here (k ∷ ks) (suc p) h = kind-here ks p (omega arith)
-
 -- a kind that is not past the last
 pub kind-inside : (ks : List ℕ) (p : ℕ) → kindAt ks p < 19 → p < length ks
 kind-inside [] p h = absurd (let y : ⊥ = omega arith in y)
@@ -109,24 +102,18 @@ module _ (ks : List ℕ) (c : ℕ) (r : Read) (t : Bool) (p n : ℕ) (e : r ≡ 
 
 -- ---- ended and related
 
-same-of : (t u b : Bool) → Bool·beq t u ≡ b → same t u ≡ b
-same-of true true b h = h
-same-of true false b h = h
-same-of false true b h = h
-same-of false false b h = h
-
 module _ (term : Bool) (c : ℕ) (A : List ℕ) (r : Read) (t : Bool) (p n : ℕ) (e : r ≡ Value t p n) where
-  ended-as : (b : Bool) → same t term ≡ b → (endedOf term r ≡ cond b (Value t p (n + 1)) (Refused p)) × (endedIn term c r A ≡ cond b (set A n c) A)
+  ended-as : (b : Bool) → Bool·beq t term ≡ b → (endedOf term r ≡ cond b (Value t p (n + 1)) (Refused p)) × (endedIn term c r A ≡ cond b (set A n c) A)
   ended-as b h = (
     ap (endedOf term) e ∙ ap (λ (x : Bool). cond x (Value t p (n + 1)) (Refused p)) h,
     ap (λ (q : Read). endedIn term c q A) e ∙ ap (λ (x : Bool). cond x (set A n c) A) h,
   )
 
   pub ended-yes : Bool·beq t term ≡ true → (Value t p (n + 1) ≡ endedOf term r) × (set A n c ≡ endedIn term c r A)
-  ended-yes h = let s : (endedOf term r ≡ Value t p (n + 1)) × (endedIn term c r A ≡ set A n c) = ended-as true (same-of t term true h) in (sym (s .0), sym (s .1))
+  ended-yes h = let s : (endedOf term r ≡ Value t p (n + 1)) × (endedIn term c r A ≡ set A n c) = ended-as true h in (sym (s .0), sym (s .1))
 
   pub ended-no : Bool·beq t term ≡ false → (Refused p ≡ endedOf term r) × (A ≡ endedIn term c r A)
-  ended-no h = let s : (endedOf term r ≡ Refused p) × (endedIn term c r A ≡ A) = ended-as false (same-of t term false h) in (sym (s .0), sym (s .1))
+  ended-no h = let s : (endedOf term r ≡ Refused p) × (endedIn term c r A ≡ A) = ended-as false h in (sym (s .0), sym (s .1))
 
 pub ended-refused : (term : Bool) (c : ℕ) (A : List ℕ) (r : Read) (p : ℕ) → r ≡ Refused p → (Refused p ≡ endedOf term r) × (A ≡ endedIn term c r A)
 ended-refused term c A r p e = (sym (ap (endedOf term) e), sym (ap (λ (q : Read). endedIn term c q A) e))

@@ -4,7 +4,7 @@ use Prim.Native.Nat.{ℕ, suc, _+_, _*_, _-_, _≤_, _<_}
 use native.Mathlib.Omega.{arith}
 use mathlib.Core.Path.{_≡_, refl, sym, ap, subst, _∙_}
 use mathlib.Core.List.{List, [], _∷_, _++_}
-use mathlib.Core.Bool.{Bool, true, false, not, cond}
+use mathlib.Core.Bool.{Bool, true, false, not, cond, true≢false, Bool·beq}
 use lib.Dec.{eqb, ltb}
 use lib.ListN.{length, drop, set, replicate, length-drop, drop-of-length-le, List·getD-eq-default}
 use borrow.Author.Tests.{eqb-true, eqb-false, ltb-true, ltb-false}
@@ -12,12 +12,12 @@ use Rattle.formula.specs.declared.Sign.{Sign}
 use Rattle.formula.specs.Sign.{joinsTerms}
 use Rattle.formula.specs.Formula.{Name}
 use Rattle.syntax.specs.Symbol.{Leaf, Relation, leaf, binary, constant, relation, contact, part}
-use Rattle.syntax.specs.Machine.{Sym, Frame, inParenthesis, afterMinus, afterTilde, afterBinary, firstOf, secondOf, rankOf, allow, same, State, want, have, call, Popped, guard, join, step, Result, run, reading}
-use Rattle.syntax.specs.Reader.{code, codes, kindAt, top, bindingOf, goesAt, followsOf, Holds, Goes, Stops, Sorted, Within, Inside, Room, expectedOf, endedOf, endedIn, relatedOf, relatedIn, zeroedOf, zeroedIn, Asked, Said, MoreAsked, MoreSaid, ParenthesisSaid, RelationAsked, RelationSaid, startOf, Parsed, ParseSaid}
+use Rattle.syntax.specs.Machine.{Sym, Frame, inParenthesis, afterMinus, afterTilde, afterBinary, firstOf, secondOf, rankOf, allow, State, want, have, call, Popped, guard, join, step, Result, run, reading}
+use Rattle.syntax.specs.Reader.{code, codes, kindAt, top, bindingOf, goesAt, followsOf, Holds, EndsAs, StopsBelow, Sorted, Within, Inside, Room, expectedOf, endedOf, endedIn, relatedOf, relatedIn, zeroedOf, zeroedIn, Asked, Said, MoreAsked, MoreSaid, ParenthesisSaid, RelationAsked, RelationSaid, startOf, Parsed, ParseSaid}
 use Rattle.syntax.specs.declared.Read.{Read}
 use Rattle.syntax.specs.declared.Read.the-variants.{Value, Refused}
-use Rattle.syntax.proofs.Laws.{true≢false, pop-keep}
-use Rattle.syntax.proofs.Leaves.{kind-inside}
+use Rattle.syntax.proofs.Laws.{pop-keep}
+use Rattle.syntax.proofs.Returns.{kind-inside}
 use Rattle.syntax.proofs.Heads.{length-codes, kindOn, Joins, binding-term, binding-formula, binding-zero, binding-end, rejected, NoTerm, no-term, no-opening, kind-at, goes-at, at-sign, at-leaf, at-binary}
 use Rattle.syntax.proofs.Steps.{holds-one, inside-of, room-of, within-from, stops-looser, sorted-formula, goes-false, goes-last, stops-last, Turns, ended-goes, closed-goes, parted-goes, related-goes, zeroed-goes, ended-stops, ended-sorted, ended-within, expected-sorted, expected-within, zeroed-within, zeroed-stops}
 
@@ -136,12 +136,12 @@ module _ (ks : List ℕ) (k : ℕ) (s : Read) (t : Bool) (p n c b : ℕ) (f : Fo
     ended-inside : Within (length ks) p n (endedOf t x)
     ended-inside = ended-within (length ks) p n t x (g .within)
 
-    stopped-formula : k < 4 → (v : Bool) → t ≡ v → Stops ks 3 (Value v p n) → b ≤ 3
+    stopped-formula : k < 4 → (v : Bool) → t ≡ v → StopsBelow ks 3 (Value v p n) → b ≤ 3
     stopped-formula h true q u = absurd (let z : 5 ≤ bindingOf true (kindAt ks p) = binding-term (kindAt ks p) .1 (subst (λ (v : Bool). 0 < bindingOf v (kindAt ks p)) q found-positive) in let y : ⊥ = omega (arith, binding-goes true (kindAt ks p), u) in y)
     stopped-formula h false q u = omega (arith, found-binding ∙ ap (λ (v : Bool). bindingOf v (kindAt ks p)) q, binding-formula (kindAt ks p))
 
     -- the sign is read, then its right value, and then it is written
-    joined-goes : (xs : List Sym) → codes xs ≡ ks → (K : List Frame) → top K ≤ k → (R : Result) → Goes xs R K (Value t p n) A → Goes xs R K (endedOf t x) (endedIn t c x B)
+    joined-goes : (xs : List Sym) → codes xs ≡ ks → (K : List Frame) → top K ≤ k → (R : Result) → EndsAs xs R K (Value t p n) A → EndsAs xs R K (endedOf t x) (endedIn t c x B)
     joined-goes xs e K h R v =
         let z : (a : Sign) × Joins t a (bindingOf t (kindAt ks p)) × (kindAt ks p ≡ code (binary a)) × ((u : State) → run (drop p xs) p u ≡ run (drop (p + 1) xs) (p + 1) (step u (binary a) p)) = at-binary xs ks e p t found-positive in
         let a : Sign = z .0 in
@@ -150,11 +150,11 @@ module _ (ks : List ℕ) (k : ℕ) (s : Read) (t : Bool) (p n c b : ℕ) (f : Fo
         let l : top K ≤ rankOf a = omega (arith, f .above) in
         let u : R ≡ run (drop (p + 1) xs) (p + 1) (want (afterBinary a ∷ K) (v .0)) =
         v .2 ∙ z .3 (have t K (v .0))
-        ∙ ap (λ (q : Popped). run (drop (p + 1) xs) (p + 1) (guard (same t (joinsTerms a)) (join a q) p)) (pop-keep (rankOf a) K (v .0) l)
+        ∙ ap (λ (q : Popped). run (drop (p + 1) xs) (p + 1) (guard (Bool·beq t (joinsTerms a)) (join a q) p)) (pop-keep (rankOf a) K (v .0) l)
         ∙ ap (λ (q : Bool). run (drop (p + 1) xs) (p + 1) (guard q (want (afterBinary a ∷ K) (v .0)) p)) (z .1 .2) in
-        subst (λ (q : ℕ). Goes xs R K (endedOf t x) (endedIn t q x B)) (sym (f .kind ∙ z .2))
-        (ended-goes xs ks e R t (afterBinary a) K x B j (subst (λ (q : ℕ). Stops ks q x) i (g .stops)) (g .sorted) more-ended-room
-        (subst (λ (q : Result). Goes xs q (afterBinary a ∷ K) x B) (sym u) (g .says xs e (afterBinary a ∷ K) (ap not (sym j)) (omega (arith, i)) (v .0) (v .1))))
+        subst (λ (q : ℕ). EndsAs xs R K (endedOf t x) (endedIn t q x B)) (sym (f .kind ∙ z .2))
+        (ended-goes xs ks e R t (afterBinary a) K x B j (subst (λ (q : ℕ). StopsBelow ks q x) i (g .stops)) (g .sorted) more-ended-room
+        (subst (λ (q : Result). EndsAs xs q (afterBinary a ∷ K) x B) (sym u) (g .says xs e (afterBinary a ∷ K) (ap not (sym j)) (omega (arith, i)) (v .0) (v .1))))
 
     module _ (y : Read) (C : List ℕ) (d : (y ≡ endedOf t x) × (C ≡ endedIn t c x B)) where
       pub more-more-asked : (u : ℕ) → leftAfter ks s ≡ u → (leftAfter ks y < u) × MoreAsked ks k y
@@ -164,13 +164,13 @@ module _ (ks : List ℕ) (k : ℕ) (s : Read) (t : Bool) (p n c b : ℕ) (f : Fo
           short = f .asked .short;
           deep = f .asked .deep;
           inside = inside-of (length ks) p n (endedOf t x) (found-inside .1) ended-inside;
-          stopped = λ h. ended-stops ks t 3 x (stops-looser ks b 3 x (stopped-formula h t refl (subst (Stops ks 3) (f .value) (f .asked .stopped h))) (g .stops));
+          stopped = λ h. ended-stops ks t 3 x (stops-looser ks b 3 x (stopped-formula h t refl (subst (StopsBelow ks 3) (f .value) (f .asked .stopped h))) (g .stops));
         },
       )
 
       pub more-said : (r : Read) (D : List ℕ) → MoreSaid ks k y C r D → MoreSaid ks k s A r D
       more-said r D m = record {
-        says = λ xs e K h R v. m .says xs e K h R (subst (λ (z : Read). Goes xs R K z C) (sym (d .0)) (subst (Goes xs R K (endedOf t x)) (sym (d .1)) (joined-goes xs e K h R (subst (λ (z : Read). Goes xs R K z A) (f .value) v))));
+        says = λ xs e K h R v. m .says xs e K h R (subst (λ (z : Read). EndsAs xs R K z C) (sym (d .0)) (subst (EndsAs xs R K (endedOf t x)) (sym (d .1)) (joined-goes xs e K h R (subst (λ (z : Read). EndsAs xs R K z A) (f .value) v))));
         stops = m .stops;
         sorted = λ w v. m .sorted w (subst (Sorted w) (sym (d .0)) (ended-sorted t w x (subst (Sorted w) (f .value) v)));
         within = λ a q v. m .within a q (subst (Within (length ks) a q) (sym (d .0)) (let i : (a < p) × (p ≤ length ks) × (n + a ≤ q + p) = subst (Within (length ks) a q) (f .value) v in within-from (length ks) a q p n (endedOf t x) (omega arith) (i .2) ended-inside));
@@ -182,7 +182,7 @@ more-none ks k s t p n c b A a v q r h =
     let i : bindingOf t (kindAt ks p) ≤ k = omega (arith, r ∙ ap (bindingOf t) q) in
     subst (λ (z : Read). MoreSaid ks k z A (Value t p n) A) (sym v) (record {
       says = λ xs e K l R g. g;
-      stops = goes-binding t (kindAt ks p) k i (λ l. subst (Stops ks 3) v (a .stopped l));
+      stops = goes-binding t (kindAt ks p) k i (λ l. subst (StopsBelow ks 3) v (a .stopped l));
       sorted = λ w g. g;
       within = λ m d g. g;
     })
@@ -244,7 +244,7 @@ module _ (ks : List ℕ) (a n : ℕ) (q : Asked ks a 3 true n) where
       subst (λ (z : Read). Said ks a 3 true n A z C) (sym (d .0)) (subst (Said ks a 3 true n A (endedOf false x)) (sym (d .1 ∙ ap (λ (v : ℕ). endedIn false v x B) h)) (record {
         says = λ xs e K w l o g.
             ended-goes xs ks e (run (drop a xs) a (want K o)) false afterTilde K x B refl (s .stops) (sorted-formula true x refl) (ended-room ks a 3 true n 3 true A x B q s)
-            (subst (λ (z : Result). Goes xs z (afterTilde ∷ K) x B) (sym (at-sign xs ks e a 7 (want K o) (sym k ∙ h) (omega arith) ∙ ap (λ (b : Bool). run (drop (a + 1) xs) (a + 1) (guard b (want (afterTilde ∷ K) o) a)) w)) (s .says xs e (afterTilde ∷ K) refl (omega arith) o g));
+            (subst (λ (z : Result). EndsAs xs z (afterTilde ∷ K) x B) (sym (at-sign xs ks e a 7 (want K o) (sym k ∙ h) (omega arith) ∙ ap (λ (b : Bool). run (drop (a + 1) xs) (a + 1) (guard b (want (afterTilde ∷ K) o) a)) w)) (s .says xs e (afterTilde ∷ K) refl (omega arith) o g));
         stops = ended-stops ks false 3 x (s .stops);
         sorted = sorted-formula true (endedOf false x) refl;
         within = ended-within (length ks) a n false x (s .within);
@@ -273,7 +273,7 @@ module _ (ks : List ℕ) (a n : ℕ) (q : Asked ks a 3 true n) where
   relation-prefix-said A r B c k h m s =
       let z : (d : Relation) × (code (relation d) ≡ c) = relation-at c h m in
       record {
-        says = λ xs e K w t o g. subst (λ (u : Result). Goes xs u K r B) (sym (relation-goes xs e K o (z .0) w (sym k ∙ sym (z .1)))) (s .says xs e (z .0) (z .1) K w o g);
+        says = λ xs e K w t o g. subst (λ (u : Result). EndsAs xs u K r B) (sym (relation-goes xs e K o (z .0) w (sym k ∙ sym (z .1)))) (s .says xs e (z .0) (z .1) K w o g);
         stops = s .stops;
         sorted = sorted-formula true r refl;
         within = within-from (length ks) a n (a + 1) (n + 1) r (omega arith) (omega arith) (s .within);
@@ -311,7 +311,7 @@ module _ (ks : List ℕ) (a : ℕ) (w : Bool) (n : ℕ) (q : Asked ks a 6 w n) w
       subst (λ (z : Read). Said ks a 6 w n A z C) (sym (d .0)) (subst (Said ks a 6 w n A (endedOf true x)) (sym (d .1 ∙ ap (λ (v : ℕ). endedIn true v x B) h)) (record {
         says = λ xs e K v l o g.
             ended-goes xs ks e (run (drop a xs) a (want K o)) true afterMinus K x B refl (s .stops) (s .sorted) (ended-room ks a 6 w n 6 false A x B q s)
-            (subst (λ (z : Result). Goes xs z (afterMinus ∷ K) x B) (sym (at-sign xs ks e a 6 (want K o) (sym k ∙ h) (omega arith))) (s .says xs e (afterMinus ∷ K) refl (omega arith) o g));
+            (subst (λ (z : Result). EndsAs xs z (afterMinus ∷ K) x B) (sym (at-sign xs ks e a 6 (want K o) (sym k ∙ h) (omega arith))) (s .says xs e (afterMinus ∷ K) refl (omega arith) o g));
         stops = stops-last ks (endedOf true x);
         sorted = ended-sorted true w x (λ v. refl);
         within = ended-within (length ks) a n true x (s .within);
@@ -319,7 +319,7 @@ module _ (ks : List ℕ) (a : ℕ) (w : Bool) (n : ℕ) (q : Asked ks a 6 w n) w
 
   pub parenthesis-prefix-said : (A : List ℕ) (r : Read) (B : List ℕ) (c : ℕ) → c ≡ kindAt ks a → c ≡ 8 → ParenthesisSaid ks (a + 1) w n A r B → Said ks a 6 w n A r B
   parenthesis-prefix-said A r B c k h s = record {
-    says = λ xs e K v l o g. subst (λ (z : Result). Goes xs z K r B) (sym (at-sign xs ks e a 8 (want K o) (sym k ∙ h) (omega arith))) (s .says xs e K v o g);
+    says = λ xs e K v l o g. subst (λ (z : Result). EndsAs xs z K r B) (sym (at-sign xs ks e a 8 (want K o) (sym k ∙ h) (omega arith))) (s .says xs e K v o g);
     stops = stops-last ks r;
     sorted = s .sorted;
     within = within-from (length ks) a n (a + 1) n r (omega arith) (omega arith) (s .within);
@@ -383,14 +383,14 @@ parenthesis-level-asked ks a w n t k q u e = (omega arith, subst (λ (z : ℕ). 
 pub parenthesis-said : (ks : List ℕ) (a : ℕ) (w : Bool) (n k : ℕ) (A : List ℕ) (x : Read) (B : List ℕ) (r : Read) → k ≡ startOf w → Said ks a k w n A x B → r ≡ expectedOf ks 9 x → ParenthesisSaid ks a w n A r B
 parenthesis-said ks a w n k A x B r e s d =
     subst (λ (z : Read). ParenthesisSaid ks a w n A z B) (sym d) (record {
-      says = λ xs i K v o g. closed-goes xs ks i (run (drop a xs) a (want (inParenthesis ∷ K) o)) w K x B v (s .sorted) (subst (λ (z : ℕ). Stops ks z x) e (s .stops)) (s .says xs i (inParenthesis ∷ K) v (omega arith) o g);
+      says = λ xs i K v o g. closed-goes xs ks i (run (drop a xs) a (want (inParenthesis ∷ K) o)) w K x B v (s .sorted) (subst (λ (z : ℕ). StopsBelow ks z x) e (s .stops)) (s .says xs i (inParenthesis ∷ K) v (omega arith) o g);
       sorted = expected-sorted ks 9 w x (s .sorted);
       within = expected-within ks 9 a n x (omega arith) (s .within);
     })
 
 -- ---- relation
 
-related-stops : (ks : List ℕ) (r : Read) → Stops ks 3 (relatedOf r)
+related-stops : (ks : List ℕ) (r : Read) → StopsBelow ks 3 (relatedOf r)
 related-stops ks (Value t p n) = goes-false (kindAt ks p)
 related-stops ks (Refused p) = tt
 
@@ -416,7 +416,7 @@ module _ (ks : List ℕ) (a n : ℕ) (q : RelationAsked ks a n) where
     first-turns : (c : ℕ) → c ≡ kindAt ks a → c ≡ 8 → (xs : List Sym) (e : codes xs ≡ ks) (d : Relation) (K : List Frame) (o : List Sym) → Holds A n o → Turns xs (run (drop a xs) a (call d K o)) d K (expectedOf ks 11 x) B
     first-turns c k h xs e d K o g =
         parted-goes xs ks e (run (drop a xs) a (call d K o)) d K x B (s .sorted) (s .stops)
-        (subst (λ (z : Result). Goes xs z (firstOf d ∷ K) x B) (sym (at-sign xs ks e a 8 (call d K o) (sym k ∙ h) (omega arith))) (s .says xs e (firstOf d ∷ K) refl (omega arith) o g))
+        (subst (λ (z : Result). EndsAs xs z (firstOf d ∷ K) x B) (sym (at-sign xs ks e a 8 (call d K o) (sym k ∙ h) (omega arith))) (s .says xs e (firstOf d ∷ K) refl (omega arith) o g))
 
     pub first-refused : (y : Read) (p d c : ℕ) → c ≡ kindAt ks a → c ≡ 8 → y ≡ expectedOf ks 11 x → y ≡ Refused p → RelationSaid ks a d n A (Refused p) B
     first-refused y p d c k h e r = record {
@@ -455,7 +455,7 @@ module _ (ks : List ℕ) (a n : ℕ) (q : RelationAsked ks a n) where
                   let R : Result = run (drop a xs) a (call u K o) in
                   let T : Turns xs R u K (Value t p m) B = subst (λ (y : Read). Turns xs R u K y B) (sym e ∙ v) (first-turns c k h xs b u K o H) in
                   related-goes xs ks b R u d K z C w (g .sorted) (g .stops) (room-of (length ks) p m z second-room (q .short) (g .within))
-                  (subst (λ (Q : Result). Goes xs Q (secondOf u ∷ K) z C) (sym (T .2)) (g .says xs b (secondOf u ∷ K) refl (omega arith) (T .0) (T .1)));
+                  (subst (λ (Q : Result). EndsAs xs Q (secondOf u ∷ K) z C) (sym (T .2)) (g .says xs b (secondOf u ∷ K) refl (omega arith) (T .0) (T .1)));
               stops = related-stops ks (expectedOf ks 9 z);
               within = within-from (length ks) a (n + 1) p (m + 1) (relatedOf (expectedOf ks 9 z)) (omega (arith, second-within)) (omega (arith, second-within)) (related-within (length ks) p m (expectedOf ks 9 z) second-expected);
             }))
@@ -463,28 +463,28 @@ module _ (ks : List ℕ) (a n : ℕ) (q : RelationAsked ks a n) where
 -- ---- parse
 
 module _ (ks : List ℕ) (A : List ℕ) (x : Read) (B : List ℕ) (s : Said ks 0 0 true 0 A x B) where
-  whole : (y : Read) → x ≡ y → (xs : List Sym) → codes xs ≡ ks → A ≡ replicate 256 0 → Goes xs (reading xs) [] y B
+  whole : (y : Read) → x ≡ y → (xs : List Sym) → codes xs ≡ ks → A ≡ replicate 256 0 → EndsAs xs (reading xs) [] y B
   unfolding reading codes
-  whole y v xs e h = subst (λ (z : Read). Goes xs (reading xs) [] z B) v (s .says xs e [] refl (omega arith) [] (h, refl))
+  whole y v xs e h = subst (λ (z : Read). EndsAs xs (reading xs) [] z B) v (s .says xs e [] refl (omega arith) [] (h, refl))
 
   stops-whole : (t : Bool) (p n : ℕ) → x ≡ Value t p n → goesAt t (kindAt ks p) ≤ 0
-  stops-whole t p n v = subst (Stops ks 0) v (s .stops)
+  stops-whole t p n v = subst (StopsBelow ks 0) v (s .stops)
 
   pub whole-term : (t : Bool) (p n : ℕ) → x ≡ Value t p n → t ≡ true → ParseSaid ks A (Refused p) B
   whole-term t p n v u xs e h =
-      let g : Goes xs (reading xs) [] (Value t p n) B = whole (Value t p n) v xs e h in
+      let g : EndsAs xs (reading xs) [] (Value t p n) B = whole (Value t p n) v xs e h in
       g .2 ∙ rejected (drop p xs) t 0 p [] (g .0) (goes-at xs ks e p t 0 (stops-whole t p n v)) (omega arith) (omega arith) (λ z. refl) (λ z. refl) (λ z. absurd (let y : ⊥ = omega arith in y)) (λ z f. absurd (true≢false (sym u ∙ f)))
 
   pub whole-longer : (t : Bool) (p n : ℕ) → x ≡ Value t p n → p < length ks → ParseSaid ks A (Refused p) B
   whole-longer t p n v l xs e h =
-      let g : Goes xs (reading xs) [] (Value t p n) B = whole (Value t p n) v xs e h in
+      let g : EndsAs xs (reading xs) [] (Value t p n) B = whole (Value t p n) v xs e h in
       g .2 ∙ rejected (drop p xs) t 0 p [] (g .0) (goes-at xs ks e p t 0 (stops-whole t p n v)) (omega arith) (omega arith) (λ z. refl) (λ z. refl) (λ z. absurd (let y : ⊥ = omega arith in y))
       (λ z f. absurd (let i : length xs - p ≡ 0 = sym (length-drop p xs) ∙ ap length z in let j : length xs ≡ length ks = sym (length-codes xs) ∙ ap length e in let y : ⊥ = omega arith in y))
 
   pub whole-formula : (t : Bool) (p n : ℕ) → x ≡ Value t p n → t ≡ false → length ks ≤ p → ParseSaid ks A (Value t p n) B
   unfolding run
   whole-formula t p n v u l xs e h =
-      let g : Goes xs (reading xs) [] (Value t p n) B = whole (Value t p n) v xs e h in
+      let g : EndsAs xs (reading xs) [] (Value t p n) B = whole (Value t p n) v xs e h in
       let j : length xs ≡ length ks = sym (length-codes xs) ∙ ap length e in
       (g .0, g .1, g .2 ∙ ap (λ (k : List Sym). run k p (have t [] (g .0))) (drop-of-length-le xs (let m : length xs ≤ p = omega arith in m)) ∙ ap (λ (b : Bool). run [] p (have b [] (g .0))) u)
 
