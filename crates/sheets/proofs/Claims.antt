@@ -16,8 +16,8 @@ use Rattle.contact.specs.Numbering.{allAtoms, position, sameName, namesOf, mapA
 use Rattle.contact.specs.Plan.{firstRow, firstRowOf}
 use Rattle.solver.specs.declared.Row.{Row}
 use Rattle.solver.specs.Coded.{PartIs, CodedFrom}
-use Rattle.solver.specs.Tree.{ComesFrom, Searchable, rowsOf, FirstRowSays}
-use Rattle.solver.proofs.Claims.{searchable, answer-is}
+use Rattle.solver.specs.Tree.{ComesFrom, Runnable, rowsOf, FirstRowSays}
+use Rattle.solver.proofs.Claims.{runnable, answer-is}
 use Rattle.search.specs.declared.RowPlan.{RowPlan}
 use Rattle.search.specs.Rows.{rowBits}
 use Rattle.search.specs.Compiled.{limit}
@@ -31,7 +31,7 @@ use Rattle.plan.specs.Judging.{judge}
 use Rattle.plan.proofs.Floors.{namedFloor}
 use Rattle.judging.specs.declared.Judged.{Judged}
 use Rattle.judging.specs.Values.{judgedOf}
-use Rattle.judging.specs.Judges.{Runs, Prepared, JudgesSay}
+use Rattle.judging.specs.Judges.{JudgesSay}
 use Rattle.judging.proofs.Claims as judging
 use Rattle.compile.proofs.Searched.{compiled-search}
 use Rattle.sheets.specs.declared.Compiling.{Compiling}
@@ -102,11 +102,11 @@ module _ (rules : List (Formula Name)) (c : Compiling) (code : List ℕ) (h : Co
         coded = h .coded;
       }
 
-  -- so `first_row` may be called with them
-  pub may-search : Searchable code (take (c .count) (c .ends)) (c .sheet)
-  may-search = searchable comes-from (omega (arith, h .compiled .counted, h .compiled .few))
+  -- so `first_row` and `judge_plan` may be called with them
+  pub may-run : Runnable code (take (c .count) (c .ends)) (c .sheet)
+  may-run = runnable comes-from (omega (arith, h .compiled .counted, h .compiled .few))
 
-  -- and its answer is the first row of the numbered rules
+  -- the answer of `first_row` is the first row of the numbered rules
   pub answer-first-row : (r : Row) → FirstRowSays code (take (c .count) (c .ends)) (c .sheet) r
       → rowsOf (c .sheet .atoms) r ≡ firstRowOf (length (namesOf rules)) (numberedNames rules)
   answer-first-row r says =
@@ -140,18 +140,11 @@ module _ (rules : List (Formula Name)) (c : Compiling) (code : List ℕ) (h : Co
   pub may-judge : Whole c code
   may-judge = record { rules = rules; rules-compiled = h }
 
-  -- and so may `judge_plan`
-  prepared : Prepared (c .sheet) code (take (c .count) (c .ends)) (numberedNames rules)
-  prepared = record { compiled = comes-from .compiled; coded = h .coded }
-
-  pub may-run : Runs (c .sheet) code (take (c .count) (c .ends))
-  may-run = judging.prepared-runs (c .sheet) code (take (c .count) (c .ends)) (numberedNames rules) (may-plan .1) prepared
-
   module _ (arrays : PlanArrays) (r : Judged) (p : Plan) (is : IsPlan p) (named : p .names ≡ length (namesOf rules)) (stored : Stored arrays p) where
     -- what `judge_plan` answers is the judgement of the rules as read
     pub answer-judged : JudgesSay arrays (c .sheet) code (take (c .count) (c .ends)) r → r ≡ judgedOf (judge (namedFloor rules p is) rules)
     answer-judged says =
-        judging.answer-is arrays (c .sheet) code (take (c .count) (c .ends)) r says (numberedNames rules) prepared p is (named ∙ sym (h .names-counted)) stored
+        judging.answer-is arrays (c .sheet) code (take (c .count) (c .ends)) r says (numberedNames rules) comes-from p is (named ∙ sym (h .names-counted)) stored
         ∙ ap judgedOf (judging.names-judged rules p is)
 
     -- and so is the answer of `judged`

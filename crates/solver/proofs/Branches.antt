@@ -35,7 +35,7 @@ use Rattle.search.proofs.Claims.{step-true, step-false}
 use Rattle.solver.specs.declared.Row.{Row}
 use Rattle.solver.specs.declared.Row.the-variants.{At, Nothing}
 use Rattle.solver.specs.Coded.{Coded}
-use Rattle.solver.specs.Tree.{candidatesOf, CandidatesSay, ParentPasses, PassesSays, ComesFrom, Searchable, Node, under, rowsOf, UnderSays, FirstRowSays}
+use Rattle.solver.specs.Tree.{candidatesOf, CandidatesSay, ParentPasses, PassesSays, ComesFrom, Runnable, Node, under, rowsOf, UnderSays, FirstRowSays}
 use Rattle.solver.proofs.Codes.{coded-numbers}
 use Rattle.solver.proofs.Fewer.{check-prefix}
 use Rattle.solver.proofs.Blocks.{number, lower-half, upper-half}
@@ -66,12 +66,12 @@ kept n i Nothing xs z =
 module _ {code ends : List ℕ} {sheet : Sheet} {row k j : ℕ} (n : Node code ends sheet row k j) where
   pub row-small : row < 65536
   row-small =
-      let p : 2 ^ k ≤ 2 ^ 16 = pow-mono {i = k} {j = 16} (omega (arith, n .within, n .searchable .atoms-fit)) in
+      let p : 2 ^ k ≤ 2 ^ 16 = pow-mono {i = k} {j = 16} (omega (arith, n .within, n .runnable .atoms-fit)) in
       omega (arith, n .row-fits)
 
   pub node-true : (i : ℕ) → i < most → k + suc i ≤ sheet .atoms → Node code ends sheet (row * 2) (k + 1) i
   node-true i few l = record {
-    searchable = n .searchable;
+    runnable = n .runnable;
     within = omega arith;
     row-fits = subst (λ (x : ℕ). row * 2 < 2 ^ x) (sym (add-one k)) (omega (arith, pow-suc 2 k, n .row-fits));
     few = omega arith;
@@ -80,7 +80,7 @@ module _ {code ends : List ℕ} {sheet : Sheet} {row k j : ℕ} (n : Node code e
 
   pub node-false : (i : ℕ) → i < most → k + suc i ≤ sheet .atoms → Node code ends sheet (row * 2 + 1) (k + 1) i
   node-false i few l = record {
-    searchable = n .searchable;
+    runnable = n .runnable;
     within = omega arith;
     row-fits = subst (λ (x : ℕ). row * 2 + 1 < 2 ^ x) (sym (add-one k)) (omega (arith, pow-suc 2 k, n .row-fits));
     few = omega arith;
@@ -213,8 +213,8 @@ module _ (code ends : List ℕ) (sheet : Sheet) (s : State) (row k j : ℕ) (can
 
 -- ---- from the root
 
-pub root-node : {code ends : List ℕ} {sheet : Sheet} → Searchable code ends sheet → Node code ends sheet 0 0 0
-root-node h = record { searchable = h; within = omega arith; row-fits = omega arith; few = omega arith; block-fits = omega arith }
+pub root-node : {code ends : List ℕ} {sheet : Sheet} → Runnable code ends sheet → Node code ends sheet 0 0 0
+root-node h = record { runnable = h; within = omega arith; row-fits = omega arith; few = omega arith; block-fits = omega arith }
 
 pub from-root : (code ends : List ℕ) (sheet : Sheet) (s : State) (cand : EvalSet) (r : Row) → (sheet .names ≤ most → Fit (sheet .names) s [])
     → CandidatesSay code ends 0 0 0 cand → UnderSays code ends sheet s 0 0 0 cand r → FirstRowSays code ends sheet r

@@ -22,15 +22,15 @@ use Rattle.search.specs.Compiled.{limit}
 use Rattle.solver.specs.declared.Row.{Row}
 use Rattle.solver.specs.declared.Row.the-variants.{At, Nothing}
 use Rattle.solver.specs.Coded.{Coded}
-use Rattle.solver.specs.Tree.{extended, candidatesOf, CandidatesSay, ComesFrom, Searchable, rowsOf, FirstRowSays}
+use Rattle.solver.specs.Tree.{extended, candidatesOf, CandidatesSay, ComesFrom, Runnable, rowsOf, FirstRowSays}
 use Rattle.solver.proofs.Codes.{coded-safe}
 
 -- ---- the code (Codes)
 
 -- first_row may be called with the codes of rules and a sheet of at most 16 atoms
-pub searchable : {code ends : List ℕ} {sheet : Sheet} {atoms : List (Atom ℕ)} {rules : List (Form ℕ)}
-    → ComesFrom code ends sheet atoms rules → sheet .atoms ≤ limit → Searchable code ends sheet
-searchable {code} {ends} {sheet} {atoms} {rules} g l =
+pub runnable : {code ends : List ℕ} {sheet : Sheet} {atoms : List (Atom ℕ)} {rules : List (Form ℕ)}
+    → ComesFrom code ends sheet atoms rules → sheet .atoms ≤ limit → Runnable code ends sheet
+runnable {code} {ends} {sheet} {atoms} {rules} g l =
     record { safe = coded-safe (sheet .atoms) code 0 ends rules l (g .coded); atoms-fit = l }
 
 -- ---- the candidates (Blocks)

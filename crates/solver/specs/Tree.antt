@@ -67,13 +67,13 @@ pub record ComesFrom (code ends : List ℕ) (sheet : Sheet) (atoms : List (Atom 
   pub coded : Coded (sheet .atoms) code ends rules
 
 -- the code can be run, and the sheet has no more atoms than there is room for
-pub record Searchable (code ends : List ℕ) (sheet : Sheet) : Type 0 where
+pub record Runnable (code ends : List ℕ) (sheet : Sheet) : Type 0 where
   pub safe : SafeFrom code 0 ends
   pub atoms-fit : sheet .atoms ≤ limit
 
 -- a place in the tree: the row's number is one of k atoms, and j levels of a block are at hand
 pub record Node (code ends : List ℕ) (sheet : Sheet) (row k j : ℕ) : Type 0 where
-  pub searchable : Searchable code ends sheet
+  pub runnable : Runnable code ends sheet
   pub within : k ≤ sheet .atoms
   pub row-fits : row < 2 ^ k
   pub few : j ≤ most

@@ -10,7 +10,7 @@ ghost use Rattle.evalset.specs.Sets.{room, most};
 ghost use Rattle.kleene.specs.Rails.{sure, duoAt, twoAt};
 ghost use Rattle.search.specs.Compiled.{limit};
 ghost use Rattle.solver.specs.Coded.{part, PartSafe, SafeFrom, RuleRefuted, RefutedSays};
-ghost use Rattle.solver.specs.Tree.{decidedAt, CandidatesSay, Filled, PassesSays, Node, UnderSays, Searchable, FirstRowSays};
+ghost use Rattle.solver.specs.Tree.{decidedAt, CandidatesSay, Filled, PassesSays, Node, UnderSays, Runnable, FirstRowSays};
 use evalset::EvalSet;
 use evalset::NAMES;
 use kleene::Two;
@@ -30,24 +30,13 @@ struct Block {
     cand: EvalSet,
 }
 
-// A value that is the same in every row.
-fn settled(value: bool) -> Two
-    ensures { λ r. ⌜ ((e : ℕ) → e < room → duoAt r e ≡ sure value) ⌝ }
-{
-    if value {
-        kleene::rails(evalset::full(), evalset::empty())
-    } else {
-        kleene::rails(evalset::empty(), evalset::full())
-    }
-}
-
 // The values of atom i in the 2 ^ d rows under the row of k atoms: the block's own atoms are true where their bit is clear.
 fn leaf(row: usize, k: usize, d: usize, i: usize) -> Two
     requires { ⌜ (k + d ≤ limit) × (d ≤ most) × (i < k + d) ⌝ }
     ensures { λ r. ⌜ ((e : ℕ) → e < 2 ^ d → duoAt r e ≡ decidedAt k row d e i) ⌝ }
 {
     if i < k {
-        settled(search::value_in(row, k, i))
+        kleene::settled(search::value_in(row, k, i))
     } else {
         let no = evalset::name_set(k + d - 1 - i);
         let yes = evalset::minus(evalset::full(), no);
@@ -191,9 +180,9 @@ fn first_under(
 }
 
 // "The first realisable row that makes all rules true." Our own crates alone call it, with code and sheet that they made from
-// rules: `searchable` of proofs/Claims.antt meets the requires for these.
+// rules: `runnable` of proofs/Claims.antt meets the requires for these.
 pub fn first_row(code: &[u8], ends: &[usize], sheet: Sheet) -> Row
-    requires { ⌜ Searchable (now code) (now ends) sheet ⌝ }
+    requires { ⌜ Runnable (now code) (now ends) sheet ⌝ }
     ensures { λ r. ⌜ FirstRowSays (now (code .entry)) (now (ends .entry)) sheet r ⌝ }
 {
     let s = search::start(sheet.names);

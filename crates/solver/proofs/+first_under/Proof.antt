@@ -96,7 +96,7 @@ first-under-passes-requires : (t : ℕ) → first-under-lts.Need-passes-requires
   first-under-below t,
   first-under.Post,
 ) (first-under-at t) first-under.Post
-first-under-passes-requires t c κs = omega (arith, c .before .before .before .before .pre .1 .within, c .before .before .before .before .pre .1 .searchable .atoms-fit)
+first-under-passes-requires t c κs = omega (arith, c .before .before .before .before .pre .1 .within, c .before .before .before .before .pre .1 .runnable .atoms-fit)
 
 first-under-returns-2 : (t : ℕ) → first-under-lts.Need-returns-2 (
   is-empty-reads.Asked,
@@ -188,7 +188,7 @@ first-under-filled-requires : (t : ℕ) → first-under-lts.Need-filled-requires
 first-under-filled-requires t c κs =
     let n = c .before .before .before .before .before .before .before .before .before .pre .1 in
     let l = c .before .if3 .left in
-    (n .searchable .safe, (omega (arith, n .within), omega (arith, n .within, n .searchable .atoms-fit), n .few, omega (arith, n .block-fits)))
+    (n .runnable .safe, (omega (arith, n .within), omega (arith, n .within, n .runnable .atoms-fit), n .few, omega (arith, n .block-fits)))
 
 first-under-sub-i : (t : ℕ) → first-under-lts.Need-sub-i (
   is-empty-reads.Asked,
@@ -330,7 +330,7 @@ first-under-step-requires : (t : ℕ) → first-under-lts.Need-step-requires (
 ) (first-under-at t) first-under.Post
 first-under-step-requires t c κs =
     let n = c .before .before .before .before .before .before .before .before .before .before .before .before .before .before .before .pre .1 in
-    omega (arith, n .within, n .searchable .atoms-fit, c .before .before .before .before .before .before .before .if3 .left)
+    omega (arith, n .within, n .runnable .atoms-fit, c .before .before .before .before .before .before .before .if3 .left)
 
 first-under-add-first-under : (t : ℕ) → first-under-lts.Need-add-first-under (
   is-empty-reads.Asked,
@@ -350,7 +350,7 @@ first-under-add-first-under : (t : ℕ) → first-under-lts.Need-add-first-under
   first-under-below t,
   first-under.Post,
 ) (first-under-at t) first-under.Post
-first-under-add-first-under t c = omega (arith, c .before .before .before .before .before .before .before .before .before .before .before .before .before .before .before .before .pre .1 .within, c .before .before .before .before .before .before .before .before .before .before .before .before .before .before .before .before .pre .1 .searchable .atoms-fit)
+first-under-add-first-under t c = omega (arith, c .before .before .before .before .before .before .before .before .before .before .before .before .before .before .before .before .pre .1 .within, c .before .before .before .before .before .before .before .before .before .before .before .before .before .before .before .before .pre .1 .runnable .atoms-fit)
 
 first-under-first-under-requires : (t : ℕ) → first-under-lts.Need-first-under-requires (
   is-empty-reads.Asked,
@@ -471,7 +471,7 @@ first-under-step-requires-2 : (t : ℕ) → first-under-lts.Need-step-requires-2
 ) (first-under-at t) first-under.Post
 first-under-step-requires-2 t c κs =
     let n = c .before .before .before .before .before .before .before .before .before .before .before .before .before .before .before .before .before .before .before .pre .1 in
-    omega (arith, n .within, n .searchable .atoms-fit, c .before .before .before .before .before .before .before .before .before .before .before .if3 .left)
+    omega (arith, n .within, n .runnable .atoms-fit, c .before .before .before .before .before .before .before .before .before .before .before .if3 .left)
 
 first-under-add-first-under-2 : (t : ℕ) → first-under-lts.Need-add-first-under-2 (
   is-empty-reads.Asked,
@@ -491,7 +491,7 @@ first-under-add-first-under-2 : (t : ℕ) → first-under-lts.Need-add-first-und
   first-under-below t,
   first-under.Post,
 ) (first-under-at t) first-under.Post
-first-under-add-first-under-2 t c = omega (arith, c .before .before .before .before .before .before .before .before .before .before .before .before .before .before .before .before .before .before .before .before .pre .1 .within, c .before .before .before .before .before .before .before .before .before .before .before .before .before .before .before .before .before .before .before .before .pre .1 .searchable .atoms-fit)
+first-under-add-first-under-2 t c = omega (arith, c .before .before .before .before .before .before .before .before .before .before .before .before .before .before .before .before .before .before .before .before .pre .1 .within, c .before .before .before .before .before .before .before .before .before .before .before .before .before .before .before .before .before .before .before .before .pre .1 .runnable .atoms-fit)
 
 first-under-first-under-requires-2 : (t : ℕ) → first-under-lts.Need-first-under-requires-2 (
   is-empty-reads.Asked,

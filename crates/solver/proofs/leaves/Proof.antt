@@ -10,8 +10,9 @@ use Rattle.evalset.specs.declared.EvalSet.{EvalSet}
 use Rattle.evalset.specs.Sets.{mem}
 use Rattle.evalset.proofs.Bounded.{side, each}
 use Rattle.kleene.specs.Rails.{duo, duoAt, twoAt}
+use Rattle.kleene.proofs.Turns.{two-same, two-other}
 use Rattle.solver.specs.Tree.{decidedAt}
-use Rattle.solver.proofs.Blocks.{leaf-past, nil-at, two-same, two-other}
+use Rattle.solver.proofs.Blocks.{leaf-past, nil-at}
 use Rattle.solver.proofs.leaves.Statement.{statement}
 use Rattle.solver.proofs.leaves.Tie as tie
 
