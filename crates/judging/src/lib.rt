@@ -3,9 +3,8 @@
 // the plan crate's, on the floor of the plan that the arrays hold. The sheet and the code come from our own crates: `judge_plan`
 // requires that they can be run, as compiled sheets and the codes of rules can (`runnable` of solver/proofs/Claims.antt). Assumes nothing.
 ghost use mathlib.Core.Path.{_≡_};
-ghost use Prim.Native.Nat.{ℕ, _≤_, _<_};
-ghost use Rattle.evalset.specs.Sets.{room, mem};
-ghost use Rattle.kleene.specs.Rails.{sure, duoAt};
+ghost use Prim.Native.Nat.{_≤_};
+ghost use Rattle.evalset.specs.Sets.{mem};
 ghost use Rattle.search.specs.Compiled.{limit};
 ghost use Rattle.solver.specs.Coded.{PartSafe, SafeFrom};
 ghost use Rattle.solver.specs.Tree.{Runnable};

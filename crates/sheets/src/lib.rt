@@ -49,7 +49,7 @@ fn names_in(order: &[u8]) -> usize
     let mut i: usize = 0;
     while i < order.len() {
         let kind = order[i];
-        n += compile::names_in(kind);
+        n += compile::names_of_kind(kind);
         i += 1;
     }
     n

@@ -6,8 +6,8 @@
 // indices are in range. Assumes nothing.
 ghost use mathlib.Core.Path.{_≡_};
 ghost use Prim.Native.Nat.{ℕ, _+_, _≤_, _<_, _^_};
-ghost use Rattle.evalset.specs.Sets.{room, most};
-ghost use Rattle.kleene.specs.Rails.{sure, duoAt, twoAt};
+ghost use Rattle.evalset.specs.Sets.{most};
+ghost use Rattle.kleene.specs.Rails.{duoAt, twoAt};
 ghost use Rattle.search.specs.Compiled.{limit};
 ghost use Rattle.solver.specs.Coded.{part, PartSafe, SafeFrom, RuleRefuted, RefutedSays};
 ghost use Rattle.solver.specs.Tree.{decidedAt, CandidatesSay, Filled, PassesSays, Node, UnderSays, Runnable, FirstRowSays};
