@@ -26,7 +26,7 @@ use Rattle.compile.specs.Machine.{State, start, step, run}
 use Rattle.compile.specs.Compiles.{atomsAfter, codeAfter, Given, Asked, Compiles}
 use Rattle.compile.proofs.Orders.{compiled, run-last, run-append, formula-run, Bounds, run-bounds}
 use Rattle.compile.proofs.Heights.{symbolAt, order-fine}
-use Rattle.compile.proofs.Steps.{sets-more, Stacked, Put, term-step, Made, atom-step, sign-step, atom-grows, names-by, no-name, one-at-most}
+use Rattle.compile.proofs.Steps.{Stacked, Put, term-step, Made, atom-step, sign-step, atom-grows, names-by, no-name, one-at-most}
 
 -- ---- the kinds and the names of an order
 
@@ -67,6 +67,14 @@ module _ (g : Name → ℕ) where
   name-here [] i y l e = absurd (omega arith)
   name-here (x ∷ xs) ℕ.zero y l e = ap (λ (z : Sym). getD (map g (symbolNames z ++ namesIn xs)) 0 0) e
   name-here (x ∷ xs) (suc i) y l e = skip (symbolNames x) (namesIn xs) (namesIn (take i xs)) ∙ name-here xs i y (omega arith) e
+
+-- ---- the array of code
+
+-- one number more behind those that are stored
+sets-more : (ws : List ℕ) (from : ℕ) (v : ℕ) (buf : List ℕ) (end : ℕ) → end ≡ from + length ws
+    → set (sets buf from ws) end v ≡ sets buf from (ws ++ v ∷ [])
+sets-more [] from v buf end e = let z : end ≡ from = omega arith in ap (λ (k : ℕ). set buf k v) z
+sets-more (w ∷ ws) from v buf end e = sets-more ws (suc from) v (set buf from w) end (omega arith)
 
 -- ---- the state
 

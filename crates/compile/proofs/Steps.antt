@@ -6,7 +6,6 @@ use Prim.Native.Nat.{ℕ, suc, _+_, _-_, _≤_, _<_}
 use native.Mathlib.Omega.{arith}
 use lib.Dec.{eqb}
 use lib.ListN.{length, set, length-append}
-use lib.Seq.{sets}
 use borrow.Author.Tests.{eqb-true}
 use Rattle.formula.specs.declared.Sign.the-variants.{Implies, Iff, Or, And, Plus, Times}
 use Rattle.formula.specs.Formula.{Term, Atom, Name}
@@ -25,14 +24,6 @@ use Rattle.compile.specs.Machine.{State, withSign, step}
 use Rattle.compile.proofs.Sets.{of-zero, of-one, of-name, of-intersection, of-union, of-part, of-complement}
 use Rattle.compile.proofs.Sheets.{grows-same, compiled-more}
 use Rattle.compile.proofs.Heights.{Proper}
-
--- ---- the array of code
-
--- one number more behind those that are stored
-pub sets-more : (ws : List ℕ) (from : ℕ) (v : ℕ) (buf : List ℕ) (end : ℕ) → end ≡ from + length ws
-    → set (sets buf from ws) end v ≡ sets buf from (ws ++ v ∷ [])
-sets-more [] from v buf end e = let z : end ≡ from = omega arith in ap (λ (k : ℕ). set buf k v) z
-sets-more (w ∷ ws) from v buf end e = sets-more ws (suc from) v (set buf from w) end (omega arith)
 
 -- ---- the stack
 

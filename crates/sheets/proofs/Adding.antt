@@ -94,7 +94,7 @@ module _ (rules : List (Formula Name)) (f : Formula Name) where
 
 module _ (text : List ℕ) (c : Compiling) (code : List ℕ) (rules : List (Formula Name)) (f : Formula Name) (m : OneMore text c code rules f) where
   abbrev every : List (Formula Name)
-  every = rules ++ f ∷ []
+  every = all rules f
 
   -- where the rule's code starts
   abbrev from : ℕ

@@ -7,15 +7,13 @@ use mathlib.Core.List.{List, [], _∷_, _++_, map, map-append}
 use Prim.Native.Nat.{ℕ, _≤_}
 use native.Mathlib.Omega.{arith}
 use lib.ListN.{length, take}
-use Rattle.formula.specs.Formula.{Form, Formula, Name}
-use Rattle.formula.specs.Names.{atomsOf}
+use Rattle.formula.specs.Formula.{Formula, Name}
 use Rattle.syntax.specs.RuleText.{IsRule}
 use Rattle.syntax.specs.Rule.{meaningOf}
 use Rattle.evalset.proofs.Search.{in-either, uncons, none-in}
-use Rattle.contact.specs.Numbering.{allAtoms, position, sameName, namesOf, mapAtom, mapForm, numberedNames, numberForm, numberedAtoms}
+use Rattle.contact.specs.Numbering.{allAtoms, namesOf, numberedNames, numberedAtoms}
 use Rattle.contact.specs.Plan.{firstRow, firstRowOf}
 use Rattle.solver.specs.declared.Row.{Row}
-use Rattle.solver.specs.Coded.{PartIs, CodedFrom}
 use Rattle.solver.specs.Tree.{ComesFrom, Runnable, rowsOf, FirstRowSays}
 use Rattle.solver.proofs.Claims.{runnable, answer-is}
 use Rattle.search.specs.declared.RowPlan.{RowPlan}
@@ -35,34 +33,8 @@ use Rattle.judging.specs.Judges.{JudgesSay}
 use Rattle.judging.proofs.Claims as judging
 use Rattle.compile.proofs.Searched.{compiled-search}
 use Rattle.sheets.specs.declared.Compiling.{Compiling}
-use Rattle.sheets.specs.Ends.{lastEnd}
-use Rattle.sheets.specs.Texts.{Fits, CompiledRules, CompiledTexts, OneMore, Ready, WithText, NothingCompiled, Whole, RowPlanIs, JudgedIs}
-use Rattle.sheets.proofs.Numbers
-use Rattle.sheets.proofs.Coding
+use Rattle.sheets.specs.Texts.{Fits, CompiledRules, CompiledTexts, OneMore, Ready, WithText, NothingCompiled, RowPlanIs, JudgedIs}
 use Rattle.sheets.proofs.Planning.{rowArrays, plan-given}
-
--- ---- one rule more (Numbers, Coding)
-
--- the rules before it keep their numbers for names
-pub numbered-names-with : (rules : List (Formula Name)) (f : Formula Name)
-    → numberedNames (rules ++ f ∷ []) ≡ numberedNames rules ++ mapForm (mapAtom (position sameName (namesOf (rules ++ f ∷ [])))) f ∷ []
-numbered-names-with = Numbers.numbered-names-with
-
--- its atoms stand behind theirs
-pub all-atoms-with : {A : Type 0} (rules : List (Form A)) (f : Form A) → allAtoms (rules ++ f ∷ []) ≡ allAtoms rules ++ atomsOf f
-all-atoms-with rules f = Numbers.all-atoms-with rules f
-
--- and are numbered from there on
-pub numbered-atoms-with : {A : Type 0} (rules : List (Form A)) (f : Form A)
-    → numberedAtoms (rules ++ f ∷ []) ≡ numberedAtoms rules ++ numberForm (length (allAtoms rules)) f ∷ []
-numbered-atoms-with rules f = Numbers.numbered-atoms-with rules f
-
--- code that is kept up to its last end, with one part more from there on
-pub coded-with : (many more : ℕ) (code out : List ℕ) → many ≤ more → length out ≡ length code
-    → (from : ℕ) (ends : List ℕ) (rules : List (Form ℕ)) (end : ℕ) (rule : Form ℕ) → CodedFrom many code from ends rules
-    → take (lastEnd from ends) out ≡ take (lastEnd from ends) code → PartIs more out (lastEnd from ends) end rule
-    → CodedFrom more out from (ends ++ end ∷ []) (rules ++ rule ∷ [])
-coded-with = Coding.coded-with
 
 -- ---- for a caller of `with_text`: the texts
 
@@ -135,10 +107,6 @@ module _ (rules : List (Formula Name)) (c : Compiling) (code : List ℕ) (h : Co
   plan-is row r says = says rules code h
 
   -- ---- for a caller of the judgement
-
-  -- `judged` may be called with them
-  pub may-judge : Whole c code
-  may-judge = record { rules = rules; rules-compiled = h }
 
   module _ (arrays : PlanArrays) (r : Judged) (p : Plan) (is : IsPlan p) (named : p .names ≡ length (namesOf rules)) (stored : Stored arrays p) where
     -- what `judge_plan` answers is the judgement of the rules as read

@@ -1,19 +1,13 @@
--- The claims of this crate, each with the file that proves it: the code of rules can be run, a run leaves the rows that no rule
--- refutes, and the answer of the search is the first row. A function's contract is what is assumed of its result here, under its
--- name in specs/. Assumes nothing.
-use mathlib.Core.Bool.{Bool, true, not, _&&_}
+-- The claims of this crate, each with the file that proves it: the code of rules can be run, and the answer of the search is the
+-- first row. A function's contract is what is assumed of its result here, under its name in specs/. Assumes nothing.
+use mathlib.Core.Bool.{true}
 use mathlib.Core.Path.{_≡_, sym, ap, _∙_}
 use mathlib.Core.List.{List, [], _∷_}
-use Prim.Native.Nat.{ℕ, _^_, _≤_, _<_}
-use borrow.Author.Tests.{lt-ltb}
+use Prim.Native.Nat.{ℕ, _≤_}
 use Rattle.formula.specs.Formula.{Atom, Form, Formula}
-use Rattle.evalset.specs.declared.EvalSet.{EvalSet}
-use Rattle.evalset.specs.Sets.{mem}
-use Rattle.evalset.proofs.Bounded.{each}
 use Rattle.contact.specs.Meaning.{Floor, meetsAll}
 use Rattle.contact.specs.Numbering.{allAtoms, numberedAtoms, RulesBelow}
 use Rattle.contact.specs.Plan.{firstRow}
-use Rattle.contact.specs.Tableau.{refutes}
 use Rattle.contact.specs.Row.{IsFirstRow}
 use Rattle.contact.proofs.Claims as contact
 use Rattle.search.specs.declared.Sheet.{Sheet}
@@ -21,26 +15,16 @@ use Rattle.search.specs.Rows.{rowBits}
 use Rattle.search.specs.Compiled.{limit}
 use Rattle.solver.specs.declared.Row.{Row}
 use Rattle.solver.specs.declared.Row.the-variants.{At, Nothing}
-use Rattle.solver.specs.Coded.{Coded}
-use Rattle.solver.specs.Tree.{extended, candidatesOf, CandidatesSay, ComesFrom, Runnable, rowsOf, FirstRowSays}
+use Rattle.solver.specs.Tree.{ComesFrom, Runnable, rowsOf, FirstRowSays}
 use Rattle.solver.proofs.Codes.{coded-safe}
 
 -- ---- the code (Codes)
 
--- first_row may be called with the codes of rules and a sheet of at most 16 atoms
+-- `first_row` and judging may be called with the codes of rules and a sheet of at most 16 atoms
 pub runnable : {code ends : List ℕ} {sheet : Sheet} {atoms : List (Atom ℕ)} {rules : List (Form ℕ)}
     → ComesFrom code ends sheet atoms rules → sheet .atoms ≤ limit → Runnable code ends sheet
 runnable {code} {ends} {sheet} {atoms} {rules} g l =
     record { safe = coded-safe (sheet .atoms) code 0 ends rules l (g .coded); atoms-fit = l }
-
--- ---- the candidates (Blocks)
-
--- of the rows with d atoms more, those are left that no rule refutes
-pub left-open : (many : ℕ) (code ends : List ℕ) (rules : List (Form ℕ)) (row k d : ℕ) (r : EvalSet) → CandidatesSay code ends row k d r
-    → Coded many code ends rules → (e : ℕ) → e < 2 ^ d → mem r e ≡ not (refutes rules (extended (rowBits k row) d e))
-unfolding CandidatesSay candidatesOf
-left-open many code ends rules row k d r says h e l =
-    each (says many rules h) e ∙ ap (λ (b : Bool). b && not (refutes rules (extended (rowBits k row) d e))) (lt-ltb e (2 ^ d) l)
 
 -- ---- the answer (Branches)
 
