@@ -13,6 +13,7 @@ ghost use Rattle.judging.specs.Judges.{JudgesSay};
 use evalset::EvalSet;
 use kleene::Two;
 use plan::PlanArrays;
+use search::ATOMS;
 use search::Sheet;
 
 // What judging a plan answers: it meets every rule, or the number of the lowest rule that it does not meet, from 1.
@@ -33,13 +34,13 @@ fn atom_value(plan: PlanArrays, contact: bool, x: EvalSet, y: EvalSet) -> bool
 }
 
 // The values of the sheet's atoms on the plan.
-fn leaves(plan: PlanArrays, sheet: Sheet) -> [Two; 16]
+fn leaves(plan: PlanArrays, sheet: Sheet) -> [Two; ATOMS]
     requires { ⌜ sheet .atoms ≤ limit ⌝ }
     ensures { λ r. ⌜ LeavesSay plan sheet r ⌝ }
 {
     let n = sheet.atoms;
     let none = kleene::settled(false);
-    let mut out = [none; 16];
+    let mut out = [none; ATOMS];
     let mut i: usize = 0;
     while i < n {
         let contact = sheet.contact[i];
@@ -52,7 +53,7 @@ fn leaves(plan: PlanArrays, sheet: Sheet) -> [Two; 16]
 }
 
 // The value of the rule whose code stands from `from` to `end`. Every evaluation has the same one, so evaluation 0 decides.
-fn rule_value(code: &[u8], from: usize, end: usize, atoms: [Two; 16]) -> bool
+fn rule_value(code: &[u8], from: usize, end: usize, atoms: [Two; ATOMS]) -> bool
     requires { ⌜ PartSafe (now code) from end ⌝ }
     ensures { λ r. ⌜ RuleSays (now (code .entry)) from end atoms r ⌝ }
 {
@@ -62,7 +63,7 @@ fn rule_value(code: &[u8], from: usize, end: usize, atoms: [Two; 16]) -> bool
 }
 
 // The first rule whose value is not true, by its number from 1.
-fn first_unmet(code: &[u8], ends: &[usize], atoms: [Two; 16]) -> Judged
+fn first_unmet(code: &[u8], ends: &[usize], atoms: [Two; ATOMS]) -> Judged
     requires { ⌜ SafeFrom (now code) 0 (now ends) ⌝ }
     ensures { λ r. ⌜ UnmetSays (now (code .entry)) (now (ends .entry)) atoms r ⌝ }
 {

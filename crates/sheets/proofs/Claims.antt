@@ -13,7 +13,7 @@ use Rattle.syntax.specs.Rule.{meaningOf}
 use Rattle.evalset.proofs.Search.{in-either, uncons, none-in}
 use Rattle.contact.specs.Numbering.{allAtoms, namesOf, numberedNames, numberedAtoms}
 use Rattle.contact.specs.Plan.{firstRow, firstRowOf}
-use Rattle.solver.specs.declared.Row.{Row}
+use Rattle.solver.specs.declared.RowAnswer.{RowAnswer}
 use Rattle.solver.specs.Tree.{ComesFrom, Runnable, rowsOf, FirstRowSays}
 use Rattle.solver.proofs.Claims.{runnable, answer-is}
 use Rattle.search.specs.declared.RowPlan.{RowPlan}
@@ -79,7 +79,7 @@ module _ (rules : List (Formula Name)) (c : Compiling) (code : List ℕ) (h : Co
   may-run = runnable comes-from (omega (arith, h .compiled .counted, h .compiled .few))
 
   -- the answer of `first_row` is the first row of the numbered rules
-  pub answer-first-row : (r : Row) → FirstRowSays code (take (c .count) (c .ends)) (c .sheet) r
+  pub answer-first-row : (r : RowAnswer) → FirstRowSays code (take (c .count) (c .ends)) (c .sheet) r
       → rowsOf (c .sheet .atoms) r ≡ firstRowOf (length (namesOf rules)) (numberedNames rules)
   answer-first-row r says =
       answer-is code (take (c .count) (c .ends)) (c .sheet) r says (allAtoms (numberedNames rules)) (numberedAtoms (numberedNames rules)) comes-from

@@ -18,8 +18,8 @@ use search::ATOMS;
 use search::Sheet;
 use search::State;
 
-// A row by its number, or none.
-pub enum Row {
+// What the search answers: a row by its number, or none.
+pub enum RowAnswer {
     At(usize),
     Nothing,
 }
@@ -27,7 +27,7 @@ pub enum Row {
 // The rows some levels down that no rule refutes.
 struct Block {
     levels: usize,
-    cand: EvalSet,
+    unrefuted: EvalSet,
 }
 
 // The values of atom i in the 2 ^ d rows under the row of k atoms: the block's own atoms are true where their bit is clear.
@@ -112,19 +112,22 @@ fn filled(
     k: usize,
     left: usize,
     j: usize,
-    cand: EvalSet,
+    unrefuted: EvalSet,
 ) -> Block
     requires { ⌜ SafeFrom (now code) 0 (now ends) × ((1 ≤ left) × (k + left ≤ limit) × (j ≤ most) × (j ≤ left)) ⌝ }
-    ensures { λ r. ⌜ Filled (now (code .entry)) (now (ends .entry)) row k left j cand r ⌝ }
+    ensures { λ r. ⌜ Filled (now (code .entry)) (now (ends .entry)) row k left j unrefuted r ⌝ }
 {
     if j == 0 {
         let d = levels(left);
         Block {
             levels: d,
-            cand: candidates(code, ends, row, k, d),
+            unrefuted: candidates(code, ends, row, k, d),
         }
     } else {
-        Block { levels: j, cand }
+        Block {
+            levels: j,
+            unrefuted,
+        }
     }
 }
 
@@ -140,7 +143,7 @@ fn passes(sheet: Sheet, s: State, row: usize, k: usize) -> bool
     }
 }
 
-// The first row under the row of k atoms, of which s is the state, where `cand` has what is left of the block's j levels.
+// The first row under the row of k atoms, of which s is the state, where `unrefuted` has what is left of the block's j levels.
 fn first_under(
     code: &[u8],
     ends: &[usize],
@@ -149,22 +152,22 @@ fn first_under(
     row: usize,
     k: usize,
     j: usize,
-    cand: EvalSet,
-) -> Row
+    unrefuted: EvalSet,
+) -> RowAnswer
     requires { ⌜ Node (now code) (now ends) sheet row k j ⌝ }
-    ensures { λ r. ⌜ UnderSays (now (code .entry)) (now (ends .entry)) sheet s row k j cand r ⌝ }
+    ensures { λ r. ⌜ UnderSays (now (code .entry)) (now (ends .entry)) sheet s row k j unrefuted r ⌝ }
 {
-    if evalset::is_empty(cand) {
-        return Row::Nothing;
+    if evalset::is_empty(unrefuted) {
+        return RowAnswer::Nothing;
     }
     if !passes(sheet, s, row, k) {
-        return Row::Nothing;
+        return RowAnswer::Nothing;
     }
     if k == sheet.atoms {
-        return Row::At(row);
+        return RowAnswer::At(row);
     }
-    let block = filled(code, ends, row, k, sheet.atoms - k, j, cand);
-    let whole = block.cand;
+    let block = filled(code, ends, row, k, sheet.atoms - k, j, unrefuted);
+    let whole = block.unrefuted;
     let i = block.levels - 1;
     let lower = evalset::meet(whole, evalset::below(i));
     let upper = evalset::shifted(whole, i);
@@ -172,7 +175,7 @@ fn first_under(
     let odd = even + 1;
     let left = search::step(sheet, s, k, true);
     let first = first_under(code, ends, sheet, left, even, k + 1, i, lower);
-    let Row::Nothing = first else {
+    let RowAnswer::Nothing = first else {
         return first;
     };
     let right = search::step(sheet, s, k, false);
@@ -181,11 +184,11 @@ fn first_under(
 
 // "The first realisable row that makes all rules true." Our own crates alone call it, with code and sheet that they made from
 // rules: `runnable` of proofs/Claims.antt meets the requires for these.
-pub fn first_row(code: &[u8], ends: &[usize], sheet: Sheet) -> Row
+pub fn first_row(code: &[u8], ends: &[usize], sheet: Sheet) -> RowAnswer
     requires { ⌜ Runnable (now code) (now ends) sheet ⌝ }
     ensures { λ r. ⌜ FirstRowSays (now (code .entry)) (now (ends .entry)) sheet r ⌝ }
 {
     let s = search::start(sheet.names);
-    let cand = candidates(code, ends, 0, 0, 0);
-    first_under(code, ends, sheet, s, 0, 0, 0, cand)
+    let unrefuted = candidates(code, ends, 0, 0, 0);
+    first_under(code, ends, sheet, s, 0, 0, 0, unrefuted)
 }
