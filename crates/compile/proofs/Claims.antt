@@ -3,9 +3,9 @@
 use mathlib.Core.Bool.{Bool, _&&_}
 use mathlib.Core.Path.{_≡_, sym, ap, _∙_}
 use mathlib.Core.List.{List, [], _++_}
-use Prim.Native.Nat.{ℕ, _+_, _-_, _≤_, _<_}
+use Prim.Native.Nat.{ℕ, _-_, _≤_, _<_}
 use native.Mathlib.Omega.{arith}
-use lib.ListN.{length, take, drop, replicate, length-append}
+use lib.ListN.{length, take, replicate, length-append}
 use lib.Seq.{take-at}
 use borrow.Author.Tests.{lt-ltb}
 use Rattle.formula.specs.Formula.{Term, Atom, Formula, Name}
@@ -22,12 +22,11 @@ use Rattle.evalset.proofs.Bounded.{each}
 use Rattle.contact.specs.Numbering.{mapAtom, mapForm, numberForm}
 use Rattle.contact.specs.Plan.{at}
 use Rattle.search.specs.declared.Sheet.{Sheet}
+use Rattle.search.specs.Compiled.{atomAt}
 use Rattle.kleene.specs.Code.{postfix as postfixCode}
-use Rattle.compile.specs.Code.{written}
-use Rattle.compile.specs.Sheet.{setOf, firstTerm, secondSet, atomAt, CompiledFrom}
+use Rattle.compile.specs.Sheet.{setOf, firstTerm, secondSet, CompiledFrom}
 use Rattle.compile.specs.Machine.{start, run}
-use Rattle.compile.proofs.Laws.{formula-run}
-use Rattle.compile.proofs.Steps.{written-parts, written-length}
+use Rattle.compile.proofs.Orders.{formula-run}
 
 -- ---- the pass over the order
 
@@ -52,15 +51,6 @@ module _ {sheet : Sheet} {atoms : List (Atom ℕ)} (c : CompiledFrom sheet atoms
   -- the second set of a contact
   pub second-members : (x y : Term ℕ) → atomAt atoms i ≡ Atom.contact x y → memAt (sheet .ys) i e ≡ at y e
   second-members x y h = each (c .seconds i ∙ ap secondSet h) e ∙ set-members y e l
-
--- ---- the array of code
-
--- the code stands from a place on, and all else is as before
-pub code-stands : (from : ℕ) (ws buf : List ℕ) → from + length ws ≤ length buf → written from ws buf ≡ take from buf ++ (ws ++ drop (from + length ws) buf)
-code-stands = written-parts
-
-pub code-length : (from : ℕ) (ws buf : List ℕ) → length (written from ws buf) ≡ length buf
-code-length = written-length
 
 -- ---- what was read
 

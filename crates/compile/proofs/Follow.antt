@@ -2,30 +2,30 @@
 -- formula, numbering and atoms that were given. Each turn is one symbol. Assumes nothing.
 use mathlib.Core.Bool.{true, false}
 use mathlib.Core.Path.{_≡_, refl, sym, ap, ap₂, subst, _∙_}
-use mathlib.Core.List.{List, [], _∷_, _++_, map, append-assoc, append-nil}
+use mathlib.Core.List.{List, [], _∷_, _++_, map}
 use Prim.Native.Nat.{ℕ, zero, suc, _+_, _-_, _*_, _≤_, _<_}
 use native.Mathlib.Omega.{arith}
 use native.Mathlib.Numerals.{add-one}
 use lib.Dec.{eqb}
 use lib.ListN.{length, getD, take, drop, set, length-append, length-drop, length-set, take-append-drop}
-use lib.Seq.{length-take-le, take-suc, take-length}
+use lib.Seq.{sets, length-take-le, take-suc, take-length}
 use Rattle.formula.specs.Formula.{Atom, Formula, Name}
 use Rattle.syntax.specs.Symbol.{Leaf, leaf, opening}
 use Rattle.syntax.specs.Postfix.{postfix, symbolNames, namesIn}
 use Rattle.syntax.specs.Machine.{Sym}
 use Rattle.syntax.specs.Reader.{code, codes}
 use Rattle.syntax.proofs.Claims.{length-codes, order-names}
+use Rattle.syntax.proofs.Names.{names-last}
 use Rattle.evalset.specs.declared.EvalSet.{EvalSet}
 use Rattle.evalset.specs.Sets.{mem, memAt}
 use Rattle.search.specs.declared.Sheet.{Sheet}
-use Rattle.compile.specs.Code.{written}
 use Rattle.compile.specs.Kinds.{takenBy, termKind, atomKind, namesBy, setBy, firstBy, secondBy, signBy}
 use Rattle.compile.specs.Sheet.{CompiledFrom, Grows}
 use Rattle.compile.specs.Machine.{State, start, step, run}
 use Rattle.compile.specs.Compiles.{atomsAfter, codeAfter, Given, Asked, Compiles}
-use Rattle.compile.proofs.Laws.{compiled, run-last, run-append, formula-run, Bounds, run-bounds}
+use Rattle.compile.proofs.Orders.{compiled, run-last, run-append, formula-run, Bounds, run-bounds}
 use Rattle.compile.proofs.Heights.{symbolAt, order-fine}
-use Rattle.compile.proofs.Steps.{written-none, written-more, Stacked, Put, term-step, Made, atom-step, sign-step, atom-grows, names-by, no-name, one-at-most}
+use Rattle.compile.proofs.Steps.{Stacked, Put, term-step, Made, atom-step, sign-step, atom-grows, names-by, no-name, one-at-most}
 
 -- ---- the kinds and the names of an order
 
@@ -34,11 +34,6 @@ unfolding codes
 code-at [] i l = absurd (omega arith)
 code-at (x ∷ xs) ℕ.zero l = refl
 code-at (x ∷ xs) (suc i) l = code-at xs i (omega arith)
-
-names-append : (a b : List Sym) → namesIn (a ++ b) ≡ namesIn a ++ namesIn b
-unfolding namesIn
-names-append [] b = refl
-names-append (x ∷ a) b = ap (λ (l : List Name). symbolNames x ++ l) (names-append a b) ∙ sym (append-assoc (symbolNames x) (namesIn a) (namesIn b))
 
 -- how many names stand before a place
 abbrev pub passed : List Sym → ℕ → ℕ
@@ -50,9 +45,8 @@ take-next xs i l = ap (λ (k : ℕ). take k xs) (add-one i) ∙ take-suc xs i op
 passed-next : (xs : List Sym) (i : ℕ) → i < length xs → passed xs (i + 1) ≡ passed xs i + namesBy (code (symbolAt xs i))
 unfolding namesIn
 passed-next xs i l =
-    ap (λ (p : List Sym). length (namesIn p)) (take-next xs i l) ∙ ap length (names-append (take i xs) (symbolAt xs i ∷ []))
-    ∙ length-append (namesIn (take i xs)) (symbolNames (symbolAt xs i) ++ [])
-    ∙ ap (λ (k : List Name). passed xs i + length k) (append-nil (symbolNames (symbolAt xs i))) ∙ ap (λ (k : ℕ). passed xs i + k) (names-by (symbolAt xs i))
+    ap (λ (p : List Sym). length (namesIn p)) (take-next xs i l) ∙ ap length (names-last (take i xs) (symbolAt xs i))
+    ∙ length-append (namesIn (take i xs)) (symbolNames (symbolAt xs i)) ∙ ap (λ (k : ℕ). passed xs i + k) (names-by (symbolAt xs i))
 
 passed-few : (xs : List Sym) (i : ℕ) → i ≤ length xs → passed xs i ≤ i
 unfolding namesIn
@@ -72,6 +66,14 @@ module _ (g : Name → ℕ) where
   name-here [] i y l e = absurd (omega arith)
   name-here (x ∷ xs) ℕ.zero y l e = ap (λ (z : Sym). getD (map g (symbolNames z ++ namesIn xs)) 0 0) e
   name-here (x ∷ xs) (suc i) y l e = skip (symbolNames x) (namesIn xs) (namesIn (take i xs)) ∙ name-here xs i y (omega arith) e
+
+-- ---- the array of code
+
+-- one number more behind those that are stored
+sets-more : (ws : List ℕ) (from : ℕ) (v : ℕ) (buf : List ℕ) (end : ℕ) → end ≡ from + length ws
+    → set (sets buf from ws) end v ≡ sets buf from (ws ++ v ∷ [])
+sets-more [] from v buf end e = let z : end ≡ from = omega arith in ap (λ (k : ℕ). set buf k v) z
+sets-more (w ∷ ws) from v buf end e = sets-more ws (suc from) v (set buf from w) end (omega arith)
 
 -- ---- the state
 
@@ -110,7 +112,7 @@ pub record Follows (names from : ℕ) (buf : List ℕ) (s : State) (count : ℕ)
   pub compiled-from : CompiledFrom sheet (s .atoms)
   pub named : sheet .names ≡ names
   pub ends : end ≡ from + length (s .code)
-  pub wrote : out ≡ written from (s .code) buf
+  pub wrote : out ≡ sets buf from (s .code)
 
 pub record Inv (order numbers : List ℕ) (before : Sheet) (buf : List ℕ) (from : ℕ) (out : List ℕ) (stack : List EvalSet) (height used : ℕ) (sheet : Sheet) (end i : ℕ) : Type 0 where
   pub within : i ≤ length order
@@ -135,7 +137,7 @@ begins order numbers before buf from stack w =
             compiled-from = G .compiled;
             named = refl;
             ends = omega arith;
-            wrote = written-none from buf;
+            wrote = refl;
           };
     }
 
@@ -247,7 +249,7 @@ module _ {order numbers : List ℕ} {before : Sheet} {buf : List ℕ} {from : �
             compiled-from = subst (CompiledFrom sheet) (sym (P .same-atoms)) (F .compiled-from);
             named = F .named;
             ends = F .ends ∙ ap (λ (c : List ℕ). from + length c) (sym (P .same-code));
-            wrote = F .wrote ∙ ap (λ (c : List ℕ). written from c buf) (sym (P .same-code));
+            wrote = F .wrote ∙ ap (λ (c : List ℕ). sets buf from c) (sym (P .same-code));
           })
 
       module _ (v : ℕ) (c : v ≡ signBy kind (sheet .atoms)) (t : termKind kind ≡ false) where
@@ -257,11 +259,11 @@ module _ {order numbers : List ℕ} {before : Sheet} {buf : List ℕ} {from : �
 
         -- the code goes one place on
         code-more : {s : State} {n : ℕ} (x : Sym) (cs : List ℕ) → kind ≡ code x → Follows (before .names) from buf s n out stack height used sheet end
-            → cs ≡ s .code ++ signBy (code x) (length (s .atoms)) ∷ [] → (end + 1 ≡ from + length cs) × (set out end v ≡ written from cs buf)
+            → cs ≡ s .code ++ signBy (code x) (length (s .atoms)) ∷ [] → (end + 1 ≡ from + length cs) × (set out end v ≡ sets buf from cs)
         code-more {s} x cs e F w =
             let z : cs ≡ s .code ++ v ∷ [] = w ∙ ap (λ (j : ℕ). s .code ++ j ∷ []) (ap₂ signBy (sym e) (sym (F .compiled-from .counted)) ∙ sym c) in (
               omega (arith, F .ends, ap length z, length-append (s .code) (v ∷ [])),
-              ap (λ (o : List ℕ). set o end v) (F .wrote) ∙ written-more (s .code) from v buf end (F .ends) ∙ ap (λ (o : List ℕ). written from o buf) (sym z),
+              ap (λ (o : List ℕ). set o end v) (F .wrote) ∙ sets-more (s .code) from v buf end (F .ends) ∙ ap (λ (o : List ℕ). sets buf from o) (sym z),
             )
 
         pub atom-again : (r : Sheet) → atomKind kind ≡ true
@@ -324,5 +326,5 @@ finished {order} {numbers} {before} {buf} {from} {out} {stack} {height} {used} {
       names-kept = F .named;
       compiled = subst (λ (s : State). CompiledFrom sheet (s .atoms)) z (F .compiled-from);
       ends = F .ends ∙ ap (λ (s : State). from + length (s .code)) z;
-      wrote = F .wrote ∙ ap (λ (s : State). written from (s .code) buf) z;
+      wrote = F .wrote ∙ ap (λ (s : State). sets buf from (s .code)) z;
     }

@@ -14,7 +14,7 @@ use Rattle.syntax.specs.Reader.{code}
 use Rattle.evalset.proofs.Bounded.{side}
 use Rattle.compile.specs.Kinds.{takenBy}
 use Rattle.compile.specs.Machine.{State, run}
-use Rattle.compile.proofs.Laws.{term-run, terms-run}
+use Rattle.compile.proofs.Orders.{term-run, terms-run}
 
 -- the symbol at a place
 abbrev pub symbolAt : List Sym → ℕ → Sym

@@ -1,6 +1,6 @@
 pub mod Sets
 pub mod Sheets
-pub mod Laws
+pub mod Orders
 pub mod Heights
 pub mod Steps
 pub mod Follow

@@ -1,18 +1,16 @@
 -- A sheet that is compiled from a list of atoms is what the search asks for: its sets agree with the terms at every evaluation
 -- that a sheet's names have. Assumes nothing.
-use mathlib.Core.Bool.{false}
 use mathlib.Core.Path.{_≡_, refl, ap, _∙_}
 use mathlib.Core.List.{List}
 use Prim.Native.Nat.{ℕ, _^_, _≤_, _<_}
 use native.Mathlib.Omega.{arith}
-use lib.ListN.{getD}
 use Rattle.formula.specs.Formula.{Atom}
 use Rattle.evalset.specs.Sets.{room, most, memAt}
 use Rattle.evalset.proofs.Members.{names-room}
 use Rattle.contact.specs.Plan.{at}
-use Rattle.search.specs.Compiled.{AtomIs, Compiled}
+use Rattle.search.specs.Compiled.{AtomIs, atomAt, contactAt, Compiled}
 use Rattle.search.specs.declared.Sheet.{Sheet}
-use Rattle.compile.specs.Sheet.{isContact, firstTerm, atomAt, CompiledFrom}
+use Rattle.compile.specs.Sheet.{isContact, firstTerm, CompiledFrom}
 use Rattle.compile.proofs.Claims.{first-members, second-members}
 
 pub compiled-search : (sheet : Sheet) (atoms : List (Atom ℕ)) → sheet .names ≤ most → CompiledFrom sheet atoms → Compiled sheet atoms
@@ -24,7 +22,7 @@ compiled-search sheet atoms few c = record { few = few; counted = c .counted; at
     first : (i : ℕ) (a : Atom ℕ) → atomAt atoms i ≡ a → (e : ℕ) → e < 2 ^ (sheet .names) → memAt (sheet .xs) i e ≡ at (firstTerm a) e
     first i a h e l = first-members c i e (within e l) ∙ ap (λ (b : Atom ℕ). at (firstTerm b) e) h
 
-    atom-as : (i : ℕ) (a : Atom ℕ) → atomAt atoms i ≡ a → AtomIs (sheet .names) (getD (sheet .contact) i false) (memAt (sheet .xs) i) (memAt (sheet .ys) i) a
+    atom-as : (i : ℕ) (a : Atom ℕ) → atomAt atoms i ≡ a → AtomIs (sheet .names) (contactAt sheet i) (memAt (sheet .xs) i) (memAt (sheet .ys) i) a
     atom-as i (Atom.contact x y) h = (c .contacts i ∙ ap isContact h, first i (Atom.contact x y) h, λ e l. second-members c i e (within e l) x y h)
     atom-as i (Atom.part x y) h = (c .contacts i ∙ ap isContact h, first i (Atom.part x y) h)
     atom-as i (Atom.empty t) h = (c .contacts i ∙ ap isContact h, first i (Atom.empty t) h)

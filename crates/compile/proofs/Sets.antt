@@ -1,5 +1,5 @@
 -- The set of a term is made of the sets of its parts: at each evaluation below room the signs are the connectives. Assumes nothing.
-use mathlib.Core.Bool.{Bool, true, false, not, _&&_, _||_, and-true, and-false}
+use mathlib.Core.Bool.{Bool, true, false, not, _&&_, and-true, and-false, and-or-distrib-left}
 use mathlib.Core.Path.{_≡_, refl, sym, fun-ext}
 use Prim.Native.Nat.{ℕ}
 use lib.Dec.{ltb}
@@ -16,10 +16,6 @@ cut-not false a = refl
 cut-and : (r a b : Bool) → ((r && a) && (r && b)) ≡ (r && (a && b))
 cut-and true a b = refl
 cut-and false a b = refl
-
-cut-or : (r a b : Bool) → ((r && a) || (r && b)) ≡ (r && (a || b))
-cut-or true a b = refl
-cut-or false a b = refl
 
 cut-less : (r a b : Bool) → ((r && a) && not (r && b)) ≡ (r && (a && not b))
 cut-less true a b = refl
@@ -44,7 +40,7 @@ module _ (t u : Term ℕ) where
 
   pub of-union : joinOf (setOf t) (setOf u) ≡ setOf (Term.union t u)
   unfolding setOf
-  of-union = fun-ext (λ e. cut-or (ltb e room) (at t e) (at u e))
+  of-union = fun-ext (λ e. sym (and-or-distrib-left (ltb e room) (at t e) (at u e)))
 
   pub of-part : minusOf (setOf t) (setOf u) ≡ setOf (partTerm t u)
   unfolding setOf

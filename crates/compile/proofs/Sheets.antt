@@ -9,14 +9,14 @@ use lib.Dec.{eqb, eqb·zero-suc, eqb·suc-zero, eqb·suc-suc}
 use lib.ListN.{length, getD, set, replicate, length-append}
 use lib.Seq.{getD-set-same, getD-set-other}
 use borrow.Author.Tests.{eqb-true, eqb-false}
-use Rattle.formula.specs.Formula.{Term, Atom}
+use Rattle.formula.specs.Formula.{Atom}
 use Rattle.evalset.specs.declared.EvalSet.{EvalSet}
 use Rattle.evalset.specs.Sets.{mem, memAt, noneOf}
 use Rattle.evalset.proofs.Search.{cases}
 use Rattle.evalset.proofs.Bits.{bit-none}
-use Rattle.evalset.proofs.Members.{mem-at-same, mem-at-other}
 use Rattle.search.specs.declared.Sheet.{Sheet}
-use Rattle.compile.specs.Sheet.{isContact, firstSet, secondSet, atomAt, CompiledFrom, Grows}
+use Rattle.search.specs.Compiled.{noAtom, atomAt}
+use Rattle.compile.specs.Sheet.{isContact, firstSet, secondSet, CompiledFrom, Grows}
 use Rattle.compile.proofs.Sets.{of-zero}
 
 pub grows-same : {sheet r : Sheet} {b c : Bool} {x y z w : ℕ → Bool} → Grows sheet r b x y → b ≡ c → x ≡ z → y ≡ w → Grows sheet r c z w
@@ -24,6 +24,11 @@ grows-same {sheet} {r} {b} {c} {x} {y} {z} {w} h e p q =
     subst (λ (d : Bool). Grows sheet r d z w) e (subst (λ (u : ℕ → Bool). Grows sheet r b u w) p (subst (λ (u : ℕ → Bool). Grows sheet r b x u) q h))
 
 -- ---- an array with one place stored
+
+-- a function of what was picked
+of-cond : {A B : Type 0} (f : A → B) (b : Bool) (x y : A) → cond b (f x) (f y) ≡ f (cond b x y)
+of-cond f true x y = refl
+of-cond f false x y = refl
 
 module _ {A : Type 0} (xs : List A) (n : ℕ) (a d : A) (h : n < length xs) where
   pub stored : (i : ℕ) → getD (set xs n a) i d ≡ cond (eqb i n) a (getD xs i d)
@@ -34,23 +39,16 @@ module _ {A : Type 0} (xs : List A) (n : ℕ) (a d : A) (h : n < length xs) wher
 
 module _ (xs : List EvalSet) (n : ℕ) (s : EvalSet) (h : n < length xs) where
   pub stored-set : (i : ℕ) → memAt (set xs n s) i ≡ cond (eqb i n) (mem s) (memAt xs i)
-  stored-set i =
-      cases (eqb i n)
-      (λ e. ap (λ (j : ℕ). memAt (set xs n s) j) (eqb-true i n e) ∙ mem-at-same xs n s h ∙ sym (ap (λ (b : Bool). cond b (mem s) (memAt xs i)) e))
-      (λ e. mem-at-other xs n i s (eqb-false i n e) ∙ sym (ap (λ (b : Bool). cond b (mem s) (memAt xs i)) e))
+  unfolding memAt
+  stored-set i = ap mem (stored xs n s _ h i) ∙ sym (of-cond mem (eqb i n) s _)
 
 -- ---- the atoms
 
 last-atom : (atoms : List (Atom ℕ)) (a : Atom ℕ) (i : ℕ) → atomAt (atoms ++ a ∷ []) i ≡ cond (eqb i (length atoms)) a (atomAt atoms i)
 last-atom [] a ℕ.zero = refl
-last-atom [] a (suc i) = sym (ap (λ (b : Bool). cond b a (Atom.empty Term.zero)) (eqb·suc-zero i))
+last-atom [] a (suc i) = sym (ap (λ (b : Bool). cond b a noAtom) (eqb·suc-zero i))
 last-atom (b ∷ atoms) a ℕ.zero = sym (ap (λ (d : Bool). cond d a b) (eqb·zero-suc (length atoms)))
 last-atom (b ∷ atoms) a (suc i) = last-atom atoms a i ∙ ap (λ (d : Bool). cond d a (atomAt atoms i)) (sym (eqb·suc-suc i (length atoms)))
-
--- a function of what was picked
-of-cond : {A B : Type 0} (f : A → B) (b : Bool) (x y : A) → cond b (f x) (f y) ≡ f (cond b x y)
-of-cond f true x y = refl
-of-cond f false x y = refl
 
 module _ (atoms : List (Atom ℕ)) (a : Atom ℕ) {B : Type 0} (f : Atom ℕ → B) where
   last-of : (n i : ℕ) → n ≡ length atoms → (old new : B) → old ≡ f (atomAt atoms i) → new ≡ cond (eqb i n) (f a) old → new ≡ f (atomAt (atoms ++ a ∷ []) i)

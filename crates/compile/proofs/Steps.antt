@@ -1,12 +1,11 @@
 -- One symbol: the stack of sets follows the stack of terms, the sheet the atoms and the array the code. Assumes nothing.
 use mathlib.Core.Bool.{Bool, true, false, cond}
 use mathlib.Core.Path.{_≡_, refl, sym, ap, ap₂, _∙_}
-use mathlib.Core.List.{List, [], _∷_, _++_, append-assoc}
+use mathlib.Core.List.{List, [], _∷_, _++_}
 use Prim.Native.Nat.{ℕ, suc, _+_, _-_, _≤_, _<_}
 use native.Mathlib.Omega.{arith}
 use lib.Dec.{eqb}
-use lib.ListN.{length, take, drop, set, length-append}
-use lib.Seq.{length-sets, sets-eq}
+use lib.ListN.{length, set, length-append}
 use borrow.Author.Tests.{eqb-true}
 use Rattle.formula.specs.declared.Sign.the-variants.{Implies, Iff, Or, And, Plus, Times}
 use Rattle.formula.specs.Formula.{Term, Atom, Name}
@@ -19,34 +18,12 @@ use Rattle.evalset.specs.Sets.{mem, memAt, fullOf, meetOf, joinOf, minusOf}
 use Rattle.evalset.proofs.Search.{clash, cases}
 use Rattle.evalset.proofs.Members.{mem-at-same, mem-at-other}
 use Rattle.search.specs.declared.Sheet.{Sheet}
-use Rattle.compile.specs.Code.{written}
 use Rattle.compile.specs.Kinds.{takenBy, termKind, atomKind, namesBy, setBy, firstBy, secondBy, signBy}
 use Rattle.compile.specs.Sheet.{setOf, CompiledFrom, Grows}
 use Rattle.compile.specs.Machine.{State, withSign, step}
 use Rattle.compile.proofs.Sets.{of-zero, of-one, of-name, of-intersection, of-union, of-part, of-complement}
 use Rattle.compile.proofs.Sheets.{grows-same, compiled-more}
 use Rattle.compile.proofs.Heights.{Proper}
-
--- ---- the array of code
-
-pub written-none : (from : ℕ) (buf : List ℕ) → buf ≡ written from [] buf
-unfolding written
-written-none from buf = refl
-
-pub written-more : (ws : List ℕ) (from : ℕ) (v : ℕ) (buf : List ℕ) (end : ℕ) → end ≡ from + length ws
-    → set (written from ws buf) end v ≡ written from (ws ++ v ∷ []) buf
-unfolding written
-written-more [] from v buf end e = let z : end ≡ from = omega arith in ap (λ (k : ℕ). set buf k v) z
-written-more (w ∷ ws) from v buf end e = written-more ws (suc from) v (set buf from w) end (omega arith)
-
--- in an array that is long enough
-pub written-parts : (from : ℕ) (ws buf : List ℕ) → from + length ws ≤ length buf → written from ws buf ≡ take from buf ++ (ws ++ drop (from + length ws) buf)
-unfolding written
-written-parts from ws buf l = sets-eq ws buf from l ∙ append-assoc (take from buf) ws (drop (from + length ws) buf)
-
-pub written-length : (from : ℕ) (ws buf : List ℕ) → length (written from ws buf) ≡ length buf
-unfolding written
-written-length from ws buf = length-sets buf from ws
 
 -- ---- the stack
 

@@ -3,6 +3,7 @@ use mathlib.Core.Path.{_≡_}
 use mathlib.Core.List.{List, _++_, map}
 use Prim.Native.Nat.{ℕ, _+_, _≤_}
 use lib.ListN.{length}
+use lib.Seq.{sets}
 use Rattle.formula.specs.Formula.{Atom, Formula, Name}
 use Rattle.formula.specs.Atoms.{atomsOf}
 use Rattle.formula.specs.Names.{formulaNames}
@@ -10,9 +11,8 @@ use Rattle.syntax.specs.Postfix.{postfix}
 use Rattle.syntax.specs.Reader.{codes}
 use Rattle.contact.specs.Numbering.{mapForm, mapAtom, numberForm}
 use Rattle.search.specs.declared.Sheet.{Sheet}
-use Rattle.compile.specs.declared.Compiled.{Compiled}
+use Rattle.compile.specs.declared.CompiledRule.{CompiledRule}
 use Rattle.kleene.specs.Code.{postfix as postfixCode}
-use Rattle.compile.specs.Code.{written}
 use Rattle.compile.specs.Sheet.{CompiledFrom}
 
 -- the atoms once those of the formula, its names numbered by g, stand behind them
@@ -39,14 +39,15 @@ pub record Asked (order numbers : List ℕ) (sheet : Sheet) (from : ℕ) : Type 
   pub short : length order ≤ 256
   pub fits : from + length order ≤ 4096
 
-pub record Result (f : Formula Name) (g : Name → ℕ) (atoms : List (Atom ℕ)) (sheet : Sheet) (buf : List ℕ) (from : ℕ) (r : Compiled) (out : List ℕ) : Type 0 where
+-- the formula's atoms and code stand behind those before, and all else is as it was
+pub record Result (f : Formula Name) (g : Name → ℕ) (atoms : List (Atom ℕ)) (sheet : Sheet) (buf : List ℕ) (from : ℕ) (r : CompiledRule) (out : List ℕ) : Type 0 where
   pub names-kept : r .sheet .names ≡ sheet .names
   pub compiled : CompiledFrom (r .sheet) (atomsAfter g f atoms)
   pub ends : r .end ≡ from + length (codeAfter f atoms)
-  pub wrote : out ≡ written from (codeAfter f atoms) buf
+  pub wrote : out ≡ sets buf from (codeAfter f atoms)
 
 -- the answer is right for each formula, numbering and atoms that were given
-unfoldable pub Compiles : List ℕ → List ℕ → Sheet → List ℕ → ℕ → Compiled → List ℕ → Type 0
+unfoldable pub Compiles : List ℕ → List ℕ → Sheet → List ℕ → ℕ → CompiledRule → List ℕ → Type 0
 Compiles order numbers sheet buf from r out =
     (f : Formula Name) (g : Name → ℕ) (atoms : List (Atom ℕ)) → Given order numbers sheet f g atoms
     → Result f g atoms sheet buf from r out

@@ -1,4 +1,3 @@
-pub mod Code
 pub mod Kinds
 pub mod Sheet
 pub mod Machine

@@ -10,6 +10,7 @@ use Rattle.evalset.specs.Sets.{room, memAt, noneOf}
 use Rattle.contact.specs.Meaning.{partTerm}
 use Rattle.contact.specs.Plan.{at}
 use Rattle.search.specs.declared.Sheet.{Sheet}
+use Rattle.search.specs.Compiled.{atomAt}
 
 -- the evaluations, all below room, in which the term holds
 unfoldable pub setOf : Term ℕ → ℕ → Bool
@@ -36,10 +37,6 @@ abbrev pub secondSet : Atom ℕ → ℕ → Bool
 secondSet (Atom.contact x y) = setOf y
 secondSet (Atom.part x y) = noneOf
 secondSet (Atom.empty t) = noneOf
-
--- what stands past the last atom: no contact, and two empty sets
-abbrev pub atomAt : List (Atom ℕ) → ℕ → Atom ℕ
-atomAt atoms i = getD atoms i (Atom.empty Term.zero)
 
 -- ---- sheets
 

@@ -12,6 +12,7 @@ ghost use Rattle.compile.specs.Kinds.{takenBy, termKind, atomKind, names
 ghost use Rattle.compile.specs.Sheet.{CompiledFrom, Grows};
 ghost use Rattle.compile.specs.Compiles.{Asked, Compiles};
 use evalset::EvalSet;
+use search::ATOMS;
 use search::Sheet;
 
 // The kinds of tokens, by the lexer's numbers.
@@ -48,7 +49,7 @@ const ONE: u8 = 17;
 const NAME: u8 = 18;
 
 // The sheet with the rule's atoms behind those before, and the place after the rule's code.
-pub struct Compiled {
+pub struct CompiledRule {
     pub sheet: Sheet,
     pub end: usize,
 }
@@ -58,8 +59,8 @@ pub fn blank_sheet(names: usize) -> Sheet
     ensures { λ r. ⌜ (r .names ≡ names) × CompiledFrom r [] ⌝ }
 {
     let none = evalset::empty();
-    let contact = [false; 16];
-    let sets = [none; 16];
+    let contact = [false; ATOMS];
+    let sets = [none; ATOMS];
     Sheet {
         names,
         atoms: 0,
@@ -108,7 +109,7 @@ fn is_atom(kind: u8) -> bool
 }
 
 // How many names a token is.
-pub fn names_in(kind: u8) -> usize
+pub fn names_of_kind(kind: u8) -> usize
     ensures { λ r. ⌜ r ≡ namesBy kind ⌝ }
 {
     if kind == NAME { 1 } else { 0 }
@@ -192,15 +193,15 @@ fn empty_stack() -> [EvalSet; 172]
 }
 
 // The rule with this order, whose names have these numbers at their places: its atoms go behind those of the sheet, its code
-// into the array from a place on. The stack is never full: the place above its top can be read. The requires asks for the order of a formula, a compiled sheet, and room for the rule's atoms and code: a caller
-// has them of what was read (`order-read` and `order-short` of proofs/Claims.antt) and counted.
+// into the array from a place on. The requires asks for the order of a formula, a compiled sheet, and room for the rule's atoms
+// and code: a caller has them of what was read (`order-read` and `order-short` of proofs/Claims.antt) and counted.
 pub fn compile_rule(
     order: &[u8],
     numbers: &[u8],
     sheet: Sheet,
     code: &mut [u8; 4096],
     from: usize,
-) -> Compiled
+) -> CompiledRule
     requires { ⌜ Asked (now order) (now numbers) sheet from ⌝ }
     ensures { λ r. ⌜ Compiles (now (order .entry)) (now (numbers .entry)) sheet (now (code .entry)) from r (now (code .exit)) ⌝ }
 {
@@ -214,13 +215,14 @@ pub fn compile_rule(
         let kind = order[i];
         i += 1;
         height -= taken(kind);
-        // The sets that the token is put on; it is put on neither, the first or both.
+        // The sets that the token is put on; it is put on neither, the first or both. The stack is never full: the place above its
+        // top can be read.
         let x = stack[height];
         let y = stack[height + 1];
         if is_term(kind) {
             stack[height] = term_set(kind, number_at(numbers, used), x, y);
             height += 1;
-            used += names_in(kind);
+            used += names_of_kind(kind);
             continue;
         }
         code[end] = sign_code(kind, grown.atoms);
@@ -229,5 +231,5 @@ pub fn compile_rule(
             grown = with_atom(grown, kind, x, y);
         }
     }
-    Compiled { sheet: grown, end }
+    CompiledRule { sheet: grown, end }
 }

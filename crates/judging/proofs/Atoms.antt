@@ -2,17 +2,16 @@
 -- the atom's terms, below 2 ^ names, and there plan's laws apply. A store of one value more keeps those before it. Assumes nothing.
 use mathlib.Core.Bool.{Bool}
 use mathlib.Core.Path.{_≡_, ap, _∙_, subst}
-use mathlib.Core.Logic.{⊎-elim}
 use mathlib.Core.List.{List}
-use Prim.Native.Nat.{ℕ, _+_, _^_, _≤_, _<_}
+use Prim.Native.Nat.{ℕ, _+_, _^_, _<_}
 use native.Mathlib.Omega.{arith}
 use lib.ListN.{length, set}
-use lib.Seq.{getD-set-same, getD-set-other}
+use borrow.Author.Count.{below-none, below-more}
 use Rattle.formula.specs.Formula.{Term, Atom}
-use Rattle.evalset.proofs.Bounded.{side}
 use Rattle.contact.specs.Meaning.{partTerm, atomOn}
 use Rattle.kleene.specs.declared.Two.{Two}
-use Rattle.kleene.specs.Rails.{sure, duoAt, twoAt, leafAt}
+use Rattle.kleene.specs.Rails.{sure, duoAt, leafAt}
+use Rattle.kleene.proofs.Turns.{two-same, two-other}
 use Rattle.search.specs.declared.Sheet.{Sheet}
 use Rattle.search.specs.Compiled.{Stands, AtomIs, atomAt, Compiled}
 use Rattle.plan.specs.declared.PlanArrays.{PlanArrays}
@@ -45,18 +44,11 @@ value-is p h r s sheet atoms c q i l = atom-is p h r s (sheet .names) q _ _ _ (a
 
 pub sure-none : (leaves : List Two) (w : ℕ → Bool) → Sure leaves 0 w
 unfolding Sure
-sure-none leaves w i l = absurd (omega arith)
+sure-none leaves w = below-none (λ i. leafAt leaves 0 i ≡ sure (w i))
 
 pub sure-more : (leaves : List Two) (n : ℕ) (w : ℕ → Bool) (r : Two) → n < length leaves → Sure leaves n w → duoAt r 0 ≡ sure (w n)
     → Sure (set leaves n r) (n + 1) w
-unfolding Sure twoAt
-sure-more leaves n w r l h e i b = ⊎-elim before here (side i n)
-  where
-    before : i < n → leafAt (set leaves n r) 0 i ≡ sure (w i)
-    before k = ap (λ (t : Two). duoAt t 0) (getD-set-other leaves n i r _ (λ q. omega arith)) ∙ h i k
-
-    here : n ≤ i → leafAt (set leaves n r) 0 i ≡ sure (w i)
-    here k =
-        let z : n ≡ i = omega arith in
-        subst (λ (j : ℕ). leafAt (set leaves n r) 0 j ≡ sure (w j)) z
-        (ap (λ (t : Two). duoAt t 0) (getD-set-same leaves n r _ l) ∙ e)
+unfolding Sure
+sure-more leaves n w r l h e =
+    below-more (λ i. leafAt (set leaves n r) 0 i ≡ sure (w i)) n
+    (λ i k. two-other leaves n i r 0 (λ q. omega arith) ∙ h i k) (two-same leaves n r 0 l ∙ e)

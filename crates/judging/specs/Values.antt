@@ -13,7 +13,7 @@ use Rattle.kleene.specs.declared.Two.{Two}
 use Rattle.kleene.specs.Code.{postfix}
 use Rattle.kleene.specs.Rails.{sure, leafAt}
 use Rattle.search.specs.declared.Sheet.{Sheet}
-use Rattle.search.specs.Compiled.{isContact}
+use Rattle.search.specs.Compiled.{contactAt}
 use Rattle.plan.specs.declared.PlanArrays.{PlanArrays}
 use Rattle.plan.specs.Arrays.{touchesOf, vacantOf}
 use Rattle.plan.specs.Judging.{Judgement, yes, unmet}
@@ -35,7 +35,7 @@ atomOf plan false x y = vacantOf plan x
 
 -- that of the sheet's atom i
 unfoldable pub valueOf : PlanArrays → Sheet → ℕ → Bool
-valueOf plan sheet i = atomOf plan (isContact sheet i) (memAt (sheet .xs) i) (memAt (sheet .ys) i)
+valueOf plan sheet i = atomOf plan (contactAt sheet i) (memAt (sheet .xs) i) (memAt (sheet .ys) i)
 
 -- at evaluation 0, by which rules are judged, the atoms below n are surely what w says
 unfoldable pub Sure : List Two → ℕ → (ℕ → Bool) → Type 0

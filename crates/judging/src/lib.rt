@@ -1,18 +1,19 @@
 // A plan judged by whole rules (document 01: "Judge answers yes or the lowest unmet rule, from 1").
 // The plan gives each atom of the sheet its value, and the code of each rule is run on these values. What is judged, `judge`, is
 // the plan crate's, on the floor of the plan that the arrays hold. The sheet and the code come from our own crates: `judge_plan`
-// requires that they can be run, as compiled sheets and the codes of rules can (proofs/Claims.antt). Assumes nothing.
+// requires that they can be run, as compiled sheets and the codes of rules can (`runnable` of solver/proofs/Claims.antt). Assumes nothing.
 ghost use mathlib.Core.Path.{_≡_};
-ghost use Prim.Native.Nat.{ℕ, _≤_, _<_};
-ghost use Rattle.evalset.specs.Sets.{room, mem};
-ghost use Rattle.kleene.specs.Rails.{sure, duoAt};
+ghost use Prim.Native.Nat.{_≤_};
+ghost use Rattle.evalset.specs.Sets.{mem};
 ghost use Rattle.search.specs.Compiled.{limit};
 ghost use Rattle.solver.specs.Coded.{PartSafe, SafeFrom};
+ghost use Rattle.solver.specs.Tree.{Runnable};
 ghost use Rattle.judging.specs.Values.{atomOf, LeavesSay, RuleSays, UnmetSays};
-ghost use Rattle.judging.specs.Judges.{Runs, JudgesSay};
+ghost use Rattle.judging.specs.Judges.{JudgesSay};
 use evalset::EvalSet;
 use kleene::Two;
 use plan::PlanArrays;
+use search::ATOMS;
 use search::Sheet;
 
 // What judging a plan answers: it meets every rule, or the number of the lowest rule that it does not meet, from 1.
@@ -32,38 +33,27 @@ fn atom_value(plan: PlanArrays, contact: bool, x: EvalSet, y: EvalSet) -> bool
     }
 }
 
-// The value as an atom's: surely true at every evaluation, or surely false.
-fn leaf(value: bool) -> Two
-    ensures { λ r. ⌜ ((e : ℕ) → e < room → duoAt r e ≡ sure value) ⌝ }
-{
-    if value {
-        kleene::rails(evalset::full(), evalset::empty())
-    } else {
-        kleene::rails(evalset::empty(), evalset::full())
-    }
-}
-
 // The values of the sheet's atoms on the plan.
-fn leaves(plan: PlanArrays, sheet: Sheet) -> [Two; 16]
+fn leaves(plan: PlanArrays, sheet: Sheet) -> [Two; ATOMS]
     requires { ⌜ sheet .atoms ≤ limit ⌝ }
     ensures { λ r. ⌜ LeavesSay plan sheet r ⌝ }
 {
     let n = sheet.atoms;
-    let none = leaf(false);
-    let mut out = [none; 16];
+    let none = kleene::settled(false);
+    let mut out = [none; ATOMS];
     let mut i: usize = 0;
     while i < n {
         let contact = sheet.contact[i];
         let x = sheet.xs[i];
         let y = sheet.ys[i];
-        out[i] = leaf(atom_value(plan, contact, x, y));
+        out[i] = kleene::settled(atom_value(plan, contact, x, y));
         i += 1;
     }
     out
 }
 
 // The value of the rule whose code stands from `from` to `end`. Every evaluation has the same one, so evaluation 0 decides.
-fn rule_value(code: &[u8], from: usize, end: usize, atoms: [Two; 16]) -> bool
+fn rule_value(code: &[u8], from: usize, end: usize, atoms: [Two; ATOMS]) -> bool
     requires { ⌜ PartSafe (now code) from end ⌝ }
     ensures { λ r. ⌜ RuleSays (now (code .entry)) from end atoms r ⌝ }
 {
@@ -73,7 +63,7 @@ fn rule_value(code: &[u8], from: usize, end: usize, atoms: [Two; 16]) -> bool
 }
 
 // The first rule whose value is not true, by its number from 1.
-fn first_unmet(code: &[u8], ends: &[usize], atoms: [Two; 16]) -> Judged
+fn first_unmet(code: &[u8], ends: &[usize], atoms: [Two; ATOMS]) -> Judged
     requires { ⌜ SafeFrom (now code) 0 (now ends) ⌝ }
     ensures { λ r. ⌜ UnmetSays (now (code .entry)) (now (ends .entry)) atoms r ⌝ }
 {
@@ -90,10 +80,10 @@ fn first_unmet(code: &[u8], ends: &[usize], atoms: [Two; 16]) -> Judged
     Judged::Yes
 }
 
-// Judges the plan by the rules of this code, whose atoms the sheet has. Only our own crates call it: `Runs` asks that the sheet has at
-// most 16 atoms and that each part of the code is safe to run, as the codes of rules of at most 256 signs are (`prepared-runs`).
+// Judges the plan by the rules of this code, whose atoms the sheet has. Only our own crates call it: `Runnable` asks that the sheet has at
+// most 16 atoms and that each part of the code is safe to run, as the codes of rules of at most 256 signs are (`runnable` of solver).
 pub fn judge_plan(plan: PlanArrays, sheet: Sheet, code: &[u8], ends: &[usize]) -> Judged
-    requires { ⌜ Runs sheet (now code) (now ends) ⌝ }
+    requires { ⌜ Runnable (now code) (now ends) sheet ⌝ }
     ensures { λ r. ⌜ JudgesSay plan sheet (now (code .entry)) (now (ends .entry)) r ⌝ }
 {
     let atoms = leaves(plan, sheet);

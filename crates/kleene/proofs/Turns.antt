@@ -50,6 +50,16 @@ pub rails-at : {r : Two} {yes no : EvalSet} → (r .yes ≡ yes) × (r .no ≡ n
 unfolding duoAt
 rails-at h y n e = ap₂ duo (each (ap mem (h .0) ∙ y) e) (each (ap mem (h .1) ∙ n) e)
 
+-- ---- an array of rails
+
+pub two-same : (st : List Two) (n : ℕ) (r : Two) (e : ℕ) → n < length st → twoAt (set st n r) n e ≡ duoAt r e
+unfolding twoAt
+two-same st n r e l = ap (λ (s : Two). duoAt s e) (getD-set-same st n r _ l)
+
+pub two-other : (st : List Two) (m n : ℕ) (r : Two) (e : ℕ) → (n ≡ m → ⊥) → twoAt (set st m r) n e ≡ twoAt st n e
+unfolding twoAt
+two-other st m n r e l = ap (λ (s : Two). duoAt s e) (getD-set-other st m n r _ l)
+
 -- ---- columns of the stack
 
 -- the n lowest values of the stack at evaluation e, the top first
@@ -57,18 +67,10 @@ unfoldable pub column : ℕ → ℕ → List Two → List Duo
 column e zero st = []
 column e (suc n) st = twoAt st n e ∷ column e n st
 
-two-same : (st : List Two) (n : ℕ) (r : Two) (e : ℕ) → n < length st → twoAt (set st n r) n e ≡ duoAt r e
-unfolding twoAt
-two-same st n r e l = ap (λ (s : Two). duoAt s e) (getD-set-same st n r _ l)
-
-two-other : (st : List Two) (m n : ℕ) (r : Two) (e : ℕ) → n < m → twoAt (set st m r) n e ≡ twoAt st n e
-unfolding twoAt
-two-other st m n r e l = ap (λ (s : Two). duoAt s e) (getD-set-other st m n r _ (λ q. omega arith))
-
 column-below : (e m n : ℕ) (st : List Two) (r : Two) → n ≤ m → column e n (set st m r) ≡ column e n st
 unfolding column
 column-below e m zero st r l = refl
-column-below e m (suc n) st r l = ap₂ _∷_ (two-other st m n r e (omega arith)) (column-below e m n st r (omega arith))
+column-below e m (suc n) st r l = ap₂ _∷_ (two-other st m n r e (λ q. omega arith)) (column-below e m n st r (omega arith))
 
 column-top : (e n : ℕ) (st : List Two) (r : Two) → n < length st → column e (suc n) (set st n r) ≡ duoAt r e ∷ column e n st
 unfolding column
@@ -76,13 +78,13 @@ column-top e n st r l = ap₂ _∷_ (two-same st n r e l) (column-below e n n st
 
 -- ---- a turn
 
--- with i signs read and sp values on the stack, which has room for `deep`
-pub record Running (deep : ℕ) (code : List ℕ) (leaves stack : List Two) (sp i : ℕ) : Type 0 where
+-- with i signs read and height values on the stack, which has room for `deep`
+pub record Running (deep : ℕ) (code : List ℕ) (leaves stack : List Two) (height i : ℕ) : Type 0 where
   pub within : i ≤ length code
-  pub high : sp ≤ deep
+  pub high : height ≤ deep
   pub whole : length stack ≡ deep
-  pub safe : Safe deep 16 (drop i code) sp
-  pub same : (e : ℕ) → e < room → exec (leafAt leaves e) (drop i code) (column e sp stack) ≡ exec (leafAt leaves e) code []
+  pub safe : Safe deep 16 (drop i code) height
+  pub same : (e : ℕ) → e < room → exec (leafAt leaves e) (drop i code) (column e height stack) ≡ exec (leafAt leaves e) code []
 
 exec-next : (v : ℕ → Duo) (code : List ℕ) (i : ℕ) (st : List Duo) → i < length code
     → exec v (drop i code) st ≡ exec v (drop (i + 1) code) (step v (getD code i 0) st)
@@ -98,7 +100,7 @@ safe-next deep many code i n l s =
     let t = subst (λ (k : List ℕ). Safe deep many k n) (drop-cons code i 0 l) s in
     (t .0, subst (λ (k : ℕ). Safe deep many (drop k code) (after (classOf (getD code i 0)) n)) (sym (add-one i)) (t .1))
 
-module _ {deep : ℕ} {code : List ℕ} {leaves stack : List Two} {sp i : ℕ} (inv : Running deep code leaves stack sp i) (l : i < length code) where
+module _ {deep : ℕ} {code : List ℕ} {leaves stack : List Two} {height i : ℕ} (inv : Running deep code leaves stack height i) (l : i < length code) where
   abbrev c : ℕ
   c = getD code i 0
 
@@ -106,21 +108,21 @@ module _ {deep : ℕ} {code : List ℕ} {leaves stack : List Two} {sp i : ℕ} (
   v e = leafAt leaves e
 
   -- what the sign read next finds on the stack
-  pub takes : (k : Class) → classOf c ≡ k → Takes deep 16 k c sp
-  takes k h = subst (λ (q : Class). Takes deep 16 q c sp) h (safe-next deep 16 code i sp l (inv .safe) .0)
+  pub takes : (k : Class) → classOf c ≡ k → Takes deep 16 k c height
+  takes k h = subst (λ (q : Class). Takes deep 16 q c height) h (safe-next deep 16 code i height l (inv .safe) .0)
 
-  keeps : (k : Class) → classOf c ≡ k → Safe deep 16 (drop (i + 1) code) (after k sp)
-  keeps k h = subst (λ (q : Class). Safe deep 16 (drop (i + 1) code) (after q sp)) h (safe-next deep 16 code i sp l (inv .safe) .1)
+  keeps : (k : Class) → classOf c ≡ k → Safe deep 16 (drop (i + 1) code) (after k height)
+  keeps k h = subst (λ (q : Class). Safe deep 16 (drop (i + 1) code) (after q height)) h (safe-next deep 16 code i height l (inv .safe) .1)
 
   runs : (k : Class) → classOf c ≡ k → (e : ℕ) → e < room
-      → exec (v e) (drop (i + 1) code) (stepBy k (v e) c (column e sp stack)) ≡ exec (v e) code []
+      → exec (v e) (drop (i + 1) code) (stepBy k (v e) c (column e height stack)) ≡ exec (v e) code []
   runs k h e b =
-      ap (λ (q : Class). exec (v e) (drop (i + 1) code) (stepBy q (v e) c (column e sp stack))) (sym h)
-      ∙ sym (exec-next (v e) code i (column e sp stack) l) ∙ inv .same e b
+      ap (λ (q : Class). exec (v e) (drop (i + 1) code) (stepBy q (v e) c (column e height stack))) (sym h)
+      ∙ sym (exec-next (v e) code i (column e height stack) l) ∙ inv .same e b
 
   -- the value r is stored at n, and n + 1 values are left
-  stored : (k : Class) → classOf c ≡ k → (n m : ℕ) (r : Two) → m ≡ suc n → n < deep → after k sp ≡ m
-      → ((e : ℕ) → e < room → duoAt r e ∷ column e n stack ≡ stepBy k (v e) c (column e sp stack))
+  stored : (k : Class) → classOf c ≡ k → (n m : ℕ) (r : Two) → m ≡ suc n → n < deep → after k height ≡ m
+      → ((e : ℕ) → e < room → duoAt r e ∷ column e n stack ≡ stepBy k (v e) c (column e height stack))
       → Running deep code leaves (set stack n r) m (i + 1)
   stored k h n m r z b q f = record {
     within = omega arith;
@@ -132,25 +134,25 @@ module _ {deep : ℕ} {code : List ℕ} {leaves stack : List Two} {sp i : ℕ} (
         ∙ ap (exec (v e) (drop (i + 1) code)) (column-top e n stack r (omega (arith, inv .whole)) ∙ f e d) ∙ runs k h e d;
   }
 
-  pub turn-again : (n : ℕ) (r : Two) → classOf c ≡ turns → sp ≡ suc n → ((e : ℕ) → duoAt r e ≡ notD (twoAt stack n e))
-      → Running deep code leaves (set stack n r) sp (i + 1)
+  pub turn-again : (n : ℕ) (r : Two) → classOf c ≡ turns → height ≡ suc n → ((e : ℕ) → duoAt r e ≡ notD (twoAt stack n e))
+      → Running deep code leaves (set stack n r) height (i + 1)
   unfolding column
   turn-again n r h z m =
-      stored turns h n sp r z (omega (arith, inv .high)) refl
+      stored turns h n height r z (omega (arith, inv .high)) refl
       (λ e d. ap (λ (x : Duo). x ∷ column e n stack) (m e) ∙ ap (λ (k : ℕ). turned (column e k stack)) (sym z))
 
-  pub join-again : (n : ℕ) (r : Two) → classOf c ≡ joins → sp ≡ suc (suc n)
-      → ((e : ℕ) → duoAt r e ≡ tableOf c (twoAt stack n e) (twoAt stack (suc n) e)) → Running deep code leaves (set stack n r) (sp - 1) (i + 1)
+  pub join-again : (n : ℕ) (r : Two) → classOf c ≡ joins → height ≡ suc (suc n)
+      → ((e : ℕ) → duoAt r e ≡ tableOf c (twoAt stack n e) (twoAt stack (suc n) e)) → Running deep code leaves (set stack n r) (height - 1) (i + 1)
   unfolding column
   join-again n r h z m =
-      stored joins h n (sp - 1) r (omega arith) (omega (arith, inv .high)) refl
+      stored joins h n (height - 1) r (omega arith) (omega (arith, inv .high)) refl
       (λ e d. ap (λ (x : Duo). x ∷ column e n stack) (m e) ∙ ap (λ (k : ℕ). joined (tableOf c) (column e k stack)) (sym z))
 
   pub push-again : (r : Two) → classOf c ≡ pushes → ((e : ℕ) → e < room → duoAt r e ≡ pushOf (leafAt leaves e) c)
-      → Running deep code leaves (set stack sp r) (sp + 1) (i + 1)
+      → Running deep code leaves (set stack height r) (height + 1) (i + 1)
   push-again r h m =
-      stored pushes h sp (sp + 1) r (add-one sp) (takes pushes h .0) (sym (add-one sp))
-      (λ e d. ap (λ (x : Duo). x ∷ column e sp stack) (m e d))
+      stored pushes h height (height + 1) r (add-one height) (takes pushes h .0) (sym (add-one height))
+      (λ e d. ap (λ (x : Duo). x ∷ column e height stack) (m e d))
 
 pub begins : (deep : ℕ) (code : List ℕ) (leaves stack : List Two) → length stack ≡ deep → Safe deep 16 code 0
     → Running deep code leaves stack 0 0
@@ -164,11 +166,11 @@ begins deep code leaves stack w s = record {
 }
 
 -- at the end one value is left
-pub ends : {deep : ℕ} {code : List ℕ} {leaves stack : List Two} {sp i : ℕ} → Running deep code leaves stack sp i → length code ≤ i → (e : ℕ) → e < room
+pub ends : {deep : ℕ} {code : List ℕ} {leaves stack : List Two} {height i : ℕ} → Running deep code leaves stack height i → length code ≤ i → (e : ℕ) → e < room
     → exec (leafAt leaves e) code [] ≡ twoAt stack 0 e ∷ []
 unfolding exec column Safe
-ends {deep} {code} {leaves} {stack} {sp} {i} inv l e b =
+ends {deep} {code} {leaves} {stack} {height} {i} inv l e b =
     let z : drop i code ≡ [] = drop-of-length-le code l in
-    let one : sp ≡ 1 = subst (λ (k : List ℕ). Safe deep 16 k sp) z (inv .safe) in
-    sym (inv .same e b) ∙ ap (λ (k : List ℕ). exec (leafAt leaves e) k (column e sp stack)) z
+    let one : height ≡ 1 = subst (λ (k : List ℕ). Safe deep 16 k height) z (inv .safe) in
+    sym (inv .same e b) ∙ ap (λ (k : List ℕ). exec (leafAt leaves e) k (column e height stack)) z
     ∙ ap (λ (k : ℕ). column e k stack) one

@@ -7,7 +7,7 @@ ghost use mathlib.Core.List.{[], _∷_};
 ghost use Prim.Native.Nat.{ℕ, _≤_, _<_};
 ghost use Rattle.evalset.specs.Sets.{room};
 ghost use Rattle.kleene.specs.Code.{Safe};
-ghost use Rattle.kleene.specs.Rails.{Duo, notD, tableOf, pushOf, exec, duoAt, leafAt};
+ghost use Rattle.kleene.specs.Rails.{Duo, sure, notD, tableOf, pushOf, exec, duoAt, leafAt};
 use evalset::EvalSet;
 
 // A value for each evaluation: where it is surely true, and where surely false.
@@ -21,6 +21,17 @@ pub fn rails(yes: EvalSet, no: EvalSet) -> Two
     ensures { λ r. ⌜ (r .yes ≡ yes) × (r .no ≡ no) ⌝ }
 {
     Two { yes, no }
+}
+
+// A value that is the same at every evaluation.
+pub fn settled(value: bool) -> Two
+    ensures { λ r. ⌜ ((e : ℕ) → e < room → duoAt r e ≡ sure value) ⌝ }
+{
+    if value {
+        rails(evalset::full(), evalset::empty())
+    } else {
+        rails(evalset::empty(), evalset::full())
+    }
 }
 
 // The negation: the rails change places.
@@ -76,32 +87,32 @@ pub fn run(code: &[u8], leaves: [Two; 16]) -> Two
     let none = evalset::empty();
     let nil = rails(none, none);
     let mut stack = [nil; 128];
-    let mut sp: usize = 0;
+    let mut height: usize = 0;
     let mut i: usize = 0;
     while i < code.len() {
         let c = code[i];
         i += 1;
         if c == 0 {
-            let a = stack[sp - 1];
-            stack[sp - 1] = swapped(a);
+            let a = stack[height - 1];
+            stack[height - 1] = swapped(a);
             continue;
         }
         if c < 5 {
-            let a = stack[sp - 2];
-            let b = stack[sp - 1];
-            stack[sp - 2] = combined(c, a, b);
-            sp -= 1;
+            let a = stack[height - 2];
+            let b = stack[height - 1];
+            stack[height - 2] = combined(c, a, b);
+            height -= 1;
             continue;
         }
         if c < 7 {
-            stack[sp] = constant(c);
-            sp += 1;
+            stack[height] = constant(c);
+            height += 1;
             continue;
         }
         let k = (c - 7) as usize;
         let leaf = leaves[k];
-        stack[sp] = leaf;
-        sp += 1;
+        stack[height] = leaf;
+        height += 1;
     }
     stack[0]
 }

@@ -11,12 +11,13 @@ use lib.ListN.{length, take, set, replicate, length-append, length-map}
 use lib.Seq.{take-at, set-at}
 use borrow.Author.Tests.{eq-eqb, ne-eqb, lt-ltb, le-ltb}
 use Rattle.formula.specs.Formula.{Name}
+use Rattle.evalset.specs.Sets.{most}
 use Rattle.evalset.proofs.Search.{untrue}
 use Rattle.contact.specs.Numbering.{position, sameName}
 use Rattle.contact.proofs.Naming.{same-name}
-use Rattle.names.specs.declared.Name.{Name as KeptName}
+use Rattle.names.specs.declared.KeptName.{KeptName}
 use Rattle.names.specs.declared.Names.{Names}
-use Rattle.names.specs.Gather.{room, isKnown, withName, nameOf, arraysOf, bytesIn, knownOf, Kept}
+use Rattle.names.specs.Gather.{isIn, withName, nameOf, arraysOf, bytesIn, knownOf, Kept}
 use Rattle.names.specs.Steps.{sameKept, placeIn, push, withKept}
 use Rattle.names.proofs.Distinct.{position-in, position-out}
 
@@ -37,9 +38,14 @@ same-kept v w = go (ℕ-discrete (length v) (length w))
         ap (λ (t : Bool). t && sameName (take (length w) (v ++ zeros)) w) (ne-eqb (length v) (length w) n)
         ∙ sym (untrue (sameName v w) (λ h. n (ap length (same-name v w .0 h))))
 
-bytes-back : (w : Name) → bytesIn (nameOf w) ≡ w
+-- its bytes and its length are found again
+pub bytes-back : (w : Name) → bytesIn (nameOf w) ≡ w
 unfolding nameOf
 bytes-back w = take-at w (replicate (16 - length w) 0) (length w) refl
+
+pub size-back : (w : Name) → nameOf w .len ≡ length w
+unfolding nameOf
+size-back w = refl
 
 -- ---- the names
 
@@ -50,7 +56,7 @@ place-in w (k ∷ ks) = ap₂ (λ (t : Bool) (n : ℕ). cond t 0 (suc n)) (same-
 
 kept-list : (ks : List Name) → take (arraysOf ks .count) (arraysOf ks .list) ≡ map nameOf ks
 unfolding arraysOf
-kept-list ks = take-at (map nameOf ks) (replicate (6 - length ks) (nameOf [])) (length ks) (length-map ks nameOf)
+kept-list ks = take-at (map nameOf ks) (replicate (most - length ks) (nameOf [])) (length ks) (length-map ks nameOf)
 
 pub kept-count : (ks : List Name) → arraysOf ks .count ≡ length ks
 unfolding arraysOf
@@ -65,7 +71,7 @@ known-back ks = ap (map bytesIn) (kept-list ks) ∙ each ks
     each [] = refl
     each (l ∷ ls) = ap₂ _∷_ (bytes-back l) (each ls)
 
-pub kept-names : (ks : List Name) → length ks ≤ room → Kept (arraysOf ks)
+pub kept-names : (ks : List Name) → length ks ≤ most → Kept (arraysOf ks)
 kept-names ks h = record { canonical = ap arraysOf (sym (known-back ks)); few = omega (arith, kept-count ks) }
 
 -- the number of a name
@@ -75,53 +81,53 @@ number-kept ks w = ap (placeIn w) (kept-list ks) ∙ place-in w ks
 abbrev names : List KeptName → ℕ → Names
 names l n = record { list = l; count = n }
 
-push-kept : (ks : List Name) (w : Name) → length ks < 6 → push (arraysOf ks) (nameOf w) ≡ arraysOf (ks ++ w ∷ [])
+push-kept : (ks : List Name) (w : Name) → length ks < most → push (arraysOf ks) (nameOf w) ≡ arraysOf (ks ++ w ∷ [])
 unfolding push arraysOf
 push-kept ks w h =
-    let m : ℕ = 6 - (length ks + 1) in
-    let f : 6 - length ks ≡ suc m = omega arith in
-    let g : m ≡ 6 - length (ks ++ w ∷ []) = omega (arith, length-append ks (w ∷ [])) in
+    let m : ℕ = most - (length ks + 1) in
+    let f : most - length ks ≡ suc m = omega arith in
+    let g : m ≡ most - length (ks ++ w ∷ []) = omega (arith, length-append ks (w ∷ [])) in
     ap (λ (l : List KeptName). names l (length ks + 1))
     (ap (λ (n : ℕ). set (map nameOf ks ++ replicate n (nameOf [])) (length ks) (nameOf w)) f
     ∙ set-at (map nameOf ks) (nameOf []) (replicate m (nameOf [])) (nameOf w) (length ks) (length-map ks nameOf)
     ∙ sym (append-assoc (map nameOf ks) (nameOf w ∷ []) (replicate m (nameOf [])))
     ∙ ap (λ (l : List KeptName). l ++ replicate m (nameOf [])) (sym (map-append nameOf ks (w ∷ [])))
     ∙ ap (λ (n : ℕ). map nameOf (ks ++ w ∷ []) ++ replicate n (nameOf [])) g)
-    ∙ ap (names (map nameOf (ks ++ w ∷ []) ++ replicate (6 - length (ks ++ w ∷ [])) (nameOf []))) (sym (length-append ks (w ∷ [])))
+    ∙ ap (names (map nameOf (ks ++ w ∷ []) ++ replicate (most - length (ks ++ w ∷ [])) (nameOf []))) (sym (length-append ks (w ∷ [])))
 
-module _ (ks : List Name) (w : Name) (few : length ks ≤ room) where
+module _ (ks : List Name) (w : Name) (few : length ks ≤ most) where
   abbrev number : ℕ
   number = position sameName ks w
 
   -- one name more
-  pub with-kept : (number ≡ room → ⊥) → withKept (arraysOf ks) w number ≡ arraysOf (withName ks w)
+  pub with-kept : (number ≡ most → ⊥) → withKept (arraysOf ks) w number ≡ arraysOf (withName ks w)
   unfolding withKept withName
-  with-kept h = go (isKnown ks w) refl
+  with-kept h = go (isIn sameName ks w) refl
     where
-      go : (b : Bool) → isKnown ks w ≡ b → cond (ltb number (arraysOf ks .count)) (arraysOf ks) (push (arraysOf ks) (nameOf w)) ≡ arraysOf (cond b ks (ks ++ w ∷ []))
+      go : (b : Bool) → isIn sameName ks w ≡ b → cond (ltb number (arraysOf ks .count)) (arraysOf ks) (push (arraysOf ks) (nameOf w)) ≡ arraysOf (cond b ks (ks ++ w ∷ []))
       go true e =
           let l : number < arraysOf ks .count = omega (arith, position-in sameName ks w e, kept-count ks) in
           ap (λ (t : Bool). cond t (arraysOf ks) (push (arraysOf ks) (nameOf w))) (lt-ltb number (arraysOf ks .count) l)
       go false e =
           let f : number ≡ length ks = position-out sameName ks w e in
           let l : arraysOf ks .count ≤ number = omega (arith, kept-count ks) in
-          let r : length ks < 6 = omega arith in
+          let r : length ks < most = omega arith in
           ap (λ (t : Bool). cond t (arraysOf ks) (push (arraysOf ks) (nameOf w))) (le-ltb number (arraysOf ks .count) l)
           ∙ push-kept ks w r
 
   -- with it there are too many exactly if its number is too high
-  pub too-many : number ≡ room → ltb room (length (withName ks w)) ≡ true
+  pub too-many : number ≡ most → ltb most (length (withName ks w)) ≡ true
   unfolding withName
-  too-many h = go (isKnown ks w) refl
+  too-many h = go (isIn sameName ks w) refl
     where
-      go : (b : Bool) → isKnown ks w ≡ b → ltb room (length (cond b ks (ks ++ w ∷ []))) ≡ true
+      go : (b : Bool) → isIn sameName ks w ≡ b → ltb most (length (cond b ks (ks ++ w ∷ []))) ≡ true
       go true e = absurd (omega (arith, position-in sameName ks w e))
-      go false e = let f : number ≡ length ks = position-out sameName ks w e in lt-ltb room (length (ks ++ w ∷ [])) (omega (arith, length-append ks (w ∷ [])))
+      go false e = let f : number ≡ length ks = position-out sameName ks w e in lt-ltb most (length (ks ++ w ∷ [])) (omega (arith, length-append ks (w ∷ [])))
 
-  pub not-too-many : (number ≡ room → ⊥) → length (withName ks w) ≤ room
+  pub not-too-many : (number ≡ most → ⊥) → length (withName ks w) ≤ most
   unfolding withName
-  not-too-many h = go (isKnown ks w) refl
+  not-too-many h = go (isIn sameName ks w) refl
     where
-      go : (b : Bool) → isKnown ks w ≡ b → length (cond b ks (ks ++ w ∷ [])) ≤ room
+      go : (b : Bool) → isIn sameName ks w ≡ b → length (cond b ks (ks ++ w ∷ [])) ≤ most
       go true e = few
       go false e = let f : number ≡ length ks = position-out sameName ks w e in omega (arith, length-append ks (w ∷ []))

@@ -8,57 +8,52 @@ use mathlib.Core.List.{List, [], _∷_, _++_, append-assoc, append-nil}
 use Prim.Native.Nat.{suc, _≤_, _<_}
 use native.Mathlib.Omega.{arith}
 use lib.ListN.{length, length-append}
-use Rattle.evalset.specs.Search.{In, here, next, any, keep}
+use Rattle.evalset.specs.Search.{In, here, next, keep}
 use Rattle.evalset.proofs.Search.{clash, cases, any-intro, any-elim, uncons, at-head, in-right, keep-elim}
 use Rattle.contact.specs.Numbering.{distinct, position}
 use Rattle.contact.proofs.Naming.{Decides, distinct-in}
+use Rattle.names.specs.Gather.{isIn, put}
 
 module _ {N : Type 0} (same : N → N → Bool) where
-  abbrev pub isIn : List N → N → Bool
-  isIn ks w = any (λ k. same k w) ks
-
-  abbrev pub put : List N → N → List N
-  put ks w = cond (isIn ks w) ks (ks ++ w ∷ [])
-
   -- one after the other
   abbrev pub putAll : List N → List N → List N
   putAll ks [] = ks
-  putAll ks (w ∷ ws) = putAll (put ks w) ws
+  putAll ks (w ∷ ws) = putAll (put same ks w) ws
 
   -- ---- places
 
-  pub position-in : (ks : List N) (w : N) → isIn ks w ≡ true → position same ks w < length ks
+  pub position-in : (ks : List N) (w : N) → isIn same ks w ≡ true → position same ks w < length ks
   position-in [] w h = clash h refl
   position-in (k ∷ ks) w h = go (same k w) h (position-in ks w)
     where
-      go : (b : Bool) → (b || isIn ks w) ≡ true → (isIn ks w ≡ true → position same ks w < length ks) → cond b 0 (suc (position same ks w)) < suc (length ks)
+      go : (b : Bool) → (b || isIn same ks w) ≡ true → (isIn same ks w ≡ true → position same ks w < length ks) → cond b 0 (suc (position same ks w)) < suc (length ks)
       go true e f = omega arith
       go false e f = omega (arith, f e)
 
-  pub position-out : (ks : List N) (w : N) → isIn ks w ≡ false → position same ks w ≡ length ks
+  pub position-out : (ks : List N) (w : N) → isIn same ks w ≡ false → position same ks w ≡ length ks
   position-out [] w h = refl
   position-out (k ∷ ks) w h = go (same k w) h (position-out ks w)
     where
-      go : (b : Bool) → (b || isIn ks w) ≡ false → (isIn ks w ≡ false → position same ks w ≡ length ks) → cond b 0 (suc (position same ks w)) ≡ suc (length ks)
+      go : (b : Bool) → (b || isIn same ks w) ≡ false → (isIn same ks w ≡ false → position same ks w ≡ length ks) → cond b 0 (suc (position same ks w)) ≡ suc (length ks)
       go true e f = clash refl e
       go false e f = ap suc (f e)
 
   pub position-most : (ks : List N) (w : N) → position same ks w ≤ length ks
-  position-most ks w = cases (isIn ks w) (λ e. omega (arith, position-in ks w e)) (λ e. omega (arith, position-out ks w e))
+  position-most ks w = cases (isIn same ks w) (λ e. omega (arith, position-in ks w e)) (λ e. omega (arith, position-out ks w e))
 
-  position-stays : (ks more : List N) (w : N) → isIn ks w ≡ true → position same (ks ++ more) w ≡ position same ks w
+  position-stays : (ks more : List N) (w : N) → isIn same ks w ≡ true → position same (ks ++ more) w ≡ position same ks w
   position-stays [] more w h = clash h refl
   position-stays (k ∷ ks) more w h = go (same k w) h (position-stays ks more w)
     where
-      go : (b : Bool) → (b || isIn ks w) ≡ true → (isIn ks w ≡ true → position same (ks ++ more) w ≡ position same ks w)
+      go : (b : Bool) → (b || isIn same ks w) ≡ true → (isIn same ks w ≡ true → position same (ks ++ more) w ≡ position same ks w)
           → cond b 0 (suc (position same (ks ++ more) w)) ≡ cond b 0 (suc (position same ks w))
       go true e f = refl
       go false e f = ap suc (f e)
 
   -- ---- the list grows at its end
 
-  put-grows : (ks : List N) (w : N) → (more : List N) × (put ks w ≡ ks ++ more)
-  put-grows ks w = go (isIn ks w)
+  put-grows : (ks : List N) (w : N) → (more : List N) × (put same ks w ≡ ks ++ more)
+  put-grows ks w = go (isIn same ks w)
     where
       go : (b : Bool) → (more : List N) × (cond b ks (ks ++ w ∷ []) ≡ ks ++ more)
       go true = ([], sym (append-nil ks))
@@ -68,7 +63,7 @@ module _ {N : Type 0} (same : N → N → Bool) where
   put-all-grows ks [] = ([], sym (append-nil ks))
   put-all-grows ks (w ∷ ws) =
       let p = put-grows ks w in
-      let r = put-all-grows (put ks w) ws in
+      let r = put-all-grows (put same ks w) ws in
       (p .0 ++ r .0, r .1 ∙ ap (λ (l : List N). l ++ r .0) (p .1) ∙ append-assoc ks (p .0) (r .0))
 
   pub put-all-longer : (ks ws : List N) → length ks ≤ length (putAll ks ws)
@@ -76,45 +71,50 @@ module _ {N : Type 0} (same : N → N → Bool) where
 
   -- ---- distinct elements
 
+  -- a list's elements are the distinct ones
+  pub from-distinct : (xs : List N) {w : N} → In w (distinct same xs) → In w xs
+  from-distinct [] i = i
+  from-distinct (x ∷ xs) i = ⊎-elim (λ e. at-head e) (λ j. next (from-distinct xs (keep-elim (λ y. not (same x y)) (distinct same xs) j .0))) (uncons i)
+
   module _ (decides : Decides same) where
     -- an element is there once it is put
-    pub put-in : (ks : List N) (w : N) → isIn (put ks w) w ≡ true
-    put-in ks w = go (isIn ks w) refl
+    pub put-in : (ks : List N) (w : N) → isIn same (put same ks w) w ≡ true
+    put-in ks w = go (isIn same ks w) refl
       where
-        go : (b : Bool) → isIn ks w ≡ b → isIn (cond b ks (ks ++ w ∷ [])) w ≡ true
+        go : (b : Bool) → isIn same ks w ≡ b → isIn same (cond b ks (ks ++ w ∷ [])) w ≡ true
         go true e = e
         go false e = any-intro (λ k. same k w) (in-right ks here) (decides w w .1 refl)
 
-    pub put-position : (ks : List N) (w : N) → position same (put ks w) w ≡ position same ks w
-    put-position ks w = go (isIn ks w) refl
+    pub put-position : (ks : List N) (w : N) → position same (put same ks w) w ≡ position same ks w
+    put-position ks w = go (isIn same ks w) refl
       where
-        last : (ls : List N) → isIn ls w ≡ false → position same (ls ++ w ∷ []) w ≡ length ls
+        last : (ls : List N) → isIn same ls w ≡ false → position same (ls ++ w ∷ []) w ≡ length ls
         last [] e = rw (decides w w .1 refl)
         last (l ∷ ls) e = turn (same l w) e (last ls)
           where
-            turn : (b : Bool) → (b || isIn ls w) ≡ false → (isIn ls w ≡ false → position same (ls ++ w ∷ []) w ≡ length ls)
+            turn : (b : Bool) → (b || isIn same ls w) ≡ false → (isIn same ls w ≡ false → position same (ls ++ w ∷ []) w ≡ length ls)
                 → cond b 0 (suc (position same (ls ++ w ∷ []) w)) ≡ suc (length ls)
             turn true f g = clash refl f
             turn false f g = ap suc (g f)
 
-        go : (b : Bool) → isIn ks w ≡ b → position same (cond b ks (ks ++ w ∷ [])) w ≡ position same ks w
+        go : (b : Bool) → isIn same ks w ≡ b → position same (cond b ks (ks ++ w ∷ [])) w ≡ position same ks w
         go true e = refl
         go false e = last ks e ∙ sym (position-out ks w e)
 
     -- the number that an element gets is its place in the list of all
     pub put-all-position : (ks ws : List N) (w : N) → position same (putAll ks (w ∷ ws)) w ≡ position same ks w
     put-all-position ks ws w =
-        let r = put-all-grows (put ks w) ws in
-        ap (λ (l : List N). position same l w) (r .1) ∙ position-stays (put ks w) (r .0) w (put-in ks w) ∙ put-position ks w
+        let r = put-all-grows (put same ks w) ws in
+        ap (λ (l : List N). position same l w) (r .1) ∙ position-stays (put same ks w) (r .0) w (put-in ks w) ∙ put-position ks w
 
     -- what is not the same as x is where it was when those that are the same as x are taken out
-    in-kept : (x w : N) (ks : List N) → same x w ≡ false → isIn (keep (λ y. not (same x y)) ks) w ≡ isIn ks w
+    in-kept : (x w : N) (ks : List N) → same x w ≡ false → isIn same (keep (λ y. not (same x y)) ks) w ≡ isIn same ks w
     in-kept x w [] h = refl
     in-kept x w (k ∷ ks) h = go (same x k) refl (in-kept x w ks h)
       where
-        go : (b : Bool) → same x k ≡ b → isIn (keep (λ y. not (same x y)) ks) w ≡ isIn ks w
-            → isIn (cond (not b) (k ∷ keep (λ y. not (same x y)) ks) (keep (λ y. not (same x y)) ks)) w ≡ (same k w || isIn ks w)
-        go true e f = f ∙ ap (λ (t : Bool). t || isIn ks w) (sym (ap (λ (y : N). same y w) (sym (decides x k .0 e)) ∙ h))
+        go : (b : Bool) → same x k ≡ b → isIn same (keep (λ y. not (same x y)) ks) w ≡ isIn same ks w
+            → isIn same (cond (not b) (k ∷ keep (λ y. not (same x y)) ks) (keep (λ y. not (same x y)) ks)) w ≡ (same k w || isIn same ks w)
+        go true e f = f ∙ ap (λ (t : Bool). t || isIn same ks w) (sym (ap (λ (y : N). same y w) (sym (decides x k .0 e)) ∙ h))
         go false e f = ap (λ (t : Bool). same k w || t) f
 
     keep-last : (p : N → Bool) (ks : List N) (w : N) → keep p (ks ++ w ∷ []) ≡ keep p ks ++ cond (p w) (w ∷ []) []
@@ -130,7 +130,7 @@ module _ {N : Type 0} (same : N → N → Bool) where
         go false e = e
 
     -- putting an element last, and taking out what is the same as x behind x
-    put-kept : (x w : N) (ks : List N) → x ∷ keep (λ y. not (same x y)) (put ks w) ≡ put (x ∷ keep (λ y. not (same x y)) ks) w
+    put-kept : (x w : N) (ks : List N) → x ∷ keep (λ y. not (same x y)) (put same ks w) ≡ put same (x ∷ keep (λ y. not (same x y)) ks) w
     put-kept x w ks = cases (same x w) there apart
       where
         p : N → Bool
@@ -141,23 +141,23 @@ module _ {N : Type 0} (same : N → N → Bool) where
         out true e = refl
         out false e = keep-last p ks w ∙ ap (λ (t : Bool). keep p ks ++ cond (not t) (w ∷ []) []) e ∙ append-nil (keep p ks)
 
-        there : same x w ≡ true → x ∷ keep p (put ks w) ≡ put (x ∷ keep p ks) w
+        there : same x w ≡ true → x ∷ keep p (put same ks w) ≡ put same (x ∷ keep p ks) w
         there e =
-            ap (λ (l : List N). x ∷ l) (out (isIn ks w) e)
-            ∙ sym (ap (λ (t : Bool). cond (t || isIn (keep p ks) w) (x ∷ keep p ks) ((x ∷ keep p ks) ++ w ∷ [])) e)
+            ap (λ (l : List N). x ∷ l) (out (isIn same ks w) e)
+            ∙ sym (ap (λ (t : Bool). cond (t || isIn same (keep p ks) w) (x ∷ keep p ks) ((x ∷ keep p ks) ++ w ∷ [])) e)
 
         -- w is another
         on : (b : Bool) → same x w ≡ false → x ∷ keep p (cond b ks (ks ++ w ∷ [])) ≡ cond b (x ∷ keep p ks) ((x ∷ keep p ks) ++ w ∷ [])
         on true e = refl
         on false e = ap (λ (l : List N). x ∷ l) (keep-last p ks w ∙ ap (λ (t : Bool). keep p ks ++ cond (not t) (w ∷ []) []) e)
 
-        apart : same x w ≡ false → x ∷ keep p (put ks w) ≡ put (x ∷ keep p ks) w
+        apart : same x w ≡ false → x ∷ keep p (put same ks w) ≡ put same (x ∷ keep p ks) w
         apart e =
-            on (isIn ks w) e
-            ∙ sym (ap (λ (t : Bool). cond (t || isIn (keep p ks) w) (x ∷ keep p ks) ((x ∷ keep p ks) ++ w ∷ [])) e
+            on (isIn same ks w) e
+            ∙ sym (ap (λ (t : Bool). cond (t || isIn same (keep p ks) w) (x ∷ keep p ks) ((x ∷ keep p ks) ++ w ∷ [])) e
             ∙ ap (λ (t : Bool). cond t (x ∷ keep p ks) ((x ∷ keep p ks) ++ w ∷ [])) (in-kept x w ks e))
 
-    distinct-last : (xs : List N) (w : N) → distinct same (xs ++ w ∷ []) ≡ put (distinct same xs) w
+    distinct-last : (xs : List N) (w : N) → distinct same (xs ++ w ∷ []) ≡ put same (distinct same xs) w
     distinct-last [] w = refl
     distinct-last (x ∷ xs) w = ap (λ (l : List N). x ∷ keep (λ y. not (same x y)) l) (distinct-last xs w) ∙ put-kept x w (distinct same xs)
 
@@ -174,17 +174,12 @@ module _ {N : Type 0} (same : N → N → Bool) where
         let r = put-all-grows (distinct same xs) ws in
         (r .0, distinct-append xs ws ∙ r .1)
 
-    -- a list's elements are the distinct ones
-    from-distinct : (xs : List N) {w : N} → In w (distinct same xs) → In w xs
-    from-distinct [] i = i
-    from-distinct (x ∷ xs) i = ⊎-elim (λ e. at-head e) (λ j. next (from-distinct xs (keep-elim (λ y. not (same x y)) (distinct same xs) j .0))) (uncons i)
-
-    pub distinct-in-list : (xs : List N) (w : N) → isIn (distinct same xs) w ≡ true → In w xs
+    pub distinct-in-list : (xs : List N) (w : N) → isIn same (distinct same xs) w ≡ true → In w xs
     distinct-in-list xs w h =
         let r = any-elim (λ k. same k w) (distinct same xs) h in
         from-distinct xs (subst (λ (k : N). In k (distinct same xs)) (decides (r .0) w .0 (r .2)) (r .1))
 
-    pub in-distinct : (xs : List N) (w : N) → In w xs → isIn (distinct same xs) w ≡ true
+    pub in-distinct : (xs : List N) (w : N) → In w xs → isIn same (distinct same xs) w ≡ true
     in-distinct xs w i = any-intro (λ k. same k w) (distinct-in same decides xs i) (decides w w .1 refl)
 
     pub position-distinct : (xs ws : List N) (w : N) → In w xs → position same (distinct same (xs ++ ws)) w ≡ position same (distinct same xs) w

@@ -20,12 +20,13 @@ use Rattle.names.specs.declared.Names.{Names}
 use Rattle.names.specs.declared.NamesAnswer.{NamesAnswer}
 use Rattle.names.specs.declared.NamesAnswer.the-variants as NamesAnswer
 use Rattle.names.specs.declared.Gathered.{Gathered}
-use Rattle.names.specs.Gather.{NameAt, nameAt, placesOf, ruleTokens, room, withName, Numbered, numbered, behind, namesAfter, arraysOf, knownOf, gatheredOf, gathered, Gathers}
+use Rattle.names.specs.Gather.{NameAt, nameAt, placesOf, ruleTokens, withName, Numbered, numbered, behind, namesAfter, arraysOf, knownOf, gatheredOf, gathered, Gathers}
 use Rattle.names.specs.Steps.{placeIn, withKept}
 use Rattle.names.proofs.Distinct.{position-most}
 use Rattle.names.proofs.Arrays.{kept-count, number-kept, with-kept, too-many, not-too-many}
 use Rattle.names.proofs.Tokens.{rule-tokens, tokens-lie, past, token-lies, at-name, at-other, at-end}
 use Rattle.lexer.proofs.Filling.{pad-set}
+use Rattle.evalset.specs.Sets.{most}
 
 pub record Going (text kinds starts lens : List ℕ) (n : ℕ) (first : Names) (known : Names) (numbers : List ℕ) (m i : ℕ) : Type 0 where
   pub tokens : arrays kinds starts lens n ≡ tokensOf (ruleTokens text)
@@ -33,7 +34,7 @@ pub record Going (text kinds starts lens : List ℕ) (n : ℕ) (first : Names) (
   pub fewer : m ≤ i
   pub names : List Name
   pub kept : known ≡ arraysOf names
-  pub few : length names ≤ room
+  pub few : length names ≤ most
   pub done : List ℕ
   pub padded : numbers ≡ pad done
   pub many : length done ≡ m
@@ -72,10 +73,10 @@ module _ {text kinds starts lens : List ℕ} {n : ℕ} {first known : Names} {nu
   pub few-tokens : n ≤ 256
   few-tokens = omega (arith, count-is, tokens-lie text .1)
 
-  pub few-names : known .count ≤ 6
+  pub few-names : known .count ≤ most
   few-names = let e : known .count ≡ length (g .names) = ap (λ (x : Names). x .count) (g .kept) ∙ kept-count (g .names) in omega (arith, g .few)
 
-  pub number-few : (w : Name) (number : ℕ) → number ≡ placeIn w (take (known .count) (known .list)) → number ≤ 6
+  pub number-few : (w : Name) (number : ℕ) → number ≡ placeIn w (take (known .count) (known .list)) → number ≤ most
   number-few w number f =
       let e : number ≡ position sameName (g .names) w = f ∙ ap (λ (x : Names). placeIn w (take (x .count) (x .list))) (g .kept) ∙ number-kept (g .names) w in
       omega (arith, position-most sameName (g .names) w, g .few)
@@ -150,20 +151,20 @@ module _ {text kinds starts lens : List ℕ} {n : ℕ} {first known : Names} {nu
       abbrev next : Bool → Numbered
       next b = cond b (numbered (g .names) [] (NamesAnswer.SeventhName start)) (behind (position sameName (g .names) w ∷ []) (namesAfter (withName (g .names) w) left))
 
-      turn : namesAfter (g .names) (placesOf text (drop i every)) ≡ next (ltb room (length (withName (g .names) w)))
+      turn : namesAfter (g .names) (placesOf text (drop i every)) ≡ next (ltb most (length (withName (g .names) w)))
       unfolding namesAfter
       turn = ap (namesAfter (g .names)) places
 
       -- a seventh name
-      pub going-seventh : number ≡ 6 → gave known numbers (NamesAnswer.SeventhName start) ≡ gathered text (knownOf first)
+      pub going-seventh : number ≡ most → gave known numbers (NamesAnswer.SeventhName start) ≡ gathered text (knownOf first)
       going-seventh z =
           unchanged (g .names) [] (NamesAnswer.SeventhName start) refl refl (turn ∙ ap next (too-many (g .names) w (g .few) (sym number-is ∙ z)))
 
       -- a name that has a number
-      pub going-name : (number ≡ 6 → ⊥) → (after : Names) → after ≡ withKept known w number → Going text kinds starts lens n first after (set numbers m number) (m + 1) (i + 1)
+      pub going-name : (number ≡ most → ⊥) → (after : Names) → after ≡ withKept known w number → Going text kinds starts lens n first after (set numbers m number) (m + 1) (i + 1)
       going-name z after a =
-          let fits : length (withName (g .names) w) ≤ room = not-too-many (g .names) w (g .few) (λ q. z (number-is ∙ q)) in
-          let tests : ltb room (length (withName (g .names) w)) ≡ false = le-ltb room (length (withName (g .names) w)) fits in
+          let fits : length (withName (g .names) w) ≤ most = not-too-many (g .names) w (g .few) (λ q. z (number-is ∙ q)) in
+          let tests : ltb most (length (withName (g .names) w)) ≡ false = le-ltb most (length (withName (g .names) w)) fits in
           record {
             tokens = g .tokens;
             upto = omega arith;

@@ -4,18 +4,19 @@ use mathlib.Core.Bool.{false}
 use mathlib.Core.Path.{_≡_, sym, ap, _∙_}
 use mathlib.Core.Logic.{⊎-elim, _↔_}
 use mathlib.Core.List.{List, _∷_, _++_}
-use Prim.Native.Nat.{ℕ, _≤_, _<_}
+use Prim.Native.Nat.{ℕ, _≤_}
 use native.Mathlib.Omega.{arith}
 use lib.ListN.{length}
 use Rattle.formula.specs.Formula.{Name}
+use Rattle.evalset.specs.Sets.{most}
 use Rattle.evalset.proofs.Search.{clash, untrue}
 use Rattle.contact.specs.Numbering.{distinct, sameName}
 use Rattle.contact.proofs.Naming.{same-name}
 use Rattle.names.specs.declared.NamesAnswer.{NamesAnswer}
 use Rattle.names.specs.declared.NamesAnswer.the-variants as NamesAnswer
-use Rattle.names.specs.Gather.{NameAt, nameAt, room, Numbered, numbered, namesAfter}
+use Rattle.names.specs.Gather.{NameAt, nameAt, Numbered, numbered, namesAfter, isIn}
 use Rattle.names.specs.Seventh.{namesAt, SeventhAt}
-use Rattle.names.proofs.Distinct.{isIn, distinct-append, in-distinct, distinct-in-list}
+use Rattle.names.proofs.Distinct.{distinct-append, in-distinct, distinct-in-list}
 use Rattle.names.proofs.Outcome.{allOf, numbersIn, Fits, Stops, outcome, seventh-answered, stops-many}
 
 -- the different names of earlier texts and of those at their places
@@ -66,8 +67,8 @@ module _ (earlier : List Name) (xs : List NameAt) where
       ∙ seventh-answered known (h .before) p (h .name) (h .after) (sym (ap length six) ∙ h .six) (ap (λ (l : List Name). isIn sameName l (h .name)) (sym six) ∙ new)
       ∙ ap (λ (l : List Name). numbered l (numbersIn l (h .before)) (NamesAnswer.SeventhName p)) (sym six)
 
-  module _ (few : length known ≤ room) where
-    pub places-enough : (result .answer ≡ NamesAnswer.Enough) ↔ (length (different earlier xs) ≤ room)
+  module _ (few : length known ≤ most) where
+    pub places-enough : (result .answer ≡ NamesAnswer.Enough) ↔ (length (different earlier xs) ≤ most)
     places-enough = (
       λ e. ⊎-elim (λ r. omega (arith, ap length (different-is earlier xs), r .few)) (λ r. absurd (apart (stopped r .1) e)) (outcome known xs few),
       λ h. ⊎-elim fitted (λ r. absurd (omega (arith, ap length (different-is earlier xs), stops-many known xs r))) (outcome known xs few),
@@ -83,10 +84,4 @@ module _ (earlier : List Name) (xs : List NameAt) where
     places-seventh p = (
       λ e. ⊎-elim (λ r. absurd (apart e (fitted r))) (λ r. seventh-from r e) (outcome known xs few),
       λ h. ap (λ (n : Numbered). n .answer) (seventh-result h),
-    )
-
-    pub places-many : ((p : ℕ) × (result .answer ≡ NamesAnswer.SeventhName p)) ↔ (room < length (different earlier xs))
-    places-many = (
-      λ e. ⊎-elim (λ r. absurd (apart (e .1) (fitted r))) (λ r. omega (arith, ap length (different-is earlier xs), stops-many known xs r)) (outcome known xs few),
-      λ h. ⊎-elim (λ r. absurd (omega (arith, ap length (different-is earlier xs), r .few))) stopped (outcome known xs few),
     )

@@ -12,7 +12,7 @@ use borrow.Author.Tests.{eq-eqb, ne-eqb, lt-ltb, le-ltb}
 use Rattle.formula.specs.Formula.{Name}
 use Rattle.lexer.proofs.Lists.{rest}
 use Rattle.contact.specs.Numbering.{sameName}
-use Rattle.names.specs.declared.Name.{Name as KeptName}
+use Rattle.names.specs.declared.KeptName.{KeptName}
 use Rattle.names.specs.declared.Names.{Names}
 use Rattle.names.specs.Gather.{nameOf}
 use Rattle.names.specs.Steps.{sameKept, placeIn, push, withKept}
@@ -75,7 +75,7 @@ module _ (w : Name) (ks : List KeptName) (i : ℕ) where
       let z : placeIn w (drop i ks) ≡ 0 = rw (drop-of-length-le ks h) in
       omega arith
 
--- ---- name_of: one byte more over the zeros
+-- ---- name_of: one byte more over the zeros, m places in all
 
 pub copy-next : (m : ℕ) (s : List ℕ) (i : ℕ) → i < length s → i < m
     → set (take i s ++ replicate (m - i) 0) i (getD s i 0) ≡ take (i + 1) s ++ replicate (m - (i + 1)) 0

@@ -17,8 +17,9 @@ use Rattle.syntax.specs.declared.RuleAnswer.{RuleAnswer}
 use Rattle.syntax.specs.declared.RuleAnswer.the-variants as RuleAnswer
 use Rattle.syntax.specs.declared.Rule.{Rule}
 use Rattle.evalset.specs.Search.{any}
+use Rattle.evalset.specs.Sets.{most}
 use Rattle.contact.specs.Numbering.{position, sameName}
-use Rattle.names.specs.declared.Name.{Name as KeptName}
+use Rattle.names.specs.declared.KeptName.{KeptName}
 use Rattle.names.specs.declared.Names.{Names}
 use Rattle.names.specs.declared.NamesAnswer.{NamesAnswer}
 use Rattle.names.specs.declared.NamesAnswer.the-variants as NamesAnswer
@@ -54,16 +55,18 @@ ruleTokens s = ifRead (ruleOf s .answer) (tokensIn (cutting s))
 
 -- ---- numbered behind those that are known
 
--- "It holds at most 16 rules, 6 names and 16 atoms."
-abbrev pub room : ℕ
-room = 6
+module _ {N : Type 0} (same : N → N → Bool) where
+  -- one of them is the same
+  abbrev pub isIn : List N → N → Bool
+  isIn ks w = any (λ k. same k w) ks
 
-abbrev pub isKnown : List Name → Name → Bool
-isKnown ks w = any (λ k. sameName k w) ks
+  -- put last, if it is not among them
+  abbrev pub put : List N → N → List N
+  put ks w = cond (isIn ks w) ks (ks ++ w ∷ [])
 
 -- a name put last, if it is not among them
 unfoldable pub withName : List Name → Name → List Name
-withName ks w = cond (isKnown ks w) ks (ks ++ w ∷ [])
+withName ks w = put sameName ks w
 
 -- the names that are known, the number of each name place, and the answer
 pub record Numbered : Type 0 where
@@ -78,12 +81,13 @@ numbered ks ns a = record { names = ks; numbers = ns; answer = a }
 abbrev pub behind : List ℕ → Numbered → Numbered
 behind ns r = numbered (r .names) (ns ++ r .numbers) (r .answer)
 
--- the names at their places, one after the other; at the first that would be one too many, its place is the answer
+-- "It holds at most 16 rules, 6 names and 16 atoms.": the names at their places, one after the other; at the first that would be one
+-- too many, its place is the answer
 unfoldable pub namesAfter : List Name → List NameAt → Numbered
 namesAfter ks [] = numbered ks [] NamesAnswer.Enough
 namesAfter ks (x ∷ xs) =
     let more = behind (position sameName ks (x .name) ∷ []) (namesAfter (withName ks (x .name)) xs) in
-    cond (ltb room (length (withName ks (x .name)))) (numbered ks [] (NamesAnswer.SeventhName (x .place))) more
+    cond (ltb most (length (withName ks (x .name)))) (numbered ks [] (NamesAnswer.SeventhName (x .place))) more
 
 -- ---- as arrays
 
@@ -93,7 +97,7 @@ nameOf w = record { bytes = w ++ replicate (16 - length w) 0; len = length w }
 
 -- names as they are kept
 unfoldable pub arraysOf : List Name → Names
-arraysOf ks = record { list = map nameOf ks ++ replicate (6 - length ks) (nameOf []); count = length ks }
+arraysOf ks = record { list = map nameOf ks ++ replicate (most - length ks) (nameOf []); count = length ks }
 
 -- the names that arrays hold
 abbrev pub bytesIn : KeptName → Name
@@ -114,7 +118,7 @@ gathered s ks = gatheredOf (namesAfter ks (placesOf s (ruleTokens s)))
 -- arrays that hold names, at most six
 pub record Kept (ns : Names) : Type 0 where
   pub canonical : ns ≡ arraysOf (knownOf ns)
-  pub few : ns .count ≤ 6
+  pub few : ns .count ≤ most
 
 -- the rule was read from the text, and the names are kept
 pub record Gathers (s : List ℕ) (rule : Rule) (ns : Names) : Type 0 where

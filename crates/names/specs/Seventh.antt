@@ -5,8 +5,9 @@ use Prim.Native.Nat.{ℕ}
 use lib.ListN.{length}
 use Rattle.formula.specs.Formula.{Name}
 use Rattle.evalset.specs.Search.{In}
+use Rattle.evalset.specs.Sets.{most}
 use Rattle.contact.specs.Numbering.{distinct, sameName}
-use Rattle.names.specs.Gather.{NameAt, nameAt, room}
+use Rattle.names.specs.Gather.{NameAt, nameAt}
 
 -- names without their places
 abbrev pub namesAt : List NameAt → List Name
@@ -19,6 +20,6 @@ pub record SeventhAt (earlier : List Name) (xs : List NameAt) (p : ℕ) : Type 0
   pub after : List NameAt
   pub split : xs ≡ before ++ nameAt p name ∷ after
   -- there are six different names before it
-  pub six : length (distinct sameName (earlier ++ namesAt before)) ≡ room
+  pub six : length (distinct sameName (earlier ++ namesAt before)) ≡ most
   -- and it is none of them
   pub new : In name (earlier ++ namesAt before) → ⊥

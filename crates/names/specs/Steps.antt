@@ -7,7 +7,7 @@ use lib.ListN.{length, take, set}
 use Rattle.formula.specs.Formula.{Name}
 use Rattle.contact.specs.Numbering.{sameName}
 use Rattle.names.specs.Gather.{nameOf}
-use Rattle.names.specs.declared.Name.{Name as KeptName}
+use Rattle.names.specs.declared.KeptName.{KeptName}
 use Rattle.names.specs.declared.Names.{Names}
 
 -- a kept name has these bytes

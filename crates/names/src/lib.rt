@@ -8,25 +8,24 @@ ghost use mathlib.Core.Path.{_≡_};
 ghost use Prim.Native.Nat.{_≤_, _<_};
 ghost use mathlib.Core.List.{[]};
 ghost use lib.ListN.{length, take};
+ghost use Rattle.evalset.specs.Sets.{most};
 ghost use Rattle.names.specs.Gather.{arraysOf, nameOf, knownOf, Gathers, gathered};
 ghost use Rattle.names.specs.Steps.{sameKept, placeIn, withKept};
+use evalset::NAMES;
 use syntax::Rule;
 
 // The kind of a token that is a name, by the lexer's numbers.
 const NAME: u8 = 18;
 
-// How many names there may be.
-const ROOM: usize = 6;
-
 // A name's bytes, zeros after them.
-pub struct Name {
+pub struct KeptName {
     pub bytes: [u8; 16],
     pub len: u8,
 }
 
 // The names in the order of their numbers; the entries past them are empty.
 pub struct Names {
-    pub list: [Name; 6],
+    pub list: [KeptName; NAMES],
     pub count: usize,
 }
 
@@ -49,13 +48,13 @@ pub fn no_names() -> Names
     ensures { λ r. ⌜ r ≡ arraysOf [] ⌝ }
 {
     let bytes = [0u8; 16];
-    let empty = Name { bytes, len: 0 };
-    let list = [empty; 6];
+    let empty = KeptName { bytes, len: 0 };
+    let list = [empty; NAMES];
     Names { list, count: 0 }
 }
 
 // Whether a name that is kept has these bytes; they are compared only where the lengths agree.
-fn same(k: Name, w: &[u8]) -> bool
+fn same(k: KeptName, w: &[u8]) -> bool
     requires { ⌜ length (now w) ≤ 16 ⌝ }
     ensures { λ r. ⌜ r ≡ sameKept k (now (w .entry)) ⌝ }
 {
@@ -76,7 +75,7 @@ fn same(k: Name, w: &[u8]) -> bool
 
 // The number of the name with these bytes; how many names there are where it is none of them.
 fn number_of(names: Names, w: &[u8]) -> usize
-    requires { ⌜ (names .count ≤ 6) × (length (now w) ≤ 16) ⌝ }
+    requires { ⌜ (names .count ≤ most) × (length (now w) ≤ 16) ⌝ }
     ensures { λ r. ⌜ r ≡ placeIn (now (w .entry)) (take (names .count) (names .list)) ⌝ }
 {
     let list = names.list;
@@ -93,7 +92,7 @@ fn number_of(names: Names, w: &[u8]) -> usize
 }
 
 // A name as it is kept.
-fn name_of(w: &[u8]) -> Name
+fn name_of(w: &[u8]) -> KeptName
     requires { ⌜ length (now w) ≤ 16 ⌝ }
     ensures { λ r. ⌜ r ≡ nameOf (now (w .entry)) ⌝ }
 {
@@ -104,12 +103,12 @@ fn name_of(w: &[u8]) -> Name
         i += 1;
     }
     let len = w.len() as u8;
-    Name { bytes, len }
+    KeptName { bytes, len }
 }
 
 // The names with the one of these bytes and this number put last, if it is not among them.
 fn with_name(names: Names, w: &[u8], number: usize) -> Names
-    requires { ⌜ (number < 6) × (length (now w) ≤ 16) ⌝ }
+    requires { ⌜ (number < most) × (length (now w) ≤ 16) ⌝ }
     ensures { λ r. ⌜ r ≡ withKept names (now (w .entry)) number ⌝ }
 {
     let count = names.count;
@@ -146,7 +145,7 @@ pub fn gather(text: &[u8], rule: Rule, names: Names) -> Gathered
         let start = lexer::wide(starts[i]);
         let end = start + lexer::wide(lens[i]);
         let number = number_of(known, &text[start..end]);
-        if number == ROOM {
+        if number == NAMES {
             return Gathered {
                 names: known,
                 numbers,

@@ -5,28 +5,18 @@ use mathlib.Core.List.{List, [], _∷_, _++_, map, append-nil}
 use Prim.Native.Nat.{ℕ, zero, suc, _-_, _<_}
 use native.Mathlib.Omega.{arith}
 use lib.ListN.{length, getD, replicate}
-use lib.Seq.{take-at}
 use Rattle.formula.specs.Formula.{Name}
 use Rattle.evalset.specs.Bit.{bit}
 use Rattle.evalset.specs.Search.{gather, below}
 use Rattle.names.specs.Gather.{nameOf, arraysOf, bytesIn, knownOf, Kept}
-use Rattle.names.specs.declared.Name.{Name as KeptName}
+use Rattle.names.specs.declared.KeptName.{KeptName}
 use Rattle.names.specs.declared.Names.{Names}
+use Rattle.names.proofs.Arrays.{bytes-back, size-back}
+use Rattle.names.proofs.Scans.{empty}
 use Rattle.report.specs.Output.{nameIf, pointNames, blanked}
 use Rattle.report.proofs.Parts.{names-parts}
 
-bytes-back : (w : Name) → bytesIn (nameOf w) ≡ w
-unfolding nameOf
-bytes-back w = take-at w (replicate (16 - length w) 0) (length w) refl
-
-size-back : (w : Name) → nameOf w .len ≡ length w
-unfolding nameOf
-size-back w = refl
-
-abbrev noName : KeptName
-noName = record { bytes = []; len = 0 }
-
-name-at : (ws : List Name) (rest : List KeptName) (i : ℕ) → i < length ws → getD (map nameOf ws ++ rest) i noName ≡ nameOf (getD ws i [])
+name-at : (ws : List Name) (rest : List KeptName) (i : ℕ) → i < length ws → getD (map nameOf ws ++ rest) i empty ≡ nameOf (getD ws i [])
 name-at [] rest i h = absurd (omega arith)
 name-at (w ∷ ws) rest zero h = refl
 name-at (w ∷ ws) rest (suc i) h = name-at ws rest i (omega arith)
@@ -43,19 +33,19 @@ module _ (names : Names) (kept : Kept names) where
       names-parts (knownOf names) e ∙ ap (λ (n : ℕ). gather (λ i. gather blanked (nameIf (knownOf names) e i)) (below n)) (sym known-count)
 
   module _ (i : ℕ) (h : i < names .count) where
-    known-at : getD (names .list) i noName ≡ nameOf (getD (knownOf names) i [])
+    known-at : getD (names .list) i empty ≡ nameOf (getD (knownOf names) i [])
     unfolding arraysOf
     known-at =
-        ap (λ (n : Names). getD (n .list) i noName) (kept .canonical)
+        ap (λ (n : Names). getD (n .list) i empty) (kept .canonical)
         ∙ name-at (knownOf names) (replicate (6 - length (knownOf names)) (nameOf [])) i (omega (arith, known-count))
 
-    pub known-name : bytesIn (getD (names .list) i noName) ≡ getD (knownOf names) i []
+    pub known-name : bytesIn (getD (names .list) i empty) ≡ getD (knownOf names) i []
     known-name = ap bytesIn known-at ∙ bytes-back (getD (knownOf names) i [])
 
-    pub known-size : getD (names .list) i noName .len ≡ length (bytesIn (getD (names .list) i noName))
+    pub known-size : getD (names .list) i empty .len ≡ length (bytesIn (getD (names .list) i empty))
     known-size = ap (λ (k : KeptName). k .len) known-at ∙ size-back (getD (knownOf names) i []) ∙ ap length (sym known-name)
 
-    pub name-set : (e : ℕ) → bit e i ≡ true → gather blanked (nameIf (knownOf names) e i) ≡ blanked (bytesIn (getD (names .list) i noName))
+    pub name-set : (e : ℕ) → bit e i ≡ true → gather blanked (nameIf (knownOf names) e i) ≡ blanked (bytesIn (getD (names .list) i empty))
     name-set e b =
         ap (λ (t : Bool). gather blanked (cond t (getD (knownOf names) i [] ∷ []) [])) b
         ∙ append-nil (blanked (getD (knownOf names) i [])) ∙ ap blanked (sym known-name)

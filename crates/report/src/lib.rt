@@ -16,7 +16,7 @@ ghost use Rattle.table.specs.Numbers.{addOutcome, onLine, loadOutcome};
 ghost use Rattle.report.specs.Output.{decimal, labelled, headLine, nameIf, pointNames, namesOrNone, blanked, pointLine, pointLines, contactLine, planText, refusedText, outcomeText, rulesText, outputOf};
 ghost use Rattle.report.specs.Putting.{Puts, Reports};
 use evalset::EvalSet;
-use names::Name;
+use names::KeptName;
 use names::Names;
 use plan::PlanArrays;
 use table::AskAnswer;
@@ -83,7 +83,7 @@ fn lies_in(e: u8, i: usize) -> bool
 }
 
 // A name behind a blank.
-fn put_name(name: Name, out: &mut [u8], at: usize) -> usize
+fn put_name(name: KeptName, out: &mut [u8], at: usize) -> usize
     requires { ⌜ (name .len ≡ length (bytesIn name)) × (at + length (blanked (bytesIn name)) ≤ length (now out)) ⌝ }
     ensures { λ r. ⌜ Puts at (blanked (bytesIn name)) (now (out .entry)) (now (out .exit)) r ⌝ }
 {

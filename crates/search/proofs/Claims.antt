@@ -5,13 +5,13 @@ use mathlib.Core.Bool.{Bool, true, false, not, _&&_}
 use mathlib.Core.Path.{_≡_, sym, ap, ap₂, _∙_, subst}
 use mathlib.Core.Logic.{_↔_}
 use mathlib.Core.List.{List, [], _∷_, _++_, map}
-use Prim.Native.Nat.{ℕ, _+_, _-_, _*_, _/_, _≤_, _<_}
+use Prim.Native.Nat.{ℕ, _+_, _*_, _≤_, _<_}
 use native.Mathlib.Omega.{arith}
 use lib.ListN.{length, getD, length-map}
 use borrow.Author.Tests.{lt-ltb}
 use Rattle.formula.specs.Formula.{Atom}
 use Rattle.evalset.specs.Search.{In}
-use Rattle.evalset.specs.Sets.{most, mem, memAt, belowOf}
+use Rattle.evalset.specs.Sets.{memAt}
 use Rattle.contact.specs.Meaning.{Floor}
 use Rattle.contact.specs.Numbering.{AtomBelow}
 use Rattle.contact.specs.Row.{Row, is, RealisesPart}
@@ -22,17 +22,12 @@ use Rattle.search.specs.declared.Sheet.{Sheet}
 use Rattle.search.specs.declared.State.{State}
 use Rattle.search.specs.declared.RowPlan.{RowPlan}
 use Rattle.search.specs.Rows.{rowBits}
-use Rattle.search.specs.Compiled.{limit, atomAt, Compiled, Fit, StepSays, RealisableSays, NextSays}
+use Rattle.search.specs.Compiled.{limit, atomAt, Compiled, Fit, StepSays, RealisableSays}
 use Rattle.search.specs.Planned.{marksIn, PlanOf, PlanSays}
 use Rattle.search.proofs.Rows.{row-length, row-true, row-false, marks-last}
-use Rattle.search.proofs.Fitting.{fit-start}
 use Rattle.search.proofs.Listing.{pad-at}
 
 -- ---- the state (Fitting)
-
--- with no marks, everything below 2 ^ n is allowed, and nothing is separated
-pub start-fits : (n : ℕ) (s : State) → n ≤ most → mem (s .allowed) ≡ belowOf n → ((p q : ℕ) → memAt (s .rows) p q ≡ false) → Fit n s []
-start-fits = fit-start
 
 module _ (sheet : Sheet) (atoms : List (Atom ℕ)) (compiled : Compiled sheet atoms) where
   -- step carries the state of any marks to that of one mark more
@@ -71,14 +66,6 @@ module _ (sheet : Sheet) (atoms : List (Atom ℕ)) (compiled : Compiled sheet at
       → Fit (sheet .names) s (rowMarks atoms (rowBits k row)) → r ≡ check (sheet .names) (rowMarks atoms (rowBits k row))
   unfolding RealisableSays
   realisable-is row k says l f = says atoms compiled l f
-
-  -- realisable_next is too, if the row without its last atom passes
-  pub next-is : {s : State} {r : Bool} (row k : ℕ) → NextSays sheet s row k r → k ≤ length atoms
-      → Fit (sheet .names) s (rowMarks atoms (rowBits k row))
-      → check (sheet .names) (rowMarks atoms (rowBits (k - 1) (row / 2))) ≡ true
-      → r ≡ check (sheet .names) (rowMarks atoms (rowBits k row))
-  unfolding NextSays
-  next-is row k says l f p = says atoms compiled l f p
 
   -- so it is true exactly if some floor gives the first k atoms these values
   pub realisable-exactly : {s : State} {r : Bool} (row k : ℕ) → RealisableSays sheet s row k r → k ≤ length atoms

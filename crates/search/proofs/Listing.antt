@@ -10,6 +10,7 @@ use native.Mathlib.Omega.{arith}
 use lib.Dec.{ltb, eqb}
 use lib.ListN.{length, getD, replicate, set, length-append, List·getD-append}
 use lib.Seq.{set-append-seam}
+use borrow.Author.Count.{below-none, below-more}
 use borrow.Author.Tests.{lt-ltb, le-ltb, eq-eqb, ne-eqb}
 use Rattle.evalset.specs.declared.EvalSet.{EvalSet}
 use Rattle.evalset.specs.Search.{keep, below, elem}
@@ -109,15 +110,13 @@ empty-rows (suc n) (suc i) e x h = empty-rows n i e x h
 
 module _ (f : ℕ → ℕ → Bool) where
   pub filled-none : (r : ℕ → ℕ → Bool) → ((i e : ℕ) → r i e ≡ false) → Filled 0 f r
-  filled-none r h = record { done = λ i l. absurd (omega arith); past = λ i e l. h i e }
+  filled-none r h = record { done = below-none (λ i. r i ≡ f i); past = λ i e l. h i e }
 
   pub filled-more : (n : ℕ) (r m : ℕ → ℕ → Bool) → Filled n f r → m n ≡ f n
       → ((i : ℕ) → (i ≡ n → ⊥) → m i ≡ r i) → Filled (n + 1) f m
   filled-more n r m h here other =
       record {
-        done = λ i l.
-            ⊎-elim (λ k. other i (λ z. omega arith) ∙ h .done i k)
-            (λ k. let z : n ≡ i = omega arith in subst (λ (j : ℕ). m j ≡ f j) z here) (side i n);
+        done = below-more (λ i. m i ≡ f i) n (λ i k. other i (λ z. omega arith) ∙ h .done i k) here;
         past = λ i e l. each (other i (λ z. omega arith)) e ∙ h .past i e (omega arith);
       }
 

@@ -9,7 +9,7 @@ use native.Mathlib.Numerals.{add-one}
 use native.Mathlib.Omega.{arith}
 use lib.Dec.{eqb}
 use lib.ListN.{length, getD, take}
-use lib.Seq.{take-suc, length-take-le}
+use lib.Seq.{take-suc, take-length, length-take-le}
 use Rattle.formula.specs.Formula.{Atom}
 use Rattle.evalset.specs.Bit.{bit}
 use Rattle.evalset.specs.Search.{In, here, next}
@@ -108,6 +108,11 @@ marks-take atoms row i l n =
     ap (λ (j : ℕ). rowMarks atoms (take j row)) (add-one i) ∙ ap (rowMarks atoms) (take-suc row i false l)
     ∙ marks-last atoms (take i row) (getD row i false) (omega arith)
     ∙ ap (λ (j : ℕ). rowMarks atoms (take i row) ++ mark (atomAt atoms j) (getD row i false) ∷ []) z
+
+-- all atoms of the row are passed
+pub marks-whole : (atoms : List (Atom ℕ)) (k p i : ℕ) → i ≡ k → rowMarks atoms (take i (rowBits k p)) ≡ rowMarks atoms (rowBits k p)
+marks-whole atoms k p i e =
+    ap (rowMarks atoms) (ap (λ (j : ℕ). take j (rowBits k p)) (e ∙ sym (row-length k p)) ∙ take-length (rowBits k p))
 
 -- each atom of the row has its mark there
 pub mark-in : (atoms : List (Atom ℕ)) (row : Row) (i : ℕ) → i < length row → length row ≤ length atoms

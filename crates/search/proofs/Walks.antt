@@ -7,6 +7,7 @@ use mathlib.Core.List.{List, [], _∷_, _++_}
 use Prim.Native.Nat.{ℕ, _+_, _≤_, _<_}
 use native.Mathlib.Omega.{arith}
 use lib.Dec.{eqb}
+use borrow.Author.Count.{below-more}
 use Rattle.evalset.specs.Search.{any, first, gather, below, elem}
 use Rattle.evalset.specs.Sets.{room, noneOf, minusOf, addOf}
 use Rattle.evalset.proofs.Bounded.{side, Least, first-at, first-none}
@@ -84,9 +85,7 @@ module _ (f g : ℕ → Bool) (sep : ℕ → ℕ → Bool) where
   under i e q t passed d l = ⊎-elim (λ k. passed d k) (λ k. starts-out d (t .between d k l)) (side d i)
 
   pub walk-on : (i e : ℕ) (q : ℕ → Bool) → Step room i e f q → Passed i → startsOf f g sep e ≡ false → Passed (e + 1)
-  walk-on i e q t passed h d l =
-      ⊎-elim (λ k. under i e q t passed d k)
-      (λ k. let z : e ≡ d = omega arith in subst (λ (x : ℕ). startsOf f g sep x ≡ false) z h) (side d e)
+  walk-on i e q t passed h = below-more (λ d. startsOf f g sep d ≡ false) e (under i e q t passed) h
 
   pub walk-found : (i e : ℕ) (q : ℕ → Bool) → Step room i e f q → Passed i → startsOf f g sep e ≡ true
       → Least room e (startsOf f g sep)

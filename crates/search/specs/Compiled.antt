@@ -36,15 +36,16 @@ noAtom = Atom.empty Term.zero
 abbrev pub atomAt : List (Atom ℕ) → ℕ → Atom ℕ
 atomAt atoms i = getD atoms i noAtom
 
-abbrev pub isContact : Sheet → ℕ → Bool
-isContact sheet i = getD (sheet .contact) i false
+-- whether the sheet's atom i is a contact
+abbrev pub contactAt : Sheet → ℕ → Bool
+contactAt sheet i = getD (sheet .contact) i false
 
--- the sheet is compiled from the atoms
+-- what the search asks of a sheet and its atoms: its sets are the terms' at the evaluations of its names. `CompiledFrom` of compile gives it
 pub record Compiled (sheet : Sheet) (atoms : List (Atom ℕ)) : Type 0 where
   pub few : sheet .names ≤ most
   pub counted : sheet .atoms ≡ length atoms
   pub atom-is : (i : ℕ) → i < length atoms
-      → AtomIs (sheet .names) (isContact sheet i) (memAt (sheet .xs) i) (memAt (sheet .ys) i) (atomAt atoms i)
+      → AtomIs (sheet .names) (contactAt sheet i) (memAt (sheet .xs) i) (memAt (sheet .ys) i) (atomAt atoms i)
 
 -- the state is that of the marks
 pub record Fit (names : ℕ) (s : State) (ms : List Mark) : Type 0 where

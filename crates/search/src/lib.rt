@@ -1,8 +1,8 @@
 // The check of the rows of a compiled sheet, and the plan of a row (document 01, 'The plan that is given').
 // A row is a number: of k atoms, atom i is true where bit k - 1 - i is clear. The state goes down the tree of rows by value: what
 // is allowed, and what is separated from each evaluation. Contracts speak of every list of atoms that the sheet is compiled
-// from (specs/Compiled.antt). A requires asks only that indices are in range: the search alone calls these functions, it has
-// at most 16 atoms, and a test for each call would cost it time. Assumes nothing.
+// from (specs/Compiled.antt). A requires asks only that indices are in range: our own crates alone call these functions, with
+// at most 16 atoms, and a test for each call would cost the search time. Assumes nothing.
 ghost use mathlib.Core.Path.{_≡_};
 ghost use mathlib.Core.Bool.{true, false};
 ghost use mathlib.Core.List.{[]};
@@ -21,8 +21,8 @@ use evalset::ROOM;
 // The most atoms.
 pub const ATOMS: usize = 16;
 
-// A compiled sheet: for atom i whether it is a contact, and its first and second term as sets of evaluations. Of a zero atom
-// xs has the zero term, and ys is empty.
+// A compiled sheet, not the planner's text: the atoms of document 01's sheet. For atom i whether it is a contact, and its first and
+// second term as sets of evaluations. Of a zero atom xs has the zero term, and ys is empty.
 pub struct Sheet {
     pub names: usize,
     pub atoms: usize,

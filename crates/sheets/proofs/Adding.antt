@@ -6,7 +6,7 @@ use Prim.Native.Nat.{ℕ, suc, _+_, _*_, _-_, _≤_, _<_}
 use native.Mathlib.Omega.{arith}
 use native.Mathlib.Numerals.{add-one}
 use lib.ListN.{length, take, set, replicate, length-append, length-map}
-use lib.Seq.{take-at, take-suc-set}
+use lib.Seq.{sets, length-sets, take-at, take-suc-set}
 use Rattle.formula.specs.Formula.{Atom, Form, Formula, Name}
 use Rattle.formula.specs.Atoms.{atomsOf}
 use Rattle.formula.specs.Names.{formulaNames}
@@ -24,19 +24,18 @@ use Rattle.names.specs.Gather.{arraysOf, knownOf, gathered, Gathers}
 use Rattle.names.proofs.Claims.{may-gather, known-from, enoughOf, rule-enough, rule-gathered}
 use Rattle.search.specs.declared.Sheet.{Sheet}
 use Rattle.solver.specs.Coded.{part, PartIs, Coded}
-use Rattle.compile.specs.Code.{written}
 use Rattle.compile.specs.Machine.{State, start}
 use Rattle.compile.specs.Sheet.{CompiledFrom}
 use Rattle.compile.specs.Compiles.{atomsAfter, codeAfter, Given, Asked, Result, Compiles}
-use Rattle.compile.specs.declared.Compiled.{Compiled}
-use Rattle.compile.proofs.Laws.{run-bounds}
-use Rattle.compile.proofs.Claims.{order-compiled, order-read, order-short, code-length}
+use Rattle.compile.specs.declared.CompiledRule.{CompiledRule}
+use Rattle.compile.proofs.Orders.{run-bounds}
+use Rattle.compile.proofs.Claims.{order-compiled, order-read, order-short}
 use Rattle.sheets.specs.declared.Compiling.{Compiling}
 use Rattle.sheets.specs.Ends.{lastEnd}
 use Rattle.sheets.specs.Counted.{nameCount}
 use Rattle.sheets.specs.Texts.{CompiledRules, OneMore}
 use Rattle.sheets.proofs.Numbers.{numberIn, numbered-names-with, all-atoms-with, numbered-atoms-with}
-use Rattle.sheets.proofs.Coding.{last-few, coded-with, written-first, written-part}
+use Rattle.sheets.proofs.Coding.{last-few, coded-with, sets-first, sets-part}
 use Rattle.sheets.proofs.Counting.{count-few, names-counted}
 
 -- ---- counts
@@ -95,7 +94,7 @@ module _ (rules : List (Formula Name)) (f : Formula Name) where
 
 module _ (text : List ℕ) (c : Compiling) (code : List ℕ) (rules : List (Formula Name)) (f : Formula Name) (m : OneMore text c code rules f) where
   abbrev every : List (Formula Name)
-  every = rules ++ f ∷ []
+  every = all rules f
 
   -- where the rule's code starts
   abbrev from : ℕ
@@ -184,7 +183,7 @@ module _ (text : List ℕ) (c : Compiling) (code : List ℕ) (rules : List (Form
             fits = omega (arith, from-few);
           }
 
-      module _ (r : Compiled) (out : List ℕ) (says : Compiles order numbers (c .sheet) code from r out) (ends-long : length (c .ends) ≡ 16) where
+      module _ (r : CompiledRule) (out : List ℕ) (says : Compiles order numbers (c .sheet) code from r out) (ends-long : length (c .ends) ≡ 16) where
         abbrev ws : List ℕ
         ws = codeAfter f (allAtoms (numberedNames rules))
 
@@ -214,9 +213,9 @@ module _ (text : List ℕ) (c : Compiling) (code : List ℕ) (rules : List (Form
         part-now =
             record {
               ordered = omega (arith, result .ends);
-              within = omega (arith, result .ends, ws-fits, ap length (result .wrote), code-length from ws code);
+              within = omega (arith, result .ends, ws-fits, ap length (result .wrote), length-sets code from ws);
               is-code = ap (λ (l : List ℕ). part l from (r .end)) (result .wrote)
-                  ∙ ap (part (written from ws code) from) (result .ends) ∙ written-part from ws code ws-fits;
+                  ∙ ap (part (sets code from ws) from) (result .ends) ∙ sets-part from ws code ws-fits;
               short = ws-few;
               atoms-below = λ i h. omega (arith, last-below rules f i h, atoms-now);
             }
@@ -230,9 +229,9 @@ module _ (text : List ℕ) (c : Compiling) (code : List ℕ) (rules : List (Form
         coded-now =
             subst (λ (es : List ℕ). Coded (r .sheet .atoms) out es (numberedAtoms (numberedNames every))) (sym ends-now)
             (subst (Coded (r .sheet .atoms) out (take (c .count) (c .ends) ++ r .end ∷ [])) (sym (numbers-with rules f))
-            (coded-with (c .sheet .atoms) (r .sheet .atoms) code out atoms-grow (ap length (result .wrote) ∙ code-length from ws code)
+            (coded-with (c .sheet .atoms) (r .sheet .atoms) code out atoms-grow (ap length (result .wrote) ∙ length-sets code from ws)
             0 (take (c .count) (c .ends)) (numberedAtoms (numberedNames rules)) (r .end) (last rules f) (m .so-far .coded)
-            (ap (take from) (result .wrote) ∙ written-first from ws code ws-fits) part-now))
+            (ap (take from) (result .wrote) ∙ sets-first from ws code ws-fits) part-now))
 
         names-now : g .names ≡ arraysOf (namesOf every)
         names-now = ap (λ (h : Gathered). h .names) (gather-is ∙ gathered-is)
@@ -248,7 +247,7 @@ module _ (text : List ℕ) (c : Compiling) (code : List ℕ) (rules : List (Form
         compiled-now =
             record {
               fits = m .room;
-              whole = ap length (result .wrote) ∙ code-length from ws code ∙ m .so-far .whole;
+              whole = ap length (result .wrote) ∙ length-sets code from ws ∙ m .so-far .whole;
               names-are = names-now;
               names-counted = count-now;
               compiled = subst (CompiledFrom grown) (atoms-after rules f) (renumbered (r .sheet) (g .names .count) _ (result .compiled));

@@ -7,17 +7,15 @@ use mathlib.Core.List.{List, [], _∷_, _++_, map, map-append}
 use Prim.Native.Nat.{ℕ, _≤_}
 use native.Mathlib.Omega.{arith}
 use lib.ListN.{length, take}
-use Rattle.formula.specs.Formula.{Form, Formula, Name}
-use Rattle.formula.specs.Atoms.{atomsOf}
+use Rattle.formula.specs.Formula.{Formula, Name}
 use Rattle.syntax.specs.RuleText.{IsRule}
 use Rattle.syntax.specs.Rule.{meaningOf}
 use Rattle.evalset.proofs.Search.{in-either, uncons, none-in}
-use Rattle.contact.specs.Numbering.{allAtoms, position, sameName, namesOf, mapAtom, mapForm, numberedNames, numberForm, numberedAtoms}
+use Rattle.contact.specs.Numbering.{allAtoms, namesOf, numberedNames, numberedAtoms}
 use Rattle.contact.specs.Plan.{firstRow, firstRowOf}
-use Rattle.solver.specs.declared.Row.{Row}
-use Rattle.solver.specs.Coded.{PartIs, CodedFrom}
-use Rattle.solver.specs.Tree.{ComesFrom, Searchable, rowsOf, FirstRowSays}
-use Rattle.solver.proofs.Claims.{searchable, answer-is}
+use Rattle.solver.specs.declared.RowAnswer.{RowAnswer}
+use Rattle.solver.specs.Tree.{ComesFrom, Runnable, rowsOf, FirstRowSays}
+use Rattle.solver.proofs.Claims.{runnable, answer-is}
 use Rattle.search.specs.declared.RowPlan.{RowPlan}
 use Rattle.search.specs.Rows.{rowBits}
 use Rattle.search.specs.Compiled.{limit}
@@ -31,38 +29,12 @@ use Rattle.plan.specs.Judging.{judge}
 use Rattle.plan.proofs.Floors.{namedFloor}
 use Rattle.judging.specs.declared.Judged.{Judged}
 use Rattle.judging.specs.Values.{judgedOf}
-use Rattle.judging.specs.Judges.{Runs, Prepared, JudgesSay}
+use Rattle.judging.specs.Judges.{JudgesSay}
 use Rattle.judging.proofs.Claims as judging
 use Rattle.compile.proofs.Searched.{compiled-search}
 use Rattle.sheets.specs.declared.Compiling.{Compiling}
-use Rattle.sheets.specs.Ends.{lastEnd}
-use Rattle.sheets.specs.Texts.{Fits, CompiledRules, CompiledTexts, OneMore, Ready, WithText, NothingCompiled, Whole, RowPlanIs, JudgedIs}
-use Rattle.sheets.proofs.Numbers
-use Rattle.sheets.proofs.Coding
+use Rattle.sheets.specs.Texts.{Fits, CompiledRules, CompiledTexts, OneMore, Ready, WithText, NothingCompiled, RowPlanIs, JudgedIs}
 use Rattle.sheets.proofs.Planning.{rowArrays, plan-given}
-
--- ---- one rule more (Numbers, Coding)
-
--- the rules before it keep their numbers for names
-pub numbered-names-with : (rules : List (Formula Name)) (f : Formula Name)
-    → numberedNames (rules ++ f ∷ []) ≡ numberedNames rules ++ mapForm (mapAtom (position sameName (namesOf (rules ++ f ∷ [])))) f ∷ []
-numbered-names-with = Numbers.numbered-names-with
-
--- its atoms stand behind theirs
-pub all-atoms-with : {A : Type 0} (rules : List (Form A)) (f : Form A) → allAtoms (rules ++ f ∷ []) ≡ allAtoms rules ++ atomsOf f
-all-atoms-with rules f = Numbers.all-atoms-with rules f
-
--- and are numbered from there on
-pub numbered-atoms-with : {A : Type 0} (rules : List (Form A)) (f : Form A)
-    → numberedAtoms (rules ++ f ∷ []) ≡ numberedAtoms rules ++ numberForm (length (allAtoms rules)) f ∷ []
-numbered-atoms-with rules f = Numbers.numbered-atoms-with rules f
-
--- code that is kept up to its last end, with one part more from there on
-pub coded-with : (many more : ℕ) (code out : List ℕ) → many ≤ more → length out ≡ length code
-    → (from : ℕ) (ends : List ℕ) (rules : List (Form ℕ)) (end : ℕ) (rule : Form ℕ) → CodedFrom many code from ends rules
-    → take (lastEnd from ends) out ≡ take (lastEnd from ends) code → PartIs more out (lastEnd from ends) end rule
-    → CodedFrom more out from (ends ++ end ∷ []) (rules ++ rule ∷ [])
-coded-with = Coding.coded-with
 
 -- ---- for a caller of `with_text`: the texts
 
@@ -102,12 +74,12 @@ module _ (rules : List (Formula Name)) (c : Compiling) (code : List ℕ) (h : Co
         coded = h .coded;
       }
 
-  -- so `first_row` may be called with them
-  pub may-search : Searchable code (take (c .count) (c .ends)) (c .sheet)
-  may-search = searchable comes-from (omega (arith, h .compiled .counted, h .compiled .few))
+  -- so `first_row` and `judge_plan` may be called with them
+  pub may-run : Runnable code (take (c .count) (c .ends)) (c .sheet)
+  may-run = runnable comes-from (omega (arith, h .compiled .counted, h .compiled .few))
 
-  -- and its answer is the first row of the numbered rules
-  pub answer-first-row : (r : Row) → FirstRowSays code (take (c .count) (c .ends)) (c .sheet) r
+  -- the answer of `first_row` is the first row of the numbered rules
+  pub answer-first-row : (r : RowAnswer) → FirstRowSays code (take (c .count) (c .ends)) (c .sheet) r
       → rowsOf (c .sheet .atoms) r ≡ firstRowOf (length (namesOf rules)) (numberedNames rules)
   answer-first-row r says =
       answer-is code (take (c .count) (c .ends)) (c .sheet) r says (allAtoms (numberedNames rules)) (numberedAtoms (numberedNames rules)) comes-from
@@ -136,22 +108,11 @@ module _ (rules : List (Formula Name)) (c : Compiling) (code : List ℕ) (h : Co
 
   -- ---- for a caller of the judgement
 
-  -- `judged` may be called with them
-  pub may-judge : Whole c code
-  may-judge = record { rules = rules; rules-compiled = h }
-
-  -- and so may `judge_plan`
-  prepared : Prepared (c .sheet) code (take (c .count) (c .ends)) (numberedNames rules)
-  prepared = record { compiled = comes-from .compiled; coded = h .coded }
-
-  pub may-run : Runs (c .sheet) code (take (c .count) (c .ends))
-  may-run = judging.prepared-runs (c .sheet) code (take (c .count) (c .ends)) (numberedNames rules) (may-plan .1) prepared
-
   module _ (arrays : PlanArrays) (r : Judged) (p : Plan) (is : IsPlan p) (named : p .names ≡ length (namesOf rules)) (stored : Stored arrays p) where
     -- what `judge_plan` answers is the judgement of the rules as read
     pub answer-judged : JudgesSay arrays (c .sheet) code (take (c .count) (c .ends)) r → r ≡ judgedOf (judge (namedFloor rules p is) rules)
     answer-judged says =
-        judging.answer-is arrays (c .sheet) code (take (c .count) (c .ends)) r says (numberedNames rules) prepared p is (named ∙ sym (h .names-counted)) stored
+        judging.answer-is arrays (c .sheet) code (take (c .count) (c .ends)) r says (numberedNames rules) comes-from p is (named ∙ sym (h .names-counted)) stored
         ∙ ap judgedOf (judging.names-judged rules p is)
 
     -- and so is the answer of `judged`

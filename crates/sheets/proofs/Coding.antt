@@ -1,15 +1,13 @@
 -- The code of one rule more stands behind that of the rules before it, and the bytes before it are kept, so each part is still the code
 -- of its rule; a part has at most 256 signs, so the code of 16 rules fits into 4096 bytes. Assumes nothing.
 use mathlib.Core.Path.{_≡_, refl, sym, ap, _∙_}
-use mathlib.Core.List.{List, [], _∷_, _++_}
+use mathlib.Core.List.{List, [], _∷_, _++_, append-assoc}
 use Prim.Native.Nat.{ℕ, zero, suc, _+_, _*_, _-_, _≤_, _<_}
 use native.Mathlib.Omega.{arith}
 use lib.ListN.{length, getD, take, drop, length-drop}
-use lib.Seq.{length-take-le, take-take, take-add, take-at, drop-at}
+use lib.Seq.{sets, sets-eq, length-take-le, take-take, take-add, take-at, drop-at}
 use Rattle.formula.specs.Formula.{Form}
 use Rattle.solver.specs.Coded.{part, PartIs, CodedFrom}
-use Rattle.compile.specs.Code.{written}
-use Rattle.compile.proofs.Claims.{code-stands}
 use Rattle.sheets.specs.Ends.{lastEnd}
 
 -- ---- a part
@@ -84,14 +82,17 @@ module _ (many more : ℕ) (code out : List ℕ) (grown : many ≤ more) (long :
 -- ---- the part that is written
 
 module _ (from : ℕ) (ws buf : List ℕ) (fits : from + length ws ≤ length buf) where
-  pub written-first : take from (written from ws buf) ≡ take from buf
-  written-first =
-      ap (take from) (code-stands from ws buf fits)
+  parts : sets buf from ws ≡ take from buf ++ (ws ++ drop (from + length ws) buf)
+  parts = sets-eq ws buf from fits ∙ append-assoc (take from buf) ws (drop (from + length ws) buf)
+
+  pub sets-first : take from (sets buf from ws) ≡ take from buf
+  sets-first =
+      ap (take from) parts
       ∙ take-at (take from buf) (ws ++ drop (from + length ws) buf) from (length-take-le from buf (omega arith))
 
-  pub written-part : part (written from ws buf) from (from + length ws) ≡ ws
-  written-part =
-      ap (λ (l : List ℕ). part l from (from + length ws)) (code-stands from ws buf fits)
+  pub sets-part : part (sets buf from ws) from (from + length ws) ≡ ws
+  sets-part =
+      ap (λ (l : List ℕ). part l from (from + length ws)) parts
       ∙ ap (take (from + length ws - from))
       (drop-at (take from buf) (ws ++ drop (from + length ws) buf) from (length-take-le from buf (omega arith)))
       ∙ take-at ws (drop (from + length ws) buf) (from + length ws - from) (omega arith)

@@ -1,10 +1,10 @@
 -- The names of a formula's order are counted token by token: a token is a name exactly if its symbol is one. Assumes nothing.
 use mathlib.Core.Path.{_≡_, refl, sym, ap, ap₂, _∙_}
 use mathlib.Core.List.{List, [], _∷_}
-use Prim.Native.Nat.{ℕ, suc, _+_, _≤_, _<_}
+use Prim.Native.Nat.{ℕ, _+_, _≤_, _<_}
 use native.Mathlib.Omega.{arith}
 use native.Mathlib.Numerals.{add-one}
-use lib.ListN.{length, getD, drop, length-append}
+use lib.ListN.{length, getD, drop, length-append, drop-of-length-le}
 use lib.Seq.{drop-cons}
 use Rattle.formula.specs.Formula.{Formula, Name}
 use Rattle.formula.specs.Names.{formulaNames}
@@ -30,10 +30,7 @@ count-step kinds i l = ap nameCount (drop-cons kinds i 0 l) ∙ ap (λ (k : ℕ)
 -- none after the last
 pub count-end : (kinds : List ℕ) (i : ℕ) → length kinds ≤ i → nameCount (drop i kinds) ≡ 0
 unfolding nameCount
-count-end [] ℕ.zero l = refl
-count-end [] (suc i) l = refl
-count-end (k ∷ ks) ℕ.zero l = absurd (omega arith)
-count-end (k ∷ ks) (suc i) l = count-end ks i (omega arith)
+count-end kinds i l = ap nameCount (drop-of-length-le kinds l)
 
 symbols-counted : (xs : List Sym) → nameCount (codes xs) ≡ length (namesIn xs)
 unfolding nameCount namesIn codes

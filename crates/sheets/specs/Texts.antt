@@ -11,7 +11,7 @@ use Rattle.evalset.specs.Search.{In}
 use Rattle.contact.specs.Numbering.{allAtoms, namesOf, numberedNames, numberedAtoms}
 use Rattle.names.specs.Gather.{arraysOf}
 use Rattle.contact.specs.Plan.{firstRowOf}
-use Rattle.solver.specs.declared.Row.{Row}
+use Rattle.solver.specs.declared.RowAnswer.{RowAnswer}
 use Rattle.solver.specs.Coded.{Coded}
 use Rattle.solver.specs.Tree.{rowsOf}
 use Rattle.search.specs.Rows.{rowBits}
@@ -75,7 +75,7 @@ pub record Whole (c : Compiling) (code : List ℕ) : Type 0 where
 -- ---- what the compiled rules answer
 
 -- the answer is the first row of the rules that are compiled
-unfoldable pub FirstRowIs : Compiling → List ℕ → Row → Type 0
+unfoldable pub FirstRowIs : Compiling → List ℕ → RowAnswer → Type 0
 FirstRowIs c code r =
     (rules : List (Formula Name)) → CompiledRules rules c code
     → rowsOf (c .sheet .atoms) r ≡ firstRowOf (length (namesOf rules)) (numberedNames rules)

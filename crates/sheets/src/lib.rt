@@ -15,7 +15,7 @@ use judging::Judged;
 use names::Names;
 use plan::PlanArrays;
 use search::Sheet;
-use solver::Row;
+use solver::RowAnswer;
 
 // What is compiled so far, but for the code, which is lent: the names, the atoms, where the code of each rule ends, and how many
 // rules there are.
@@ -49,7 +49,7 @@ fn names_in(order: &[u8]) -> usize
     let mut i: usize = 0;
     while i < order.len() {
         let kind = order[i];
-        n += compile::names_in(kind);
+        n += compile::names_of_kind(kind);
         i += 1;
     }
     n
@@ -96,7 +96,7 @@ pub fn with_text(text: &[u8], c: Compiling, code: &mut [u8; 4096]) -> Compiling
 }
 
 // The first realisable row that makes the compiled rules true.
-pub fn row_of(c: Compiling, code: &[u8]) -> Row
+pub fn row_of(c: Compiling, code: &[u8]) -> RowAnswer
     requires { ⌜ Whole c (now code) ⌝ }
     ensures { λ r. ⌜ FirstRowIs c (now (code .entry)) r ⌝ }
 {

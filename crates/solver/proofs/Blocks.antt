@@ -1,6 +1,6 @@
 -- The rows under a row by number: the values of their atoms are the row's and the bits of the number, the lower half has the next atom
 -- true and the upper half false, and each row has a number. Assumes nothing.
-use mathlib.Core.Bool.{Bool, true, false, not, _&&_, and-true, and-false}
+use mathlib.Core.Bool.{Bool, true, false, not, _&&_, and-true, and-false, Bool·not-not}
 use mathlib.Core.Path.{_≡_, refl, sym, ap, ap₂, _∙_, fun-ext}
 use mathlib.Core.Logic.{⊎-elim}
 use mathlib.Core.List.{List, [], _∷_, _++_, map, append-assoc}
@@ -8,8 +8,8 @@ use Prim.Native.Nat.{ℕ, zero, suc, _+_, _-_, _/_, _%_, _^_, _≤_, _<_}
 use native.Mathlib.Nat.{pow-suc}
 use native.Mathlib.Omega.{arith}
 use lib.Dec.{eqb, ltb}
-use lib.ListN.{length, getD, replicate, set, length-append, List·getD-append}
-use lib.Seq.{getD-append-add, getD-set-same, getD-set-other}
+use lib.ListN.{length, getD, replicate, length-append, length-map, List·getD-append, List·getD-eq-default}
+use lib.Seq.{getD-append-add}
 use borrow.Author.Tests.{lt-ltb, le-ltb}
 use Rattle.formula.specs.Formula.{Form}
 use Rattle.evalset.specs.declared.EvalSet.{EvalSet}
@@ -34,15 +34,6 @@ known-in [] i l = absurd (omega arith)
 known-in (b ∷ row) zero l = refl
 known-in (b ∷ row) (suc i) l = known-in row i (omega arith)
 
-known-out : (row : List Bool) (i : ℕ) → length row ≤ i → getD (map is row) i unknown ≡ unknown
-known-out [] i l = refl
-known-out (b ∷ row) zero l = absurd (omega arith)
-known-out (b ∷ row) (suc i) l = known-out row i (omega arith)
-
-not-not : (b : Bool) → not (not b) ≡ b
-not-not true = refl
-not-not false = refl
-
 module _ (k d row e i : ℕ) where
   block-length : length (rowBits k row ++ rowBits d e) ≡ k + d
   block-length = length-append (rowBits k row) (rowBits d e) ∙ ap₂ _+_ (row-length k row) (row-length d e)
@@ -62,11 +53,14 @@ module _ (k d row e i : ℕ) where
       ∙ ap sure (ap (λ (x : ℕ). getD (rowBits k row ++ rowBits d e) x false) z
       ∙ getD-append-add (rowBits k row) (rowBits d e) (i - k) false
       ∙ row-at d e (i - k) (omega arith) ∙ ap (λ (x : ℕ). not (bit e x)) y)
-      ∙ ap (duo (not (bit e (k + d - 1 - i)))) (not-not (bit e (k + d - 1 - i)))
+      ∙ ap (duo (not (bit e (k + d - 1 - i)))) (Bool·not-not (bit e (k + d - 1 - i)))
 
   -- and those past it
   pub leaf-past : k + d ≤ i → decidedAt k row d e i ≡ duo false false
-  leaf-past l = ap duoOf (known-out (rowBits k row ++ rowBits d e) i (omega (arith, block-length)))
+  leaf-past l =
+      ap duoOf
+      (List·getD-eq-default (map is (rowBits k row ++ rowBits d e)) unknown {n = i}
+      (omega (arith, block-length, length-map (rowBits k row ++ rowBits d e) is)))
 
 -- ---- an array of rails
 
@@ -75,14 +69,6 @@ unfolding twoAt duoAt mem
 nil-at zero i x e h = ap₂ duo (bit-none e) (bit-none e)
 nil-at (suc n) zero x e h = h
 nil-at (suc n) (suc i) x e h = nil-at n i x e h
-
-pub two-same : (out : List Two) (n : ℕ) (r : Two) (e : ℕ) → n < length out → twoAt (set out n r) n e ≡ duoAt r e
-unfolding twoAt
-two-same out n r e l = ap (λ (s : Two). duoAt s e) (getD-set-same out n r _ l)
-
-pub two-other : (out : List Two) (m n : ℕ) (r : Two) (e : ℕ) → (n ≡ m → ⊥) → twoAt (set out m r) n e ≡ twoAt out n e
-unfolding twoAt
-two-other out m n r e l = ap (λ (s : Two). duoAt s e) (getD-set-other out m n r _ l)
 
 -- ---- the halves
 

@@ -32,10 +32,10 @@ use Rattle.search.specs.Rows.{rowBits}
 use Rattle.search.specs.Compiled.{Compiled, Fit, StepSays}
 use Rattle.search.proofs.Rows.{row-length, row-true, row-false, no-marks}
 use Rattle.search.proofs.Claims.{step-true, step-false}
-use Rattle.solver.specs.declared.Row.{Row}
-use Rattle.solver.specs.declared.Row.the-variants.{At, Nothing}
+use Rattle.solver.specs.declared.RowAnswer.{RowAnswer}
+use Rattle.solver.specs.declared.RowAnswer.the-variants.{At, Nothing}
 use Rattle.solver.specs.Coded.{Coded}
-use Rattle.solver.specs.Tree.{candidatesOf, CandidatesSay, ParentPasses, PassesSays, ComesFrom, Searchable, Node, under, rowsOf, UnderSays, FirstRowSays}
+use Rattle.solver.specs.Tree.{candidatesOf, CandidatesSay, ParentPasses, PassesSays, ComesFrom, Runnable, Node, under, rowsOf, UnderSays, FirstRowSays}
 use Rattle.solver.proofs.Codes.{coded-numbers}
 use Rattle.solver.proofs.Fewer.{check-prefix}
 use Rattle.solver.proofs.Blocks.{number, lower-half, upper-half}
@@ -55,7 +55,7 @@ both-sides p row d =
     ap (first p) (under-split row d) ∙ first-append p (under (row ++ true ∷ []) d) (under (row ++ false ∷ []) d)
 
 -- what is found on the left is what is found
-kept : (n i : ℕ) (r : Row) (xs : List (List Bool)) → r ≡ At i → rowsOf n r ≡ orElse (rowsOf n r) xs
+kept : (n i : ℕ) (r : RowAnswer) (xs : List (List Bool)) → r ≡ At i → rowsOf n r ≡ orElse (rowsOf n r) xs
 kept n i (At j) xs z = refl
 kept n i Nothing xs z =
     let y : _≡_ {A = ℕ} 0 1 = cc in
@@ -66,12 +66,12 @@ kept n i Nothing xs z =
 module _ {code ends : List ℕ} {sheet : Sheet} {row k j : ℕ} (n : Node code ends sheet row k j) where
   pub row-small : row < 65536
   row-small =
-      let p : 2 ^ k ≤ 2 ^ 16 = pow-mono {i = k} {j = 16} (omega (arith, n .within, n .searchable .atoms-fit)) in
+      let p : 2 ^ k ≤ 2 ^ 16 = pow-mono {i = k} {j = 16} (omega (arith, n .within, n .runnable .atoms-fit)) in
       omega (arith, n .row-fits)
 
   pub node-true : (i : ℕ) → i < most → k + suc i ≤ sheet .atoms → Node code ends sheet (row * 2) (k + 1) i
   node-true i few l = record {
-    searchable = n .searchable;
+    runnable = n .runnable;
     within = omega arith;
     row-fits = subst (λ (x : ℕ). row * 2 < 2 ^ x) (sym (add-one k)) (omega (arith, pow-suc 2 k, n .row-fits));
     few = omega arith;
@@ -80,7 +80,7 @@ module _ {code ends : List ℕ} {sheet : Sheet} {row k j : ℕ} (n : Node code e
 
   pub node-false : (i : ℕ) → i < most → k + suc i ≤ sheet .atoms → Node code ends sheet (row * 2 + 1) (k + 1) i
   node-false i few l = record {
-    searchable = n .searchable;
+    runnable = n .runnable;
     within = omega arith;
     row-fits = subst (λ (x : ℕ). row * 2 + 1 < 2 ^ x) (sym (add-one k)) (omega (arith, pow-suc 2 k, n .row-fits));
     few = omega arith;
@@ -89,9 +89,9 @@ module _ {code ends : List ℕ} {sheet : Sheet} {row k j : ℕ} (n : Node code e
 
 -- ---- the ways out
 
-module _ (code ends : List ℕ) (sheet : Sheet) (s : State) (row k j : ℕ) (cand : EvalSet) (n : Node code ends sheet row k j) where
+module _ (code ends : List ℕ) (sheet : Sheet) (s : State) (row k j : ℕ) (unrefuted : EvalSet) (n : Node code ends sheet row k j) where
   -- no row of the block is left
-  pub under-empty : any (mem cand) (below room) ≡ false → UnderSays code ends sheet s row k j cand Nothing
+  pub under-empty : any (mem unrefuted) (below room) ≡ false → UnderSays code ends sheet s row k j unrefuted Nothing
   unfolding UnderSays good candidatesOf
   under-empty h = λ atoms rules g f p q.
       let b = rowBits k row in
@@ -104,13 +104,13 @@ module _ (code ends : List ℕ) (sheet : Sheet) (s : State) (row k j : ℕ) (can
       let left-open : refutes rules (map is (b ++ take j ext)) ≡ false =
       untrue _ (λ r. clash true-there (refutes-sound rules (map is (b ++ take j ext)) r (b ++ ext)
       (subst (λ (x : List Bool). Extends x (map is (b ++ take j ext))) split (extends-prefix (b ++ take j ext) (drop j ext))))) in
-      let is-left : mem cand (w .0) ≡ true =
+      let is-left : mem unrefuted (w .0) ≡ true =
       each q (w .0) ∙ and-intro (ltb (w .0) (2 ^ j)) _ (lt-ltb (w .0) (2 ^ j) (w .1))
       (ap (λ (x : List Bool). not (refutes rules (map is (b ++ x)))) (w .2) ∙ ap not left-open) in
-      clash is-left (none-elim (mem cand) h (below-intro room (w .0) (omega (arith, w .1, names-room j (n .few))))))))
+      clash is-left (none-elim (mem unrefuted) h (below-intro room (w .0) (omega (arith, w .1, names-room j (n .few))))))))
 
   -- the check fails
-  pub under-closed : PassesSays sheet s row k false → UnderSays code ends sheet s row k j cand Nothing
+  pub under-closed : PassesSays sheet s row k false → UnderSays code ends sheet s row k j unrefuted Nothing
   unfolding UnderSays PassesSays good
   under-closed h = λ atoms rules g f p q.
       let b = rowBits k row in
@@ -123,15 +123,15 @@ module _ (code ends : List ℕ) (sheet : Sheet) (s : State) (row k j : ℕ) (can
       fails)))
 
   -- a whole row
-  pub under-found : k ≡ sheet .atoms → any (mem cand) (below room) ≡ true → PassesSays sheet s row k true
-      → UnderSays code ends sheet s row k j cand (At row)
+  pub under-found : k ≡ sheet .atoms → any (mem unrefuted) (below room) ≡ true → PassesSays sheet s row k true
+      → UnderSays code ends sheet s row k j unrefuted (At row)
   unfolding UnderSays PassesSays closes candidatesOf rowBits
   under-found y some h = λ atoms rules g f p q.
       let b = rowBits k row in
       let whole : length b ≡ length atoms = row-length k row ∙ y ∙ g .compiled .counted in
       let passed : check (sheet .names) (rowMarks atoms b) ≡ true =
       sym (h atoms (g .compiled) (omega (arith, n .within, g .compiled .counted)) f p) in
-      let w = any-elim (mem cand) (below room) some in
+      let w = any-elim (mem unrefuted) (below room) some in
       let zero-levels : j ≡ 0 = omega (arith, n .block-fits) in
       let left-open : refutes rules (map is (b ++ rowBits j (w .0))) ≡ false =
       not-true _ (both (ltb (w .0) (2 ^ j)) (not (refutes rules (map is (b ++ rowBits j (w .0))))) (sym (each q (w .0)) ∙ w .2) .1) in
@@ -150,7 +150,7 @@ module _ (code ends : List ℕ) (sheet : Sheet) (s : State) (row k j : ℕ) (can
 
   -- two branches, where `whole` has the rows left in a block of suc m levels
   module _ (m : ℕ) (few : suc m ≤ most) (whole : EvalSet)
-      (are : (many : ℕ) (rules : List (Form ℕ)) → Coded many code ends rules → mem cand ≡ candidatesOf rules (rowBits k row) j
+      (are : (many : ℕ) (rules : List (Form ℕ)) → Coded many code ends rules → mem unrefuted ≡ candidatesOf rules (rowBits k row) j
       → mem whole ≡ candidatesOf rules (rowBits k row) (suc m)) (more : k < sheet .atoms) (passed : PassesSays sheet s row k true) where
     abbrev d : ℕ
     d = sheet .atoms - k - 1
@@ -161,10 +161,10 @@ module _ (code ends : List ℕ) (sheet : Sheet) (s : State) (row k j : ℕ) (can
         → Fit (sheet .names) t (rowMarks atoms (rowBits (k + 1) next)))
         → ((rules : List (Form ℕ)) → mem whole ≡ candidatesOf rules (rowBits k row) (suc m)
         → mem half ≡ candidatesOf rules (rowBits k row ++ value ∷ []) m)
-        → (r : Row) → UnderSays code ends sheet t next (k + 1) m half r
+        → (r : RowAnswer) → UnderSays code ends sheet t next (k + 1) m half r
         → (atoms : List (Atom ℕ)) (rules : List (Form ℕ)) → ComesFrom code ends sheet atoms rules
         → Fit (sheet .names) s (rowMarks atoms (rowBits k row)) → ParentPasses sheet atoms row k
-        → mem cand ≡ candidatesOf rules (rowBits k row) j
+        → mem unrefuted ≡ candidatesOf rules (rowBits k row) j
         → rowsOf (sheet .atoms) r ≡ first (good (sheet .names) atoms rules) (under (rowBits k row ++ value ∷ []) d)
     unfolding UnderSays PassesSays
     branch value next t half e back fits cs r says atoms rules g f p q =
@@ -177,10 +177,10 @@ module _ (code ends : List ℕ) (sheet : Sheet) (s : State) (row k j : ℕ) (can
         ∙ ap₂ (λ (z : List Bool) (i : ℕ). first (good (sheet .names) atoms rules) (under z i)) e y
 
     module _ (t1 : State) (half1 : EvalSet) (step1 : StepSays sheet s k true t1) (q1 : mem half1 ≡ meetOf (mem whole) (belowOf m))
-        (r1 : Row) (says1 : UnderSays code ends sheet t1 (row * 2) (k + 1) m half1 r1) where
+        (r1 : RowAnswer) (says1 : UnderSays code ends sheet t1 (row * 2) (k + 1) m half1 r1) where
       left : (atoms : List (Atom ℕ)) (rules : List (Form ℕ)) → ComesFrom code ends sheet atoms rules
           → Fit (sheet .names) s (rowMarks atoms (rowBits k row)) → ParentPasses sheet atoms row k
-          → mem cand ≡ candidatesOf rules (rowBits k row) j
+          → mem unrefuted ≡ candidatesOf rules (rowBits k row) j
           → rowsOf (sheet .atoms) r1 ≡ first (good (sheet .names) atoms rules) (under (rowBits k row ++ true ∷ []) d)
       left =
           branch true (row * 2) t1 half1 (row-true k row) (omega arith)
@@ -189,7 +189,7 @@ module _ (code ends : List ℕ) (sheet : Sheet) (s : State) (row k j : ℕ) (can
           r1 says1
 
       -- the left one finds a row
-      pub under-left : (i : ℕ) → r1 ≡ At i → UnderSays code ends sheet s row k j cand r1
+      pub under-left : (i : ℕ) → r1 ≡ At i → UnderSays code ends sheet s row k j unrefuted r1
       unfolding UnderSays
       under-left i z = λ atoms rules g f p q.
           let t : sheet .atoms - k ≡ suc d = omega arith in
@@ -200,7 +200,7 @@ module _ (code ends : List ℕ) (sheet : Sheet) (s : State) (row k j : ℕ) (can
 
       -- the left one finds none
       pub under-right : r1 ≡ Nothing → (t2 : State) (half2 : EvalSet) → StepSays sheet s k false t2 → mem half2 ≡ shiftOf (mem whole) m
-          → (r : Row) → UnderSays code ends sheet t2 (row * 2 + 1) (k + 1) m half2 r → UnderSays code ends sheet s row k j cand r
+          → (r : RowAnswer) → UnderSays code ends sheet t2 (row * 2 + 1) (k + 1) m half2 r → UnderSays code ends sheet s row k j unrefuted r
       unfolding UnderSays
       under-right z t2 half2 step2 q2 r says = λ atoms rules g f p q.
           let t : sheet .atoms - k ≡ suc d = omega arith in
@@ -213,13 +213,13 @@ module _ (code ends : List ℕ) (sheet : Sheet) (s : State) (row k j : ℕ) (can
 
 -- ---- from the root
 
-pub root-node : {code ends : List ℕ} {sheet : Sheet} → Searchable code ends sheet → Node code ends sheet 0 0 0
-root-node h = record { searchable = h; within = omega arith; row-fits = omega arith; few = omega arith; block-fits = omega arith }
+pub root-node : {code ends : List ℕ} {sheet : Sheet} → Runnable code ends sheet → Node code ends sheet 0 0 0
+root-node h = record { runnable = h; within = omega arith; row-fits = omega arith; few = omega arith; block-fits = omega arith }
 
-pub from-root : (code ends : List ℕ) (sheet : Sheet) (s : State) (cand : EvalSet) (r : Row) → (sheet .names ≤ most → Fit (sheet .names) s [])
-    → CandidatesSay code ends 0 0 0 cand → UnderSays code ends sheet s 0 0 0 cand r → FirstRowSays code ends sheet r
+pub from-root : (code ends : List ℕ) (sheet : Sheet) (s : State) (unrefuted : EvalSet) (r : RowAnswer) → (sheet .names ≤ most → Fit (sheet .names) s [])
+    → CandidatesSay code ends 0 0 0 unrefuted → UnderSays code ends sheet s 0 0 0 unrefuted r → FirstRowSays code ends sheet r
 unfolding UnderSays FirstRowSays CandidatesSay firstRow rowBits
-from-root code ends sheet s cand r f q says = λ atoms rules g.
+from-root code ends sheet s unrefuted r f q says = λ atoms rules g.
     let y : sheet .atoms - 0 ≡ length atoms = omega (arith, g .compiled .counted) in
     says atoms rules g (subst (Fit (sheet .names) s) (sym (no-marks atoms)) (f (g .compiled .few)))
     (λ l. absurd (omega arith)) (q (sheet .atoms) rules (g .coded))

@@ -1,7 +1,7 @@
 -- The codes of rules can be run, because that of each rule can; and the rows refuted by the parts passed so far, with those that the
 -- parts to come refute, are those that the rules refute. Assumes nothing.
-use mathlib.Core.Bool.{Bool, true, false, _||_, or-false}
-use mathlib.Core.Path.{_≡_, refl, sym, ap, _∙_, subst}
+use mathlib.Core.Bool.{Bool, _||_, or-assoc, or-false}
+use mathlib.Core.Path.{_≡_, sym, ap, _∙_, subst}
 use mathlib.Core.Logic.{⊎-elim}
 use mathlib.Core.List.{List, [], _∷_}
 use Prim.Native.Nat.{ℕ, _≤_, _<_}
@@ -52,10 +52,6 @@ pub record Joined (many : ℕ) (code : List ℕ) (from : ℕ) (ends : List ℕ) 
   pub to-come : CodedFrom many code from ends rest
   pub so-far : (e : ℕ) → e < room → (row : PartialRow) → Values leaves e row → refutes rules row ≡ (acc e || refutes rest row)
 
-or-assoc : (a b c : Bool) → (a || (b || c)) ≡ ((a || b) || c)
-or-assoc true b c = refl
-or-assoc false b c = refl
-
 module _ (many : ℕ) (code : List ℕ) (leaves : List Two) (rules : List (Form ℕ)) where
   pub joined-none : (ends : List ℕ) (acc : ℕ → Bool) → acc ≡ noneOf → Coded many code ends rules → Joined many code 0 ends leaves acc rules
   joined-none ends acc q h = record {
@@ -74,7 +70,7 @@ module _ (many : ℕ) (code : List ℕ) (leaves : List Two) (rules : List (Form 
       rest = rest;
       to-come = h .1;
       so-far = λ e l row v.
-          g e l row v ∙ or-assoc (acc e) (refuted (kleeneValue (λ i. getD row i unknown) rule)) (refutes rest row)
+          g e l row v ∙ sym (or-assoc (acc e) (refuted (kleeneValue (λ i. getD row i unknown) rule)) (refutes rest row))
           ∙ ap (λ (b : Bool). (acc e || b) || refutes rest row) (sym (says rule (h .0 .is-code) e l row v));
     }
 

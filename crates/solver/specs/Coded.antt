@@ -15,7 +15,7 @@ use Rattle.kleene.specs.declared.Two.{Two}
 use Rattle.kleene.specs.Code.{postfix, Safe}
 use Rattle.kleene.specs.Rails.{duoOf, leafAt}
 
--- the signs from one place to another
+-- the signs from one place to another: the library's `slice from end code`, in the shape that a part of a Rattle slice has
 abbrev pub part : List ℕ → ℕ → ℕ → List ℕ
 part code from end = take (end - from) (drop from code)
 

@@ -18,8 +18,8 @@ use Rattle.search.specs.declared.State.{State}
 use Rattle.search.specs.Rows.{rowBits}
 use Rattle.search.specs.Compiled.{limit, Compiled, Fit}
 use Rattle.solver.specs.declared.Block.{Block}
-use Rattle.solver.specs.declared.Row.{Row}
-use Rattle.solver.specs.declared.Row.the-variants.{At, Nothing}
+use Rattle.solver.specs.declared.RowAnswer.{RowAnswer}
+use Rattle.solver.specs.declared.RowAnswer.the-variants.{At, Nothing}
 use Rattle.solver.specs.Coded.{SafeFrom, Coded}
 
 -- ---- blocks
@@ -41,12 +41,12 @@ CandidatesSay code ends row k d r =
     (many : ℕ) (rules : List (Form ℕ)) → Coded many code ends rules → mem r ≡ candidatesOf rules (rowBits k row) d
 
 -- a block of at least one level, where j levels are at hand
-pub record Filled (code ends : List ℕ) (row k left j : ℕ) (cand : EvalSet) (r : Block) : Type 0 where
+pub record Filled (code ends : List ℕ) (row k left j : ℕ) (unrefuted : EvalSet) (r : Block) : Type 0 where
   pub some : 1 ≤ r .levels
   pub few : r .levels ≤ most
   pub fits : r .levels ≤ left
-  pub are : (many : ℕ) (rules : List (Form ℕ)) → Coded many code ends rules → mem cand ≡ candidatesOf rules (rowBits k row) j
-      → mem (r .cand) ≡ candidatesOf rules (rowBits k row) (r .levels)
+  pub are : (many : ℕ) (rules : List (Form ℕ)) → Coded many code ends rules → mem unrefuted ≡ candidatesOf rules (rowBits k row) j
+      → mem (r .unrefuted) ≡ candidatesOf rules (rowBits k row) (r .levels)
 
 -- ---- the check
 
@@ -67,13 +67,13 @@ pub record ComesFrom (code ends : List ℕ) (sheet : Sheet) (atoms : List (Atom 
   pub coded : Coded (sheet .atoms) code ends rules
 
 -- the code can be run, and the sheet has no more atoms than there is room for
-pub record Searchable (code ends : List ℕ) (sheet : Sheet) : Type 0 where
+pub record Runnable (code ends : List ℕ) (sheet : Sheet) : Type 0 where
   pub safe : SafeFrom code 0 ends
   pub atoms-fit : sheet .atoms ≤ limit
 
 -- a place in the tree: the row's number is one of k atoms, and j levels of a block are at hand
 pub record Node (code ends : List ℕ) (sheet : Sheet) (row k j : ℕ) : Type 0 where
-  pub searchable : Searchable code ends sheet
+  pub runnable : Runnable code ends sheet
   pub within : k ≤ sheet .atoms
   pub row-fits : row < 2 ^ k
   pub few : j ≤ most
@@ -84,19 +84,19 @@ abbrev pub under : List Bool → ℕ → List (List Bool)
 under row d = map (λ ext. row ++ ext) (rows d)
 
 -- what is found, as a list of none or one
-abbrev pub rowsOf : ℕ → Row → List (List Bool)
+abbrev pub rowsOf : ℕ → RowAnswer → List (List Bool)
 rowsOf n (At row) = rowBits n row ∷ []
 rowsOf n Nothing = []
 
-unfoldable pub UnderSays : List ℕ → List ℕ → Sheet → State → ℕ → ℕ → ℕ → EvalSet → Row → Type 0
-UnderSays code ends sheet s row k j cand r =
+unfoldable pub UnderSays : List ℕ → List ℕ → Sheet → State → ℕ → ℕ → ℕ → EvalSet → RowAnswer → Type 0
+UnderSays code ends sheet s row k j unrefuted r =
     (atoms : List (Atom ℕ)) (rules : List (Form ℕ)) → ComesFrom code ends sheet atoms rules
     → Fit (sheet .names) s (rowMarks atoms (rowBits k row)) → ParentPasses sheet atoms row k
-    → mem cand ≡ candidatesOf rules (rowBits k row) j
+    → mem unrefuted ≡ candidatesOf rules (rowBits k row) j
     → rowsOf (sheet .atoms) r ≡ first (good (sheet .names) atoms rules) (under (rowBits k row) (sheet .atoms - k))
 
 -- the answer is the first row, for all atoms and rules that the code and the sheet come from
-unfoldable pub FirstRowSays : List ℕ → List ℕ → Sheet → Row → Type 0
+unfoldable pub FirstRowSays : List ℕ → List ℕ → Sheet → RowAnswer → Type 0
 FirstRowSays code ends sheet r =
     (atoms : List (Atom ℕ)) (rules : List (Form ℕ)) → ComesFrom code ends sheet atoms rules
     → rowsOf (sheet .atoms) r ≡ firstRow (sheet .names) atoms rules

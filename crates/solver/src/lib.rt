@@ -6,11 +6,11 @@
 // indices are in range. Assumes nothing.
 ghost use mathlib.Core.Path.{_≡_};
 ghost use Prim.Native.Nat.{ℕ, _+_, _≤_, _<_, _^_};
-ghost use Rattle.evalset.specs.Sets.{room, most};
-ghost use Rattle.kleene.specs.Rails.{sure, duoAt, twoAt};
+ghost use Rattle.evalset.specs.Sets.{most};
+ghost use Rattle.kleene.specs.Rails.{duoAt, twoAt};
 ghost use Rattle.search.specs.Compiled.{limit};
 ghost use Rattle.solver.specs.Coded.{part, PartSafe, SafeFrom, RuleRefuted, RefutedSays};
-ghost use Rattle.solver.specs.Tree.{decidedAt, CandidatesSay, Filled, PassesSays, Node, UnderSays, Searchable, FirstRowSays};
+ghost use Rattle.solver.specs.Tree.{decidedAt, CandidatesSay, Filled, PassesSays, Node, UnderSays, Runnable, FirstRowSays};
 use evalset::EvalSet;
 use evalset::NAMES;
 use kleene::Two;
@@ -18,8 +18,8 @@ use search::ATOMS;
 use search::Sheet;
 use search::State;
 
-// A row by its number, or none.
-pub enum Row {
+// What the search answers: a row by its number, or none.
+pub enum RowAnswer {
     At(usize),
     Nothing,
 }
@@ -27,18 +27,7 @@ pub enum Row {
 // The rows some levels down that no rule refutes.
 struct Block {
     levels: usize,
-    cand: EvalSet,
-}
-
-// A value that is the same in every row.
-fn settled(value: bool) -> Two
-    ensures { λ r. ⌜ ((e : ℕ) → e < room → duoAt r e ≡ sure value) ⌝ }
-{
-    if value {
-        kleene::rails(evalset::full(), evalset::empty())
-    } else {
-        kleene::rails(evalset::empty(), evalset::full())
-    }
+    unrefuted: EvalSet,
 }
 
 // The values of atom i in the 2 ^ d rows under the row of k atoms: the block's own atoms are true where their bit is clear.
@@ -47,7 +36,7 @@ fn leaf(row: usize, k: usize, d: usize, i: usize) -> Two
     ensures { λ r. ⌜ ((e : ℕ) → e < 2 ^ d → duoAt r e ≡ decidedAt k row d e i) ⌝ }
 {
     if i < k {
-        settled(search::value_in(row, k, i))
+        kleene::settled(search::value_in(row, k, i))
     } else {
         let no = evalset::name_set(k + d - 1 - i);
         let yes = evalset::minus(evalset::full(), no);
@@ -123,19 +112,22 @@ fn filled(
     k: usize,
     left: usize,
     j: usize,
-    cand: EvalSet,
+    unrefuted: EvalSet,
 ) -> Block
     requires { ⌜ SafeFrom (now code) 0 (now ends) × ((1 ≤ left) × (k + left ≤ limit) × (j ≤ most) × (j ≤ left)) ⌝ }
-    ensures { λ r. ⌜ Filled (now (code .entry)) (now (ends .entry)) row k left j cand r ⌝ }
+    ensures { λ r. ⌜ Filled (now (code .entry)) (now (ends .entry)) row k left j unrefuted r ⌝ }
 {
     if j == 0 {
         let d = levels(left);
         Block {
             levels: d,
-            cand: candidates(code, ends, row, k, d),
+            unrefuted: candidates(code, ends, row, k, d),
         }
     } else {
-        Block { levels: j, cand }
+        Block {
+            levels: j,
+            unrefuted,
+        }
     }
 }
 
@@ -151,7 +143,7 @@ fn passes(sheet: Sheet, s: State, row: usize, k: usize) -> bool
     }
 }
 
-// The first row under the row of k atoms, of which s is the state, where `cand` has what is left of the block's j levels.
+// The first row under the row of k atoms, of which s is the state, where `unrefuted` has what is left of the block's j levels.
 fn first_under(
     code: &[u8],
     ends: &[usize],
@@ -160,22 +152,22 @@ fn first_under(
     row: usize,
     k: usize,
     j: usize,
-    cand: EvalSet,
-) -> Row
+    unrefuted: EvalSet,
+) -> RowAnswer
     requires { ⌜ Node (now code) (now ends) sheet row k j ⌝ }
-    ensures { λ r. ⌜ UnderSays (now (code .entry)) (now (ends .entry)) sheet s row k j cand r ⌝ }
+    ensures { λ r. ⌜ UnderSays (now (code .entry)) (now (ends .entry)) sheet s row k j unrefuted r ⌝ }
 {
-    if evalset::is_empty(cand) {
-        return Row::Nothing;
+    if evalset::is_empty(unrefuted) {
+        return RowAnswer::Nothing;
     }
     if !passes(sheet, s, row, k) {
-        return Row::Nothing;
+        return RowAnswer::Nothing;
     }
     if k == sheet.atoms {
-        return Row::At(row);
+        return RowAnswer::At(row);
     }
-    let block = filled(code, ends, row, k, sheet.atoms - k, j, cand);
-    let whole = block.cand;
+    let block = filled(code, ends, row, k, sheet.atoms - k, j, unrefuted);
+    let whole = block.unrefuted;
     let i = block.levels - 1;
     let lower = evalset::meet(whole, evalset::below(i));
     let upper = evalset::shifted(whole, i);
@@ -183,7 +175,7 @@ fn first_under(
     let odd = even + 1;
     let left = search::step(sheet, s, k, true);
     let first = first_under(code, ends, sheet, left, even, k + 1, i, lower);
-    let Row::Nothing = first else {
+    let RowAnswer::Nothing = first else {
         return first;
     };
     let right = search::step(sheet, s, k, false);
@@ -191,12 +183,12 @@ fn first_under(
 }
 
 // "The first realisable row that makes all rules true." Our own crates alone call it, with code and sheet that they made from
-// rules: `searchable` of proofs/Claims.antt meets the requires for these.
-pub fn first_row(code: &[u8], ends: &[usize], sheet: Sheet) -> Row
-    requires { ⌜ Searchable (now code) (now ends) sheet ⌝ }
+// rules: `runnable` of proofs/Claims.antt meets the requires for these.
+pub fn first_row(code: &[u8], ends: &[usize], sheet: Sheet) -> RowAnswer
+    requires { ⌜ Runnable (now code) (now ends) sheet ⌝ }
     ensures { λ r. ⌜ FirstRowSays (now (code .entry)) (now (ends .entry)) sheet r ⌝ }
 {
     let s = search::start(sheet.names);
-    let cand = candidates(code, ends, 0, 0, 0);
-    first_under(code, ends, sheet, s, 0, 0, 0, cand)
+    let unrefuted = candidates(code, ends, 0, 0, 0);
+    first_under(code, ends, sheet, s, 0, 0, 0, unrefuted)
 }

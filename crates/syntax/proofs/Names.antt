@@ -16,7 +16,7 @@ module _ {N : Type 0} where
   names-append (x ∷ a) b = ap (λ (l : List N). symbolNames x ++ l) (names-append a b) ∙ sym (append-assoc (symbolNames x) (namesIn a) (namesIn b))
 
   -- one symbol more
-  names-last : (a : List (Symbol N)) (x : Symbol N) → namesIn (a ++ x ∷ []) ≡ namesIn a ++ symbolNames x
+  pub names-last : (a : List (Symbol N)) (x : Symbol N) → namesIn (a ++ x ∷ []) ≡ namesIn a ++ symbolNames x
   unfolding namesIn
   names-last a x = names-append a (x ∷ []) ∙ ap (λ (l : List N). namesIn a ++ l) (append-nil (symbolNames x))
 

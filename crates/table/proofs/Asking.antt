@@ -11,8 +11,8 @@ use lib.Seq.{take-append-seam}
 use borrow.Author.Tests.{le-leb, lt-leb, eq-eqb, ne-eqb}
 use Rattle.formula.specs.Formula.{Formula, Name}
 use Rattle.contact.specs.Numbering.{namesOf}
-use Rattle.solver.specs.declared.Row.{Row as Found}
-use Rattle.solver.specs.declared.Row.the-variants as Found
+use Rattle.solver.specs.declared.RowAnswer.{RowAnswer as Found}
+use Rattle.solver.specs.declared.RowAnswer.the-variants as Found
 use Rattle.solver.specs.Tree.{rowsOf}
 use Rattle.plan.specs.declared.PlanArrays.{PlanArrays}
 use Rattle.plan.specs.declared.PlanAnswer.the-variants as PlanAnswer

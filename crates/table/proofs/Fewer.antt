@@ -14,6 +14,7 @@ use Rattle.evalset.specs.Search.{In, here, next, keep, gather}
 use Rattle.evalset.proofs.Search.{clash, none-in, uncons, at-head, keep-elim, gather-intro, gather-elim}
 use Rattle.contact.specs.Numbering.{allAtoms, distinct, sameName, namesOf}
 use Rattle.contact.proofs.Naming.{Decides, distinct-in, same-name}
+use Rattle.names.proofs.Distinct.{from-distinct}
 
 module _ {A : Type 0} where
   -- each element once
@@ -68,12 +69,8 @@ module _ {N : Type 0} (same : N → N → Bool) (decides : Decides same) where
       let p : N → Bool = λ y. not (same x y) in
       (λ i. clash (keep-elim p (distinct same xs) i .1) (ap not (decides x x .1 refl)), once-kept p (distinct same xs) (distinct-once xs))
 
-  from-distinct : (xs : List N) {z : N} → In z (distinct same xs) → In z xs
-  from-distinct [] i = i
-  from-distinct (x ∷ xs) i = ⊎-elim (λ e. at-head e) (λ j. next (from-distinct xs (keep-elim (λ y. not (same x y)) (distinct same xs) j .0))) (uncons i)
-
   distinct-fewer : (xs ys : List N) → ((z : N) → In z xs → In z ys) → length (distinct same xs) ≤ length (distinct same ys)
-  distinct-fewer xs ys s = once-fits (distinct same xs) (distinct same ys) (distinct-once xs) (λ z i. distinct-in same decides ys (s z (from-distinct xs i)))
+  distinct-fewer xs ys s = once-fits (distinct same xs) (distinct same ys) (distinct-once xs) (λ z i. distinct-in same decides ys (s z (from-distinct same xs i)))
 
 pub names-fewer : (fs gs : List (Formula Name)) → ((f : Formula Name) → In f fs → In f gs) → length (namesOf fs) ≤ length (namesOf gs)
 names-fewer fs gs s = distinct-fewer sameName same-name _ _ among

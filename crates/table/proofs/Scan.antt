@@ -4,9 +4,8 @@ use mathlib.Core.Path.{_≡_, refl, sym, ap, _∙_}
 use mathlib.Core.List.{List, [], _∷_, _++_, append-assoc, append-nil}
 use mathlib.Core.Bool.{Bool, true, false, cond}
 use native.Mathlib.Omega.{arith}
-use native.Mathlib.Numerals.{add-one}
-use lib.ListN.{length, take, drop, getD, set, replicate, drop-of-length-le, length-drop}
-use lib.Seq.{getD-drop, set-at, take-suc, append-snoc, length-take-le}
+use lib.ListN.{length, take, drop, getD, drop-of-length-le, length-drop}
+use lib.Seq.{getD-drop, take-suc}
 use lib.Dec.{eqb}
 use borrow.Author.Tests.{eq-eqb, ne-eqb, le-leb, lt-leb}
 use Rattle.lexer.proofs.Lists.{rest}
@@ -38,18 +37,6 @@ blank-end s i h = rw (drop-of-length-le s h)
 pub atoms-end : (s : Text) (i : ℕ) → length s ≤ i → atomPlaces (drop i s) ≡ 0
 unfolding atomPlaces
 atoms-end s i h = rw (drop-of-length-le s h)
-
--- a turn of the loop that copies a text into zeros, m places in all
-pub copy-next : (m : ℕ) (s : Text) (i : ℕ) → i < length s → i < m
-    → set (take i s ++ replicate (m - i) 0) i (getD s i 0) ≡ take (i + 1) s ++ replicate (m - (i + 1)) 0
-copy-next m s i h k =
-    let e : m - i ≡ suc (m - (i + 1)) = omega arith in
-    let f : set (take i s ++ 0 ∷ replicate (m - (i + 1)) 0) i (getD s i 0) ≡ take i s ++ getD s i 0 ∷ replicate (m - (i + 1)) 0
-    = set-at (take i s) 0 (replicate (m - (i + 1)) 0) (getD s i 0) i (length-take-le i s (omega arith)) in
-    ap (λ (n : ℕ). set (take i s ++ replicate n 0) i (getD s i 0)) e
-    ∙ f
-    ∙ sym (append-snoc (take i s) (getD s i 0) (replicate (m - (i + 1)) 0))
-    ∙ ap (λ (l : List ℕ). l ++ replicate (m - (i + 1)) 0) (sym (take-suc s i 0 h) ∙ ap (λ (n : ℕ). take n s) (sym (add-one i)))
 
 -- the lines of a rest, with p in front of the first
 abbrev pub onHead : Text → List Text → List Text

@@ -25,7 +25,7 @@ use plan::PlanAnswer;
 use plan::PlanArrays;
 use plan::Written;
 use sheets::Compiling;
-use solver::Row;
+use solver::RowAnswer;
 use syntax::Rule;
 use syntax::RuleAnswer;
 
@@ -672,7 +672,7 @@ impl Table {
         let mut code = no_code();
         let c = self.compiled(&mut code);
         let found = sheets::row_of(c, &code);
-        let Row::At(row) = found else {
+        let RowAnswer::At(row) = found else {
             return AskResult {
                 table: self,
                 answer: AskAnswer::NoPlan,

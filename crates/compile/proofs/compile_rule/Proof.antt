@@ -81,13 +81,13 @@ array-set-from-stack c = omega (arith, height-low (c .before .before .before .be
 add-height : tie.Need-add-height Inv-loop μ-loop
 add-height c = omega (arith, height-low (c .before .before .before .before .before .before))
 
-names-in-requires : tie.Need-names-in-requires Inv-loop μ-loop
-names-in-requires c κs = search needs
+names-of-kind-requires : tie.Need-names-of-kind-requires Inv-loop μ-loop
+names-of-kind-requires c κs = search needs
 
 add-used : tie.Need-add-used Inv-loop μ-loop
 add-used c =
     let f = few-names (c .before .before .before .before .before .before .before .before .before .before .before .before .before .before .pre) (c .before .before .before .before .before .before .before .before .before .before .loop .inv) in
-    omega (arith, c .before .before .before .before .before .before .before .before .before .before .before .before .before .before .pre .short, c .names-in .ensures, one-at-most (getD (c .before .before .before .before .before .before .before .before .before .before .before .before .before .before .args .order .now) (c .before .before .before .before .before .before .before .before .before .before .loop .i) 0))
+    omega (arith, c .before .before .before .before .before .before .before .before .before .before .before .before .before .before .pre .short, c .names-of-kind .ensures, one-at-most (getD (c .before .before .before .before .before .before .before .before .before .before .before .before .before .before .args .order .now) (c .before .before .before .before .before .before .before .before .before .before .loop .i) 0))
 
 loop-less : tie.Need-loop-less Inv-loop μ-loop
 loop-less c = omega arith
@@ -97,8 +97,8 @@ unfolding memAt
 loop-again c =
     let k = c .before .before .before .before .before .before .before .before .before .before .loop in
     term-again (c .before .before .before .before .before .before .before .before .before .before .before .before .before .before .pre) (k .inv) (omega arith) (k .height - c .before .before .before .before .before .before .before .taken .result) (ap (λ (n : ℕ). k .height - n) (c .before .before .before .before .before .before .before .taken .ensures))
-    (c .before .term-set .result) (c .before .before .number-at .result) (c .names-in .result) (omega (arith, height-low (c .before .before .before .before .before .before .before))) (sym (c .before .before .before .before .is-term .ensures) ∙ c .before .before .before .if1 .taken)
-    (c .before .before .number-at .ensures) (c .names-in .ensures) (c .before .term-set .ensures)
+    (c .before .term-set .result) (c .before .before .number-at .result) (c .names-of-kind .result) (omega (arith, height-low (c .before .before .before .before .before .before .before))) (sym (c .before .before .before .before .is-term .ensures) ∙ c .before .before .before .if1 .taken)
+    (c .before .before .number-at .ensures) (c .names-of-kind .ensures) (c .before .term-set .ensures)
 
 sign-code-requires : tie.Need-sign-code-requires Inv-loop μ-loop
 sign-code-requires c κs = few-atoms (c .before .before .before .before .before .before .before .before .before .before .before .pre) (c .before .before .before .before .before .before .before .loop .inv)
@@ -162,7 +162,7 @@ compile-rule-spec =
     mul-stack
     array-set-from-stack
     add-height
-    names-in-requires
+    names-of-kind-requires
     add-used
     loop-less
     loop-again

@@ -17,8 +17,8 @@ Inv-loop plan sheet n out₀ i₀ out i = (i ≤ n) × (length out ≡ 16) × Su
 abbrev μ-loop : tie.MeasureT-loop
 μ-loop plan sheet n out₀ i₀ out i = n - i
 
-leaf-requires : tie.Need-leaf-requires Inv-loop μ-loop
-leaf-requires c κs = search needs
+settled-requires : tie.Need-settled-requires Inv-loop μ-loop
+settled-requires c κs = search needs
 
 loop-holds : tie.Need-loop-holds Inv-loop μ-loop
 loop-holds c = (omega arith, refl, sure-none _ _)
@@ -41,8 +41,8 @@ element-copy-out-y c = omega arith
 atom-value-requires : tie.Need-atom-value-requires Inv-loop μ-loop
 atom-value-requires c κs = search needs
 
-leaf-requires-2 : tie.Need-leaf-requires-2 Inv-loop μ-loop
-leaf-requires-2 c κs = search needs
+settled-requires-2 : tie.Need-settled-requires-2 Inv-loop μ-loop
+settled-requires-2 c κs = search needs
 
 mul-out : tie.Need-mul-out Inv-loop μ-loop
 mul-out c = omega arith
@@ -62,7 +62,7 @@ loop-again c =
     let k = c .before .before .before .before .before .before .loop in (
       omega arith,
       length-set (k .out) (k .i) _ ∙ k .inv .1,
-      sure-more (k .out) (k .i) _ _ (omega arith) (k .inv .2) (c .leaf2 .ensures 0 (omega arith) ∙ ap sure (c .before .atom-value .ensures)),
+      sure-more (k .out) (k .i) _ _ (omega arith) (k .inv .2) (c .settled2 .ensures 0 (omega arith) ∙ ap sure (c .before .atom-value .ensures)),
     )
 
 returns : tie.Need-returns Inv-loop μ-loop
@@ -79,7 +79,7 @@ leaves-spec =
     (tie.spec
     Inv-loop
     μ-loop
-    leaf-requires
+    settled-requires
     loop-holds
     element-copy-out-contact
     mul-x
@@ -87,7 +87,7 @@ leaves-spec =
     mul-y
     element-copy-out-y
     atom-value-requires
-    leaf-requires-2
+    settled-requires-2
     mul-out
     array-set-from-out
     add-i

@@ -12,20 +12,20 @@ use Rattle.kleene.proofs.run.Statement.{statement}
 use Rattle.kleene.proofs.run.Tie as tie
 
 abbrev Inv-loop : tie.InvT-loop
-Inv-loop code leaves stack₀ sp₀ i₀ stack sp i = Running 128 code leaves stack sp i
+Inv-loop code leaves stack₀ height₀ i₀ stack height i = Running 128 code leaves stack height i
 
 abbrev μ-loop : tie.MeasureT-loop
-μ-loop code leaves stack₀ sp₀ i₀ stack sp i = length code - i
+μ-loop code leaves stack₀ height₀ i₀ stack height i = length code - i
 
 -- what the sign at this place finds on the stack
-one : (c : tie.Then1 Inv-loop μ-loop) → 1 ≤ c .before .before .before .loop .sp
+one : (c : tie.Then1 Inv-loop μ-loop) → 1 ≤ c .before .before .before .loop .height
 one c = takes (c .before .before .before .loop .inv) (omega arith) turns (class-turns _ (c .if1 .taken))
 
-two : (c : tie.Then2 Inv-loop μ-loop) → 2 ≤ c .before .before .before .before .loop .sp
+two : (c : tie.Then2 Inv-loop μ-loop) → 2 ≤ c .before .before .before .before .loop .height
 two c = takes (c .before .before .before .before .loop .inv) (omega arith) joins (class-joins _ (c .before .if1 .left) (c .if2 .taken))
 
 space : (c : tie.Else2 Inv-loop μ-loop)
-    → (c .before .before .before .before .loop .sp < 128)
+    → (c .before .before .before .before .loop .height < 128)
     × (getD (c .before .before .before .before .before .before .before .before .args .code .now) (c .before .before .before .before .loop .i) 0 < 23)
 space c = takes (c .before .before .before .before .loop .inv) (omega arith) pushes (class-pushes _ (c .if2 .left))
 
@@ -73,7 +73,7 @@ unfolding twoAt
 loop-again c =
     let k = c .before .before .before .before .before .loop in
     let h = one (c .before .before) in
-    turn-again (k .inv) (omega arith) (k .sp - 1) _ (class-turns _ (c .before .before .if1 .taken)) (omega arith) (c .swapped .ensures)
+    turn-again (k .inv) (omega arith) (k .height - 1) _ (class-turns _ (c .before .before .if1 .taken)) (omega arith) (c .swapped .ensures)
 
 sub-a-2 : tie.Need-sub-a-2 Inv-loop μ-loop
 sub-a-2 c = two c
@@ -105,8 +105,8 @@ mul-stack-2 c = omega (arith, two (c .before .before .before), c .before .before
 array-set-from-stack-2 : tie.Need-array-set-from-stack-2 Inv-loop μ-loop
 array-set-from-stack-2 c = omega (arith, two (c .before .before .before), c .before .before .before .before .before .before .before .loop .inv .high)
 
-sub-sp : tie.Need-sub-sp Inv-loop μ-loop
-sub-sp c = omega (arith, two (c .before .before .before))
+sub-height : tie.Need-sub-height Inv-loop μ-loop
+sub-height c = omega (arith, two (c .before .before .before))
 
 loop-less-2 : tie.Need-loop-less-2 Inv-loop μ-loop
 loop-less-2 c = omega arith
@@ -116,11 +116,11 @@ unfolding twoAt
 loop-again-2 c =
     let k = c .before .before .before .before .before .before .before .loop in
     let h = two (c .before .before .before) in
-    let z : k .sp - 1 ≡ suc (k .sp - 2) = omega arith in
+    let z : k .height - 1 ≡ suc (k .height - 2) = omega arith in
     let sign = getD (c .before .before .before .before .before .before .before .before .before .before .before .args .code .now) (k .i) 0 in
-    join-again (k .inv) (omega arith) (k .sp - 2) _ (class-joins _ (c .before .before .before .before .if1 .left) (c .before .before .before .if2 .taken))
+    join-again (k .inv) (omega arith) (k .height - 2) _ (class-joins _ (c .before .before .before .before .if1 .left) (c .before .before .before .if2 .taken))
     (omega arith)
-    (λ e. c .combined .ensures e ∙ ap (λ (m : ℕ). tableOf sign (twoAt (k .stack) (k .sp - 2) e) (twoAt (k .stack) m e)) z)
+    (λ e. c .combined .ensures e ∙ ap (λ (m : ℕ). tableOf sign (twoAt (k .stack) (k .height - 2) e) (twoAt (k .stack) m e)) z)
 
 constant-requires : tie.Need-constant-requires Inv-loop μ-loop
 constant-requires c κs = (c .before .if2 .left, c .if3 .taken)
@@ -131,8 +131,8 @@ mul-stack-3 c = omega (arith, space (c .before .before))
 array-set-from-stack-3 : tie.Need-array-set-from-stack-3 Inv-loop μ-loop
 array-set-from-stack-3 c = space (c .before .before) .0
 
-add-sp : tie.Need-add-sp Inv-loop μ-loop
-add-sp c = omega (arith, space (c .before .before))
+add-height : tie.Need-add-height Inv-loop μ-loop
+add-height c = omega (arith, space (c .before .before))
 
 loop-less-3 : tie.Need-loop-less-3 Inv-loop μ-loop
 loop-less-3 c = omega arith
@@ -158,8 +158,8 @@ mul-stack-4 c = omega (arith, space (c .before .before))
 array-set-from-stack-4 : tie.Need-array-set-from-stack-4 Inv-loop μ-loop
 array-set-from-stack-4 c = space (c .before .before) .0
 
-add-sp-2 : tie.Need-add-sp-2 Inv-loop μ-loop
-add-sp-2 c = omega (arith, space (c .before .before))
+add-height-2 : tie.Need-add-height-2 Inv-loop μ-loop
+add-height-2 c = omega (arith, space (c .before .before))
 
 loop-less-4 : tie.Need-loop-less-4 Inv-loop μ-loop
 loop-less-4 c = omega arith
@@ -209,13 +209,13 @@ run-spec =
     sub-stack-2
     mul-stack-2
     array-set-from-stack-2
-    sub-sp
+    sub-height
     loop-less-2
     loop-again-2
     constant-requires
     mul-stack-3
     array-set-from-stack-3
-    add-sp
+    add-height
     loop-less-3
     loop-again-3
     cast-k
@@ -223,7 +223,7 @@ run-spec =
     array-copy-out-leaf
     mul-stack-4
     array-set-from-stack-4
-    add-sp-2
+    add-height-2
     loop-less-4
     loop-again-4
     array-copy-out-result

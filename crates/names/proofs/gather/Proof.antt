@@ -4,7 +4,8 @@ use Prim.Native.Nat.{ℕ, _+_, _-_, _≤_, _<_}
 use mathlib.Core.Path.{_≡_, ap}
 use native.Mathlib.Omega.{arith}
 use borrow.Author.Needs.{needs}
-use lib.ListN.{getD, take, drop, length-take}
+use lib.ListN.{length, getD, take, drop, length-take}
+use Rattle.evalset.specs.Sets.{most}
 use Rattle.names.proofs.Going.{Going, going-first, few-tokens, few-names, number-few, going-end, token-inside, token-short, going-other, going-seventh, going-name}
 use Rattle.names.proofs.gather.Statement.{statement}
 use Rattle.names.proofs.gather.Tie as tie
@@ -16,8 +17,19 @@ abbrev μ-loop : tie.MeasureT-loop
 μ-loop text kinds starts lens n known₀ numbers₀ m₀ i₀ known numbers m i = n - i
 
 -- a number up to six that is not six
-few : (n : ℕ) → n ≤ 6 → (n ≡ 6 → ⊥) → n < 6
+few : (n : ℕ) → n ≤ most → (n ≡ most → ⊥) → n < most
 few n h k = omega arith
+
+-- the token lies in the text
+token-lies : (c : tie.After-wide2 Inv-loop μ-loop)
+    → c .before .wide .result + c .wide2 .result ≤ length (c .before .before .before .before .before .before .before .before .before .before .before .args .text .now)
+token-lies c =
+    omega (
+      arith,
+      token-inside (c .before .before .before .before .loop .inv) (c .before .before .before .loop-test .taken),
+      c .before .wide .ensures,
+      c .wide2 .ensures,
+    )
 
 zeros-requires : tie.Need-zeros-requires Inv-loop μ-loop
 zeros-requires c κs = search needs
@@ -52,31 +64,16 @@ wide-requires-2 : tie.Need-wide-requires-2 Inv-loop μ-loop
 wide-requires-2 c κs = search needs
 
 add-end : tie.Need-add-end Inv-loop μ-loop
-add-end c =
-    let at = c .before .before .before .before .loop in
-    let inside = token-inside (at .inv) (c .before .before .before .loop-test .taken) in
-    let start : c .before .wide .result ≡ _ = c .before .wide .ensures in
-    let len : c .wide2 .result ≡ _ = c .wide2 .ensures in
-    omega arith
+add-end c = omega (arith, token-lies c)
 
 sub-number-of : tie.Need-sub-number-of Inv-loop μ-loop
 sub-number-of c = omega arith
 
 part-number-of-start : tie.Need-part-number-of-start Inv-loop μ-loop
-part-number-of-start c =
-    let at = c .before .before .before .before .loop in
-    let inside = token-inside (at .inv) (c .before .before .before .loop-test .taken) in
-    let start : c .before .wide .result ≡ _ = c .before .wide .ensures in
-    let len : c .wide2 .result ≡ _ = c .wide2 .ensures in
-    omega arith
+part-number-of-start c = omega (arith, token-lies c)
 
 part-number-of-end : tie.Need-part-number-of-end Inv-loop μ-loop
-part-number-of-end c =
-    let at = c .before .before .before .before .loop in
-    let inside = token-inside (at .inv) (c .before .before .before .loop-test .taken) in
-    let start : c .before .wide .result ≡ _ = c .before .wide .ensures in
-    let len : c .wide2 .result ≡ _ = c .wide2 .ensures in
-    omega arith
+part-number-of-end c = omega (arith, token-lies c)
 
 number-of-requires : tie.Need-number-of-requires Inv-loop μ-loop
 number-of-requires c κs =
@@ -98,20 +95,10 @@ sub-with-name : tie.Need-sub-with-name Inv-loop μ-loop
 sub-with-name c = omega arith
 
 part-with-name-start : tie.Need-part-with-name-start Inv-loop μ-loop
-part-with-name-start c =
-    let at = c .before .before .before .before .before .before .before .loop in
-    let inside = token-inside (at .inv) (c .before .before .before .before .before .before .loop-test .taken) in
-    let start : c .before .before .before .before .wide .result ≡ _ = c .before .before .before .before .wide .ensures in
-    let len : c .before .before .before .wide2 .result ≡ _ = c .before .before .before .wide2 .ensures in
-    omega arith
+part-with-name-start c = omega (arith, token-lies (c .before .before .before))
 
 part-with-name-end : tie.Need-part-with-name-end Inv-loop μ-loop
-part-with-name-end c =
-    let at = c .before .before .before .before .before .before .before .loop in
-    let inside = token-inside (at .inv) (c .before .before .before .before .before .before .loop-test .taken) in
-    let start : c .before .before .before .before .wide .result ≡ _ = c .before .before .before .before .wide .ensures in
-    let len : c .before .before .before .wide2 .result ≡ _ = c .before .before .before .wide2 .ensures in
-    omega arith
+part-with-name-end c = omega (arith, token-lies (c .before .before .before))
 
 with-name-requires : tie.Need-with-name-requires Inv-loop μ-loop
 with-name-requires c κs =

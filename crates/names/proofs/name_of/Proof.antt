@@ -6,13 +6,13 @@ use native.Mathlib.Omega.{arith}
 use lib.ListN.{length, take, getD, set, replicate}
 use lib.Seq.{take-length}
 use borrow.Author.Needs.{needs}
-use Rattle.names.specs.declared.Name.{Name}
+use Rattle.names.specs.declared.KeptName.{KeptName}
 use Rattle.names.specs.Gather.{nameOf}
 use Rattle.names.proofs.Scans.{copy-next}
 use Rattle.names.proofs.name_of.Statement.{statement}
 use Rattle.names.proofs.name_of.Tie as tie
 
-abbrev nameWith : List ℕ → ℕ → Name
+abbrev nameWith : List ℕ → ℕ → KeptName
 nameWith b n = record { bytes = b; len = n }
 
 abbrev Inv-loop : tie.InvT-loop

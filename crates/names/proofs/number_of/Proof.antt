@@ -5,7 +5,8 @@ use mathlib.Core.Path.{_≡_, sym, ap, _∙_}
 use native.Mathlib.Omega.{arith}
 use lib.ListN.{length, take, drop, length-map}
 use lib.Seq.{length-take-le, getD-take}
-use Rattle.names.specs.declared.Name.{Name}
+use Rattle.evalset.specs.Sets.{most}
+use Rattle.names.specs.declared.KeptName.{KeptName}
 use Rattle.names.specs.Steps.{sameKept, placeIn}
 use Rattle.names.proofs.Scans.{empty, number-here, number-next, number-end}
 use Rattle.names.proofs.number_of.Statement.{statement}
@@ -13,7 +14,7 @@ use Rattle.names.proofs.number_of.Tie as tie
 
 abbrev Inv-loop : tie.InvT-loop
 Inv-loop w list count i₀ i =
-    (i ≤ count) × (count ≤ 6) × (length list ≡ 6) × (i + placeIn w (drop i (take count list)) ≡ placeIn w (take count list))
+    (i ≤ count) × (count ≤ most) × (length list ≡ most) × (i + placeIn w (drop i (take count list)) ≡ placeIn w (take count list))
 
 abbrev μ-loop : tie.MeasureT-loop
 μ-loop w list count i₀ i = count - i
@@ -37,7 +38,7 @@ returns c =
     let at = c .before .before .before .before .loop in
     let h = c .before .before .before .loop-test .taken in
     let few : at .i < length ks = omega (arith, length-take-le (start .args .names .count) (start .args .names .list) (omega arith)) in
-    let e = ap (λ (k : Name). sameKept k (start .args .w .now)) (getD-take (start .args .names .count) (start .args .names .list) (at .i) empty h) ∙ sym (c .before .same .ensures) ∙ c .if1 .taken in
+    let e = ap (λ (k : KeptName). sameKept k (start .args .w .now)) (getD-take (start .args .names .count) (start .args .names .list) (at .i) empty h) ∙ sym (c .before .same .ensures) ∙ c .if1 .taken in
     sym (number-here (start .args .w .now) ks (at .i) few e) ∙ at .inv .3
 
 add-i : tie.Need-add-i Inv-loop μ-loop
@@ -53,7 +54,7 @@ loop-again c =
     let at = c .before .before .before .before .loop in
     let h = c .before .before .before .loop-test .taken in
     let few : at .i < length ks = omega (arith, length-take-le (start .args .names .count) (start .args .names .list) (omega arith)) in
-    let e = ap (λ (k : Name). sameKept k (start .args .w .now)) (getD-take (start .args .names .count) (start .args .names .list) (at .i) empty h) ∙ sym (c .before .same .ensures) ∙ c .if1 .left in
+    let e = ap (λ (k : KeptName). sameKept k (start .args .w .now)) (getD-take (start .args .names .count) (start .args .names .list) (at .i) empty h) ∙ sym (c .before .same .ensures) ∙ c .if1 .left in
     (omega arith, at .inv .1, at .inv .2, sym (number-next (start .args .w .now) ks (at .i) few e) ∙ at .inv .3)
 
 returns-2 : tie.Need-returns-2 Inv-loop μ-loop

@@ -6,7 +6,6 @@ use mathlib.Core.List.{List}
 use Prim.Native.Nat.{ℕ, _-_, _≤_, _<_}
 use native.Mathlib.Omega.{arith}
 use lib.ListN.{length, getD, take}
-use lib.Seq.{take-length}
 use borrow.Author.Needs.{needs}
 use borrow.Author.Tests.{not-true, not-false}
 use Rattle.formula.specs.Formula.{Atom}
@@ -16,7 +15,7 @@ use Rattle.evalset.proofs.Search.{clash, untrue, all-elim}
 use Rattle.contact.specs.Plan.{Mark, mark, rowMarks, witnessed}
 use Rattle.search.specs.Rows.{rowBits}
 use Rattle.search.specs.Compiled.{atomAt, Compiled, Fit, WitnessedSays}
-use Rattle.search.proofs.Rows.{row-length, no-marks, marks-take, mark-in}
+use Rattle.search.proofs.Rows.{row-length, no-marks, marks-take, marks-whole, mark-in}
 use Rattle.search.proofs.Lists.{all-last}
 use Rattle.search.proofs.Fitting.{witnessed-is}
 use Rattle.search.proofs.all_witnessed.Statement.{statement}
@@ -103,10 +102,8 @@ unfolding WitnessedSays
 returns-2 c = λ atoms h l ms f.
     let a = c .before .before .args in
     let k = c .before .loop in
-    let row = rowBits (a .k) (a .row) in
-    let z : k .i ≡ length row = omega (arith, row-length (a .k) (a .row)) in
     sym (k .inv .1 atoms h l ms f)
-    ∙ ap (λ (r : List Bool). all (witnessed (a .t1 .names) ms) (rowMarks atoms r)) (ap (λ (i : ℕ). take i row) z ∙ take-length row)
+    ∙ ap (all (witnessed (a .t1 .names) ms)) (marks-whole atoms (a .k) (a .row) (k .i) (omega arith))
 
 pub all-witnessed-spec : {M : Type 1} → statement M
 all-witnessed-spec =

@@ -5,7 +5,6 @@ use mathlib.Core.List.{List}
 use Prim.Native.Nat.{ℕ, _-_, _≤_, _<_}
 use native.Mathlib.Omega.{arith}
 use lib.ListN.{length, take}
-use lib.Seq.{take-length}
 use borrow.Author.Needs.{needs}
 use Rattle.formula.specs.Formula.{Atom}
 use Rattle.evalset.specs.Search.{gather, elem}
@@ -15,7 +14,7 @@ use Rattle.contact.specs.Plan.{Mark, mark, rowMarks, gives}
 use Rattle.search.specs.Rows.{rowBits}
 use Rattle.search.specs.Compiled.{atomAt, Compiled, Fit}
 use Rattle.search.specs.Planned.{GatheredSays}
-use Rattle.search.proofs.Rows.{row-length, no-marks, marks-take}
+use Rattle.search.proofs.Rows.{row-length, no-marks, marks-take, marks-whole}
 use Rattle.search.proofs.Lists.{elem-gather-last}
 use Rattle.search.proofs.Giving.{gives-is}
 use Rattle.search.proofs.gathered.Statement.{statement}
@@ -97,10 +96,8 @@ unfolding GatheredSays
 returns c = λ atoms h ms f e.
     let a = c .before .before .before .args in
     let k = c .before .loop in
-    let row = rowBits (a .t1 .atoms) (a .row) in
-    let z : k .i ≡ length row = omega (arith, row-length (a .t1 .atoms) (a .row)) in
     k .inv .2 atoms h ms f e
-    ∙ ap (λ (r : List Bool). elem e (gather (gives (a .t1 .names) ms) (rowMarks atoms r))) (ap (λ (i : ℕ). take i row) z ∙ take-length row)
+    ∙ ap (λ (l : List Mark). elem e (gather (gives (a .t1 .names) ms) l)) (marks-whole atoms (a .t1 .atoms) (a .row) (k .i) (omega arith))
 
 pub gathered-spec : {M : Type 1} → statement M
 gathered-spec =

@@ -5,14 +5,13 @@ use mathlib.Core.List.{List, [], _∷_, _++_}
 use Prim.Native.Nat.{ℕ, _-_, _≤_}
 use native.Mathlib.Omega.{arith}
 use lib.ListN.{length, take}
-use lib.Seq.{take-length}
 use borrow.Author.Needs.{needs}
 use Rattle.formula.specs.Formula.{Atom}
 use Rattle.contact.specs.Plan.{mark, rowMarks}
 use Rattle.search.specs.Rows.{rowBits}
 use Rattle.search.specs.Compiled.{atomAt, Compiled, Fit, StepSays}
 use Rattle.search.specs.Planned.{StateSays}
-use Rattle.search.proofs.Rows.{row-length, no-marks, marks-take}
+use Rattle.search.proofs.Rows.{row-length, no-marks, marks-take, marks-whole}
 use Rattle.search.proofs.state_of.Statement.{statement}
 use Rattle.search.proofs.state_of.Tie as tie
 
@@ -63,10 +62,7 @@ unfolding StateSays
 returns c = λ atoms h.
     let a = c .before .before .before .args in
     let k = c .before .loop in
-    let row = rowBits (a .sheet .atoms) (a .row) in
-    let z : k .i ≡ length row = omega (arith, row-length (a .sheet .atoms) (a .row)) in
-    subst (λ (r : List Bool). Fit (a .sheet .names) (k .s) (rowMarks atoms r)) (ap (λ (i : ℕ). take i row) z ∙ take-length row)
-    (k .inv .2 atoms h)
+    subst (Fit (a .sheet .names) (k .s)) (marks-whole atoms (a .sheet .atoms) (a .row) (k .i) (omega arith)) (k .inv .2 atoms h)
 
 pub state-of-spec : {M : Type 1} → statement M
 state-of-spec =

@@ -22,14 +22,14 @@ loop-holds c = (omega arith, omega arith, omega arith)
 shared-slice-read-kind : tie.Need-shared-slice-read-kind Inv-loop μ-loop
 shared-slice-read-kind c = omega arith
 
-names-in-requires : tie.Need-names-in-requires Inv-loop μ-loop
-names-in-requires c κs = search needs
+names-of-kind-requires : tie.Need-names-of-kind-requires Inv-loop μ-loop
+names-of-kind-requires c κs = search needs
 
 add-n : tie.Need-add-n Inv-loop μ-loop
 add-n c =
     let l = c .before .before .before .loop in
     let order = c .before .before .before .before .before .args .order .now in
-    omega (arith, c .names-in .ensures, one-at-most (getD order (l .i) 0))
+    omega (arith, c .names-of-kind .ensures, one-at-most (getD order (l .i) 0))
 
 add-i : tie.Need-add-i Inv-loop μ-loop
 add-i c = omega arith
@@ -41,8 +41,8 @@ loop-again : tie.Need-loop-again Inv-loop μ-loop
 loop-again c =
     let l = c .before .before .before .loop in
     let order = c .before .before .before .before .before .args .order .now in (
-      omega (arith, c .names-in .ensures, count-step order (l .i) (omega arith)),
-      omega (arith, c .names-in .ensures, one-at-most (getD order (l .i) 0)),
+      omega (arith, c .names-of-kind .ensures, count-step order (l .i) (omega arith)),
+      omega (arith, c .names-of-kind .ensures, one-at-most (getD order (l .i) 0)),
       omega arith,
     )
 
@@ -52,4 +52,4 @@ returns c = omega (arith, count-end (c .before .before .before .args .order .now
 pub names-in-spec : {M : Type 1} → statement M
 names-in-spec =
     tie.close
-    (tie.spec Inv-loop μ-loop loop-holds shared-slice-read-kind names-in-requires add-n add-i loop-less loop-again returns)
+    (tie.spec Inv-loop μ-loop loop-holds shared-slice-read-kind names-of-kind-requires add-n add-i loop-less loop-again returns)

@@ -6,7 +6,7 @@ use lib.ListN.{length, length-map}
 use lib.Seq.{length-take-le}
 use denote.Ref.{now}
 use Rattle.sheets.specs.Texts.{FirstRowIs}
-use Rattle.sheets.proofs.Claims.{may-search, answer-first-row}
+use Rattle.sheets.proofs.Claims.{may-run, answer-first-row}
 use Rattle.sheets.proofs.row_of.Statement.{statement}
 use Rattle.sheets.proofs.row_of.Tie as tie
 
@@ -25,7 +25,7 @@ slice-aggregate-first-row c = sym (length-take-le _ _ (ends-fit (c .before .befo
 first-row-requires : tie.Need-first-row-requires
 first-row-requires c κs =
     let s = c .before .before .before .before in
-    may-search (s .pre .rules) (s .args .c) (now (s .args .code)) (s .pre .rules-compiled)
+    may-run (s .pre .rules) (s .args .c) (now (s .args .code)) (s .pre .rules-compiled)
 
 returns : tie.Need-returns
 unfolding FirstRowIs

@@ -76,7 +76,7 @@ first-under-returns : (t : ℕ) → first-under-lts.Need-returns (
 first-under-returns t c =
     let a = c .before .before .before .before .args in
     let n = c .before .before .before .before .pre .1 in
-    under-empty _ _ (a .sheet) (a .s) (a .row) (a .k) (a .j) (a .cand) n (not-true _ (sym (c .before .is-empty .ensures) ∙ c .if1 .taken))
+    under-empty _ _ (a .sheet) (a .s) (a .row) (a .k) (a .j) (a .unrefuted) n (not-true _ (sym (c .before .is-empty .ensures) ∙ c .if1 .taken))
 
 first-under-passes-requires : (t : ℕ) → first-under-lts.Need-passes-requires (
   is-empty-reads.Asked,
@@ -96,7 +96,7 @@ first-under-passes-requires : (t : ℕ) → first-under-lts.Need-passes-requires
   first-under-below t,
   first-under.Post,
 ) (first-under-at t) first-under.Post
-first-under-passes-requires t c κs = omega (arith, c .before .before .before .before .pre .1 .within, c .before .before .before .before .pre .1 .searchable .atoms-fit)
+first-under-passes-requires t c κs = omega (arith, c .before .before .before .before .pre .1 .within, c .before .before .before .before .pre .1 .runnable .atoms-fit)
 
 first-under-returns-2 : (t : ℕ) → first-under-lts.Need-returns-2 (
   is-empty-reads.Asked,
@@ -119,7 +119,7 @@ first-under-returns-2 : (t : ℕ) → first-under-lts.Need-returns-2 (
 first-under-returns-2 t c =
     let a = c .before .before .before .before .before .before .args in
     let n = c .before .before .before .before .before .before .pre .1 in
-    under-closed _ _ (a .sheet) (a .s) (a .row) (a .k) (a .j) (a .cand) n
+    under-closed _ _ (a .sheet) (a .s) (a .row) (a .k) (a .j) (a .unrefuted) n
     (subst (PassesSays (a .sheet) (a .s) (a .row) (a .k)) (not-true _ (c .if2 .taken)) (c .before .passes .ensures))
 
 first-under-returns-3 : (t : ℕ) → first-under-lts.Need-returns-3 (
@@ -143,7 +143,7 @@ first-under-returns-3 : (t : ℕ) → first-under-lts.Need-returns-3 (
 first-under-returns-3 t c =
     let a = c .before .before .before .before .before .before .before .before .args in
     let n = c .before .before .before .before .before .before .before .before .pre .1 in
-    under-found _ _ (a .sheet) (a .s) (a .row) (a .k) (a .j) (a .cand) n (c .if3 .taken)
+    under-found _ _ (a .sheet) (a .s) (a .row) (a .k) (a .j) (a .unrefuted) n (c .if3 .taken)
     (not-false _ (sym (c .before .before .before .before .before .is-empty .ensures) ∙ c .before .before .before .before .if1 .left))
     (subst (PassesSays (a .sheet) (a .s) (a .row) (a .k)) (not-false _ (c .before .before .if2 .left)) (c .before .before .before .passes .ensures))
 
@@ -188,7 +188,7 @@ first-under-filled-requires : (t : ℕ) → first-under-lts.Need-filled-requires
 first-under-filled-requires t c κs =
     let n = c .before .before .before .before .before .before .before .before .before .pre .1 in
     let l = c .before .if3 .left in
-    (n .searchable .safe, (omega (arith, n .within), omega (arith, n .within, n .searchable .atoms-fit), n .few, omega (arith, n .block-fits)))
+    (n .runnable .safe, (omega (arith, n .within), omega (arith, n .within, n .runnable .atoms-fit), n .few, omega (arith, n .block-fits)))
 
 first-under-sub-i : (t : ℕ) → first-under-lts.Need-sub-i (
   is-empty-reads.Asked,
@@ -330,7 +330,7 @@ first-under-step-requires : (t : ℕ) → first-under-lts.Need-step-requires (
 ) (first-under-at t) first-under.Post
 first-under-step-requires t c κs =
     let n = c .before .before .before .before .before .before .before .before .before .before .before .before .before .before .before .pre .1 in
-    omega (arith, n .within, n .searchable .atoms-fit, c .before .before .before .before .before .before .before .if3 .left)
+    omega (arith, n .within, n .runnable .atoms-fit, c .before .before .before .before .before .before .before .if3 .left)
 
 first-under-add-first-under : (t : ℕ) → first-under-lts.Need-add-first-under (
   is-empty-reads.Asked,
@@ -350,7 +350,7 @@ first-under-add-first-under : (t : ℕ) → first-under-lts.Need-add-first-under
   first-under-below t,
   first-under.Post,
 ) (first-under-at t) first-under.Post
-first-under-add-first-under t c = omega (arith, c .before .before .before .before .before .before .before .before .before .before .before .before .before .before .before .before .pre .1 .within, c .before .before .before .before .before .before .before .before .before .before .before .before .before .before .before .before .pre .1 .searchable .atoms-fit)
+first-under-add-first-under t c = omega (arith, c .before .before .before .before .before .before .before .before .before .before .before .before .before .before .before .before .pre .1 .within, c .before .before .before .before .before .before .before .before .before .before .before .before .before .before .before .before .pre .1 .runnable .atoms-fit)
 
 first-under-first-under-requires : (t : ℕ) → first-under-lts.Need-first-under-requires (
   is-empty-reads.Asked,
@@ -443,12 +443,12 @@ first-under-returns-4 t c =
     let f = c .before .before .before .before .before .before .before .before .before .filled .ensures in
     let b = c .before .before .before .before .before .before .before .before .before .filled .result in
     let z : b .levels ≡ suc (b .levels - 1) = omega (arith, f .some) in
-    under-left _ _ (a .sheet) (a .s) (a .row) (a .k) (a .j) (a .cand) n (b .levels - 1) (omega (arith, f .few, f .some)) (b .cand)
+    under-left _ _ (a .sheet) (a .s) (a .row) (a .k) (a .j) (a .unrefuted) n (b .levels - 1) (omega (arith, f .few, f .some)) (b .unrefuted)
     (λ many rules y q. f .are many rules y q ∙ ap (candidatesOf rules (rowBits (a .k) (a .row))) z)
     (omega (arith, n .within, c .before .before .before .before .before .before .before .before .before .before .before .if3 .left))
     (subst (PassesSays (a .sheet) (a .s) (a .row) (a .k)) (not-false _ (c .before .before .before .before .before .before .before .before .before .before .before .before .before .if2 .left)) (c .before .before .before .before .before .before .before .before .before .before .before .before .before .before .passes .ensures))
     _ _ (c .before .before .before .step .ensures)
-    (c .before .before .before .before .before .meet .ensures ∙ ap (meetOf (mem (b .cand))) (c .before .before .before .before .before .before .below .ensures))
+    (c .before .before .before .before .before .meet .ensures ∙ ap (meetOf (mem (b .unrefuted))) (c .before .before .before .before .before .before .below .ensures))
     _ (c .before .before .first-under .ensures) _ (c .enum-told2 .given .1)
 
 first-under-step-requires-2 : (t : ℕ) → first-under-lts.Need-step-requires-2 (
@@ -471,7 +471,7 @@ first-under-step-requires-2 : (t : ℕ) → first-under-lts.Need-step-requires-2
 ) (first-under-at t) first-under.Post
 first-under-step-requires-2 t c κs =
     let n = c .before .before .before .before .before .before .before .before .before .before .before .before .before .before .before .before .before .before .before .pre .1 in
-    omega (arith, n .within, n .searchable .atoms-fit, c .before .before .before .before .before .before .before .before .before .before .before .if3 .left)
+    omega (arith, n .within, n .runnable .atoms-fit, c .before .before .before .before .before .before .before .before .before .before .before .if3 .left)
 
 first-under-add-first-under-2 : (t : ℕ) → first-under-lts.Need-add-first-under-2 (
   is-empty-reads.Asked,
@@ -491,7 +491,7 @@ first-under-add-first-under-2 : (t : ℕ) → first-under-lts.Need-add-first-und
   first-under-below t,
   first-under.Post,
 ) (first-under-at t) first-under.Post
-first-under-add-first-under-2 t c = omega (arith, c .before .before .before .before .before .before .before .before .before .before .before .before .before .before .before .before .before .before .before .before .pre .1 .within, c .before .before .before .before .before .before .before .before .before .before .before .before .before .before .before .before .before .before .before .before .pre .1 .searchable .atoms-fit)
+first-under-add-first-under-2 t c = omega (arith, c .before .before .before .before .before .before .before .before .before .before .before .before .before .before .before .before .before .before .before .before .pre .1 .within, c .before .before .before .before .before .before .before .before .before .before .before .before .before .before .before .before .before .before .before .before .pre .1 .runnable .atoms-fit)
 
 first-under-first-under-requires-2 : (t : ℕ) → first-under-lts.Need-first-under-requires-2 (
   is-empty-reads.Asked,
@@ -544,12 +544,12 @@ first-under-returns-5 t c =
     let f = c .before .before .before .before .before .before .before .before .before .before .before .filled .ensures in
     let b = c .before .before .before .before .before .before .before .before .before .before .before .filled .result in
     let z : b .levels ≡ suc (b .levels - 1) = omega (arith, f .some) in
-    under-right _ _ (a .sheet) (a .s) (a .row) (a .k) (a .j) (a .cand) n (b .levels - 1) (omega (arith, f .few, f .some)) (b .cand)
+    under-right _ _ (a .sheet) (a .s) (a .row) (a .k) (a .j) (a .unrefuted) n (b .levels - 1) (omega (arith, f .few, f .some)) (b .unrefuted)
     (λ many rules y q. f .are many rules y q ∙ ap (candidatesOf rules (rowBits (a .k) (a .row))) z)
     (omega (arith, n .within, c .before .before .before .before .before .before .before .before .before .before .before .before .before .if3 .left))
     (subst (PassesSays (a .sheet) (a .s) (a .row) (a .k)) (not-false _ (c .before .before .before .before .before .before .before .before .before .before .before .before .before .before .before .if2 .left)) (c .before .before .before .before .before .before .before .before .before .before .before .before .before .before .before .before .passes .ensures))
     _ _ (c .before .before .before .before .before .step .ensures)
-    (c .before .before .before .before .before .before .before .meet .ensures ∙ ap (meetOf (mem (b .cand))) (c .before .before .before .before .before .before .before .before .below .ensures))
+    (c .before .before .before .before .before .before .before .meet .ensures ∙ ap (meetOf (mem (b .unrefuted))) (c .before .before .before .before .before .before .before .before .below .ensures))
     _ (c .before .before .before .before .first-under .ensures) (c .before .before .enum-told .given .1)
     _ _ (c .before .step2 .ensures) (c .before .before .before .before .before .before .shifted .ensures) _ (c .first-under2 .ensures)
 

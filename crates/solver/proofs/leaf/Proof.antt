@@ -5,12 +5,12 @@ use mathlib.Core.Path.{_≡_, sym, ap, ap₂, _∙_}
 use Prim.Native.Nat.{_+_, _-_, _<_}
 use native.Mathlib.Omega.{arith}
 use borrow.Author.Tests.{lt-ltb}
-use Rattle.evalset.specs.declared.EvalSet.{EvalSet}
 use Rattle.evalset.specs.Bit.{bit}
 use Rattle.evalset.specs.Sets.{room, mem}
 use Rattle.evalset.proofs.Bounded.{each}
 use Rattle.evalset.proofs.Members.{names-room}
-use Rattle.kleene.specs.Rails.{duo, sure, duoAt}
+use Rattle.kleene.specs.Rails.{duo, sure}
+use Rattle.kleene.proofs.Turns.{rails-at}
 use Rattle.solver.proofs.Blocks.{leaf-first, leaf-second}
 use borrow.Author.Needs.{needs}
 use Rattle.solver.proofs.leaf.Statement.{statement}
@@ -51,7 +51,6 @@ returns c = λ e l.
     ∙ sym (leaf-first (a .k) (a .d) (a .row) e (a .i) (c .before .before .if1 .taken))
 
 returns-2 : tie.Need-returns-2
-unfolding duoAt
 returns-2 c = λ e l.
     let a = c .before .before .before .before .before .args in
     let p = c .before .before .before .before .before .pre in
@@ -59,9 +58,9 @@ returns-2 c = λ e l.
     let no : mem (c .before .before .before .name-set .result) e ≡ bit e (a .k + a .d - 1 - a .i) =
     each (c .before .before .before .name-set .ensures) e
     ∙ ap (λ (b : Bool). b && bit e (a .k + a .d - 1 - a .i)) (lt-ltb e room small) in
-    ap₂ duo (ap (λ (s : EvalSet). mem s e) (c .rails .ensures .0) ∙ each (c .before .minus .ensures) e
-    ∙ ap₂ (λ (x y : Bool). x && not y) (each (c .before .before .full .ensures) e ∙ lt-ltb e room small) no)
-    (ap (λ (s : EvalSet). mem s e) (c .rails .ensures .1) ∙ no)
+    rails-at (c .rails .ensures) (c .before .minus .ensures) (c .before .before .before .name-set .ensures) e
+    ∙ ap₂ duo (ap₂ (λ (x y : Bool). x && not y) (each (c .before .before .full .ensures) e ∙ lt-ltb e room small) no)
+    (ap (λ (b : Bool). b && bit e (a .k + a .d - 1 - a .i)) (lt-ltb e room small))
     ∙ sym (leaf-second (a .k) (a .d) (a .row) e (a .i) (c .before .before .before .before .if1 .left) (p .2))
 
 pub leaf-spec : {M : Type 1} → statement M

@@ -1,17 +1,16 @@
 -- `solver::leaves` meets its contract: the entries before i have their values, and the others are undecided.
 -- Assumes nothing.
-use mathlib.Core.Path.{_≡_, refl, sym, ap, ap₂, _∙_, subst}
+use mathlib.Core.Path.{_≡_, refl, sym, _∙_, subst}
 use mathlib.Core.Logic.{⊎-elim}
 use Prim.Native.Nat.{ℕ, _+_, _-_, _^_, _≤_, _<_}
 use mathlib.Core.Bool.{false}
 use native.Mathlib.Omega.{arith}
 use lib.ListN.{length, set, length-set}
-use Rattle.evalset.specs.declared.EvalSet.{EvalSet}
-use Rattle.evalset.specs.Sets.{mem}
-use Rattle.evalset.proofs.Bounded.{side, each}
-use Rattle.kleene.specs.Rails.{duo, duoAt, twoAt}
+use Rattle.evalset.proofs.Bounded.{side}
+use Rattle.kleene.specs.Rails.{duo, twoAt}
+use Rattle.kleene.proofs.Turns.{rails-at, two-same, two-other}
 use Rattle.solver.specs.Tree.{decidedAt}
-use Rattle.solver.proofs.Blocks.{leaf-past, nil-at, two-same, two-other}
+use Rattle.solver.proofs.Blocks.{leaf-past, nil-at}
 use Rattle.solver.proofs.leaves.Statement.{statement}
 use Rattle.solver.proofs.leaves.Tie as tie
 
@@ -33,15 +32,12 @@ add-n : tie.Need-add-n Inv-loop μ-loop
 add-n c = omega arith
 
 loop-holds : tie.Need-loop-holds Inv-loop μ-loop
-unfolding duoAt
 loop-holds c = (
   omega arith,
   refl,
   refl,
   (λ j e l m. absurd (omega arith)),
-  λ j e l. nil-at 16 j (c .rails .result) e
-      (ap₂ duo (ap (λ (s : EvalSet). mem s e) (c .rails .ensures .0) ∙ each (c .before .empty .ensures) e)
-      (ap (λ (s : EvalSet). mem s e) (c .rails .ensures .1) ∙ each (c .before .empty .ensures) e)),
+  λ j e l. nil-at 16 j (c .rails .result) e (rails-at (c .rails .ensures) (c .before .empty .ensures) (c .before .empty .ensures) e),
 )
 
 leaf-requires : tie.Need-leaf-requires Inv-loop μ-loop

@@ -7,7 +7,7 @@ use lib.ListN.{length, take, getD, set, replicate}
 use lib.Seq.{take-length}
 use Rattle.table.specs.declared.Line.{Line}
 use Rattle.table.specs.Store.{lineOf}
-use Rattle.table.proofs.Scan.{copy-next}
+use Rattle.names.proofs.Scans.{copy-next}
 use native.Mathlib.Omega.{arith}
 use Rattle.table.proofs.line_of.Statement.{statement}
 use Rattle.table.proofs.line_of.Tie as tie

@@ -2,8 +2,8 @@
 use mathlib.Core.Path.{sym, ap}
 use borrow.Author.Tests.{ne-eqb}
 use Rattle.compile.specs.Kinds.{namesBy}
-use Rattle.compile.proofs.names_in.Statement.{statement}
-use Rattle.compile.proofs.names_in.Tie as tie
+use Rattle.compile.proofs.names_of_kind.Statement.{statement}
+use Rattle.compile.proofs.names_of_kind.Tie as tie
 
 returns : tie.Need-returns
 unfolding namesBy
@@ -13,5 +13,5 @@ returns-2 : tie.Need-returns-2
 unfolding namesBy
 returns-2 c = sym (simp (ne-eqb _ 18 (c .if1 .left)))
 
-pub names-in-spec : {M : Type 1} → statement M
-names-in-spec = tie.close (tie.spec returns returns-2)
+pub names-of-kind-spec : {M : Type 1} → statement M
+names-of-kind-spec = tie.close (tie.spec returns returns-2)

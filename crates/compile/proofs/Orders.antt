@@ -129,14 +129,17 @@ module _ {N : Type 0} (g : N → ℕ) where
   fewer [] = (omega arith, omega arith)
   fewer (t ∷ ts) = (omega arith, omega arith)
 
+  fewer-two : (ts : List (Term ℕ)) → (length (below (below ts)) ≤ length ts) × (length ts ≤ length (below (below ts)) + 2)
+  fewer-two ts = (omega (arith, fewer ts, fewer (below ts)), omega (arith, fewer ts, fewer (below ts)))
+
   step-bounds : (x : Symbol N) (s : State) → Bounds 1 s (step g x s)
   step-bounds (leaf x) s = by-terms _ s (omega arith) (omega arith)
-  step-bounds minus s = by-terms _ s (omega (arith, fewer (s .terms) .0, fewer (s .terms) .1)) (omega (arith, fewer (s .terms) .0, fewer (s .terms) .1))
-  step-bounds (binary Times) s = by-terms _ s (omega (arith, fewer (s .terms) .0, fewer (s .terms) .1, fewer (below (s .terms)) .0, fewer (below (s .terms)) .1)) (omega (arith, fewer (s .terms) .0, fewer (s .terms) .1, fewer (below (s .terms)) .0, fewer (below (s .terms)) .1))
-  step-bounds (binary Plus) s = by-terms _ s (omega (arith, fewer (s .terms) .0, fewer (s .terms) .1, fewer (below (s .terms)) .0, fewer (below (s .terms)) .1)) (omega (arith, fewer (s .terms) .0, fewer (s .terms) .1, fewer (below (s .terms)) .0, fewer (below (s .terms)) .1))
-  step-bounds isZero s = by-atom _ _ s (fewer (s .terms) .0) (omega (arith, fewer (s .terms) .0, fewer (s .terms) .1))
-  step-bounds (relation contact) s = by-atom _ _ s (omega (arith, fewer (s .terms) .0, fewer (s .terms) .1, fewer (below (s .terms)) .0, fewer (below (s .terms)) .1)) (omega (arith, fewer (s .terms) .0, fewer (s .terms) .1, fewer (below (s .terms)) .0, fewer (below (s .terms)) .1))
-  step-bounds (relation part) s = by-atom _ _ s (omega (arith, fewer (s .terms) .0, fewer (s .terms) .1, fewer (below (s .terms)) .0, fewer (below (s .terms)) .1)) (omega (arith, fewer (s .terms) .0, fewer (s .terms) .1, fewer (below (s .terms)) .0, fewer (below (s .terms)) .1))
+  step-bounds minus s = by-terms _ s (omega (arith, fewer (s .terms))) (omega (arith, fewer (s .terms)))
+  step-bounds (binary Times) s = by-terms _ s (omega (arith, fewer-two (s .terms))) (omega (arith, fewer-two (s .terms)))
+  step-bounds (binary Plus) s = by-terms _ s (omega (arith, fewer-two (s .terms))) (omega (arith, fewer-two (s .terms)))
+  step-bounds isZero s = by-atom _ _ s (fewer (s .terms) .0) (omega (arith, fewer (s .terms)))
+  step-bounds (relation contact) s = by-atom _ _ s (fewer-two (s .terms) .0) (fewer-two (s .terms) .1)
+  step-bounds (relation part) s = by-atom _ _ s (fewer-two (s .terms) .0) (fewer-two (s .terms) .1)
   step-bounds tilde s = by-sign 0 s
   step-bounds (binary And) s = by-sign 1 s
   step-bounds (binary Or) s = by-sign 2 s

@@ -1,13 +1,13 @@
--- `judging::leaf` meets its contract: every evaluation is on the value's rail and none on the other. Assumes nothing.
+-- `kleene::settled` meets its contract: every evaluation is on the value's rail and none on the other. Assumes nothing.
 use mathlib.Core.Bool.{false}
 use mathlib.Core.Path.{sym, ap, _∙_}
 use borrow.Author.Needs.{needs}
 use borrow.Author.Tests.{lt-ltb}
 use Rattle.evalset.specs.Sets.{room}
 use Rattle.kleene.specs.Rails.{duo, sure}
 use Rattle.kleene.proofs.Turns.{rails-at}
-use Rattle.judging.proofs.leaf.Statement.{statement}
-use Rattle.judging.proofs.leaf.Tie as tie
+use Rattle.kleene.proofs.settled.Statement.{statement}
+use Rattle.kleene.proofs.settled.Tie as tie
 
 full-requires : tie.Need-full-requires
 full-requires c κs = search needs
@@ -37,8 +37,8 @@ returns-2 c = λ e b.
     rails-at (c .rails2 .ensures) (c .before .before .empty2 .ensures) (c .before .full2 .ensures) e
     ∙ ap (duo false) (lt-ltb e room b) ∙ sym (ap sure (c .before .before .before .if1 .left))
 
-pub leaf-spec : {M : Type 1} → statement M
-leaf-spec =
+pub settled-spec : {M : Type 1} → statement M
+settled-spec =
     tie.close
     (tie.spec
     full-requires
