@@ -25,7 +25,7 @@ use Rattle.names.proofs.Tokens.{past, token-lies, at-name, at-other, at-end}
 use Rattle.names.proofs.Texts.{names-of-rule, atoms-names}
 use Rattle.table.specs.Store.{Text}
 use Rattle.table.specs.Calls.{formulasOf, namesIn}
-use Rattle.table.proofs.Standing.{is-rule}
+use Rattle.syntax.proofs.Claims.{is-rule}
 
 -- a name among the tokens of a text, from the i-th on
 here-or-later : (s : Text) (i : ℕ) → i < length (ruleTokens s) → (w : Name) → In w (namesAt (placesOf s (drop i (ruleTokens s))))

@@ -3,7 +3,7 @@
 -- Assumes nothing.
 use mathlib.Core.Path.{_≡_}
 use mathlib.Core.List.{List}
-use Prim.Native.Nat.{ℕ}
+use Prim.Native.Nat.{ℕ, _≤_}
 use lib.ListN.{length}
 use Rattle.formula.specs.Formula.{Formula, Name}
 use Rattle.formula.specs.Names.{formulaNames}
@@ -24,7 +24,7 @@ use Rattle.syntax.proofs.Complete.{complete}
 use Rattle.syntax.proofs.Unique.{unique, formula-back}
 use Rattle.syntax.proofs.Exact.{exact, exact-only}
 use Rattle.syntax.proofs.Names.{names-of-tokens, names-of-order}
-use Rattle.syntax.proofs.Texts.{answered, answered-only, rule-read, rule-means}
+use Rattle.syntax.proofs.Texts.{answered, answered-only, rule-read, rule-means, is-rule as rule-if-read}
 
 -- ---- lists of tokens
 
@@ -80,3 +80,11 @@ text-read = rule-read
 -- and means that formula
 pub text-means : (s : List ℕ) (f : Formula Name) → IsRule s f → meaningOf s ≡ f
 text-means = rule-means
+
+-- a text that is answered so is a rule
+pub is-rule : (s : List ℕ) → ruleOf s .answer ≡ RuleAnswer.Formula → IsRule s (meaningOf s)
+is-rule = rule-if-read
+
+-- and has at most 256 bytes
+pub read-short : (s : List ℕ) → ruleOf s .answer ≡ RuleAnswer.Formula → length s ≤ 256
+read-short s e = is-rule s e .short

@@ -142,3 +142,19 @@ rule-means s f h =
     ap (λ (r : Cutting). formulaRead (reading (symbolsOf s (tokensIn r)))) (sym (meant-is-computed s (tokens (h .tokens-of)) (h .cut)))
     ∙ ap formulaRead (complete (symbolsOf s (h .tokens-of)) f (h .derived))
     ∙ formula-back f
+
+-- a text that is answered Formula is a rule of the formula that it means
+pub is-rule : (s : List ℕ) → ruleOf s .answer ≡ RuleAnswer.Formula → IsRule s (meaningOf s)
+is-rule s e = go (ruleOf s .answer) (answered s) e
+  where
+    of : {f : Formula Name} → IsRule s f → IsRule s (meaningOf s)
+    of {f = f} h = subst (IsRule s) (sym (rule-means s f h)) h
+
+    go : (a : RuleAnswer) → Answers s a → a ≡ RuleAnswer.Formula → IsRule s (meaningOf s)
+    go a (formula h) e = of h
+    go a (too-long h) e = absurd (let z : _≡_ {A = ℕ} 0 1 = cc in omega arith)
+    go a (no-token h c) e = absurd (let z : _≡_ {A = ℕ} 0 1 = cc in omega arith)
+    go a (foreign-byte h c) e = absurd (let z : _≡_ {A = ℕ} 0 1 = cc in omega arith)
+    go a (long-name h c) e = absurd (let z : _≡_ {A = ℕ} 0 1 = cc in omega arith)
+    go a (measured h c) e = absurd (let z : _≡_ {A = ℕ} 0 1 = cc in omega arith)
+    go a (grammar h c r) e = absurd (let z : _≡_ {A = ℕ} 0 1 = cc in omega arith)

@@ -17,10 +17,9 @@ use Rattle.syntax.specs.Reader.{code, codes}
 use Rattle.syntax.specs.Rule.{ruleOf, meaningOf}
 use Rattle.syntax.specs.declared.RuleAnswer.the-variants as RuleAnswer
 use Rattle.syntax.specs.declared.Rule.{Rule}
-use Rattle.syntax.proofs.Claims.{length-codes, text-read}
+use Rattle.syntax.proofs.Claims.{length-codes, text-read, is-rule}
 use Rattle.table.specs.Store.{Text}
 use Rattle.table.specs.Steps.{isAtom, atomPlaces, WasRead}
-use Rattle.table.proofs.Standing.{is-rule}
 
 places-append : (a b : List ℕ) → atomPlaces (a ++ b) ≡ atomPlaces a + atomPlaces b
 unfolding atomPlaces

@@ -14,7 +14,7 @@ use Rattle.table.specs.declared.Line.{Line}
 use Rattle.table.specs.declared.Table.{Table}
 use Rattle.table.specs.Store.{Text, rulesOf}
 use Rattle.table.specs.Calls.{namesIn, atomsIn, CanStand, FromUs}
-use Rattle.table.proofs.Standing.{is-rule}
+use Rattle.syntax.proofs.Claims.{is-rule}
 use Rattle.table.proofs.Held.{count-is}
 use Rattle.table.proofs.Recount.{text, first, stands, text-read}
 

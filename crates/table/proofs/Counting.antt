@@ -24,7 +24,8 @@ use Rattle.table.specs.declared.AddAnswer.the-variants as AddAnswer
 use Rattle.table.specs.Store.{Text}
 use Rattle.table.specs.Calls.{formulasOf, namesIn, atomsIn, readAnswer, namesAnswer, ifAdded, firstRefusal, judgeNames, judgeAtoms, judgeRoom, judgeText, judgeAdd, addRules, CanStand}
 use Rattle.table.specs.Steps.{WasRead, atomPlaces, countsOf, countedOf, CountsWith}
-use Rattle.table.proofs.Standing.{NotAdded, not-full, not-many, refused-else, is-rule, names-last, atoms-append, atoms-one, read-formula, names-enough, added-taken, added-refused}
+use Rattle.table.proofs.Standing.{NotAdded, not-full, not-many, refused-else, names-last, atoms-append, atoms-one, read-formula, names-enough, added-taken, added-refused}
+use Rattle.syntax.proofs.Claims.{is-rule}
 use Rattle.table.proofs.Atoms.{rule-atoms}
 
 -- ---- how a text is judged, step by step

@@ -17,7 +17,8 @@ use Rattle.table.specs.declared.LoadAnswer.the-variants as LoadAnswer
 use Rattle.table.specs.Store.{Text, tableOf, rulesOf}
 use Rattle.table.specs.Calls.{ifAdded, judgeAdd, linesOf, linesFrom, blankLine, filled, judgeLines, isNone, judgeLoad, FromUs}
 use Rattle.table.specs.Steps.{countsOf, Counting, CountsWith}
-use Rattle.table.proofs.Standing.{NotAdded, refused-else, stand-none, stand-more, room, read-short}
+use Rattle.table.proofs.Standing.{NotAdded, refused-else, stand-none, stand-more, room}
+use Rattle.syntax.proofs.Claims.{read-short}
 use Rattle.table.proofs.Counting.{answer-is, counts-next}
 use Rattle.table.proofs.Stored.{rules-table, from-us-table}
 use Rattle.table.proofs.Held.{count-is}

@@ -21,7 +21,8 @@ use Rattle.table.specs.Store.{Text, tableOf, rulesOf}
 use Rattle.table.specs.Calls.{judgeAdd, addRules, added, judgeWithdraw, without, ifWithdrawn, withdrawRules, withdrawn, linesOf, filled, judgeLoad, ifLoaded, loadRules, loaded, FromUs, Adds, Withdraws, Loads}
 use Rattle.table.specs.Steps.{countsOf, CountsWith, loadResult}
 use Rattle.table.proofs.Stored.{from-us-table}
-use Rattle.table.proofs.Standing.{NotAdded, room, read-short, added-taken, added-refused, stand-add, stand-withdraw, stand-load}
+use Rattle.table.proofs.Standing.{NotAdded, room, added-taken, added-refused, stand-add, stand-withdraw, stand-load}
+use Rattle.syntax.proofs.Claims.{read-short}
 use Rattle.table.proofs.Counting.{answer-is}
 use Rattle.table.proofs.Held.{count-is}
 

@@ -14,7 +14,7 @@ use Rattle.syntax.specs.RuleText.{IsRule, Answers, formula}
 use Rattle.syntax.specs.Rule.{ruleOf, meaningOf}
 use Rattle.syntax.specs.declared.RuleAnswer.{RuleAnswer}
 use Rattle.syntax.specs.declared.RuleAnswer.the-variants as RuleAnswer
-use Rattle.syntax.proofs.Claims.{text-answered, text-answered-only}
+use Rattle.syntax.proofs.Claims.{text-answered, text-answered-only, is-rule}
 use Rattle.evalset.specs.Search.{gather}
 use Rattle.evalset.proofs.Search.{cases}
 use Rattle.contact.specs.Numbering.{allAtoms}
@@ -31,7 +31,7 @@ use Rattle.table.specs.Calls.{formulasOf, namesIn, atomsIn, readAnswer, 
 use Rattle.table.specs.declared.Outcome.{Outcome}
 use Rattle.table.specs.Numbers.{addOutcome, withdrawOutcome}
 use Rattle.table.specs.Rows.{AddRow, full, seventh, many, stands, WithdrawRow, none, taken}
-use Rattle.table.proofs.Standing.{NotAdded, read-formula, is-rule, enough}
+use Rattle.table.proofs.Standing.{NotAdded, read-formula, enough}
 use Rattle.table.proofs.Counting.{text-is, names-are, judge-text, judge-full, judge-names, judge-atoms, judge-added}
 use Rattle.table.proofs.Results.{withdraw-zero, withdraw-high, withdraw-good}
 

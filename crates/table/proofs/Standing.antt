@@ -11,11 +11,10 @@ use lib.Dec.{ltb, leb}
 use borrow.Author.Tests.{ltb-false, leb-false, le-ltb, lt-leb}
 use Rattle.formula.specs.Formula.{Formula, Name}
 use Rattle.formula.specs.Atoms.{atomsOf}
-use Rattle.syntax.specs.RuleText.{IsRule, Answers, formula, too-long, no-token, foreign-byte, long-name, measured, grammar}
 use Rattle.syntax.specs.Rule.{ruleOf, meaningOf}
 use Rattle.syntax.specs.declared.RuleAnswer.{RuleAnswer}
 use Rattle.syntax.specs.declared.RuleAnswer.the-variants as RuleAnswer
-use Rattle.syntax.proofs.Claims.{text-answered, text-means}
+use Rattle.syntax.proofs.Claims.{is-rule}
 use Rattle.evalset.specs.Search.{In, here}
 use Rattle.evalset.proofs.Search.{none-in, uncons, in-left, in-right, in-either, map-intro, map-elim}
 use Rattle.contact.specs.Numbering.{allAtoms, namesOf}
@@ -100,23 +99,6 @@ read-formula (RuleAnswer.GrammarAt i) e = absurd (let z : _≡_ {A = ℕ} 0 1 = 
 pub names-enough : (a : NamesAnswer) → namesAnswer a ≡ AddAnswer.Added → a ≡ NamesAnswer.Enough
 names-enough NamesAnswer.Enough e = refl
 names-enough (NamesAnswer.SeventhName p) e = absurd (let z : _≡_ {A = ℕ} 0 1 = cc in omega arith)
-
--- ---- a text that is read is a rule, and means its formula
-
-pub is-rule : (s : Text) → ruleOf s .answer ≡ RuleAnswer.Formula → IsRule s (meaningOf s)
-is-rule s e = go (ruleOf s .answer) (text-answered s) e
-  where
-    of : {f : Formula Name} → IsRule s f → IsRule s (meaningOf s)
-    of {f = f} h = subst (IsRule s) (sym (text-means s f h)) h
-
-    go : (a : RuleAnswer) → Answers s a → a ≡ RuleAnswer.Formula → IsRule s (meaningOf s)
-    go a (formula h) e = of h
-    go a (too-long h) e = absurd (let z : _≡_ {A = ℕ} 0 1 = cc in omega arith)
-    go a (no-token h c) e = absurd (let z : _≡_ {A = ℕ} 0 1 = cc in omega arith)
-    go a (foreign-byte h c) e = absurd (let z : _≡_ {A = ℕ} 0 1 = cc in omega arith)
-    go a (long-name h c) e = absurd (let z : _≡_ {A = ℕ} 0 1 = cc in omega arith)
-    go a (measured h c) e = absurd (let z : _≡_ {A = ℕ} 0 1 = cc in omega arith)
-    go a (grammar h c r) e = absurd (let z : _≡_ {A = ℕ} 0 1 = cc in omega arith)
 
 -- ---- names and atoms of lists put together
 
@@ -289,7 +271,3 @@ stand-load rs f h = go (ltb 8192 (length f)) (isNone (filled (linesOf f))) (judg
     go false false LoadAnswer.FileTooLong e = h
     go false false LoadAnswer.AllBlank e = h
     go false false (LoadAnswer.Line n r) e = h
-
--- a rule has at most 256 bytes
-pub read-short : (s : Text) → ruleOf s .answer ≡ RuleAnswer.Formula → length s ≤ 256
-read-short s e = is-rule s e .short

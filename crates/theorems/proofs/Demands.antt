@@ -9,7 +9,7 @@ use mathlib.Core.List.{List, [], _∷_, _++_}
 use native.Mathlib.Omega.{arith}
 use lib.ListN.{length, take}
 use Rattle.formula.specs.Formula.{Formula, Name}
-use Rattle.syntax.proofs.Claims.{text-means}
+use Rattle.syntax.proofs.Claims.{text-means, is-rule}
 use Rattle.contact.specs.Meaning.{Floor, meetsAll}
 use Rattle.plan.specs.declared.PlanAnswer.the-variants as PlanAnswer
 use Rattle.plan.specs.declared.PlanRead.{PlanRead}
@@ -40,7 +40,7 @@ use Rattle.table.specs.Asking.{askAnswer, askWords, asked, Asks, judgeAnswer, j
 use Rattle.table.specs.Numbers.{addOutcome, withdrawOutcome, loadOutcome, askOutcome, judgeOutcome}
 use Rattle.table.specs.Rows.{AddRow, WithdrawRow, LoadRow, SomeStand, AskRow, floorOf, JudgeRow}
 use Rattle.table.specs.Runs.{Call, step, runFrom, run, standing, adds}
-use Rattle.table.proofs.Standing.{refused-else, not-withdrawn, not-loaded, is-rule, stand-none, stand-first}
+use Rattle.table.proofs.Standing.{refused-else, not-withdrawn, not-loaded, stand-none, stand-first}
 use Rattle.table.proofs.Results.{adds-of, withdraws-of, loads-of}
 use Rattle.table.proofs.Asking.{asks-of, words-none, words-written, words-short, first-words}
 use Rattle.table.proofs.Claims as table
