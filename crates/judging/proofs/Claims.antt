@@ -9,8 +9,7 @@ use Prim.Native.Nat.{ℕ, _≤_, _<_}
 use native.Mathlib.Omega.{arith}
 use Rattle.formula.specs.Formula.{Form, Formula, Name}
 use Rattle.contact.specs.Meaning.{meetsAll}
-use Rattle.contact.specs.Numbering.{numberedNames, numberedAtoms}
-use Rattle.contact.proofs.Naming.{numberOf}
+use Rattle.contact.specs.Numbering.{numberedNames, numberedAtoms, numberOf}
 use Rattle.kleene.specs.Code.{Safe}
 use Rattle.kleene.proofs.Claims.{safe-postfix}
 use Rattle.search.specs.declared.Sheet.{Sheet}
@@ -18,9 +17,8 @@ use Rattle.search.specs.Compiled.{limit}
 use Rattle.plan.specs.declared.PlanArrays.{PlanArrays}
 use Rattle.plan.specs.Words.{Plan, IsPlan}
 use Rattle.plan.specs.Arrays.{Stored}
-use Rattle.plan.specs.Judging.{Judgement, yes, unmet, judge}
-use Rattle.plan.proofs.Floors.{planFloor, namedFloor}
-use Rattle.plan.proofs.Unmet.{FirstUnmet}
+use Rattle.plan.specs.Judging.{Judgement, yes, unmet, judge, FirstUnmet}
+use Rattle.plan.specs.Floor.{planFloor, namedFloor}
 use Rattle.plan.proofs.Claims.{judge-yes, judge-unmet}
 use Rattle.solver.specs.Coded.{SafeFrom, CodedFrom}
 use Rattle.judging.specs.declared.Judged.{Judged}

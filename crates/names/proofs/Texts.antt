@@ -11,6 +11,7 @@ use Rattle.syntax.specs.Postfix.{symbolNames, namesIn}
 use Rattle.syntax.specs.RuleText.{symbolsOf, IsRule}
 use Rattle.syntax.proofs.Claims.{token-names}
 use Rattle.evalset.specs.Search.{gather}
+use Rattle.evalset.proofs.Search.{gather-append}
 use Rattle.contact.specs.Numbering.{allAtoms}
 use Rattle.names.specs.Gather.{NameAt, nameAt, placesOf, ruleTokens}
 use Rattle.names.specs.Seventh.{namesAt}
@@ -36,11 +37,6 @@ names-of-rule s f h =
     ∙ token-names (symbolsOf s (h .tokens-of)) f (h .derived)
 
 -- ---- the names of the rules
-
-module _ {A B : Type 0} (g : A → List B) where
-  pub gather-append : (xs ys : List A) → gather g (xs ++ ys) ≡ gather g xs ++ gather g ys
-  gather-append [] ys = refl
-  gather-append (x ∷ xs) ys = ap (λ (l : List B). g x ++ l) (gather-append xs ys) ∙ sym (append-assoc (g x) (gather g xs) (gather g ys))
 
 module _ {N : Type 0} where
   -- the two sides of a binary sign

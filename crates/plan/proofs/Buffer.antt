@@ -14,7 +14,7 @@ use borrow.Author.Tests.{lt-ltb, le-ltb}
 use Rattle.plan.specs.Words.{contactWord, pointWord}
 use Rattle.plan.specs.Arrays.{pairOf, rowTo, linksTo, over}
 use Rattle.plan.specs.Held.{written, Wrote}
-use Rattle.plan.proofs.Lists.{gather-more, gather-within, gather-small}
+use Rattle.evalset.proofs.Bounded.{gather-more, gather-within, gather-small}
 
 -- ---- buffers
 pub written-none : (at : ℕ) (buf : List ℕ) → buf ≡ written at [] buf

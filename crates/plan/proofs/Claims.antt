@@ -17,23 +17,22 @@ use Rattle.plan.specs.declared.PlanArrays.{PlanArrays}
 use Rattle.plan.specs.declared.PlanAnswer.the-variants as answer-is
 use Rattle.plan.specs.declared.PlanRead.{PlanRead}
 use Rattle.plan.specs.Words.{Plan, mostNames, Ascends, IsPlan, wordsOf, Refusal}
-use Rattle.plan.specs.Floor.{touching}
-use Rattle.plan.specs.Judging.{yes, unmet, judge}
-use Rattle.plan.specs.Reader.{Reading, plan, refused, readOf}
+use Rattle.plan.specs.Floor.{touching, planFloor, namedFloor, Means}
+use Rattle.plan.specs.Judging.{yes, unmet, judge, FirstUnmet}
+use Rattle.plan.specs.Reader.{Reading, plan, refused, readOf, ReadingSays}
 use Rattle.plan.specs.Arrays.{Stored, answerOf, planIn, Reads, countOf, planBy, touchesOf, vacantOf}
 use Rattle.plan.specs.Given.{rowPlan, plansOf, IsGiven}
-use Rattle.plan.proofs.Exact.{Says, exact, plan-read, refusal-read}
+use Rattle.plan.proofs.Exact.{exact, plan-read, refusal-read}
 use Rattle.plan.proofs.Contacts.{arrays-plan}
 use Rattle.plan.proofs.Again.{plan-again, rows-kept}
 use Rattle.plan.proofs.Once.{InRange, reads-once}
-use Rattle.plan.proofs.Floors.{planFloor, namedFloor}
-use Rattle.plan.proofs.Judged.{Means, touches-meant, vacant-meant}
+use Rattle.plan.proofs.Judged.{touches-meant, vacant-meant}
 use Rattle.plan.proofs.Given
-use Rattle.plan.proofs.Unmet.{FirstUnmet, yes-exactly, unmet-exactly}
+use Rattle.plan.proofs.Unmet.{yes-exactly, unmet-exactly}
 
 -- what is read is a plan whose words these are (Sound, Exact)
 pub read-is-plan : (ws : List ℕ) (p : Plan) → readOf ws ≡ plan p → IsPlan p × (wordsOf p ≡ ws)
-read-is-plan ws p e = subst (Says ws) e (exact ws)
+read-is-plan ws p e = subst (ReadingSays ws) e (exact ws)
 
 -- every plan is read from its words (Complete, Exact)
 pub plan-is-read : (p : Plan) → IsPlan p → readOf (wordsOf p) ≡ plan p
@@ -41,13 +40,13 @@ plan-is-read p h = plan-read p h
 
 -- refusal 13 comes at an index exactly where it is due (Exact)
 pub refused-exactly : (ws : List ℕ) (j : ℕ) → (readOf ws ≡ refused j → Refusal ws j) × (Refusal ws j → readOf ws ≡ refused j)
-refused-exactly ws j = (λ e. subst (Says ws) e (exact ws), refusal-read ws j)
+refused-exactly ws j = (λ e. subst (ReadingSays ws) e (exact ws), refusal-read ws j)
 
 -- words that were read as a plan are the words of the arrays that came back, so written again they are the same (Again)
 pub read-written : (ws : List ℕ) (r : PlanRead) → Reads ws r → r .answer ≡ answer-is.Plan → wordsOf (planBy (r .plan)) ≡ ws
 read-written ws r s e = go (readOf ws) (exact ws) (s .plan) (sym (s .answer) ∙ e)
   where
-    go : (x : Reading) → Says ws x → Stored (r .plan) (planIn x) → answerOf x ≡ answer-is.Plan → wordsOf (planBy (r .plan)) ≡ ws
+    go : (x : Reading) → ReadingSays ws x → Stored (r .plan) (planIn x) → answerOf x ≡ answer-is.Plan → wordsOf (planBy (r .plan)) ≡ ws
     go (plan p) h t q = ap wordsOf (plan-again (r .plan) p (h .0) t) ∙ h .1
     go (refused i) h t q = absurd (let z : _≡_ {A = ℕ} 0 1 = cc in omega arith)
 

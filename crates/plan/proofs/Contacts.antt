@@ -13,7 +13,7 @@ use Rattle.evalset.specs.Sets.{memAt}
 use Rattle.plan.specs.declared.PlanArrays.{PlanArrays}
 use Rattle.plan.specs.Words.{Ascends, Rises, IsPlan, mostNames}
 use Rattle.plan.specs.Arrays.{countOf, pairOf, rowTo, linksTo, planBy}
-use Rattle.evalset.proofs.Search.{both}
+use Rattle.evalset.proofs.Truth.{both}
 
 rises-from : (low low′ n : ℕ) (ks : List ℕ) → low ≤ low′ → Rises low′ n ks → Rises low n ks
 rises-from low low′ n [] h r = tt

@@ -1,4 +1,3 @@
-pub mod Lists
 pub mod Spelling
 pub mod Sound
 pub mod Complete
@@ -10,7 +9,6 @@ pub mod Buffer
 pub mod Writing
 pub mod Contacts
 pub mod Positions
-pub mod Floors
 pub mod Judged
 pub mod Unmet
 pub mod Again

@@ -8,6 +8,7 @@ use native.Mathlib.Omega.{arith}
 use native.Mathlib.Numerals.{add-one}
 use lib.Dec.{ltb, leb}
 use lib.ListN.{length, length-append}
+use lib.Pow.{pow-mono}
 use types.Run.{OneOf, miss}
 use denote.Enum.Declared.{tagOf}
 use borrow.Author.Tests.{le-leb, lt-leb, lt-ltb, le-ltb, ne-eqb}
@@ -23,7 +24,7 @@ use Rattle.plan.specs.Reader.{State, start, pointing, linking, whole, de
 use Rattle.evalset.specs.Sets.{memAt}
 use Rattle.plan.specs.Arrays.{Stored}
 use Rattle.plan.specs.Held.{planOf, joinedOf, Adds, HeldPoints, HeldLinks, Holds, SomePoints, SomeLinks, SomeState}
-use Rattle.plan.proofs.Complete.{room-64, open-by, point-by, link-by, last-by}
+use Rattle.plan.proofs.Complete.{open-by, point-by, link-by, last-by}
 use Rattle.plan.proofs.Squares.{square-point, square-link}
 
 pub dead-holds : (at : ℕ) (r : Progress) (s : State) → r .phase ≡ phase.Dead → s ≡ dead → Holds at r s
@@ -58,7 +59,7 @@ module _ (w : Word) (n c : ℕ) (e : w ≡ First n c) where
         least = z;
         few = h;
         small = omega
-            (arith, room-64 n h);
+            (arith, pow-mono h);
         lowest = omega arith;
         words = refl;
         stored = s;
@@ -113,7 +114,7 @@ module _ (at : ℕ) (p : Progress) (n m : ℕ) (pts : List ℕ) (low : ℕ) (w :
       size = length-append pts (e ∷ [])
 
       top : 2 ^ n ≤ 64
-      top = room-64 n (h .few)
+      top = pow-mono (h .few)
 
       go : (m : ℕ) → p .left ≡ m → length pts + m < 64 → Holds (at + 1) r (went n m (pts ++ (e ∷ [])) e)
       go zero z y =

@@ -15,6 +15,7 @@ use Rattle.plan.specs.Words.{firstWord, pointWord, contactWord, lastWord
 use Rattle.evalset.specs.Sets.{memAt}
 use Rattle.plan.specs.Arrays.{countOf, linksTo, planBy, over, Writes}
 use Rattle.plan.specs.Held.{written, Wrote}
+use Rattle.plan.proofs.Complete.{before-length}
 use Rattle.plan.proofs.Buffer.{written-none, written-length, written-set, written-more, written-over, wrote-length}
 
 module _ (p : PlanArrays) (n : ℕ) (full : length (p .points) ≡ 64) (m : n ≡ countOf p) where
@@ -31,17 +32,11 @@ module _ (p : PlanArrays) (n : ℕ) (full : length (p .points) ≡ 64) (m : n �
       (map pointWord (take x (p .points)) ++ map contactWord (linksTo x x (memAt (p .rows))))) m
 
   before-size : length (before (planBy p)) ≡ 1 + n + length (linksTo n n (memAt (p .rows)))
+  unfolding planBy
   before-size =
-      ap length (sym before-is)
-      ∙ omega (
-        arith,
-        points-size,
-        length-append (map pointWord (take n (p .points)))
-            (map contactWord (linksTo n n (memAt (p .rows)))),
-        length-map (take n (p .points)) pointWord,
-        length-map
-            (linksTo n n (memAt (p .rows))) contactWord,
-      )
+      before-length (planBy p)
+      ∙ ap (λ (x : ℕ). 1 + (length (take x (p .points)) + length (linksTo x x (memAt (p .rows))))) (sym m)
+      ∙ omega (arith, points-size)
 
   size-is : (s : ℕ) → s ≡ length (linksTo n n (memAt (p .rows))) → 2 + n + s ≡ length (wordsOf (planBy p))
   unfolding wordsOf

@@ -8,10 +8,11 @@ ghost use mathlib.Core.List.{List, [], map};
 ghost use Prim.Native.Nat.{ℕ, min, _+_, _*_, _<_, _≤_, _^_};
 ghost use lib.ListN.{length, take};
 ghost use Rattle.evalset.specs.Sets.{mem, memAt, addOf};
+ghost use Rattle.evalset.specs.Arrays.{positionsOf};
 ghost use Rattle.plan.specs.Words.{mostNames, pointWord, contactWord};
 ghost use Rattle.plan.specs.Reader.{kindOf, State, step, opened, pointed, linked};
 ghost use Rattle.plan.specs.Arrays.{Stored, Reads, pairOf, rowTo, linksTo, Writes, touchesOf, vacantOf};
-ghost use Rattle.plan.specs.Held.{planOf, joinedOf, Adds, Holds, HeldPoints, HeldLinks, SomePoints, SomeLinks, SomeState, written, Wrote, placesOf, reachesOf, reachedOf};
+ghost use Rattle.plan.specs.Held.{planOf, joinedOf, Adds, Holds, HeldPoints, HeldLinks, SomePoints, SomeLinks, SomeState, written, Wrote, reachesOf, reachedOf};
 use evalset::EvalSet;
 
 // A plan: the evaluations of its points, ascending, and the square of contacts, one row for each point.
@@ -110,7 +111,7 @@ fn blank(names: u8) -> PlanArrays
     ensures { λ r. ⌜ Stored r (planOf names [] []) ⌝ }
 {
     let points = [0u8; 64];
-    let none = EvalSet { bits: 0 };
+    let none = evalset::empty();
     let rows = [none; 64];
     PlanArrays {
         names: names,
@@ -498,7 +499,7 @@ fn with_place(s: EvalSet, j: usize, belongs: bool) -> EvalSet
 // The positions of the points whose evaluations are in x.
 fn places(points: [u8; 64], n: usize, x: EvalSet) -> EvalSet
     requires { ⌜ n ≤ 64 ⌝ }
-    ensures { λ r. ⌜ mem r ≡ placesOf n points (mem x) ⌝ }
+    ensures { λ r. ⌜ mem r ≡ positionsOf n points (mem x) ⌝ }
 {
     let mut found = evalset::empty();
     let mut j: usize = 0;

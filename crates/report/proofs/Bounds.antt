@@ -12,20 +12,11 @@ use Rattle.evalset.specs.Bit.{bit}
 use Rattle.evalset.specs.Search.{In, here, next, gather, from, below, orElse}
 use Rattle.plan.specs.Words.{Plan, Rises, IsPlan, before, lastWord, wordsOf}
 use Rattle.plan.proofs.Complete.{before-length}
-use Rattle.plan.proofs.Lists.{below-e, gather-small}
+use Rattle.evalset.proofs.Search.{gather-few, from-length, below-elim}
+use Rattle.evalset.proofs.Bounded.{gather-small}
 use Rattle.report.specs.Output.{headLine, blanked, nameIf, pointNames, namesOrNone, pointLine, pointLines, contactLine, planText, refusedText}
 use Rattle.report.proofs.Digits.{decimal-few}
 use Rattle.report.proofs.Parts.{names-parts}
-
-gather-few : {A : Type 0} (f : A → List ℕ) (c : ℕ) (xs : List A) → ((x : A) → In x xs → length (f x) ≤ c) → length (gather f xs) ≤ length xs * c
-gather-few f c [] h = omega arith
-gather-few f c (x ∷ xs) h =
-    let z : suc (length xs) * c ≡ c + length xs * c = omega arith in
-    omega (arith, length-append (f x) (gather f xs), h x here, gather-few f c xs (λ y i. h y (next i)))
-
-from-length : (k n : ℕ) → length (from k n) ≡ n
-from-length k zero = refl
-from-length k (suc n) = ap suc (from-length (suc k) n)
 
 -- ---- a plan
 
@@ -63,7 +54,7 @@ module _ (names : List Name) (few : length names ≤ 6) (short : (i : ℕ) → l
       omega (
         arith,
         from-length 0 (length points),
-        gather-few f 112 (below (length points)) (λ i at. point-few i (getD points i 0) (omega (arith, below-e i (length points) at))),
+        gather-few f 112 (below (length points)) (λ i at. point-few i (getD points i 0) (omega (arith, below-elim (length points) i at))),
       )
 
 contact-few : (k n : ℕ) → n ≤ 32 → k / 256 < k % 256 → k % 256 < n → length (contactLine k) ≤ 14

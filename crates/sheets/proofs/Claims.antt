@@ -28,7 +28,7 @@ use Rattle.plan.specs.Words.{Plan, mostNames, IsPlan}
 use Rattle.plan.specs.Arrays.{Stored, planBy}
 use Rattle.plan.specs.Given.{givenPlan, rowPlan}
 use Rattle.plan.specs.Judging.{judge}
-use Rattle.plan.proofs.Floors.{namedFloor}
+use Rattle.plan.specs.Floor.{namedFloor}
 use Rattle.judging.specs.declared.Judged.{Judged}
 use Rattle.judging.specs.Values.{judgedOf}
 use Rattle.judging.specs.Judges.{Runs, Prepared, JudgesSay}

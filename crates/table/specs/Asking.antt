@@ -10,13 +10,13 @@ use Rattle.contact.specs.Numbering.{namesOf}
 use Rattle.plan.specs.declared.Written.{Written}
 use Rattle.plan.specs.declared.Written.the-variants as Written
 use Rattle.plan.specs.Words.{Plan, IsPlan, wordsOf}
-use Rattle.plan.specs.Reader.{Reading, plan, refused, readOf}
+use Rattle.plan.specs.Reader.{Reading, plan, refused, readOf, ReadingSays}
 use Rattle.plan.specs.declared.PlanArrays.{PlanArrays}
 use Rattle.plan.specs.Arrays.{Stored, over}
 use Rattle.plan.specs.Given.{plansOf}
 use Rattle.plan.specs.Judging.{Judgement, yes, unmet, judge}
-use Rattle.plan.proofs.Floors.{namedFloor}
-use Rattle.plan.proofs.Exact.{Says, exact}
+use Rattle.plan.specs.Floor.{namedFloor}
+use Rattle.plan.proofs.Exact.{exact}
 use Rattle.judging.specs.declared.Judged.{Judged}
 use Rattle.judging.specs.declared.Judged.the-variants as Judged
 use Rattle.sheets.specs.declared.Compiling.{Compiling}
@@ -94,7 +94,7 @@ JudgeAnswerSays c code arrays r =
     (rules : List (Formula Name)) → CompiledRules rules c code → (p : Plan) (h : IsPlan p) → Stored arrays p → r ≡ judgePlan rules p h
 
 -- refusal 13: "words up to here begin no plan, or end early | word index, or the length"; what is read is a plan (`exact`)
-abbrev pub judgeReading : List (Formula Name) → (words : List ℕ) → (r : Reading) → Says words r → JudgeAnswer
+abbrev pub judgeReading : List (Formula Name) → (words : List ℕ) → (r : Reading) → ReadingSays words r → JudgeAnswer
 judgeReading rules words (plan p) h = judgePlan rules p (h .0)
 judgeReading rules words (refused j) h = JudgeAnswer.NotAPlan j
 

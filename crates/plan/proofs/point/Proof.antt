@@ -1,8 +1,8 @@
 -- `plan::point` meets its contract: each test that fails is the machine's, and what passes them all is its state.
 use native.Mathlib.Omega.{arith}
+use lib.Pow.{pow-mono}
 use Prim.Native.Nat.{ℕ, _^_}
 use mathlib.Core.Path.{_≡_, refl, ap, _∙_}
-use Rattle.plan.proofs.Complete.{room-64}
 use Rattle.plan.proofs.Steps.{dead-holds, not-point, point-low, point-room, point-top, point-good}
 use borrow.Author.Needs.{needs}
 use Rattle.plan.proofs.point.Statement.{statement}
@@ -68,7 +68,7 @@ with-point-requires c κs =
     let h = pre .held in
     let top : c .before .before .room .result ≡ 2 ^ (pre .n) =
     c .before .before .room .ensures ∙ ap (λ (x : ℕ). 2 ^ x) (h .stored .names) in
-    (omega (arith, h .stored .count, h .small), omega (arith, room-64 (pre .n) (h .few)))
+    (omega (arith, h .stored .count, h .small), omega (arith, pow-mono (h .few)))
 
 sub-t15 : tie.Need-sub-t15
 sub-t15 c = search needs
