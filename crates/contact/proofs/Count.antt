@@ -9,7 +9,7 @@ use lib.ListN.{length, length-append}
 use lib.Dec.{eqb}
 use borrow.Author.Tests.{eqb-true, ne-eqb}
 use Rattle.formula.specs.Formula.{Term, Atom}
-use Rattle.evalset.specs.Search.{In, here, next, first, keep, orElse, gather, from, elem}
+use Rattle.evalset.specs.Search.{first, keep, orElse, gather, from, elem}
 use Rattle.evalset.proofs.Search.{keep-nothing, from-elim}
 use Rattle.evalset.proofs.Truth.{cases}
 use Rattle.contact.specs.Row.{PartialRow, is, unknown}

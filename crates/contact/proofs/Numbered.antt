@@ -109,7 +109,7 @@ module _ {A : Type 0} where
 
 -- other atoms in the places of the atoms have the same numbers
 module _ {A B : Type 0} (h : A → B) where
-  pub atoms-map : (f : Form A) → atomsOf (mapForm h f) ≡ map h (atomsOf f)
+  atoms-map : (f : Form A) → atomsOf (mapForm h f) ≡ map h (atomsOf f)
   atoms-map Form.truth = refl
   atoms-map Form.falsity = refl
   atoms-map (Form.atom a) = refl

@@ -9,7 +9,7 @@ use Rattle.evalset.proofs.Search.{in-left, in-right}
 use Rattle.contact.specs.Numbering.{allAtoms, mapTerm, mapAtom, mapForm}
 
 module _ {N M : Type 0} (g h : N → M) where
-  abbrev pub Agree : List N → Type 0
+  abbrev Agree : List N → Type 0
   Agree xs = (x : N) → In x xs → g x ≡ h x
 
   -- the two sides of a sign
@@ -32,7 +32,7 @@ module _ {N M : Type 0} (g h : N → M) where
   atom-same (Atom.empty t) u = ap Atom.empty (term-same t u)
 
 module _ {A B : Type 0} (g h : A → B) where
-  abbrev pub Same : List A → Type 0
+  abbrev Same : List A → Type 0
   Same xs = (x : A) → In x xs → g x ≡ h x
 
   -- the two sides of a binary sign

@@ -163,16 +163,16 @@ row-known [] i h = absurd (omega arith)
 row-known (b ∷ row) zero h = refl
 row-known (b ∷ row) (suc i) h = row-known row i (omega arith)
 
-pub and-known : (b c : Bool) → kleeneAnd (is b) (is c) ≡ is (b && c)
+and-known : (b c : Bool) → kleeneAnd (is b) (is c) ≡ is (b && c)
 and-known true c = refl
 and-known false c = refl
 
-pub or-known : (b c : Bool) → kleeneOr (is b) (is c) ≡ is (b || c)
+or-known : (b c : Bool) → kleeneOr (is b) (is c) ≡ is (b || c)
 or-known true c = refl
 or-known false true = refl
 or-known false false = refl
 
-pub iff-known : (b c : Bool) → kleeneIff (is b) (is c) ≡ is (Bool·beq b c)
+iff-known : (b c : Bool) → kleeneIff (is b) (is c) ≡ is (Bool·beq b c)
 iff-known true true = refl
 iff-known true false = refl
 iff-known false true = refl
@@ -184,7 +184,7 @@ morgan false c = refl
 
 -- where the atoms of a formula are decided, its value is known
 module _ (part : ℕ → Three) (row : ℕ → Bool) where
-  abbrev pub Decided : List ℕ → Type 0
+  abbrev Decided : List ℕ → Type 0
   Decided numbers = (i : ℕ) → In i numbers → part i ≡ is (row i)
 
   sides-known : (f g : Form ℕ) (c3 : Three → Three → Three) (c : Bool → Bool → Bool) → ((a b : Bool) → c3 (is a) (is b) ≡ is (c a b))

@@ -1,5 +1,5 @@
--- A test on the numbers below n: some pass, the least that passes, and all that pass in rising order. The numbers below m + n are
--- those below m and the n from m up, and each search goes part by part. Assumes nothing.
+-- A test on the numbers below n: some pass, the least that passes, and all that pass in rising order; and what is gathered from
+-- these numbers. The numbers below m + n are those below m and the n from m up, and each search goes part by part. Assumes nothing.
 use mathlib.Core.Path.{_≡_, refl, sym, ap, ap₂, _∙_, subst}
 use mathlib.Core.Bool.{Bool, true, false, _||_, cond, or-false}
 use mathlib.Core.List.{List, [], _∷_, _++_, append-nil}
@@ -28,7 +28,7 @@ pub each : {A B : Type 0} {p q : A → B} → p ≡ q → (e : A) → p e ≡ q 
 each {A} {B} h e = ap (λ (r : A → B). r e) h
 
 -- ---- the numbers in two parts
-pub below-add : (m n : ℕ) → below (m + n) ≡ below m ++ from m n
+below-add : (m n : ℕ) → below (m + n) ≡ below m ++ from m n
 below-add m n = from-append 0 m n ∙ ap (λ (x : ℕ). below m ++ from x n) (zero-add m)
 
 module _ (p : ℕ → Bool) where
@@ -90,22 +90,22 @@ pub record Least (n e : ℕ) (p : ℕ → Bool) : Type 0 where
   pub before : (d : ℕ) → d < e → p d ≡ false
 
 -- what the answer of a search among n numbers from k up says
-abbrev Says : (ℕ → Bool) → ℕ → ℕ → List ℕ → Type 0
-Says p k n [] = (d : ℕ) → k ≤ d → d < k + n → p d ≡ false
-Says p k n (e ∷ es) = (k ≤ e) × (e < k + n) × (p e ≡ true) × ((d : ℕ) → k ≤ d → d < e → p d ≡ false)
+abbrev FirstSays : (ℕ → Bool) → ℕ → ℕ → List ℕ → Type 0
+FirstSays p k n [] = (d : ℕ) → k ≤ d → d < k + n → p d ≡ false
+FirstSays p k n (e ∷ es) = (k ≤ e) × (e < k + n) × (p e ≡ true) × ((d : ℕ) → k ≤ d → d < e → p d ≡ false)
 
-says : (p : ℕ → Bool) (k n : ℕ) → Says p k n (first p (from k n))
-says p k zero = λ d a b. absurd (omega arith)
-says p k (suc n) = go (p k) refl (first p (from (suc k) n)) (says p (suc k) n)
+first-says : (p : ℕ → Bool) (k n : ℕ) → FirstSays p k n (first p (from k n))
+first-says p k zero = λ d a b. absurd (omega arith)
+first-says p k (suc n) = go (p k) refl (first p (from (suc k) n)) (first-says p (suc k) n)
   where
-    go : (b : Bool) → p k ≡ b → (r : List ℕ) → Says p (suc k) n r → Says p k (suc n) (cond b (k ∷ []) r)
+    go : (b : Bool) → p k ≡ b → (r : List ℕ) → FirstSays p (suc k) n r → FirstSays p k (suc n) (cond b (k ∷ []) r)
     go true q r s = (omega arith, omega arith, q, λ d a b. absurd (omega arith))
     go false q [] s = λ d a b. ⊎-elim (λ z. ap p (sym z) ∙ q) (λ l. s d l (omega arith)) (eq-or-lt-of-le a)
     go false q (e ∷ es) s =
         (omega (arith, s .0), omega (arith, s .1), s .2, λ d a b. ⊎-elim (λ z. ap p (sym z) ∙ q) (λ l. s .3 d l b) (eq-or-lt-of-le a))
 
-says-least : (p : ℕ → Bool) (n e : ℕ) (es : List ℕ) → Says p 0 n (e ∷ es) → Least n e p
-says-least p n e es s = record { within = omega (arith, s .1); passes = s .2; before = λ d l. s .3 d (omega arith) l }
+first-says-least : (p : ℕ → Bool) (n e : ℕ) (es : List ℕ) → FirstSays p 0 n (e ∷ es) → Least n e p
+first-says-least p n e es s = record { within = omega (arith, s .1); passes = s .2; before = λ d l. s .3 d (omega arith) l }
 
 module _ (p : ℕ → Bool) (n : ℕ) where
   pub first-at : (e : ℕ) → Least n e p → first p (below n) ≡ e ∷ []
@@ -118,16 +118,16 @@ module _ (p : ℕ → Bool) (n : ℕ) where
 
   -- the same, as the code answers it
   pub found-least : (e : ℕ) → foundOf (first p (below n)) ≡ At e → Least n e p
-  found-least e h = go (first p (below n)) (says p 0 n) h
+  found-least e h = go (first p (below n)) (first-says p 0 n) h
     where
-      go : (r : List ℕ) → Says p 0 n r → foundOf r ≡ At e → Least n e p
+      go : (r : List ℕ) → FirstSays p 0 n r → foundOf r ≡ At e → Least n e p
       go [] s q = absurd (let z : _≡_ {A = ℕ} 0 1 = cc in omega arith)
-      go (x ∷ xs) s q = let z : x ≡ e = cc in subst (λ (y : ℕ). Least n y p) z (says-least p n x xs s)
+      go (x ∷ xs) s q = let z : x ≡ e = cc in subst (λ (y : ℕ). Least n y p) z (first-says-least p n x xs s)
 
   pub found-nothing : foundOf (first p (below n)) ≡ Nothing → (d : ℕ) → d < n → p d ≡ false
-  found-nothing h = go (first p (below n)) (says p 0 n) h
+  found-nothing h = go (first p (below n)) (first-says p 0 n) h
     where
-      go : (r : List ℕ) → Says p 0 n r → foundOf r ≡ Nothing → (d : ℕ) → d < n → p d ≡ false
+      go : (r : List ℕ) → FirstSays p 0 n r → foundOf r ≡ Nothing → (d : ℕ) → d < n → p d ≡ false
       go [] s q d l = s d (omega arith) (omega arith)
       go (x ∷ xs) s q d l = absurd (let z : _≡_ {A = ℕ} 0 1 = cc in omega arith)
 

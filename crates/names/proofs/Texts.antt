@@ -1,7 +1,7 @@
 -- The names of a rule's text are those of its formula, in their order, and the names of the rules are found by going through the rules:
 -- a token that is a name is a symbol that is one, and the names of the atoms are the names of the formula. Assumes nothing.
-use mathlib.Core.Path.{_≡_, refl, sym, ap, ap₂, _∙_}
-use mathlib.Core.List.{List, [], _∷_, _++_, map, map-append, append-assoc, append-nil}
+use mathlib.Core.Path.{_≡_, refl, ap, ap₂, _∙_}
+use mathlib.Core.List.{List, [], _∷_, _++_, map, map-append, append-nil}
 use Prim.Native.Nat.{ℕ}
 use Rattle.formula.specs.Formula.{Form, Formula, Name}
 use Rattle.formula.specs.Names.{atomsOf, atomNames, formulaNames}

@@ -10,7 +10,7 @@ use Rattle.evalset.specs.declared.EvalSet.{EvalSet}
 use Rattle.evalset.specs.Search.{first}
 use Rattle.evalset.specs.Sets.{most, mem}
 use Rattle.contact.specs.Row.{is, unknown, PartialRow}
-use Rattle.contact.specs.Plan.{rowMarks, check, rows, good, firstRow}
+use Rattle.contact.specs.Plan.{rowMarks, check, good, firstRow}
 use Rattle.contact.specs.Tableau.{refutes, under}
 use Rattle.kleene.specs.Rails.{Duo, duoOf}
 use Rattle.search.specs.declared.Sheet.{Sheet}

@@ -1,7 +1,7 @@
 -- `search::realisable_next` meets its contract: a mark that forbids and separates nothing changes the check by its own witness alone.
 -- Assumes nothing.
-use mathlib.Core.Bool.{Bool, true, false, Bool·beq}
-use mathlib.Core.Path.{_≡_, refl, sym, ap, _∙_}
+use mathlib.Core.Bool.{Bool}
+use mathlib.Core.Path.{sym, ap, _∙_}
 use mathlib.Core.List.{List, [], _∷_, _++_}
 use Prim.Native.Nat.{_-_, _/_, _<_}
 use native.Mathlib.Omega.{arith}
