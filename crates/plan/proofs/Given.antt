@@ -23,15 +23,15 @@ use Rattle.contact.proofs.Answer.{row-found, rowFloor, plan-gives-row, plan-mee
 use Rattle.contact.proofs.Naming.{numbers-row, numbers-meet, first-row-named, first-row-only-named, no-plan-named}
 use Rattle.contact.proofs.Count.{first-short, points-at-most}
 use Rattle.contact.proofs.SameFloor.{SameFloor, row-same, meets-same}
-use Rattle.plan.specs.Words.{Plan, mostNames, Ascends, IsPlan, lastWord, before, wordsOf}
+use Rattle.plan.specs.Words.{Plan, Ascends, IsPlan, lastWord, before, wordsOf}
+use Rattle.evalset.specs.Sets.{most}
 use Rattle.plan.specs.Floor.{liesIn, planFloor, namedFloor}
 use Rattle.plan.specs.Arrays.{pairOf, rowTo, linksTo}
 use Rattle.plan.specs.Given.{givenPlan, rowPlan, plansOf, IsGiven}
 use Rattle.plan.proofs.Complete.{before-length}
-use Rattle.plan.proofs.Buffer.{pair-early, pair-small}
-use Rattle.plan.proofs.Contacts.{links-rise}
+use Rattle.plan.proofs.Contacts.{pair-early, pair-small, links-rise}
 use Rattle.plan.proofs.Judged.{few-points}
-use Rattle.plan.proofs.Again.{links-kept}
+use Rattle.plan.proofs.SamePlan.{links-kept}
 
 -- ---- the plan of marks
 -- what is kept of a rising run ascends
@@ -55,7 +55,7 @@ module _ (n : ℕ) (ms : List Mark) where
 
   module _ (checked : check n ms ≡ true) where
     -- marks that pass the check have a plan in words
-    marks-plan : n ≤ mostNames → IsPlan (givenPlan n ms)
+    marks-plan : n ≤ most → IsPlan (givenPlan n ms)
     unfolding givenPlan
     marks-plan few =
         record {
@@ -101,7 +101,7 @@ module _ (rules : List (Formula Name)) (row : Row) (found : firstRowOf (length (
   checked = row-found (length (namesOf rules)) (numberedNames rules) row found .checked
 
   -- is a plan
-  pub given-is-plan : length (namesOf rules) ≤ mostNames → IsPlan (rowPlan rules row)
+  pub given-is-plan : length (namesOf rules) ≤ most → IsPlan (rowPlan rules row)
   unfolding rowPlan
   given-is-plan few = marks-plan (length (namesOf rules)) (rowMarks (allAtoms (numberedNames rules)) row) checked few
 

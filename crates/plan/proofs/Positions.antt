@@ -12,7 +12,7 @@ use Rattle.evalset.proofs.Bounded.{any-at, any-more, any-cut}
 use Rattle.evalset.proofs.Search.{any-same, below-elim}
 use Rattle.plan.specs.declared.PlanArrays.{PlanArrays}
 use Rattle.plan.specs.Arrays.{countOf, pointAt, touchesOf, vacantOf}
-use Rattle.plan.specs.Held.{reachesOf, reachedOf}
+use Rattle.plan.specs.Private.{reachesOf, reachedOf}
 
 -- ---- the rows so far
 module _ (pts : List ℕ) (rows : ℕ → ℕ → Bool) (x ys : ℕ → Bool) where

@@ -1,5 +1,5 @@
 -- Rows that hold a square of contacts: a point more is one bit, a contact more is two. Assumes nothing.
-use mathlib.Core.Path.{_≡_, refl, sym, ap, ap₂, _∙_, fun-ext}
+use mathlib.Core.Path.{_≡_, sym, ap, ap₂, _∙_, fun-ext}
 use mathlib.Core.Bool.{Bool, true, _&&_, _||_, or-false}
 use mathlib.Core.List.{List, [], _∷_, _++_}
 use mathlib.Core.Logic.{_⊎_, inl, inr, ⊎-elim}
@@ -18,7 +18,7 @@ use Rattle.evalset.proofs.Arrays.{empty-rows, mem-at-same, mem-at-other}
 use Rattle.plan.specs.Words.{Plan}
 use Rattle.plan.specs.Floor.{between, touching}
 use Rattle.plan.specs.Arrays.{square}
-use Rattle.plan.specs.Held.{planOf, addAt, joinedOf}
+use Rattle.plan.specs.Private.{planOf, addAt, joinedOf}
 use Rattle.evalset.proofs.Search.{any-last}
 use Rattle.evalset.proofs.Truth.{both, and-intro, or-cases, or-left, or-right, bool-ext, untrue}
 

@@ -3,7 +3,7 @@
 use mathlib.Core.Path.{_≡_, sym, ap, ap₂, _∙_}
 use mathlib.Core.Bool.{Bool, true, false, cond}
 use mathlib.Core.List.{List, [], _∷_, _++_, map}
-use Prim.Native.Nat.{ℕ, _+_, _≤_, _<_}
+use Prim.Native.Nat.{ℕ, _+_, _*_, _≤_, _<_}
 use native.Mathlib.Omega.{arith}
 use native.Mathlib.Nat.{zero-add}
 use lib.Dec.{leb}
@@ -14,9 +14,14 @@ use Rattle.plan.specs.declared.Written.the-variants.{Words, Needs}
 use Rattle.plan.specs.Words.{firstWord, pointWord, contactWord, lastWord, before, wordsOf}
 use Rattle.evalset.specs.Sets.{memAt}
 use Rattle.plan.specs.Arrays.{countOf, linksTo, planBy, over, Writes}
-use Rattle.plan.specs.Held.{written, Wrote}
+use Rattle.plan.specs.Private.{written, Wrote}
 use Rattle.plan.proofs.Complete.{before-length}
+use Rattle.plan.proofs.Contacts.{links-small}
 use Rattle.plan.proofs.Buffer.{written-none, written-length, written-set, written-more, written-over, wrote-length}
+
+-- how many points and contacts arrays can have
+pub sizes : (p : PlanArrays) (n : ℕ) → n ≡ countOf p → (n ≤ 64) × (length (linksTo n n (memAt (p .rows))) ≤ n * 64)
+sizes p n m = let few : n ≤ 64 = omega arith in (few, links-small n n (memAt (p .rows)) few)
 
 module _ (p : PlanArrays) (n : ℕ) (full : length (p .points) ≡ 64) (m : n ≡ countOf p) where
   points-size : length (take n (p .points)) ≡ n

@@ -31,6 +31,7 @@ pub record Stored (r : PlanArrays) (p : Plan) : Type 0 where
   pub points : r .points ≡ pad 64 (p .points)
   pub rows : memAt (r .rows) ≡ square p
 
+-- the answer: a plan, or refusal 13 and its index
 abbrev pub answerOf : Reading → PlanAnswer
 answerOf (plan p) = answer-is.Plan
 answerOf (refused i) = answer-is.Refused i

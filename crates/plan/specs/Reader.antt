@@ -8,7 +8,8 @@ use lib.Dec.{eqb, ltb, leb}
 use lib.ListN.{length}
 use Rattle.plan.specs.declared.Word.{Word}
 use Rattle.plan.specs.declared.Word.the-variants.{First, Point, Contact, Last, Other}
-use Rattle.plan.specs.Words.{Plan, mostNames, IsPlan, wordsOf, Refusal}
+use Rattle.plan.specs.Words.{Plan, IsPlan, wordsOf, Refusal}
+use Rattle.evalset.specs.Sets.{most}
 
 -- a word by its kind and the rest of its bits; Other where an unnamed bit is set
 abbrev pub byKind : ℕ → ℕ → Word
@@ -35,7 +36,7 @@ pub data State : Type 0 where
 
 -- after the first word
 abbrev pub opened : Word → State
-opened (First n c) = cond (leb n mostNames && (leb 1 c && leb c (2 ^ n))) (pointing n (c - 1) [] 0) dead
+opened (First n c) = cond (leb n most && (leb 1 c && leb c (2 ^ n))) (pointing n (c - 1) [] 0) dead
 opened (Point e) = dead
 opened (Contact i j) = dead
 opened (Last c) = dead

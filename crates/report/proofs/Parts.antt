@@ -14,7 +14,7 @@ use Rattle.evalset.specs.Sets.{memAt}
 use Rattle.evalset.proofs.Search.{gather-append}
 use Rattle.plan.specs.Arrays.{pairOf, rowTo, linksTo, planBy}
 use Rattle.plan.specs.declared.PlanArrays.{PlanArrays}
-use Rattle.plan.proofs.Buffer.{pair-there}
+use Rattle.plan.proofs.Contacts.{pair-there}
 use Rattle.evalset.proofs.Bounded.{gather-more, gather-within}
 use Rattle.report.specs.Output.{labelled, ended, headLine, blanked, nameIf, pointNames, namesOrNone, pointLine, pointLines, contactLine, planText}
 

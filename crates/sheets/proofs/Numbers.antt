@@ -1,7 +1,7 @@
 -- One rule put last changes no number: the names of the rules before it keep theirs, the atoms before it stand where they stood, and
 -- its own are numbered from there on. Assumes nothing.
 use mathlib.Core.Path.{_≡_, ap, _∙_}
-use mathlib.Core.List.{List, [], _∷_, _++_, map, append-nil, map-append}
+use mathlib.Core.List.{List, [], _∷_, _++_, append-nil, map-append}
 use Prim.Native.Nat.{ℕ, _+_}
 use native.Mathlib.Omega.{arith}
 use lib.ListN.{length, length-append}

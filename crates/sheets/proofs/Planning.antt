@@ -19,7 +19,7 @@ use Rattle.evalset.specs.Arrays.{pad}
 use Rattle.evalset.proofs.Arrays.{pad-at}
 use Rattle.plan.specs.declared.PlanArrays.{PlanArrays}
 use Rattle.plan.specs.Arrays.{pairOf, rowTo, linksTo, planBy}
-use Rattle.plan.specs.Held.{planOf}
+use Rattle.plan.specs.Private.{planOf}
 use Rattle.plan.specs.Given.{givenPlan}
 
 -- rows that agree below n have the same contacts there

@@ -7,12 +7,12 @@ use Prim.Native.Nat.{ℕ, _+_, _≤_, _<_}
 use lib.Dec.{eqb}
 use lib.ListN.{length, getD, take, drop}
 use Rattle.evalset.specs.Search.{any, below}
-use Rattle.evalset.specs.Sets.{room, memAt, meetOf}
+use Rattle.evalset.specs.Sets.{room, memAt, meetOf, most}
 use Rattle.evalset.specs.Arrays.{pad}
 use Rattle.plan.specs.declared.PlanArrays.{PlanArrays}
 use Rattle.plan.specs.declared.Phase.the-variants as phase
 use Rattle.plan.specs.declared.Progress.{Progress}
-use Rattle.plan.specs.Words.{Plan, mostNames, contactWord}
+use Rattle.plan.specs.Words.{Plan, contactWord}
 use Rattle.plan.specs.Reader.{State, start, pointing, linking, whole, dead}
 use Rattle.plan.specs.Arrays.{Stored}
 
@@ -40,7 +40,7 @@ pub record HeldPoints (at : ℕ) (r : Progress) (n m : ℕ) (pts : List ℕ) (lo
   pub phase : r .phase ≡ phase.Points
   pub left : r .left ≡ m
   pub least : r .low ≡ low
-  pub few : n ≤ mostNames
+  pub few : n ≤ most
   pub small : length pts + m < 64
   pub lowest : low ≤ 64
   pub words : at ≡ 1 + length pts
