@@ -5,14 +5,14 @@ use mathlib.Core.Path.{_≡_, refl, sym, ap, ap₂, _∙_}
 use mathlib.Core.List.{List, [], _∷_, _++_, append-assoc, append-nil}
 use Prim.Native.Nat.{ℕ, _+_, _*_, _≤_}
 use native.Mathlib.Omega.{arith}
-use lib.ListN.{length, length-append, length-map}
+use lib.ListN.{length, length-append}
 use Rattle.formula.specs.declared.Sign.the-variants.{Implies, Iff, Or, And, Plus, Times}
 use Rattle.formula.specs.Formula.{Term, Atom, Form, Formula}
 use Rattle.formula.specs.Atoms.{atomsOf}
 use Rattle.syntax.specs.Symbol.{Symbol, leaf, minus, tilde, opening, closing, comma, isZero, binary, constant, relation, contact, part}
 use Rattle.syntax.specs.Postfix.{termAfter, formulaAfter}
 use Rattle.contact.specs.Numbering.{mapTerm, mapAtom, mapForm, numberForm}
-use Rattle.contact.proofs.Numbered.{atoms-map}
+use Rattle.contact.proofs.Numbered.{count-map}
 use Rattle.kleene.specs.Code.{atomSign, postfix as postfixCode}
 use Rattle.compile.specs.Machine.{State, below, withTerms, withAtom, withSign, step, run}
 
@@ -56,9 +56,6 @@ module _ {N : Type 0} (g : N → ℕ) where
 
   -- ---- formulas
 
-  count : (f : Formula N) → length (atomsOf (mapForm (mapAtom g) f)) ≡ length (atomsOf f)
-  count f = ap length (atoms-map (mapAtom g) f) ∙ length-map (atomsOf f) (mapAtom g)
-
   -- a constant; a sign behind one formula; a sign behind two
   constant-more : (c : ℕ) (s : State) → withSign c s ≡ record { terms = s .terms; atoms = s .atoms ++ []; code = s .code ++ c ∷ [] }
   constant-more c s = ap (λ (a : List (Atom ℕ)). record { terms = s .terms; atoms = a; code = s .code ++ c ∷ [] }) (sym (append-nil (s .atoms)))
@@ -78,7 +75,7 @@ module _ {N : Type 0} (g : N → ℕ) where
   sign-more f h c s =
       let x : List ℕ = postfixCode (numberForm (length (s .atoms)) f) in
       let n : length (s .atoms ++ atomsOf (mapForm (mapAtom g) f)) ≡ length (s .atoms) + length (atomsOf f)
-      = length-append (s .atoms) (atomsOf (mapForm (mapAtom g) f)) ∙ ap (λ (k : ℕ). length (s .atoms) + k) (count f) in
+      = length-append (s .atoms) (atomsOf (mapForm (mapAtom g) f)) ∙ ap (λ (k : ℕ). length (s .atoms) + k) (count-map (mapAtom g) f) in
       ap₂ (λ (a : List (Atom ℕ)) (k : List ℕ). record { terms = s .terms; atoms = a; code = k })
       (append-assoc (s .atoms) (atomsOf (mapForm (mapAtom g) f)) (atomsOf (mapForm (mapAtom g) h)))
       (ap (λ (k : ℕ). ((s .code ++ x) ++ postfixCode (numberForm k h)) ++ c ∷ []) n

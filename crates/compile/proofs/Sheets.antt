@@ -12,8 +12,8 @@ use borrow.Author.Tests.{eqb-true, eqb-false}
 use Rattle.formula.specs.Formula.{Atom}
 use Rattle.evalset.specs.declared.EvalSet.{EvalSet}
 use Rattle.evalset.specs.Sets.{mem, memAt, noneOf}
-use Rattle.evalset.proofs.Search.{cases}
-use Rattle.evalset.proofs.Bits.{bit-none}
+use Rattle.evalset.proofs.Truth.{cases}
+use Rattle.evalset.proofs.Arrays.{every-at, empty-rows}
 use Rattle.search.specs.declared.Sheet.{Sheet}
 use Rattle.search.specs.Compiled.{noAtom, atomAt}
 use Rattle.compile.specs.Sheet.{isContact, firstSet, secondSet, CompiledFrom, Grows}
@@ -71,25 +71,13 @@ compiled-more {sheet} {r} {atoms} a c l h =
 -- ---- no atom
 
 module _ (sheet : Sheet) (none : EvalSet) (h : mem none ≡ noneOf) where
-  -- a list of empty sets, and what is past its end
-  nothing-at : (n i : ℕ) → memAt (replicate n none) i ≡ noneOf
-  unfolding memAt mem
-  nothing-at ℕ.zero i = fun-ext bit-none
-  nothing-at (suc n) ℕ.zero = h
-  nothing-at (suc n) (suc i) = nothing-at n i
-
-  no-contact : (n i : ℕ) → getD (replicate n false) i false ≡ false
-  no-contact ℕ.zero i = refl
-  no-contact (suc n) ℕ.zero = refl
-  no-contact (suc n) (suc i) = no-contact n i
-
   pub compiled-none : sheet .atoms ≡ 0 → sheet .contact ≡ replicate 16 false → sheet .xs ≡ replicate 16 none → sheet .ys ≡ replicate 16 none
       → CompiledFrom sheet []
   compiled-none z b x y =
       record {
         counted = z;
         few = omega arith;
-        contacts = λ i. ap (λ (l : List Bool). getD l i false) b ∙ no-contact 16 i;
-        firsts = λ i. ap (λ (l : List EvalSet). memAt l i) x ∙ nothing-at 16 i ∙ of-zero;
-        seconds = λ i. ap (λ (l : List EvalSet). memAt l i) y ∙ nothing-at 16 i;
+        contacts = λ i. ap (λ (l : List Bool). getD l i false) b ∙ every-at (λ (t : Bool). t ≡ false) refl refl 16 i;
+        firsts = λ i. ap (λ (l : List EvalSet). memAt l i) x ∙ fun-ext (λ e. empty-rows 16 i e none h) ∙ of-zero;
+        seconds = λ i. ap (λ (l : List EvalSet). memAt l i) y ∙ fun-ext (λ e. empty-rows 16 i e none h);
       }

@@ -11,7 +11,8 @@ use native.Mathlib.Nat.{ℕ-set}
 use lib.ListN.{length, length-map}
 use Rattle.formula.specs.Formula.{Atom, Form, Formula}
 use Rattle.evalset.specs.Search.{In, here, any, first, orElse}
-use Rattle.evalset.proofs.Search.{clash, cases, and-intro, both, none-in, uncons, in-left, in-right, in-either, map-intro, map-elim, any-intro, none-elim, none-intro, first-some, first-none, first-found, first-append, first-map}
+use Rattle.evalset.proofs.Search.{none-in, uncons, in-left, in-right, in-either, map-intro, map-elim, any-intro, none-elim, none-intro, first-some, first-none, first-found, first-append, first-map}
+use Rattle.evalset.proofs.Truth.{clash, cases, and-intro, both}
 use Rattle.contact.specs.Meaning.{Floor, atomOn, meetsAll}
 use Rattle.contact.specs.Numbering.{allAtoms, numberedAtoms, AtomBelow, RulesBelow}
 use Rattle.contact.specs.Row.{IsFirstRow, Row, Realises, Realisable, rulesTrue, Before}

@@ -4,14 +4,14 @@ use mathlib.Core.Bool.{Bool, true, not}
 use mathlib.Core.Path.{_≡_}
 use mathlib.Core.Logic.{_↔_}
 use mathlib.Core.List.{List, [], _∷_, map}
-use Prim.Native.Nat.{ℕ, _+_, _*_, _-_, _/_, _^_, _≤_, _<_, max}
+use Prim.Native.Nat.{ℕ, _+_, _*_, _^_, _≤_, _<_, max}
 use lib.ListN.{length, getD}
 use Rattle.formula.specs.Formula.{Atom, Form, Formula, Name}
 use Rattle.evalset.specs.Search.{In, first, gather, below}
 use Rattle.evalset.specs.Bit.{bit}
 use Rattle.contact.specs.Meaning.{Floor, atomOn, meetsAll}
 use Rattle.formula.specs.Names.{atomNames}
-use Rattle.contact.specs.Numbering.{allAtoms, sameName, namesOf, numberedNames, numberedAtoms, AtomBelow, RulesBelow}
+use Rattle.contact.specs.Numbering.{allAtoms, sameName, namesOf, numberOf, nameOf, numberedNames, numberedAtoms, AtomBelow, RulesBelow}
 use Rattle.contact.specs.Row.{IsFirstRow, Row, Realises, Realisable, PartialRow, RealisesPart, rulesTrue}
 use Rattle.contact.specs.Plan.{Mark, marksOf, rowMarks, separated, check, pointsFor, rows, good, firstRowOf, trueContacts, falseZeros}
 use Rattle.contact.specs.Tableau.{refutes, closes, Sound, Exact, search}
@@ -38,7 +38,7 @@ same-name = Naming.same-name
 
 -- each name of the rules has a number below how many names they have, and is found at it
 pub name-found : (rules : List (Formula Name)) {x : Name} → In x (gather atomNames (allAtoms rules))
-    → (Naming.numberOf rules x < length (namesOf rules)) × (Naming.nameOf rules (Naming.numberOf rules x) ≡ x)
+    → (numberOf rules x < length (namesOf rules)) × (nameOf rules (numberOf rules x) ≡ x)
 name-found rules i = Naming.name-found rules i
 
 -- so the numbered rules' names are below that number
@@ -156,10 +156,6 @@ pub points-at-most : (n : ℕ) (atoms : List (Atom ℕ)) (part : PartialRow) →
     → length (pointsFor n (marksOf atoms part)) ≤ 32
 points-at-most = Count.points-at-most
 
--- so at most 530 words: the first, one a point, one a pair of points in contact, the last
-pub words-at-most : (p : ℕ) → p ≤ 32 → 1 + p + p * (p - 1) / 2 + 1 ≤ 530
-words-at-most = Count.words-at-most
-
 -- ---- the search (Searching)
 
 -- a search that closes branches by a test finds the first row that passes, for any test that is sound, and exact at the leaves
@@ -172,7 +168,7 @@ pub refutes-sound : (nums : List (Form ℕ)) → Sound (rulesTrue nums) (refutes
 refutes-sound = Searching.refutes-sound
 
 -- with the check of the decided atoms it is sound for the rows that make the rules true and pass the check
-pub closes-sound : (n : ℕ) (atoms : List (Atom ℕ)) (nums : List (Form ℕ)) → ((a : Atom ℕ) → In a atoms → AtomBelow n a)
+pub closes-sound : (n : ℕ) (atoms : List (Atom ℕ)) (nums : List (Form ℕ))
     → Sound (good n atoms nums) (closes n atoms nums)
 closes-sound = Searching.closes-sound
 
@@ -182,6 +178,6 @@ pub closes-exact : (n : ℕ) (atoms : List (Atom ℕ)) (nums : List (Form ℕ)) 
 closes-exact = Searching.closes-exact
 
 -- so the search that closes branches early finds the row that the answer uses
-pub search-answer : (n : ℕ) (rules : List (Formula ℕ)) → RulesBelow n rules
+pub search-answer : (n : ℕ) (rules : List (Formula ℕ))
     → search (closes n (allAtoms rules) (numberedAtoms rules)) (length (allAtoms rules)) [] ≡ firstRowOf n rules
 search-answer = Searching.search-answer

@@ -3,15 +3,15 @@
 use mathlib.Core.Bool.{Bool, true, false, _||_, cond}
 use mathlib.Core.Path.{_≡_, refl}
 use mathlib.Core.List.{List, [], _∷_}
-use Prim.Native.Nat.{ℕ, zero, suc, _+_, _*_, _-_, _/_, _≤_, max, _^_}
+use Prim.Native.Nat.{ℕ, zero, suc, _+_, _*_, _≤_, max, _^_}
 use native.Mathlib.Omega.{arith}
-use native.Mathlib.Nat.{mul-le-mul}
 use lib.ListN.{length, length-append}
 use lib.Dec.{eqb}
 use borrow.Author.Tests.{eqb-true, ne-eqb}
 use Rattle.formula.specs.Formula.{Term, Atom}
-use Rattle.evalset.specs.Search.{In, here, next, first, keep, orElse, gather, from, elem}
-use Rattle.evalset.proofs.Search.{cases, from-elim}
+use Rattle.evalset.specs.Search.{first, keep, orElse, gather, from, elem}
+use Rattle.evalset.proofs.Search.{keep-nothing, from-elim}
+use Rattle.evalset.proofs.Truth.{cases}
 use Rattle.contact.specs.Row.{PartialRow, is, unknown}
 use Rattle.contact.specs.Plan.{Mark, touching, apart, vacant, inhabited, marksOf, allowed, fills, partners, leads, evaluations, withPartner, gives, given, pointsFor, trueContacts, falseZeros}
 
@@ -23,10 +23,6 @@ module _ {A : Type 0} where
       pick : (b : Bool) → length (first p xs) ≤ 1 → length (cond b (x ∷ []) (first p xs)) ≤ 1
       pick true h = omega arith
       pick false h = h
-
-  keep-nothing : (p : A → Bool) (xs : List A) → ((x : A) → In x xs → p x ≡ false) → keep p xs ≡ []
-  keep-nothing p [] h = refl
-  keep-nothing p (x ∷ xs) h = rw (h x here) (keep-nothing p xs (λ y i. h y (next i)))
 
   -- what passes one of two tests
   keep-or : (p q : A → Bool) (xs : List A) → length (keep (λ x. p x || q x) xs) ≤ length (keep p xs) + length (keep q xs)
@@ -120,10 +116,3 @@ point-bound-atoms n atoms part =
 pub points-at-most : (n : ℕ) (atoms : List (Atom ℕ)) (part : PartialRow) → length atoms ≤ 16
     → length (pointsFor n (marksOf atoms part)) ≤ 32
 points-at-most n atoms part h = omega (arith, point-bound-atoms n atoms part)
-
--- "An answered plan takes at most 530 words": the first word, one a point, one a pair of points, the last word
-pub words-at-most : (p : ℕ) → p ≤ 32 → 1 + p + p * (p - 1) / 2 + 1 ≤ 530
-words-at-most p h =
-    let low : p - 1 ≤ 31 = omega arith in
-    let pairs : p * (p - 1) ≤ 32 * 31 = mul-le-mul h low in
-    omega arith

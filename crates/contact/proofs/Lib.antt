@@ -1,5 +1,7 @@
 pub mod Bits
 pub mod Realise
+pub mod Fewer
+pub mod Renaming
 pub mod Numbered
 pub mod Answer
 pub mod Naming

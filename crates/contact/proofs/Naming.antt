@@ -12,11 +12,12 @@ use lib.ListN.{length, getD}
 use borrow.Author.Tests.{eqb-true, eq-eqb}
 use Rattle.formula.specs.Formula.{Term, Atom, Form, Formula, Name}
 use Rattle.evalset.specs.Search.{In, here, next, any, all, gather, below}
-use Rattle.evalset.proofs.Search.{clash, cases, and-intro, both, none-in, uncons, at-head, in-left, in-right, map-elim, all-map, keep-intro, gather-intro}
-use Rattle.contact.specs.Meaning.{Floor, holds, within, partTerm, atomOn, value, meets, meetsAll}
+use Rattle.evalset.proofs.Search.{none-in, uncons, at-head, in-left, in-right, map-elim, all-map, keep-intro, gather-intro}
+use Rattle.contact.specs.Meaning.{Floor, holds, within, partTerm, atomOn, value, meets, meetsAll, renamed}
 use Rattle.formula.specs.Atoms.{atomsOf}
 use Rattle.formula.specs.Names.{termNames, atomNames}
-use Rattle.contact.specs.Numbering.{allAtoms, distinct, position, sameName, namesOf, mapTerm, mapAtom, mapForm, numberedNames, numberedAtoms, TermBelow, AtomBelow, RulesBelow}
+use Rattle.contact.specs.Numbering.{allAtoms, distinct, position, sameName, namesOf, mapTerm, mapAtom, mapForm, numberedNames, numberedAtoms, TermBelow, AtomBelow, RulesBelow, numberOf, nameOf}
+use Rattle.evalset.proofs.Truth.{clash, cases, and-intro, both}
 use Rattle.contact.specs.Row.{IsFirstRow, Row, Realises, Realisable, rulesTrue}
 use Rattle.contact.specs.Plan.{firstRowOf}
 use Rattle.contact.proofs.Numbered.{all-atoms-map, numbered-map}
@@ -25,18 +26,6 @@ use Rattle.contact.proofs.Answer.{first-row, first-row-only, rowFloor, 
 -- ---- renaming
 
 module _ {N M : Type 0} (g : N → M) where
-  -- the floor over the names N in which x is what g x is
-  abbrev pub renamed : Floor M → Floor N
-  renamed F =
-      record {
-        points = F .points;
-        some = F .some;
-        touch = F .touch;
-        reflexive = F .reflexive;
-        symmetric = F .symmetric;
-        lies = λ x p. F .lies (g x) p;
-      }
-
   holds-map : (v : M → Bool) (t : Term N) → holds v (mapTerm g t) ≡ holds (λ x. v (g x)) t
   holds-map v Term.zero = refl
   holds-map v Term.one = refl
@@ -46,11 +35,11 @@ module _ {N M : Type 0} (g : N → M) where
   holds-map v (Term.union s t) = ap₂ _||_ (holds-map v s) (holds-map v t)
 
   module _ (F : Floor M) where
-    within-map : (t : Term N) → within F (mapTerm g t) ≡ within (renamed F) t
+    within-map : (t : Term N) → within F (mapTerm g t) ≡ within (renamed g F) t
     within-map t = fun-ext (λ p. holds-map (λ x. F .lies x p) t)
 
     -- the one renaming lemma
-    pub atom-map : (a : Atom N) → atomOn F (mapAtom g a) ≡ atomOn (renamed F) a
+    pub atom-map : (a : Atom N) → atomOn F (mapAtom g a) ≡ atomOn (renamed g F) a
     atom-map (Atom.contact x y) =
         ap₂
         (λ (u w : ℕ → Bool). any (λ p. u p && any (λ q. w q && F .touch p q) (below (F .points))) (below (F .points)))
@@ -190,58 +179,51 @@ module _ {N : Type 0} (same : N → N → Bool) (decides : Decides same) where
 -- ---- the rules as read and the numbered rules
 
 module _ (rules : List (Formula Name)) where
-  -- the number of a name, and the name of a number
-  abbrev pub numberOf : Name → ℕ
-  numberOf x = position sameName (namesOf rules) x
-
-  abbrev pub nameOf : ℕ → Name
-  nameOf i = getD (namesOf rules) i []
-
   -- each name of the rules has a number below how many they are, and is found at it
   pub name-found : {x : Name} → In x (gather atomNames (allAtoms rules))
-      → (numberOf x < length (namesOf rules)) × (nameOf (numberOf x) ≡ x)
+      → (numberOf rules x < length (namesOf rules)) × (nameOf rules (numberOf rules x) ≡ x)
   name-found i =
       position-found sameName same-name [] (namesOf rules) (distinct-in sameName same-name (gather atomNames (allAtoms rules)) i)
 
   -- the numbered rules' names are below that number
   pub numbered-below : RulesBelow (length (namesOf rules)) (numberedNames rules)
   numbered-below a i =
-      let r = map-elim (mapAtom numberOf) (allAtoms rules) (subst (In a) (all-atoms-map (mapAtom numberOf) rules) i) in
+      let r = map-elim (mapAtom (numberOf rules)) (allAtoms rules) (subst (In a) (all-atoms-map (mapAtom (numberOf rules)) rules) i) in
       subst (AtomBelow (length (namesOf rules))) (sym (r .1))
-      (atom-below numberOf (length (namesOf rules)) (r .0) (λ x j. name-found (gather-intro atomNames (r .2) j) .0))
+      (atom-below (numberOf rules) (length (namesOf rules)) (r .0) (λ x j. name-found (gather-intro atomNames (r .2) j) .0))
 
   -- with the names put back they are the rules as read
-  names-back : map (mapForm (mapAtom nameOf)) (numberedNames rules) ≡ rules
+  names-back : map (mapForm (mapAtom (nameOf rules))) (numberedNames rules) ≡ rules
   names-back =
-      forms-back (mapAtom numberOf) (mapAtom nameOf) rules
-      (λ a i. atom-back numberOf nameOf a (λ x j. name-found (gather-intro atomNames i j) .1))
+      forms-back (mapAtom (numberOf rules)) (mapAtom (nameOf rules)) rules
+      (λ a i. atom-back (numberOf rules) (nameOf rules) a (λ x j. name-found (gather-intro atomNames i j) .1))
 
   -- a floor over numbers, as one over names, gives the rules' atoms the same values and meets the same rules
-  pub numbers-row : (F : Floor ℕ) → map (atomOn (renamed numberOf F)) (allAtoms rules) ≡ map (atomOn F) (allAtoms (numberedNames rules))
-  numbers-row F = sym (row-map numberOf F rules)
+  pub numbers-row : (F : Floor ℕ) → map (atomOn (renamed (numberOf rules) F)) (allAtoms rules) ≡ map (atomOn F) (allAtoms (numberedNames rules))
+  numbers-row F = sym (row-map (numberOf rules) F rules)
 
-  pub numbers-meet : (F : Floor ℕ) → meetsAll (renamed numberOf F) rules ≡ meetsAll F (numberedNames rules)
-  numbers-meet F = sym (meets-map numberOf F rules)
+  pub numbers-meet : (F : Floor ℕ) → meetsAll (renamed (numberOf rules) F) rules ≡ meetsAll F (numberedNames rules)
+  numbers-meet F = sym (meets-map (numberOf rules) F rules)
 
   -- and so does a floor over names, as one over numbers
-  names-row : (F : Floor Name) → map (atomOn (renamed nameOf F)) (allAtoms (numberedNames rules)) ≡ map (atomOn F) (allAtoms rules)
+  names-row : (F : Floor Name) → map (atomOn (renamed (nameOf rules) F)) (allAtoms (numberedNames rules)) ≡ map (atomOn F) (allAtoms rules)
   names-row F =
-      sym (row-map nameOf F (numberedNames rules))
+      sym (row-map (nameOf rules) F (numberedNames rules))
       ∙ ap (λ (rs : List (Formula Name)). map (atomOn F) (allAtoms rs)) names-back
 
-  names-meet : (F : Floor Name) → meetsAll (renamed nameOf F) (numberedNames rules) ≡ meetsAll F rules
-  names-meet F = sym (meets-map nameOf F (numberedNames rules)) ∙ ap (meetsAll F) names-back
+  names-meet : (F : Floor Name) → meetsAll (renamed (nameOf rules) F) (numberedNames rules) ≡ meetsAll F rules
+  names-meet F = sym (meets-map (nameOf rules) F (numberedNames rules)) ∙ ap (meetsAll F) names-back
 
   -- so the realisable rows are the same
   realisable-named : (row : Row) → Realisable (allAtoms (numberedNames rules)) row ↔ Realisable (allAtoms rules) row
   realisable-named row = (
-    λ r. ∥∥₁-map r (λ f. (renamed numberOf (f .0), numbers-row (f .0) ∙ f .1)),
-    λ r. ∥∥₁-map r (λ f. (renamed nameOf (f .0), names-row (f .0) ∙ f .1)),
+    λ r. ∥∥₁-map r (λ f. (renamed (numberOf rules) (f .0), numbers-row (f .0) ∙ f .1)),
+    λ r. ∥∥₁-map r (λ f. (renamed (nameOf rules) (f .0), names-row (f .0) ∙ f .1)),
   )
 
   -- and the numbers of the atoms
   rules-true-named : (row : Row) → rulesTrue (numberedAtoms (numberedNames rules)) row ≡ rulesTrue (numberedAtoms rules) row
-  rules-true-named row = ap (λ (nums : List (Form ℕ)). rulesTrue nums row) (numbered-map (mapAtom numberOf) rules)
+  rules-true-named row = ap (λ (nums : List (Form ℕ)). rulesTrue nums row) (numbered-map (mapAtom (numberOf rules)) rules)
 
   -- the row found is the first realisable one that makes the rules true
   pub first-row-named : (row : Row) → firstRowOf (length (namesOf rules)) (numberedNames rules) ≡ row ∷ [] → IsFirstRow rules row
@@ -267,13 +249,13 @@ module _ (rules : List (Formula Name)) where
   pub no-plan-named : (firstRowOf (length (namesOf rules)) (numberedNames rules) ≡ []) ↔ ((F : Floor Name) → meetsAll F rules ≡ true → ⊥)
   no-plan-named =
       let w = no-plan-exactly (length (namesOf rules)) (numberedNames rules) numbered-below in (
-        λ e F h. w .0 e (renamed nameOf F) (names-meet F ∙ h),
-        λ none. w .1 (λ F h. none (renamed numberOf F) (numbers-meet F ∙ h)),
+        λ e F h. w .0 e (renamed (nameOf rules) F) (names-meet F ∙ h),
+        λ none. w .1 (λ F h. none (renamed (numberOf rules) F) (numbers-meet F ∙ h)),
       )
 
   -- the plan of the first row, over names, gives the row and meets the rules as read
   abbrev pub namedPlan : (row : Row) → firstRowOf (length (namesOf rules)) (numberedNames rules) ≡ row ∷ [] → Floor Name
-  namedPlan row e = renamed numberOf (rowFloor (length (namesOf rules)) (numberedNames rules) row e)
+  namedPlan row e = renamed (numberOf rules) (rowFloor (length (namesOf rules)) (numberedNames rules) row e)
 
   pub plan-row-named : (row : Row) (e : firstRowOf (length (namesOf rules)) (numberedNames rules) ≡ row ∷ [])
       → Realises (namedPlan row e) (allAtoms rules) row

@@ -109,7 +109,7 @@ module _ {A : Type 0} where
 
 -- other atoms in the places of the atoms have the same numbers
 module _ {A B : Type 0} (h : A → B) where
-  pub atoms-map : (f : Form A) → atomsOf (mapForm h f) ≡ map h (atomsOf f)
+  atoms-map : (f : Form A) → atomsOf (mapForm h f) ≡ map h (atomsOf f)
   atoms-map Form.truth = refl
   atoms-map Form.falsity = refl
   atoms-map (Form.atom a) = refl
@@ -123,7 +123,7 @@ module _ {A B : Type 0} (h : A → B) where
   all-atoms-map [] = refl
   all-atoms-map (f ∷ fs) = ap₂ _++_ (atoms-map f) (all-atoms-map fs) ∙ sym (map-append h (atomsOf f) (allAtoms fs))
 
-  count-map : (f : Form A) → length (atomsOf (mapForm h f)) ≡ length (atomsOf f)
+  pub count-map : (f : Form A) → length (atomsOf (mapForm h f)) ≡ length (atomsOf f)
   count-map f = ap length (atoms-map f) ∙ length-map (atomsOf f) h
 
   -- the two sides of a binary sign

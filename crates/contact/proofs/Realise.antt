@@ -13,7 +13,8 @@ use borrow.Author.Tests.{not-true, not-false, ltb-true, lt-ltb}
 use Rattle.formula.specs.Formula.{Term, Atom}
 use Rattle.evalset.specs.Search.{In, here, next, any, all, first, gather, below, elem}
 use Rattle.evalset.specs.Bit.{bit}
-use Rattle.evalset.proofs.Search.{clash, untrue, bool-ext, and-intro, both, or-left, or-cases, any-intro, any-elim, none-elim, none-intro, all-elim, all-intro, first-some, first-in, keep-intro, keep-elim, uncons, none-in, place, placed, gather-intro, gather-elim, below-intro, below-elim, elem-intro, elem-elim, or-else-left, or-else-cases, or-else-some}
+use Rattle.evalset.proofs.Search.{any-intro, any-elim, none-elim, none-intro, all-elim, all-intro, first-some, first-in, keep-intro, keep-elim, uncons, none-in, place, placed, gather-intro, gather-elim, below-intro, below-elim, elem-intro, elem-elim, or-else-left, or-else-cases, or-else-some}
+use Rattle.evalset.proofs.Truth.{clash, untrue, bool-ext, and-intro, both, or-left, or-cases}
 use Rattle.contact.specs.Meaning.{Floor, within, isEmpty, touches, atomOn}
 use Rattle.contact.specs.Numbering.{TermBelow, AtomBelow}
 use Rattle.contact.specs.Row.{Row, Realises, Realisable, is, unknown, PartialRow, Extends, RealisesPart}
@@ -371,11 +372,6 @@ module _ (n : ℕ) (ms : List Mark) (names : (m : Mark) → In m ms → MarkBelo
   floor-check =
       check-intro n ms (any-intro (allowed n ms) (ev-in 0) (ev-allowed 0 (F .some))) (all-intro (witnessed n ms) ms ev-witnessed)
 
--- where marks pass the check, some of them do
-pub check-fewer : (n : ℕ) (ms fewer : List Mark) → ((m : Mark) → In m fewer → MarkBelow n m) → ((m : Mark) → In m fewer → In m ms)
-    → check n ms ≡ true → check n fewer ≡ true
-check-fewer n ms fewer names sub h = floor-check n fewer names (marksFloor n ms h) (λ m i. plan-realises n ms h m (sub m i))
-
 -- ---- marks and rows
 
 mark-on : (F : Floor ℕ) (a : Atom ℕ) (b : Bool) → markOn F (mark a b) ≡ atomOn F a
@@ -402,7 +398,7 @@ mark-below n (Atom.part x y) false o = o
 mark-below n (Atom.empty t) true o = o
 mark-below n (Atom.empty t) false o = o
 
-pub marks-below : (n : ℕ) (atoms : List (Atom ℕ)) (part : PartialRow) → ((a : Atom ℕ) → In a atoms → AtomBelow n a)
+marks-below : (n : ℕ) (atoms : List (Atom ℕ)) (part : PartialRow) → ((a : Atom ℕ) → In a atoms → AtomBelow n a)
     → (m : Mark) → In m (marksOf atoms part) → MarkBelow n m
 marks-below n [] part o m i = none-in i
 marks-below n (a ∷ atoms) [] o m i = none-in i

@@ -1,6 +1,6 @@
 -- The search that closes branches by a test finds the first row that passes: a sound test closes no branch with such a row
 -- below it, an exact one leaves open no whole row that fails, and the branches are tried in the order of the rows. Both tests
--- are sound: Kleene's values do not change when more atoms are decided, and a floor of a row is one of each part of it.
+-- are sound: Kleene's values do not change when more atoms are decided, and what passes the check does so with fewer marks.
 -- Assumes nothing.
 use mathlib.Core.Bool.{Bool, true, false, not, _&&_, _||_, Bool·beq}
 use mathlib.Core.Path.{_≡_, refl, sym, ap, ap₂, _∙_, subst, fun-ext}
@@ -12,25 +12,22 @@ use lib.ListN.{length, getD, length-append}
 use borrow.Author.Tests.{not-true, not-false}
 use Rattle.formula.specs.Formula.{Atom, Form, Formula}
 use Rattle.evalset.specs.Search.{In, here, next, any, all, first, orElse}
-use Rattle.evalset.proofs.Search.{clash, cases, untrue, both, or-cases, none-in, uncons, at-head, in-left, in-right, map-elim, any-elim, none-intro, all-elim, first-none, first-append}
+use Rattle.evalset.proofs.Search.{none-in, uncons, at-head, in-left, in-right, map-elim, any-elim, none-intro, all-elim, first-none, first-append}
+use Rattle.evalset.proofs.Truth.{clash, cases, untrue, both, or-cases}
 use Rattle.contact.specs.Meaning.{value}
 use Rattle.formula.specs.Atoms.{atomsOf}
-use Rattle.contact.specs.Numbering.{allAtoms, numberedAtoms, AtomBelow, RulesBelow}
+use Rattle.contact.specs.Numbering.{allAtoms, numberedAtoms}
 use Rattle.contact.specs.Row.{Row, rulesTrue, Three, is, unknown, PartialRow, Extends}
 use Rattle.contact.specs.Plan.{Mark, mark, marksOf, rowMarks, check, rows, good, firstRow, firstRowOf}
-use Rattle.contact.specs.Tableau.{kleeneNot, kleeneAnd, kleeneOr, kleeneIff, kleeneValue, refuted, refutes, closes, Sound, Exact, search}
+use Rattle.contact.specs.Tableau.{kleeneNot, kleeneAnd, kleeneOr, kleeneIff, kleeneValue, refuted, refutes, closes, Sound, Exact, under, search}
 use Rattle.contact.proofs.Numbered.{NumbersBelow, numbers-below}
-use Rattle.contact.proofs.Realise.{marks-below, check-fewer}
+use Rattle.contact.proofs.Fewer.{check-fewer}
 
 -- ---- the search, for any test
 
 pub extends-prefix : (row ext : Row) → Extends (row ++ ext) (map is row)
 extends-prefix [] ext = tt
 extends-prefix (b ∷ row) ext = (refl, extends-prefix row ext)
-
--- the rows that begin with `row` and have d atoms more
-abbrev pub under : Row → ℕ → List Row
-under row d = map (λ ext. row ++ ext) (rows d)
 
 -- those with true next, then those with false
 pub under-split : (row : Row) (d : ℕ) → under row (suc d) ≡ under (row ++ true ∷ []) d ++ under (row ++ false ∷ []) d
@@ -161,21 +158,21 @@ refutes-sound nums part h row ext =
 
 -- ---- a whole row decides every rule
 
-row-known : (row : Row) (i : ℕ) → i < length row → getD (map is row) i unknown ≡ is (getD row i false)
+pub row-known : (row : Row) (i : ℕ) → i < length row → getD (map is row) i unknown ≡ is (getD row i false)
 row-known [] i h = absurd (omega arith)
 row-known (b ∷ row) zero h = refl
 row-known (b ∷ row) (suc i) h = row-known row i (omega arith)
 
-pub and-known : (b c : Bool) → kleeneAnd (is b) (is c) ≡ is (b && c)
+and-known : (b c : Bool) → kleeneAnd (is b) (is c) ≡ is (b && c)
 and-known true c = refl
 and-known false c = refl
 
-pub or-known : (b c : Bool) → kleeneOr (is b) (is c) ≡ is (b || c)
+or-known : (b c : Bool) → kleeneOr (is b) (is c) ≡ is (b || c)
 or-known true c = refl
 or-known false true = refl
 or-known false false = refl
 
-pub iff-known : (b c : Bool) → kleeneIff (is b) (is c) ≡ is (Bool·beq b c)
+iff-known : (b c : Bool) → kleeneIff (is b) (is c) ≡ is (Bool·beq b c)
 iff-known true true = refl
 iff-known true false = refl
 iff-known false true = refl
@@ -185,28 +182,23 @@ morgan : (b c : Bool) → (not b || not c) ≡ not (b && c)
 morgan true c = refl
 morgan false c = refl
 
-module _ (row : Row) where
-  abbrev values : ℕ → Bool
-  values i = getD row i false
-
-  abbrev decided : ℕ → Three
-  decided i = getD (map is row) i unknown
-
-  abbrev Covered : List ℕ → Type 0
-  Covered numbers = (i : ℕ) → In i numbers → i < length row
+-- where the atoms of a formula are decided, its value is known
+module _ (part : ℕ → Three) (row : ℕ → Bool) where
+  abbrev Decided : List ℕ → Type 0
+  Decided numbers = (i : ℕ) → In i numbers → part i ≡ is (row i)
 
   sides-known : (f g : Form ℕ) (c3 : Three → Three → Three) (c : Bool → Bool → Bool) → ((a b : Bool) → c3 (is a) (is b) ≡ is (c a b))
-      → Covered (atomsOf f ++ atomsOf g) → (Covered (atomsOf f) → kleeneValue decided f ≡ is (value values f))
-      → (Covered (atomsOf g) → kleeneValue decided g ≡ is (value values g))
-      → c3 (kleeneValue decided f) (kleeneValue decided g) ≡ is (c (value values f) (value values g))
+      → Decided (atomsOf f ++ atomsOf g) → (Decided (atomsOf f) → kleeneValue part f ≡ is (value row f))
+      → (Decided (atomsOf g) → kleeneValue part g ≡ is (value row g))
+      → c3 (kleeneValue part f) (kleeneValue part g) ≡ is (c (value row f) (value row g))
   sides-known f g c3 c known h left right =
       ap₂ c3 (left (λ i k. h i (in-left (atomsOf g) k))) (right (λ i k. h i (in-right (atomsOf f) k)))
-      ∙ known (value values f) (value values g)
+      ∙ known (value row f) (value row g)
 
-  value-known : (f : Form ℕ) → Covered (atomsOf f) → kleeneValue decided f ≡ is (value values f)
+  pub value-known : (f : Form ℕ) → Decided (atomsOf f) → kleeneValue part f ≡ is (value row f)
   value-known Form.truth h = refl
   value-known Form.falsity h = refl
-  value-known (Form.atom i) h = row-known row i (h i here)
+  value-known (Form.atom i) h = h i here
   value-known (Form.negation f) h = ap kleeneNot (value-known f h)
   value-known (Form.conjunction f g) h = sides-known f g kleeneAnd _&&_ and-known h (value-known f) (value-known g)
   value-known (Form.disjunction f g) h = sides-known f g kleeneOr _||_ or-known h (value-known f) (value-known g)
@@ -214,16 +206,23 @@ module _ (row : Row) where
       sides-known f g (λ s t. kleeneOr (kleeneNot s) t) (λ a b. not a || b) (λ a b. or-known (not a) b) h (value-known f) (value-known g)
   value-known (Form.equivalence f g) h = sides-known f g kleeneIff Bool·beq iff-known h (value-known f) (value-known g)
 
-  rules-known : (fs : List (Form ℕ)) → Covered (allAtoms fs)
+module _ (row : Row) where
+  abbrev values : ℕ → Bool
+  values i = getD row i false
+
+  abbrev decided : ℕ → Three
+  decided i = getD (map is row) i unknown
+
+  rules-known : (fs : List (Form ℕ)) → Decided decided values (allAtoms fs)
       → any (λ f. refuted (kleeneValue decided f)) fs ≡ not (all (value values) fs)
   rules-known [] h = refl
   rules-known (f ∷ fs) h =
-      ap₂ _||_ (ap refuted (value-known f (λ i k. h i (in-left (allAtoms fs) k))))
+      ap₂ _||_ (ap refuted (value-known decided values f (λ i k. h i (in-left (allAtoms fs) k))))
       (rules-known fs (λ i k. h i (in-right (atomsOf f) k))) ∙ morgan (value values f) (all (value values) fs)
 
   refutes-known : (nums : List (Form ℕ)) → NumbersBelow (length row) nums → refutes nums (map is row) ≡ not (rulesTrue nums row)
   unfolding rulesTrue refutes
-  refutes-known nums h = rules-known nums h
+  refutes-known nums h = rules-known nums (λ i k. row-known row i (h i k))
 
 -- ---- the two tests together
 
@@ -242,16 +241,23 @@ marks-extend (c ∷ row) (unknown ∷ part) (a ∷ atoms) h m i = next (marks-ex
 marks-extend (c ∷ row) (is b ∷ part) (a ∷ atoms) h m i =
     ⊎-elim (λ q. at-head (q ∙ ap (mark a) (sym (h .0)))) (λ j. next (marks-extend row part atoms (h .1) m j)) (uncons i)
 
+-- a row that passes the check passes it without its last atoms
+pub check-prefix : (n : ℕ) (atoms : List (Atom ℕ)) (row ext : Row)
+    → check n (rowMarks atoms (row ++ ext)) ≡ true → check n (rowMarks atoms row) ≡ true
+check-prefix n atoms row ext h =
+    check-fewer n (rowMarks atoms (row ++ ext)) (rowMarks atoms row)
+    (marks-extend (row ++ ext) (map is row) atoms (extends-prefix row ext)) h
+
 module _ (n : ℕ) (atoms : List (Atom ℕ)) (nums : List (Form ℕ)) where
   -- no row that makes the rules true and passes the check extends what is closed
-  pub closes-sound : ((a : Atom ℕ) → In a atoms → AtomBelow n a) → Sound (good n atoms nums) (closes n atoms nums)
+  pub closes-sound : Sound (good n atoms nums) (closes n atoms nums)
   unfolding closes good
-  closes-sound names part h row ext =
+  closes-sound part h row ext =
       untrue (good n atoms nums row)
       (λ g. let w = both (rulesTrue nums row) (check n (rowMarks atoms row)) g in
       ⊎-elim (λ q. clash (w .0) (refutes-sound nums part q row ext))
       (λ q. clash
-      (check-fewer n (rowMarks atoms row) (marksOf atoms part) (marks-below n atoms part names) (marks-extend row part atoms ext) (w .1))
+      (check-fewer n (rowMarks atoms row) (marksOf atoms part) (marks-extend row part atoms ext) (w .1))
       (not-true _ q))
       (or-cases (refutes nums part) (not (check n (marksOf atoms part))) h))
 
@@ -264,13 +270,13 @@ module _ (n : ℕ) (atoms : List (Atom ℕ)) (nums : List (Form ℕ)) where
       ∙ morgan (rulesTrue nums row) (check n (rowMarks atoms row))) ∙ h)
 
   -- the search gives the answer's row
-  search-firstRow : ((a : Atom ℕ) → In a atoms → AtomBelow n a) → NumbersBelow (length atoms) nums
+  search-firstRow : NumbersBelow (length atoms) nums
       → search (closes n atoms nums) (length atoms) [] ≡ firstRow n atoms nums
   unfolding firstRow
-  search-firstRow names numbers =
-      search-first (length atoms) (good n atoms nums) (closes n atoms nums) (closes-sound names) (closes-exact numbers)
+  search-firstRow numbers =
+      search-first (length atoms) (good n atoms nums) (closes n atoms nums) closes-sound (closes-exact numbers)
 
 -- the same with the atoms numbered by place
-pub search-answer : (n : ℕ) (rules : List (Formula ℕ)) → RulesBelow n rules
+pub search-answer : (n : ℕ) (rules : List (Formula ℕ))
     → search (closes n (allAtoms rules) (numberedAtoms rules)) (length (allAtoms rules)) [] ≡ firstRowOf n rules
-search-answer n rules names = search-firstRow n (allAtoms rules) (numberedAtoms rules) names (numbers-below rules)
+search-answer n rules = search-firstRow n (allAtoms rules) (numberedAtoms rules) (numbers-below rules)

@@ -42,6 +42,7 @@ module _ {N : Type 0} where
   abbrev pub partTerm : Term N → Term N → Term N
   partTerm x y = Term.intersection x (Term.complement y)
 
+  -- the value of an atom on the floor
   abbrev pub atomOn : Floor N → Atom N → Bool
   atomOn F (Atom.contact x y) = touches F x y
   atomOn F (Atom.part x y) = isEmpty F (partTerm x y)
@@ -67,3 +68,16 @@ module _ {N : Type 0} where
   -- "A plan meets a table if it meets every rule."
   abbrev pub meetsAll : Floor N → List (Formula N) → Bool
   meetsAll F rules = all (meets F) rules
+
+module _ {N M : Type 0} (g : N → M) where
+  -- the floor over the names N in which x is what g x is
+  abbrev pub renamed : Floor M → Floor N
+  renamed F =
+      record {
+        points = F .points;
+        some = F .some;
+        touch = F .touch;
+        reflexive = F .reflexive;
+        symmetric = F .symmetric;
+        lies = λ x p. F .lies (g x) p;
+      }

@@ -3,7 +3,7 @@ use mathlib.Core.Bool.{Bool, true, false, not, _&&_, cond}
 use mathlib.Core.List.{List, [], _∷_, map}
 use Prim.Native.Nat.{ℕ, zero, suc, _+_, _<_}
 use lib.Dec.{eqb}
-use lib.ListN.{length}
+use lib.ListN.{length, getD}
 use Rattle.formula.specs.Formula.{Term, Atom, Form, Formula, Name}
 use Rattle.formula.specs.Atoms.{atomsOf}
 use Rattle.formula.specs.Names.{atomNames}
@@ -36,6 +36,14 @@ sameName (a ∷ v) (b ∷ w) = let r = sameName v w in eqb a b && r
 abbrev pub namesOf : List (Formula Name) → List Name
 namesOf rules = distinct sameName (gather atomNames (allAtoms rules))
 
+-- the number of a name
+abbrev pub numberOf : List (Formula Name) → Name → ℕ
+numberOf rules = position sameName (namesOf rules)
+
+-- the name of a number
+abbrev pub nameOf : List (Formula Name) → ℕ → Name
+nameOf rules i = getD (namesOf rules) i []
+
 -- ---- other names for the names, other atoms for the atoms
 
 module _ {N M : Type 0} (g : N → M) where
@@ -65,7 +73,7 @@ module _ {A B : Type 0} (g : A → B) where
 
 -- the rules with numbers for names
 abbrev pub numberedNames : List (Formula Name) → List (Formula ℕ)
-numberedNames rules = map (mapForm (mapAtom (position sameName (namesOf rules)))) rules
+numberedNames rules = map (mapForm (mapAtom (numberOf rules))) rules
 
 -- the rules with numbers for atoms, k the first
 module _ {A : Type 0} where

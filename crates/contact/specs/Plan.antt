@@ -28,10 +28,12 @@ pub data Mark : Type 0 where
   vacant : Term ℕ → Mark
   inhabited : Term ℕ → Mark
 
+-- a zero atom of this term and value
 abbrev pub zeroMark : Bool → Term ℕ → Mark
 zeroMark true t = vacant t
 zeroMark false t = inhabited t
 
+-- an atom and its value
 abbrev pub mark : Atom ℕ → Bool → Mark
 mark (Atom.contact x y) true = touching x y
 mark (Atom.contact x y) false = apart x y
@@ -45,6 +47,7 @@ marksOf (a ∷ atoms) [] = []
 marksOf (a ∷ atoms) (is b ∷ part) = mark a b ∷ marksOf atoms part
 marksOf (a ∷ atoms) (unknown ∷ part) = marksOf atoms part
 
+-- the marks of a whole row
 abbrev pub rowMarks : List (Atom ℕ) → Row → List Mark
 rowMarks atoms row = marksOf atoms (map is row)
 

@@ -18,6 +18,7 @@ Row = List Bool
 abbrev pub Realises : {N : Type 0} → Floor N → List (Atom N) → Row → Type 0
 Realises F atoms row = map (atomOn F) atoms ≡ row
 
+-- some floor gives the atoms these values
 abbrev pub Realisable : {N : Type 0} → List (Atom N) → Row → Type 0
 Realisable {N} atoms row = ∥ ((F : Floor N) × Realises F atoms row) ∥₁
 

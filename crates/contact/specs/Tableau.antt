@@ -9,7 +9,7 @@ use lib.ListN.{length, getD}
 use Rattle.formula.specs.Formula.{Atom, Form}
 use Rattle.evalset.specs.Search.{any, orElse}
 use Rattle.contact.specs.Row.{Row, Three, is, unknown, PartialRow, Extends}
-use Rattle.contact.specs.Plan.{marksOf, check}
+use Rattle.contact.specs.Plan.{marksOf, check, rows}
 
 -- ---- Kleene's strong tables
 
@@ -43,6 +43,7 @@ kleeneValue r (Form.disjunction f g) = kleeneOr (kleeneValue r f) (kleeneValue r
 kleeneValue r (Form.implication f g) = kleeneOr (kleeneNot (kleeneValue r f)) (kleeneValue r g)
 kleeneValue r (Form.equivalence f g) = kleeneIff (kleeneValue r f) (kleeneValue r g)
 
+-- the value is known, and false
 abbrev pub refuted : Three → Bool
 refuted (is b) = not b
 refuted unknown = false
@@ -64,6 +65,10 @@ Sound passes test = (part : PartialRow) → test part ≡ true → (row : Row) �
 -- and exact at the leaves: a whole row of n atoms that it leaves open passes
 abbrev pub Exact : ℕ → (Row → Bool) → (PartialRow → Bool) → Type 0
 Exact n passes test = (row : Row) → length row ≡ n → test (map is row) ≡ false → passes row ≡ true
+
+-- the rows that begin with `row` and have d atoms more, in their order
+abbrev pub under : Row → ℕ → List Row
+under row d = map (λ ext. row ++ ext) (rows d)
 
 -- the first row below `row` that no branch closes, with d atoms undecided
 module _ (test : PartialRow → Bool) where

@@ -15,7 +15,7 @@ use lib.Count.{trailingZeros, under}
 use borrow.Author.Tests.{eq-eqb, ne-eqb, lt-ltb, le-ltb}
 use Rattle.evalset.specs.Bit.{bit}
 use Rattle.evalset.specs.Search.{any, first, below}
-use Rattle.evalset.proofs.Bounded.{side, Least, first-at, first-none, any-none, any-at}
+use Rattle.evalset.proofs.Bounded.{side, Least, first-at, first-none-below, any-none, any-at}
 
 -- ---- a digit is 0 or 1
 two : (n : ℕ) → (n % 2 ≡ 0) ⊎ (n % 2 ≡ 1)
@@ -191,7 +191,7 @@ pub first-bit : (k a : ℕ) → 0 < a → a < 2 ^ k → first (bit a) (below k) 
 first-bit k a p h = first-at (bit a) k (trailingZeros k a) (lowest k a p h)
 
 pub first-zero : (k a : ℕ) → a ≡ 0 → first (bit a) (below k) ≡ []
-first-zero k a z = first-none (bit a) k (λ d l. ap (λ (x : ℕ). bit x d) z ∙ bit-none d)
+first-zero k a z = first-none-below (bit a) k (λ d l. ap (λ (x : ℕ). bit x d) z ∙ bit-none d)
 
 -- a word is 0 exactly if no bit is set
 pub any-bit : (k a : ℕ) → a < 2 ^ k → eqb a 0 ≡ not (any (bit a) (below k))

@@ -1,18 +1,19 @@
--- A test on the numbers below n: some pass, the least that passes, and all that pass in rising order. The numbers below m + n are
--- those below m and the n from m up, and each search goes part by part. Assumes nothing.
+-- A test on the numbers below n: some pass, the least that passes, and all that pass in rising order; and what is gathered from
+-- these numbers. The numbers below m + n are those below m and the n from m up, and each search goes part by part. Assumes nothing.
 use mathlib.Core.Path.{_≡_, refl, sym, ap, ap₂, _∙_, subst}
-use mathlib.Core.Bool.{Bool, true, false, _||_, cond, or-assoc, or-false, or-true}
+use mathlib.Core.Bool.{Bool, true, false, _||_, cond, or-false}
 use mathlib.Core.List.{List, [], _∷_, _++_, append-nil}
 use mathlib.Core.Logic.{_⊎_, inl, inr, ⊎-elim}
-use Prim.Native.Nat.{ℕ, zero, suc, _+_, _-_, _≤_, _<_}
+use Prim.Native.Nat.{ℕ, zero, suc, _+_, _-_, _*_, _≤_, _<_}
 use native.Mathlib.Nat.{zero-add, eq-or-lt-of-le}
 use native.Mathlib.Decide.{decLt}
 use native.Mathlib.Omega.{arith}
-use lib.ListN.{length}
+use lib.ListN.{length, length-append}
 use Rattle.evalset.specs.declared.Found.the-variants.{At, Nothing}
-use Rattle.evalset.specs.Search.{any, all, first, keep, orElse, from, below}
+use Rattle.evalset.specs.Search.{In, any, all, first, keep, orElse, gather, from, below}
 use Rattle.evalset.specs.Sets.{foundOf}
-use Rattle.evalset.proofs.Search.{both, first-append, from-append}
+use Rattle.evalset.proofs.Truth.{clash}
+use Rattle.evalset.proofs.Search.{any-intro, none-intro, any-append, any-last, all-elim, first-none, first-append, keep-nothing, keep-append, gather-append, gather-last, gather-few, from-length, from-elim, from-append, below-intro}
 
 -- below or not
 pub side : (a b : ℕ) → (a < b) ⊎ (b ≤ a)
@@ -22,59 +23,37 @@ side a b = go (decLt a b)
     go (yes l) = inl l
     go (no n) = inr (omega arith)
 
--- equal tests agree on each number
-pub each : {p q : ℕ → Bool} → p ≡ q → (e : ℕ) → p e ≡ q e
-each h e = ap (λ (r : ℕ → Bool). r e) h
+-- equal functions agree everywhere
+pub each : {A B : Type 0} {p q : A → B} → p ≡ q → (e : A) → p e ≡ q e
+each {A} {B} h e = ap (λ (r : A → B). r e) h
 
 -- ---- the numbers in two parts
-pub below-add : (m n : ℕ) → below (m + n) ≡ below m ++ from m n
+below-add : (m n : ℕ) → below (m + n) ≡ below m ++ from m n
 below-add m n = from-append 0 m n ∙ ap (λ (x : ℕ). below m ++ from x n) (zero-add m)
 
-pub any-append : {A : Type 0} (p : A → Bool) (xs ys : List A) → any p (xs ++ ys) ≡ (any p xs || any p ys)
-any-append p [] ys = refl
-any-append p (x ∷ xs) ys = ap (λ (b : Bool). p x || b) (any-append p xs ys) ∙ sym (or-assoc (p x) (any p xs) (any p ys))
-
 module _ (p : ℕ → Bool) where
-  keep-append : (xs ys : List ℕ) → keep p (xs ++ ys) ≡ keep p xs ++ keep p ys
-  keep-append [] ys = refl
-  keep-append (x ∷ xs) ys = go (p x) (keep-append xs ys)
-    where
-      go : (b : Bool) → keep p (xs ++ ys) ≡ keep p xs ++ keep p ys
-          → cond b (x ∷ keep p (xs ++ ys)) (keep p (xs ++ ys)) ≡ cond b (x ∷ keep p xs) (keep p xs) ++ keep p ys
-      go true ih = ap (λ (zs : List ℕ). x ∷ zs) ih
-      go false ih = ih
-
   -- ---- numbers of which none passes
-  keep-none : (k n : ℕ) → ((d : ℕ) → k ≤ d → d < k + n → p d ≡ false) → keep p (from k n) ≡ []
-  keep-none k zero f = refl
-  keep-none k (suc n) f =
-      ap (λ (b : Bool). cond b (k ∷ keep p (from (suc k) n)) (keep p (from (suc k) n))) (f k (omega arith) (omega arith))
-      ∙ keep-none (suc k) n (λ d l h. f d (omega arith) (omega arith))
-
-  first-none-from : (k n : ℕ) → ((d : ℕ) → k ≤ d → d < k + n → p d ≡ false) → first p (from k n) ≡ []
-  first-none-from k zero f = refl
-  first-none-from k (suc n) f =
-      ap (λ (b : Bool). cond b (k ∷ []) (first p (from (suc k) n))) (f k (omega arith) (omega arith))
-      ∙ first-none-from (suc k) n (λ d l h. f d (omega arith) (omega arith))
+  none-from : (k n : ℕ) → ((d : ℕ) → k ≤ d → d < k + n → p d ≡ false) → (d : ℕ) → In d (from k n) → p d ≡ false
+  none-from k n f d i = let r = from-elim k n d i in f d (r .0) (r .1)
 
   any-none-from : (k n : ℕ) → ((d : ℕ) → k ≤ d → d < k + n → p d ≡ false) → any p (from k n) ≡ false
-  any-none-from k zero f = refl
-  any-none-from k (suc n) f =
-      ap₂ _||_ (f k (omega arith) (omega arith)) (any-none-from (suc k) n (λ d l h. f d (omega arith) (omega arith)))
+  any-none-from k n f = none-intro p (from k n) (λ d i t. clash t (none-from k n f d i))
 
-  pub first-none : (n : ℕ) → ((d : ℕ) → d < n → p d ≡ false) → first p (below n) ≡ []
-  first-none n f = first-none-from 0 n (λ d l h. f d (omega arith))
+  first-none-from : (k n : ℕ) → ((d : ℕ) → k ≤ d → d < k + n → p d ≡ false) → first p (from k n) ≡ []
+  first-none-from k n f = first-none p (from k n) (any-none-from k n f)
+
+  pub first-none-below : (n : ℕ) → ((d : ℕ) → d < n → p d ≡ false) → first p (below n) ≡ []
+  first-none-below n f = first-none-from 0 n (λ d l h. f d (omega arith))
 
   pub any-none : (n : ℕ) → ((d : ℕ) → d < n → p d ≡ false) → any p (below n) ≡ false
   any-none n f = any-none-from 0 n (λ d l h. f d (omega arith))
 
   -- ---- what a loop that counts up by one meets
   pub any-more : (i : ℕ) → any p (below (i + 1)) ≡ (any p (below i) || p i)
-  any-more i =
-      ap (any p) (below-add i 1) ∙ any-append p (below i) (i ∷ []) ∙ ap (λ (b : Bool). any p (below i) || b) (or-false (p i))
+  any-more i = ap (any p) (below-add i 1) ∙ any-last p (below i) i
 
   pub keep-more : (i : ℕ) → keep p (below (i + 1)) ≡ keep p (below i) ++ cond (p i) (i ∷ []) []
-  keep-more i = ap (keep p) (below-add i 1) ∙ keep-append (below i) (i ∷ [])
+  keep-more i = ap (keep p) (below-add i 1) ∙ keep-append p (below i) (i ∷ [])
 
   -- ---- a test that passes nowhere from m up: the numbers below m are enough
   module _ (m n : ℕ) (l : m ≤ n) (f : (d : ℕ) → m ≤ d → d < n → p d ≡ false) where
@@ -100,8 +79,8 @@ module _ (p : ℕ → Bool) where
 
     pub keep-cut : keep p (below n) ≡ keep p (below m)
     keep-cut =
-        ap (keep p) parts ∙ keep-append (below m) (from m (n - m))
-        ∙ ap (λ (xs : List ℕ). keep p (below m) ++ xs) (keep-none m (n - m) nowhere) ∙ append-nil (keep p (below m))
+        ap (keep p) parts ∙ keep-append p (below m) (from m (n - m))
+        ∙ ap (λ (xs : List ℕ). keep p (below m) ++ xs) (keep-nothing p (from m (n - m)) (none-from m (n - m) nowhere)) ∙ append-nil (keep p (below m))
 
 -- ---- the least number that passes
 -- e is the least number below n that passes
@@ -111,22 +90,22 @@ pub record Least (n e : ℕ) (p : ℕ → Bool) : Type 0 where
   pub before : (d : ℕ) → d < e → p d ≡ false
 
 -- what the answer of a search among n numbers from k up says
-abbrev Says : (ℕ → Bool) → ℕ → ℕ → List ℕ → Type 0
-Says p k n [] = (d : ℕ) → k ≤ d → d < k + n → p d ≡ false
-Says p k n (e ∷ es) = (k ≤ e) × (e < k + n) × (p e ≡ true) × ((d : ℕ) → k ≤ d → d < e → p d ≡ false)
+abbrev FirstSays : (ℕ → Bool) → ℕ → ℕ → List ℕ → Type 0
+FirstSays p k n [] = (d : ℕ) → k ≤ d → d < k + n → p d ≡ false
+FirstSays p k n (e ∷ es) = (k ≤ e) × (e < k + n) × (p e ≡ true) × ((d : ℕ) → k ≤ d → d < e → p d ≡ false)
 
-says : (p : ℕ → Bool) (k n : ℕ) → Says p k n (first p (from k n))
-says p k zero = λ d a b. absurd (omega arith)
-says p k (suc n) = go (p k) refl (first p (from (suc k) n)) (says p (suc k) n)
+first-says : (p : ℕ → Bool) (k n : ℕ) → FirstSays p k n (first p (from k n))
+first-says p k zero = λ d a b. absurd (omega arith)
+first-says p k (suc n) = go (p k) refl (first p (from (suc k) n)) (first-says p (suc k) n)
   where
-    go : (b : Bool) → p k ≡ b → (r : List ℕ) → Says p (suc k) n r → Says p k (suc n) (cond b (k ∷ []) r)
+    go : (b : Bool) → p k ≡ b → (r : List ℕ) → FirstSays p (suc k) n r → FirstSays p k (suc n) (cond b (k ∷ []) r)
     go true q r s = (omega arith, omega arith, q, λ d a b. absurd (omega arith))
     go false q [] s = λ d a b. ⊎-elim (λ z. ap p (sym z) ∙ q) (λ l. s d l (omega arith)) (eq-or-lt-of-le a)
     go false q (e ∷ es) s =
         (omega (arith, s .0), omega (arith, s .1), s .2, λ d a b. ⊎-elim (λ z. ap p (sym z) ∙ q) (λ l. s .3 d l b) (eq-or-lt-of-le a))
 
-says-least : (p : ℕ → Bool) (n e : ℕ) (es : List ℕ) → Says p 0 n (e ∷ es) → Least n e p
-says-least p n e es s = record { within = omega (arith, s .1); passes = s .2; before = λ d l. s .3 d (omega arith) l }
+first-says-least : (p : ℕ → Bool) (n e : ℕ) (es : List ℕ) → FirstSays p 0 n (e ∷ es) → Least n e p
+first-says-least p n e es s = record { within = omega (arith, s .1); passes = s .2; before = λ d l. s .3 d (omega arith) l }
 
 module _ (p : ℕ → Bool) (n : ℕ) where
   pub first-at : (e : ℕ) → Least n e p → first p (below n) ≡ e ∷ []
@@ -135,43 +114,29 @@ module _ (p : ℕ → Bool) (n : ℕ) where
       ap (λ (x : ℕ). first p (below x)) z ∙ ap (first p) (below-add e (suc (n - e - 1)))
       ∙ first-append p (below e) (from e (suc (n - e - 1)))
       ∙ ap₂ (λ (xs : List ℕ) (b : Bool). orElse xs (cond b (e ∷ []) (first p (from (suc e) (n - e - 1)))))
-      (first-none p e (h .before)) (h .passes)
+      (first-none-below p e (h .before)) (h .passes)
 
   -- the same, as the code answers it
   pub found-least : (e : ℕ) → foundOf (first p (below n)) ≡ At e → Least n e p
-  found-least e h = go (first p (below n)) (says p 0 n) h
+  found-least e h = go (first p (below n)) (first-says p 0 n) h
     where
-      go : (r : List ℕ) → Says p 0 n r → foundOf r ≡ At e → Least n e p
+      go : (r : List ℕ) → FirstSays p 0 n r → foundOf r ≡ At e → Least n e p
       go [] s q = absurd (let z : _≡_ {A = ℕ} 0 1 = cc in omega arith)
-      go (x ∷ xs) s q = let z : x ≡ e = cc in subst (λ (y : ℕ). Least n y p) z (says-least p n x xs s)
+      go (x ∷ xs) s q = let z : x ≡ e = cc in subst (λ (y : ℕ). Least n y p) z (first-says-least p n x xs s)
 
   pub found-nothing : foundOf (first p (below n)) ≡ Nothing → (d : ℕ) → d < n → p d ≡ false
-  found-nothing h = go (first p (below n)) (says p 0 n) h
+  found-nothing h = go (first p (below n)) (first-says p 0 n) h
     where
-      go : (r : List ℕ) → Says p 0 n r → foundOf r ≡ Nothing → (d : ℕ) → d < n → p d ≡ false
+      go : (r : List ℕ) → FirstSays p 0 n r → foundOf r ≡ Nothing → (d : ℕ) → d < n → p d ≡ false
       go [] s q d l = s d (omega arith) (omega arith)
       go (x ∷ xs) s q d l = absurd (let z : _≡_ {A = ℕ} 0 1 = cc in omega arith)
 
-  pub first-least : {e : ℕ} {es : List ℕ} → first p (below n) ≡ e ∷ es → Least n e p
-  first-least {e} h = found-least e (ap foundOf h)
-
-  -- ---- some number passes
+  -- ---- some number passes, every number passes
   pub any-at : (e : ℕ) → e < n → p e ≡ true → any p (below n) ≡ true
-  any-at e l h =
-      let z : n ≡ e + suc (n - e - 1) = omega arith in
-      ap (λ (x : ℕ). any p (below x)) z ∙ ap (any p) (below-add e (suc (n - e - 1)))
-      ∙ any-append p (below e) (from e (suc (n - e - 1)))
-      ∙ ap (λ (b : Bool). any p (below e) || (b || any p (from (suc e) (n - e - 1)))) h ∙ or-true (any p (below e))
+  any-at e l h = any-intro p (below-intro n e l) h
 
-  -- ---- every number passes
   pub all-at : all p (below n) ≡ true → (d : ℕ) → d < n → p d ≡ true
-  all-at h d l = go 0 n h d (omega arith) (omega arith)
-    where
-      go : (k m : ℕ) → all p (from k m) ≡ true → (d : ℕ) → k ≤ d → d < k + m → p d ≡ true
-      go k zero t d a b = absurd (omega arith)
-      go k (suc m) t d a b =
-          let s : (p k ≡ true) × (all p (from (suc k) m) ≡ true) = both (p k) (all p (from (suc k) m)) t in
-          ⊎-elim (λ z. ap p (sym z) ∙ s .0) (λ c. go (suc k) m (s .1) d c (omega arith)) (eq-or-lt-of-le a)
+  all-at h d l = all-elim p (below-intro n d l) h
 
   -- as many pass as there are numbers, at most
   pub keep-length : length (keep p (below n)) ≤ n
@@ -185,3 +150,20 @@ module _ (p : ℕ → Bool) (n : ℕ) where
               → length (cond b (k ∷ keep p (from (suc k) m)) (keep p (from (suc k) m))) ≤ suc m
           pick true ih = omega arith
           pick false ih = omega arith
+
+-- ---- what is gathered from numbers in rising order
+module _ (f : ℕ → List ℕ) where
+  pub gather-more : (n : ℕ) → gather f (below n) ++ f n ≡ gather f (below (n + 1))
+  gather-more n = sym (ap (gather f) (below-add n 1) ∙ gather-last f (below n) n)
+
+  -- from fewer numbers no more is gathered
+  pub gather-within : (m n : ℕ) → m ≤ n → length (gather f (below m)) ≤ length (gather f (below n))
+  gather-within m n l =
+      let z : n ≡ m + (n - m) = omega arith in
+      let e : gather f (below n) ≡ gather f (below m) ++ gather f (from m (n - m)) =
+      ap (λ (x : ℕ). gather f (below x)) z ∙ ap (gather f) (below-add m (n - m)) ∙ gather-append f (below m) (from m (n - m)) in
+      omega (arith, ap length e, length-append (gather f (below m)) (gather f (from m (n - m))))
+
+  pub gather-small : (c : ℕ) → ((x : ℕ) → length (f x) ≤ c) → (k n : ℕ) → length (gather f (from k n)) ≤ n * c
+  gather-small c h k n =
+      subst (λ (m : ℕ). length (gather f (from k n)) ≤ m * c) (from-length k n) (gather-few f c (from k n) (λ x i. h x))

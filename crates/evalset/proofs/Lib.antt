@@ -1,6 +1,8 @@
+pub mod Truth
 pub mod Search
 pub mod Bounded
 pub mod Bits
 pub mod Walk
 pub mod Members
 pub mod Table
+pub mod Arrays

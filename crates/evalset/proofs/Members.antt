@@ -2,21 +2,18 @@
 -- Where the members are below 2 ^ n, a search below room is one below 2 ^ n. Assumes nothing.
 use mathlib.Core.Path.{_≡_, refl, sym, ap, _∙_, fun-ext}
 use mathlib.Core.Bool.{Bool, true, false, not, _&&_, _||_, and-true, and-false, or-false}
-use mathlib.Core.List.{List}
 use mathlib.Core.Logic.{⊎-elim}
 use Prim.Native.Nat.{ℕ, _+_, _^_, _≤_, _<_}
 use native.Mathlib.Omega.{arith}
 use lib.Dec.{ltb, eqb}
-use lib.ListN.{length, set}
-use lib.Seq.{getD-set-same, getD-set-other}
 use lib.Pow.{pow-mono, pow-lt}
 use borrow.Author.Tests.{lt-ltb, le-ltb, eqb-true}
 use Rattle.evalset.specs.declared.EvalSet.{EvalSet}
 use Rattle.evalset.specs.Bit.{bit}
 use Rattle.evalset.specs.Search.{any, first, keep, below}
-use Rattle.evalset.specs.Sets.{most, room, mem, memAt, noneOf, fullOf, nameSet, belowOf, dropOf, addOf, shiftOf}
+use Rattle.evalset.specs.Sets.{most, room, mem, noneOf, fullOf, nameSet, belowOf, dropOf, addOf, shiftOf}
 use Rattle.evalset.proofs.Bounded.{side, each, any-cut, first-cut, keep-cut}
-use Rattle.evalset.proofs.Search.{clash}
+use Rattle.evalset.proofs.Truth.{clash}
 use Rattle.evalset.proofs.Bits.{bit-above, same-bits}
 
 -- ---- room is 2 ^ most
@@ -114,12 +111,3 @@ module _ (p : ℕ → Bool) (n : ℕ) (l : n ≤ most) (h : (e : ℕ) → p e �
 
   pub keep-names : keep p (below room) ≡ keep p (below (2 ^ n))
   keep-names = keep-cut p (2 ^ n) room (names-room n l) beyond
-
--- ---- an array of sets, after a store
-pub mem-at-same : (xs : List EvalSet) (i : ℕ) (s : EvalSet) → i < length xs → memAt (set xs i s) i ≡ mem s
-unfolding memAt
-mem-at-same xs i s l = ap mem (getD-set-same xs i s (record { bits = 0 }) l)
-
-pub mem-at-other : (xs : List EvalSet) (i j : ℕ) (s : EvalSet) → (j ≡ i → ⊥) → memAt (set xs i s) j ≡ memAt xs j
-unfolding memAt
-mem-at-other xs i j s d = ap mem (getD-set-other xs i j s (record { bits = 0 }) d)

@@ -1,54 +1,16 @@
--- The laws of search in a list, all by recursion on the list: what passes a test is found, what is found passes it, and the
--- first found in a rising run of numbers is the least. Assumes nothing.
-use mathlib.Core.Bool.{Bool, true, false, _&&_, _||_, cond, true≢false}
+-- The laws of search in a list, all by recursion on the list: what passes a test is found, what is found passes it, and a search
+-- in two lists, one after the other, goes list by list. Assumes nothing.
+use mathlib.Core.Bool.{Bool, true, false, _&&_, _||_, cond, or-assoc, or-false, and-true, and-assoc, true≢false}
 use mathlib.Core.Path.{_≡_, refl, sym, ap, ap₂, _∙_, subst}
 use mathlib.Core.Logic.{_⊎_, inl, inr, ⊎-elim}
-use mathlib.Core.List.{List, [], _∷_, _++_, map, nil≢cons, head-eq-of-cons-eq}
-use Prim.Native.Nat.{ℕ, zero, suc, _+_, _≤_, _<_}
+use mathlib.Core.List.{List, [], _∷_, _++_, map, append-nil, append-assoc, nil≢cons, head-eq-of-cons-eq}
+use Prim.Native.Nat.{ℕ, zero, suc, _+_, _*_, _≤_, _<_}
 use native.Mathlib.Omega.{arith}
-use lib.ListN.{length, getD}
+use lib.ListN.{length, getD, length-append}
 use lib.Dec.{eqb}
 use borrow.Author.Tests.{eqb-true, eqb-false, eq-eqb}
 use Rattle.evalset.specs.Search.{In, here, next, any, all, first, keep, orElse, gather, from, below, elem}
-
--- ---- Booleans
-
-pub clash : {P : Type 0} {b : Bool} → b ≡ true → b ≡ false → P
-clash p q = absurd (true≢false (sym p ∙ q))
-
--- a Boolean by its cases, with the equation
-pub cases : {P : Type 0} (b : Bool) → (b ≡ true → P) → (b ≡ false → P) → P
-cases true f g = f refl
-cases false f g = g refl
-
-pub untrue : (b : Bool) → (b ≡ true → ⊥) → b ≡ false
-untrue true h = absurd (h refl)
-untrue false h = refl
-
-pub bool-ext : (a b : Bool) → (a ≡ true → b ≡ true) → (b ≡ true → a ≡ true) → a ≡ b
-bool-ext true b f g = sym (f refl)
-bool-ext false true f g = g refl
-bool-ext false false f g = refl
-
-pub and-intro : (a b : Bool) → a ≡ true → b ≡ true → (a && b) ≡ true
-and-intro true b p q = q
-and-intro false b p q = p
-
-pub both : (a b : Bool) → (a && b) ≡ true → (a ≡ true) × (b ≡ true)
-both true b p = (refl, p)
-both false b p = absurd (true≢false (sym p))
-
-pub or-left : (a b : Bool) → a ≡ true → (a || b) ≡ true
-or-left true b p = refl
-or-left false b p = absurd (true≢false (sym p))
-
-pub or-right : (a b : Bool) → b ≡ true → (a || b) ≡ true
-or-right true b p = refl
-or-right false b p = p
-
-pub or-cases : (a b : Bool) → (a || b) ≡ true → (a ≡ true) ⊎ (b ≡ true)
-or-cases true b p = inl refl
-or-cases false b p = inr p
+use Rattle.evalset.proofs.Truth.{clash, cases, untrue, and-intro, both, or-left, or-right, or-cases}
 
 -- ---- membership
 
@@ -59,6 +21,9 @@ module _ {A : Type 0} where
   pub uncons : {x y : A} {xs : List A} → In x (y ∷ xs) → (x ≡ y) ⊎ In x xs
   uncons here = inl refl
   uncons (next i) = inr i
+
+  pub in-one : {x y : A} → In x (y ∷ []) → x ≡ y
+  in-one i = ⊎-elim (λ q. q) (λ j. none-in j) (uncons i)
 
   pub at-head : {x y : A} {xs : List A} → x ≡ y → In x (y ∷ xs)
   at-head {y} {xs} q = subst (λ w. In w (y ∷ xs)) (sym q) here
@@ -127,6 +92,18 @@ module _ {A : Type 0} where
   any-same p q [] h = refl
   any-same p q (x ∷ xs) h = ap₂ _||_ (h x here) (any-same p q xs (λ y i. h y (next i)))
 
+  -- one list after the other
+  pub any-append : (p : A → Bool) (xs ys : List A) → any p (xs ++ ys) ≡ (any p xs || any p ys)
+  any-append p [] ys = refl
+  any-append p (x ∷ xs) ys = ap (λ (b : Bool). p x || b) (any-append p xs ys) ∙ sym (or-assoc (p x) (any p xs) (any p ys))
+
+  pub any-last : (p : A → Bool) (xs : List A) (x : A) → any p (xs ++ x ∷ []) ≡ (any p xs || p x)
+  any-last p xs x = any-append p xs (x ∷ []) ∙ ap (λ (b : Bool). any p xs || b) (or-false (p x))
+
+  pub all-last : (p : A → Bool) (xs : List A) (x : A) → all p (xs ++ x ∷ []) ≡ (all p xs && p x)
+  all-last p [] x = and-true (p x)
+  all-last p (y ∷ ys) x = ap (λ (b : Bool). p y && b) (all-last p ys x) ∙ sym (and-assoc (p y) (all p ys) (p x))
+
 pub all-map : {A B : Type 0} (f : A → B) (p : B → Bool) (xs : List A) → all p (map f xs) ≡ all (λ x. p (f x)) xs
 all-map f p [] = refl
 all-map f p (x ∷ xs) = ap (λ b. p (f x) && b) (all-map f p xs)
@@ -163,7 +140,7 @@ module _ {A : Type 0} where
   first-in p xs {x} i =
       cases (any p xs)
       (λ h. let r = first-some p xs h in
-      let q : x ≡ r .0 = ⊎-elim (λ q. q) (λ j. none-in j) (uncons (subst (In x) (r .1) i)) in
+      let q : x ≡ r .0 = in-one (subst (In x) (r .1) i) in
       (subst (λ z. In z xs) (sym q) (r .2), ap p q ∙ r .3))
       (λ h. none-in (subst (In x) (first-none p xs h) i))
 
@@ -201,6 +178,19 @@ module _ {A : Type 0} where
       go true e k f = ⊎-elim (λ q. (at-head q, ap p q ∙ e)) (λ j. (next (f j .0), f j .1)) (uncons k)
       go false e k f = (next (f k .0), f k .1)
 
+  pub keep-nothing : (p : A → Bool) (xs : List A) → ((x : A) → In x xs → p x ≡ false) → keep p xs ≡ []
+  keep-nothing p [] h = refl
+  keep-nothing p (x ∷ xs) h = rw (h x here) (keep-nothing p xs (λ y i. h y (next i)))
+
+  pub keep-append : (p : A → Bool) (xs ys : List A) → keep p (xs ++ ys) ≡ keep p xs ++ keep p ys
+  keep-append p [] ys = refl
+  keep-append p (x ∷ xs) ys = go (p x) (keep-append p xs ys)
+    where
+      go : (b : Bool) → keep p (xs ++ ys) ≡ keep p xs ++ keep p ys
+          → cond b (x ∷ keep p (xs ++ ys)) (keep p (xs ++ ys)) ≡ cond b (x ∷ keep p xs) (keep p xs) ++ keep p ys
+      go true ih = ap (λ (zs : List A). x ∷ zs) ih
+      go false ih = ih
+
   pub or-else-left : {x : A} {xs : List A} (ys : List A) → In x xs → In x (orElse xs ys)
   or-else-left ys here = here
   or-else-left ys (next i) = next i
@@ -224,7 +214,32 @@ module _ {A B : Type 0} where
       ⊎-elim (λ k. (z, here, k)) (λ k. let r = gather-elim f xs k in (r .0, next (r .1), r .2))
       (in-either (f z) (gather f xs) j)
 
+  pub gather-append : (f : A → List B) (xs ys : List A) → gather f (xs ++ ys) ≡ gather f xs ++ gather f ys
+  gather-append f [] ys = refl
+  gather-append f (x ∷ xs) ys =
+      ap (λ (l : List B). f x ++ l) (gather-append f xs ys) ∙ sym (append-assoc (f x) (gather f xs) (gather f ys))
+
+  pub gather-last : (f : A → List B) (xs : List A) (x : A) → gather f (xs ++ x ∷ []) ≡ gather f xs ++ f x
+  gather-last f xs x = gather-append f xs (x ∷ []) ∙ ap (λ (l : List B). gather f xs ++ l) (append-nil (f x))
+
+  -- the function may be changed for one that is the same at the elements
+  pub gather-same : (f g : A → List B) (xs : List A) → ((x : A) → In x xs → f x ≡ g x) → gather f xs ≡ gather g xs
+  gather-same f g [] h = refl
+  gather-same f g (x ∷ xs) h = ap₂ _++_ (h x here) (gather-same f g xs (λ y i. h y (next i)))
+
+  -- lists that are short gather to a list that is
+  pub gather-few : (f : A → List B) (c : ℕ) (xs : List A) → ((x : A) → In x xs → length (f x) ≤ c)
+      → length (gather f xs) ≤ length xs * c
+  gather-few f c [] h = omega arith
+  gather-few f c (x ∷ xs) h =
+      let z : suc (length xs) * c ≡ c + length xs * c = omega arith in
+      omega (arith, length-append (f x) (gather f xs), h x here, gather-few f c xs (λ y i. h y (next i)))
+
 -- ---- numbers in rising order
+
+pub from-length : (k n : ℕ) → length (from k n) ≡ n
+from-length k zero = refl
+from-length k (suc n) = ap suc (from-length (suc k) n)
 
 from-intro : (k n e : ℕ) → k ≤ e → e < k + n → In e (from k n)
 from-intro k zero e h l = absurd (omega arith)
@@ -258,17 +273,3 @@ elem-intro e i = any-intro (eqb e) i (eq-eqb e e refl)
 
 pub elem-elim : (e : ℕ) (xs : List ℕ) → elem e xs ≡ true → In e xs
 elem-elim e xs h = let r = any-elim (eqb e) xs h in subst (λ z. In z xs) (sym (eqb-true e (r .0) (r .2))) (r .1)
-
--- the first below n is the least
-first-from-least : (k n : ℕ) (p : ℕ → Bool) (e : ℕ) → first p (from k n) ≡ e ∷ [] → (d : ℕ) → k ≤ d → d < e → p d ≡ false
-first-from-least k zero p e f d l h = absurd (nil≢cons f)
-first-from-least k (suc n) p e f d l h = go (p k) refl f (first-from-least (suc k) n p e)
-  where
-    go : (b : Bool) → p k ≡ b → cond b (k ∷ []) (first p (from (suc k) n)) ≡ e ∷ []
-        → (first p (from (suc k) n) ≡ e ∷ [] → (d : ℕ) → suc k ≤ d → d < e → p d ≡ false) → p d ≡ false
-    go true q g ih = let z : k ≡ e = head-eq-of-cons-eq g in absurd (omega arith)
-    go false q g ih =
-        cases (eqb d k) (λ z. ap p (eqb-true d k z) ∙ q) (λ z. let w : d ≡ k → ⊥ = eqb-false d k z in ih g d (omega arith) h)
-
-pub first-least : (n : ℕ) (p : ℕ → Bool) (e : ℕ) → first p (below n) ≡ e ∷ [] → (d : ℕ) → d < e → p d ≡ false
-first-least n p e f d h = first-from-least 0 n p e f d (omega arith) h

@@ -1,7 +1,7 @@
 -- The rule of a table of masks, 'bit e of mask i is bit i of e': one test that antt computes over the whole table, and a law that
 -- carries it to each entry and each evaluation. Assumes nothing.
-use mathlib.Core.Path.{_≡_, refl, sym, ap, _∙_}
-use mathlib.Core.Bool.{Bool, true, false, _&&_, Bool·beq}
+use mathlib.Core.Path.{_≡_, sym, ap, _∙_}
+use mathlib.Core.Bool.{Bool, true, _&&_, Bool·beq}
 use mathlib.Core.List.{List}
 use mathlib.Core.Logic.{⊎-elim}
 use Prim.Native.Nat.{ℕ, _^_, _≤_, _<_}
@@ -12,7 +12,7 @@ use Rattle.evalset.specs.Bit.{bit}
 use Rattle.evalset.specs.Search.{all, below}
 use Rattle.evalset.specs.Sets.{room, nameSet}
 use Rattle.evalset.proofs.Bounded.{side, all-at}
-use Rattle.evalset.proofs.Search.{both}
+use Rattle.evalset.proofs.Truth.{both, beq-same}
 use Rattle.evalset.proofs.Bits.{bit-above}
 
 -- the test f passes at each entry of the table and its place
@@ -26,12 +26,6 @@ at f xs t i h = all-at (λ k. f k (getD xs k 0)) (length xs) t i h
 abbrev isMask : ℕ → ℕ → Bool
 isMask i x = ltb x (2 ^ room) && all (λ e. Bool·beq (bit x e) (bit e i)) (below room)
 
-same : (a b : Bool) → Bool·beq a b ≡ true → a ≡ b
-same true true t = refl
-same true false t = sym t
-same false true t = t
-same false false t = refl
-
 mask : (i x : ℕ) → isMask i x ≡ true → (e : ℕ) → bit x e ≡ nameSet i e
 mask i x t e = ⊎-elim low high (side e room)
   where
@@ -40,7 +34,7 @@ mask i x t e = ⊎-elim low high (side e room)
 
     low : e < room → bit x e ≡ nameSet i e
     low l =
-        same (bit x e) (bit e i) (all-at (λ d. Bool·beq (bit x d) (bit d i)) room (parts .1) e l)
+        beq-same (bit x e) (bit e i) (all-at (λ d. Bool·beq (bit x d) (bit d i)) room (parts .1) e l)
         ∙ sym (ap (λ (b : Bool). b && bit e i) (lt-ltb e room l))
 
     high : room ≤ e → bit x e ≡ nameSet i e

@@ -13,7 +13,7 @@ use Rattle.evalset.specs.declared.Found.the-variants.{At, Nothing}
 use Rattle.evalset.specs.Search.{first, keep, below}
 use Rattle.evalset.specs.Sets.{fromOf, dropOf, foundOf}
 use Rattle.evalset.proofs.Bounded.{side, each, Least, found-least, found-nothing, keep-more, keep-cut}
-use Rattle.evalset.proofs.Search.{clash}
+use Rattle.evalset.proofs.Truth.{clash}
 
 pub from-zero : (p : ℕ → Bool) → p ≡ fromOf 0 p
 from-zero p = fun-ext (λ e. sym (ap (λ (b : Bool). b && p e) (leb·zero e)))
@@ -76,10 +76,3 @@ module _ (i e : ℕ) (p : ℕ → Bool) (l : i ≤ e) (passes : p e ≡ true) (b
 
   pub count-step : length (keep p (below (e + 1))) ≡ length (keep p (below i)) + 1
   count-step = ap length keep-step ∙ length-append (keep p (below i)) (e ∷ [])
-
-module _ (n i : ℕ) (p : ℕ → Bool) (l : i ≤ n) (none : (d : ℕ) → i ≤ d → d < n → p d ≡ false) where
-  pub keep-stop : keep p (below n) ≡ keep p (below i)
-  keep-stop = keep-cut p i n l none
-
-  pub count-stop : length (keep p (below n)) ≡ length (keep p (below i))
-  count-stop = ap length keep-stop

@@ -1,3 +1,4 @@
 pub mod Search
 pub mod Bit
 pub mod Sets
+pub mod Arrays

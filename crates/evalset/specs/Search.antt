@@ -51,5 +51,6 @@ from k (suc n) = k ∷ from (suc k) n
 abbrev pub below : ℕ → List ℕ
 below n = from 0 n
 
+-- e is one of the numbers
 abbrev pub elem : ℕ → List ℕ → Bool
 elem e xs = any (eqb e) xs

@@ -14,7 +14,7 @@ use Rattle.evalset.specs.Bit.{bit}
 abbrev pub most : ℕ
 most = 6
 
--- evaluations are below room, which is 2 ^ most; shut, so that what is searched below it stays short
+-- evaluations are below room, which is 2 ^ most; not unfolded by itself, so that what is searched below it stays short
 unfoldable pub room : ℕ
 room = 64
 

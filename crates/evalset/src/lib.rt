@@ -1,7 +1,7 @@
 // Sets of evaluations, as words of 64 bits: bit e for evaluation e (document 01, 'Meaning').
 // A set is known by its members, `mem` of specs/Sets.antt, and each contract says which they are. No function has a requires:
-// what is out of range is answered, and the answer stated. Only this crate knows that a set is a word: its callers' proofs go
-// by members and by `room`. Assumes nothing.
+// what is out of range is answered, and the answer stated. No code outside this crate uses that a set is a word: callers go by
+// members and by `room`. Assumes nothing.
 ghost use mathlib.Core.Path.{_≡_};
 ghost use mathlib.Core.Bool.{not};
 ghost use Rattle.evalset.specs.Search.{any, first, below};
@@ -13,6 +13,7 @@ pub const ROOM: usize = 64;
 // The most names: 2 ^ NAMES is ROOM.
 pub const NAMES: usize = 6;
 
+// A set of evaluations: bit e is set if evaluation e is in it.
 pub struct EvalSet {
     pub bits: u64,
 }
@@ -95,7 +96,7 @@ pub fn join(a: EvalSet, b: EvalSet) -> EvalSet
     }
 }
 
-// The evaluations in the first set and not in the second. A complement is cut: minus(below(names), s).
+// The evaluations in the first set and not in the second.
 pub fn minus(a: EvalSet, b: EvalSet) -> EvalSet
     ensures { λ r. ⌜ mem r ≡ minusOf (mem a) (mem b) ⌝ }
 {

@@ -17,8 +17,8 @@ use Rattle.search.specs.Compiled.{Stands, AtomIs, atomAt, Compiled}
 use Rattle.plan.specs.declared.PlanArrays.{PlanArrays}
 use Rattle.plan.specs.Words.{Plan, IsPlan}
 use Rattle.plan.specs.Arrays.{Stored}
-use Rattle.plan.proofs.Floors.{planFloor}
-use Rattle.plan.proofs.Judged.{Means, touches-meant, vacant-meant}
+use Rattle.plan.specs.Floor.{planFloor, Means}
+use Rattle.plan.proofs.Judged.{touches-meant, vacant-meant}
 use Rattle.judging.specs.Values.{atomOf, valueOf, Sure}
 
 -- ---- on the floor

@@ -8,15 +8,13 @@ use Prim.Native.Nat.{ℕ}
 use native.Mathlib.Omega.{arith}
 use Rattle.formula.specs.Formula.{Formula, Name}
 use Rattle.contact.specs.Meaning.{meetsAll}
-use Rattle.contact.specs.Numbering.{allAtoms, numberedNames, numberedAtoms}
-use Rattle.contact.proofs.Naming.{numberOf}
+use Rattle.contact.specs.Numbering.{allAtoms, numberedNames, numberedAtoms, numberOf}
 use Rattle.search.specs.declared.Sheet.{Sheet}
 use Rattle.plan.specs.declared.PlanArrays.{PlanArrays}
 use Rattle.plan.specs.Words.{Plan, IsPlan}
 use Rattle.plan.specs.Arrays.{Stored}
-use Rattle.plan.specs.Judging.{Judgement, yes, unmet, judge}
-use Rattle.plan.proofs.Floors.{planFloor, namedFloor}
-use Rattle.plan.proofs.Unmet.{FirstUnmet}
+use Rattle.plan.specs.Judging.{Judgement, yes, unmet, judge, FirstUnmet}
+use Rattle.plan.specs.Floor.{planFloor, namedFloor}
 use Rattle.plan.proofs.Claims.{judge-yes, judge-unmet}
 use Rattle.solver.specs.Tree.{ComesFrom}
 use Rattle.judging.specs.declared.Judged.{Judged}

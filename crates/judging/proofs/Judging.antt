@@ -9,7 +9,7 @@ use Rattle.kleene.specs.declared.Two.{Two}
 use Rattle.search.specs.declared.Sheet.{Sheet}
 use Rattle.search.specs.Compiled.{noAtom}
 use Rattle.plan.specs.declared.PlanArrays.{PlanArrays}
-use Rattle.plan.proofs.Floors.{planFloor}
+use Rattle.plan.specs.Floor.{planFloor}
 use Rattle.judging.specs.declared.Judged.{Judged}
 use Rattle.judging.specs.Values.{judgedOf, valueOf, LeavesSay, UnmetSays}
 use Rattle.judging.specs.Judges.{JudgesSay}

@@ -5,9 +5,9 @@ use mathlib.Core.Path.{_≡_, refl, ap, ap₂, _∙_, fun-ext}
 use mathlib.Core.List.{List, [], _∷_, map}
 use Prim.Native.Nat.{ℕ, suc}
 use Rattle.formula.specs.Formula.{Atom, Formula}
-use Rattle.contact.specs.Meaning.{Floor, atomOn, value}
+use Rattle.contact.specs.Meaning.{Floor, atomOn, value, renamed}
 use Rattle.contact.specs.Numbering.{mapAtom, mapForm}
-use Rattle.contact.proofs.Naming.{renamed, atom-map, value-map}
+use Rattle.contact.proofs.Naming.{atom-map, value-map}
 use Rattle.plan.specs.Judging.{Judgement, unmet, judgeFrom}
 
 module _ {N M : Type 0} (g : N → M) (F : Floor M) where

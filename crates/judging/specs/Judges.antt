@@ -9,8 +9,8 @@ use Rattle.plan.specs.declared.PlanArrays.{PlanArrays}
 use Rattle.plan.specs.Words.{Plan, IsPlan}
 use Rattle.plan.specs.Arrays.{Stored}
 use Rattle.plan.specs.Judging.{judge}
-use Rattle.plan.proofs.Floors.{planFloor}
 use Rattle.solver.specs.Tree.{ComesFrom}
+use Rattle.plan.specs.Floor.{planFloor}
 use Rattle.judging.specs.declared.Judged.{Judged}
 use Rattle.judging.specs.Values.{judgedOf}
 

@@ -1,6 +1,6 @@
 -- The rails of a formula are those of its value in the search's tables: table by table, by the nine cases of two values, and by
 -- recursion on the formula. Assumes nothing.
-use mathlib.Core.Bool.{Bool, true, false, not}
+use mathlib.Core.Bool.{Bool, true, false}
 use mathlib.Core.Path.{_≡_, refl, sym, ap, ap₂, _∙_}
 use mathlib.Core.List.{List, [], _∷_, head-eq-of-cons-eq}
 use Prim.Native.Nat.{ℕ}
@@ -16,7 +16,7 @@ use Rattle.kleene.specs.declared.Two.{Two}
 use Rattle.kleene.specs.Code.{postfix}
 use Rattle.kleene.specs.Rails.{Duo, duo, noOf, yesOf, sure, duoOf, notD, andD, orD, impliesD, iffD, valueD, exec, duoAt, leafAt}
 use Rattle.kleene.proofs.Formed.{exec-postfix}
-use Rattle.contact.proofs.Searching.{and-known, or-known, iff-known}
+use Rattle.contact.proofs.Searching.{value-known}
 
 not-three : (t : Three) → notD (duoOf t) ≡ duoOf (kleeneNot t)
 not-three (is true) = refl
@@ -98,20 +98,9 @@ refuted-three v w f h = ap noOf (value-three v w f h) ∙ no-three (kleeneValue 
 
 -- ---- where every atom is decided
 
-value-known : (w : ℕ → Bool) (f : Form ℕ) → kleeneValue (λ i. is (w i)) f ≡ is (value w f)
-value-known w Form.truth = refl
-value-known w Form.falsity = refl
-value-known w (Form.atom i) = refl
-value-known w (Form.negation f) = ap kleeneNot (value-known w f)
-value-known w (Form.conjunction f g) = ap₂ kleeneAnd (value-known w f) (value-known w g) ∙ and-known (value w f) (value w g)
-value-known w (Form.disjunction f g) = ap₂ kleeneOr (value-known w f) (value-known w g) ∙ or-known (value w f) (value w g)
-value-known w (Form.implication f g) =
-    ap₂ (λ (s t : Three). kleeneOr (kleeneNot s) t) (value-known w f) (value-known w g) ∙ or-known (not (value w f)) (value w g)
-value-known w (Form.equivalence f g) = ap₂ kleeneIff (value-known w f) (value-known w g) ∙ iff-known (value w f) (value w g)
-
 pub value-sure : (v : ℕ → Duo) (w : ℕ → Bool) (f : Form ℕ) → ((i : ℕ) → In i (atomsOf f) → v i ≡ sure (w i))
     → valueD v f ≡ sure (value w f)
-value-sure v w f h = value-three v (λ i. is (w i)) f h ∙ ap duoOf (value-known w f)
+value-sure v w f h = value-three v (λ i. is (w i)) f h ∙ ap duoOf (value-known (λ i. is (w i)) w f (λ i k. refl))
 
 -- ---- what a run gives
 

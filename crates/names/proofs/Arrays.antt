@@ -12,7 +12,7 @@ use lib.Seq.{take-at, set-at}
 use borrow.Author.Tests.{eq-eqb, ne-eqb, lt-ltb, le-ltb}
 use Rattle.formula.specs.Formula.{Name}
 use Rattle.evalset.specs.Sets.{most}
-use Rattle.evalset.proofs.Search.{untrue}
+use Rattle.evalset.proofs.Truth.{untrue}
 use Rattle.contact.specs.Numbering.{position, sameName}
 use Rattle.contact.proofs.Naming.{same-name}
 use Rattle.names.specs.declared.KeptName.{KeptName}

@@ -9,7 +9,8 @@ use Prim.Native.Nat.{suc, _≤_, _<_}
 use native.Mathlib.Omega.{arith}
 use lib.ListN.{length, length-append}
 use Rattle.evalset.specs.Search.{In, here, next, keep}
-use Rattle.evalset.proofs.Search.{clash, cases, any-intro, any-elim, uncons, at-head, in-right, keep-elim}
+use Rattle.evalset.proofs.Search.{any-intro, any-elim, uncons, at-head, in-right, keep-elim, keep-append}
+use Rattle.evalset.proofs.Truth.{clash, cases}
 use Rattle.contact.specs.Numbering.{distinct, position}
 use Rattle.contact.proofs.Naming.{Decides, distinct-in}
 use Rattle.names.specs.Gather.{isIn, put}
@@ -117,18 +118,6 @@ module _ {N : Type 0} (same : N → N → Bool) where
         go true e f = f ∙ ap (λ (t : Bool). t || isIn same ks w) (sym (ap (λ (y : N). same y w) (sym (decides x k .0 e)) ∙ h))
         go false e f = ap (λ (t : Bool). same k w || t) f
 
-    keep-last : (p : N → Bool) (ks : List N) (w : N) → keep p (ks ++ w ∷ []) ≡ keep p ks ++ cond (p w) (w ∷ []) []
-    keep-last p [] w = go (p w)
-      where
-        go : (b : Bool) → cond b (w ∷ []) [] ≡ cond b (w ∷ []) []
-        go b = refl
-    keep-last p (k ∷ ks) w = go (p k) (keep-last p ks w)
-      where
-        go : (b : Bool) → keep p (ks ++ w ∷ []) ≡ keep p ks ++ cond (p w) (w ∷ []) []
-            → cond b (k ∷ keep p (ks ++ w ∷ [])) (keep p (ks ++ w ∷ [])) ≡ cond b (k ∷ keep p ks) (keep p ks) ++ cond (p w) (w ∷ []) []
-        go true e = ap (λ (l : List N). k ∷ l) e
-        go false e = e
-
     -- putting an element last, and taking out what is the same as x behind x
     put-kept : (x w : N) (ks : List N) → x ∷ keep (λ y. not (same x y)) (put same ks w) ≡ put same (x ∷ keep (λ y. not (same x y)) ks) w
     put-kept x w ks = cases (same x w) there apart
@@ -139,7 +128,7 @@ module _ {N : Type 0} (same : N → N → Bool) where
         -- w is x
         out : (b : Bool) → same x w ≡ true → keep p (cond b ks (ks ++ w ∷ [])) ≡ keep p ks
         out true e = refl
-        out false e = keep-last p ks w ∙ ap (λ (t : Bool). keep p ks ++ cond (not t) (w ∷ []) []) e ∙ append-nil (keep p ks)
+        out false e = keep-append p ks (w ∷ []) ∙ ap (λ (t : Bool). keep p ks ++ cond (not t) (w ∷ []) []) e ∙ append-nil (keep p ks)
 
         there : same x w ≡ true → x ∷ keep p (put same ks w) ≡ put same (x ∷ keep p ks) w
         there e =
@@ -149,7 +138,7 @@ module _ {N : Type 0} (same : N → N → Bool) where
         -- w is another
         on : (b : Bool) → same x w ≡ false → x ∷ keep p (cond b ks (ks ++ w ∷ [])) ≡ cond b (x ∷ keep p ks) ((x ∷ keep p ks) ++ w ∷ [])
         on true e = refl
-        on false e = ap (λ (l : List N). x ∷ l) (keep-last p ks w ∙ ap (λ (t : Bool). keep p ks ++ cond (not t) (w ∷ []) []) e)
+        on false e = ap (λ (l : List N). x ∷ l) (keep-append p ks (w ∷ []) ∙ ap (λ (t : Bool). keep p ks ++ cond (not t) (w ∷ []) []) e)
 
         apart : same x w ≡ false → x ∷ keep p (put same ks w) ≡ put same (x ∷ keep p ks) w
         apart e =

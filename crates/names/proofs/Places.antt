@@ -9,7 +9,7 @@ use native.Mathlib.Omega.{arith}
 use lib.ListN.{length}
 use Rattle.formula.specs.Formula.{Name}
 use Rattle.evalset.specs.Sets.{most}
-use Rattle.evalset.proofs.Search.{clash, untrue}
+use Rattle.evalset.proofs.Truth.{clash, untrue}
 use Rattle.contact.specs.Numbering.{distinct, sameName}
 use Rattle.contact.proofs.Naming.{same-name}
 use Rattle.names.specs.declared.NamesAnswer.{NamesAnswer}

@@ -1,7 +1,7 @@
 -- The names of a rule's text are those of its formula, in their order, and the names of the rules are found by going through the rules:
 -- a token that is a name is a symbol that is one, and the names of the atoms are the names of the formula. Assumes nothing.
-use mathlib.Core.Path.{_≡_, refl, sym, ap, ap₂, _∙_}
-use mathlib.Core.List.{List, [], _∷_, _++_, map, map-append, append-assoc, append-nil}
+use mathlib.Core.Path.{_≡_, refl, ap, ap₂, _∙_}
+use mathlib.Core.List.{List, [], _∷_, _++_, map, map-append, append-nil}
 use Prim.Native.Nat.{ℕ}
 use Rattle.formula.specs.Formula.{Form, Formula, Name}
 use Rattle.formula.specs.Atoms.{atomsOf}
@@ -12,6 +12,7 @@ use Rattle.syntax.specs.Postfix.{symbolNames, namesIn}
 use Rattle.syntax.specs.RuleText.{symbolsOf, IsRule}
 use Rattle.syntax.proofs.Claims.{token-names}
 use Rattle.evalset.specs.Search.{gather}
+use Rattle.evalset.proofs.Search.{gather-append}
 use Rattle.contact.specs.Numbering.{allAtoms}
 use Rattle.names.specs.Gather.{NameAt, nameAt, placesOf, ruleTokens}
 use Rattle.names.specs.Seventh.{namesAt}
@@ -37,11 +38,6 @@ names-of-rule s f h =
     ∙ token-names (symbolsOf s (h .tokens-of)) f (h .derived)
 
 -- ---- the names of the rules
-
-module _ {A B : Type 0} (g : A → List B) where
-  pub gather-append : (xs ys : List A) → gather g (xs ++ ys) ≡ gather g xs ++ gather g ys
-  gather-append [] ys = refl
-  gather-append (x ∷ xs) ys = ap (λ (l : List B). g x ++ l) (gather-append xs ys) ∙ sym (append-assoc (g x) (gather g xs) (gather g ys))
 
 module _ {N : Type 0} where
   -- the two sides of a binary sign

@@ -1,20 +1,15 @@
--- Words written one after the other over a buffer are their list written at once, and the contacts of rows are their pairs one
--- after the other. Assumes nothing.
+-- Words written one after the other over a buffer are their list written at once. Assumes nothing.
 use mathlib.Core.Path.{_≡_, refl, sym, ap, ap₂, _∙_, subst}
-use mathlib.Core.Bool.{Bool, true, false, _&&_, cond}
 use mathlib.Core.List.{List, [], _∷_, _++_, map, append-assoc, map-append}
-use Prim.Native.Nat.{ℕ, suc, _+_, _*_, _≤_, _<_}
+use Prim.Native.Nat.{ℕ, suc, _+_, _≤_, _<_}
 use native.Mathlib.Omega.{arith}
 use native.Mathlib.Nat.{add-zero}
 use native.Mathlib.Numerals.{add-one}
-use lib.Dec.{ltb}
 use lib.ListN.{length, take, drop, set, getD, length-append, length-map, take-append-drop, length-drop}
 use lib.Seq.{take-suc, drop-cons, set-at, take-at, drop-drop, drop-append-add, length-take-le}
-use borrow.Author.Tests.{lt-ltb, le-ltb}
 use Rattle.plan.specs.Words.{contactWord, pointWord}
-use Rattle.plan.specs.Arrays.{pairOf, rowTo, linksTo, over}
-use Rattle.plan.specs.Held.{written, Wrote}
-use Rattle.plan.proofs.Lists.{gather-more, gather-within, gather-small}
+use Rattle.plan.specs.Arrays.{over}
+use Rattle.plan.specs.Private.{written, Wrote}
 
 -- ---- buffers
 pub written-none : (at : ℕ) (buf : List ℕ) → buf ≡ written at [] buf
@@ -104,60 +99,7 @@ wrote-one at k buf h = record {
       ∙ written-set at [] buf (contactWord k) (omega arith);
 }
 
--- ---- the contacts that rows give
-pub pair-early : (i j : ℕ) (t : ℕ → Bool) → j ≤ i → pairOf i j t ≡ []
-unfolding pairOf
-pair-early i j t h = rw (le-ltb i j h)
-
-pub pair-there : (i j : ℕ) (t : ℕ → Bool) → i < j → t j ≡ true → pairOf i j t ≡ (i * 256 + j) ∷ []
-unfolding pairOf
-pair-there i j t h e = rw (lt-ltb i j h, e)
-
-pub pair-apart : (i j : ℕ) (t : ℕ → Bool) → i < j → t j ≡ false → pairOf i j t ≡ []
-unfolding pairOf
-pair-apart i j t h e = rw (lt-ltb i j h, e)
-
-pub pair-small : (i j : ℕ) (t : ℕ → Bool) → length (pairOf i j t) ≤ 1
-unfolding pairOf
-pair-small i j t = go (ltb i j && t j)
-  where
-    go : (b : Bool) → length (cond b ((i * 256 + j) ∷ []) []) ≤ 1
-    go true = omega arith
-    go false = omega arith
-
-pub row-none : (i : ℕ) (t : ℕ → Bool) → rowTo 0 i t ≡ []
-unfolding rowTo
-row-none i t = refl
-
-pub row-more : (j i : ℕ) (t : ℕ → Bool) → rowTo j i t ++ pairOf i j t ≡ rowTo (j + 1) i t
-unfolding rowTo
-row-more j i t = gather-more (λ b. pairOf i b t) j
-
-pub row-small : (j i : ℕ) (t : ℕ → Bool) → length (rowTo j i t) ≤ j
-unfolding rowTo
-row-small j i t = omega (arith, gather-small (λ b. pairOf i b t) 1 (λ b. pair-small i b t) 0 j)
-
--- what is written by then fits, where the whole does
-pub row-within : (j n i : ℕ) (t : ℕ → Bool) → j ≤ n → length (rowTo j i t) ≤ length (rowTo n i t)
-unfolding rowTo
-row-within j n i t h = gather-within (λ b. pairOf i b t) j n h
-
-pub links-none : (n : ℕ) (t : ℕ → ℕ → Bool) → linksTo 0 n t ≡ []
-unfolding linksTo
-links-none n t = refl
-
-pub links-more : (i n : ℕ) (t : ℕ → ℕ → Bool) → linksTo i n t ++ rowTo n i (t i) ≡ linksTo (i + 1) n t
-unfolding linksTo
-links-more i n t = gather-more (λ a. rowTo n a (t a)) i
-
-pub links-within : (i m n : ℕ) (t : ℕ → ℕ → Bool) → i ≤ m → length (linksTo i n t) ≤ length (linksTo m n t)
-unfolding linksTo
-links-within i m n t h = gather-within (λ a. rowTo n a (t a)) i m h
-
-pub links-small : (i n : ℕ) (t : ℕ → ℕ → Bool) → n ≤ 64 → length (linksTo i n t) ≤ i * 64
-unfolding linksTo
-links-small i n t h = gather-small (λ a. rowTo n a (t a)) 64 (λ a. omega (arith, row-small n a (t a))) 0 i
-
+-- ---- the points
 -- one point's word more
 pub points-more : (pts buf : List ℕ) (i : ℕ) → i < length pts → 1 + i < length buf
     → set (written 1 (map pointWord (take i pts)) buf) (1 + i) (pointWord (getD pts i 0)) ≡ written 1

@@ -8,7 +8,7 @@ use lib.ListN.{length, take}
 use native.Mathlib.Omega.{arith}
 use Rattle.formula.specs.Formula.{Term, Atom, Formula, Name}
 use Rattle.evalset.specs.declared.EvalSet.{EvalSet}
-use Rattle.evalset.specs.Sets.{mem, memAt}
+use Rattle.evalset.specs.Sets.{mem, memAt, most}
 use Rattle.contact.specs.Meaning.{Floor, atomOn, meetsAll}
 use Rattle.contact.specs.Numbering.{allAtoms, namesOf, numberedNames}
 use Rattle.contact.specs.Row.{Row, Realises}
@@ -16,24 +16,23 @@ use Rattle.contact.specs.Plan.{firstRowOf}
 use Rattle.plan.specs.declared.PlanArrays.{PlanArrays}
 use Rattle.plan.specs.declared.PlanAnswer.the-variants as answer-is
 use Rattle.plan.specs.declared.PlanRead.{PlanRead}
-use Rattle.plan.specs.Words.{Plan, mostNames, Ascends, IsPlan, wordsOf, Refusal}
-use Rattle.plan.specs.Floor.{touching}
-use Rattle.plan.specs.Judging.{yes, unmet, judge}
-use Rattle.plan.specs.Reader.{Reading, plan, refused, readOf}
+use Rattle.plan.specs.Words.{Plan, Ascends, IsPlan, wordsOf, Refusal}
+use Rattle.plan.specs.Floor.{touching, planFloor, namedFloor, Means}
+use Rattle.plan.specs.Judging.{yes, unmet, judge, FirstUnmet}
+use Rattle.plan.specs.Reader.{Reading, plan, refused, readOf, ReadingSays}
 use Rattle.plan.specs.Arrays.{Stored, answerOf, planIn, Reads, countOf, planBy, touchesOf, vacantOf}
 use Rattle.plan.specs.Given.{rowPlan, plansOf, IsGiven}
-use Rattle.plan.proofs.Exact.{Says, exact, plan-read, refusal-read}
+use Rattle.plan.proofs.Exact.{exact, plan-read, refusal-read}
 use Rattle.plan.proofs.Contacts.{arrays-plan}
-use Rattle.plan.proofs.Again.{plan-again, rows-kept}
-use Rattle.plan.proofs.Once.{InRange, reads-once}
-use Rattle.plan.proofs.Floors.{planFloor, namedFloor}
-use Rattle.plan.proofs.Judged.{Means, touches-meant, vacant-meant}
+use Rattle.plan.proofs.SamePlan.{plan-again, rows-kept}
+use Rattle.plan.proofs.SameArrays.{InRange, reads-once}
+use Rattle.plan.proofs.Judged.{touches-meant, vacant-meant}
 use Rattle.plan.proofs.Given
-use Rattle.plan.proofs.Unmet.{FirstUnmet, yes-exactly, unmet-exactly}
+use Rattle.plan.proofs.Unmet.{yes-exactly, unmet-exactly}
 
 -- what is read is a plan whose words these are (Sound, Exact)
 pub read-is-plan : (ws : List ℕ) (p : Plan) → readOf ws ≡ plan p → IsPlan p × (wordsOf p ≡ ws)
-read-is-plan ws p e = subst (Says ws) e (exact ws)
+read-is-plan ws p e = subst (ReadingSays ws) e (exact ws)
 
 -- every plan is read from its words (Complete, Exact)
 pub plan-is-read : (p : Plan) → IsPlan p → readOf (wordsOf p) ≡ plan p
@@ -41,13 +40,13 @@ plan-is-read p h = plan-read p h
 
 -- refusal 13 comes at an index exactly where it is due (Exact)
 pub refused-exactly : (ws : List ℕ) (j : ℕ) → (readOf ws ≡ refused j → Refusal ws j) × (Refusal ws j → readOf ws ≡ refused j)
-refused-exactly ws j = (λ e. subst (Says ws) e (exact ws), refusal-read ws j)
+refused-exactly ws j = (λ e. subst (ReadingSays ws) e (exact ws), refusal-read ws j)
 
--- words that were read as a plan are the words of the arrays that came back, so written again they are the same (Again)
+-- words that were read as a plan are the words of the arrays that came back, so written again they are the same (SamePlan)
 pub read-written : (ws : List ℕ) (r : PlanRead) → Reads ws r → r .answer ≡ answer-is.Plan → wordsOf (planBy (r .plan)) ≡ ws
 read-written ws r s e = go (readOf ws) (exact ws) (s .plan) (sym (s .answer) ∙ e)
   where
-    go : (x : Reading) → Says ws x → Stored (r .plan) (planIn x) → answerOf x ≡ answer-is.Plan → wordsOf (planBy (r .plan)) ≡ ws
+    go : (x : Reading) → ReadingSays ws x → Stored (r .plan) (planIn x) → answerOf x ≡ answer-is.Plan → wordsOf (planBy (r .plan)) ≡ ws
     go (plan p) h t q = ap wordsOf (plan-again (r .plan) p (h .0) t) ∙ h .1
     go (refused i) h t q = absurd (let z : _≡_ {A = ℕ} 0 1 = cc in omega arith)
 
@@ -59,21 +58,21 @@ written-read r q h s =
     (s .answer ∙ ap answerOf e, subst (λ (x : Reading). Stored (q .plan) (planIn x)) e (s .plan))
 
 -- arrays hold a plan if their points ascend below 2^names, whatever their rows (Contacts)
-pub arrays-are-plan : (r : PlanArrays) → length (r .points) ≡ 64 → r .names ≤ mostNames → 0 < countOf r
+pub arrays-are-plan : (r : PlanArrays) → length (r .points) ≡ 64 → r .names ≤ most → 0 < countOf r
     → Ascends 0 (2 ^ (r .names)) (take (countOf r) (r .points)) → IsPlan (planBy r)
 arrays-are-plan r full few some up = arrays-plan r full few some up
 
--- and if their rows are reflexive and symmetric, these are the plan's contact (Again)
+-- and if their rows are reflexive and symmetric, these are the plan's contact (SamePlan)
 pub rows-are-contact : (r : PlanArrays) → ((a : ℕ) → a < countOf r → memAt (r .rows) a a ≡ true)
     → ((a b : ℕ) → a < countOf r → b < countOf r → memAt (r .rows) a b ≡ true → memAt (r .rows) b a ≡ true)
     → (a b : ℕ) → a < countOf r → b < countOf r → touching (planBy r) a b ≡ memAt (r .rows) a b
 rows-are-contact r self turn a b l m = rows-kept r self turn a b l m
 
--- reading is one function of the words: what it gives is determined to the last bit (Once)
+-- reading is one function of the words: what it gives is determined to the last bit (SameArrays)
 pub read-once : (ws : List ℕ) (r s : PlanRead) → InRange (r .plan) → InRange (s .plan) → Reads ws r → Reads ws s → r ≡ s
 read-once ws r s v w a b = reads-once ws r s v w a b
 
--- a contact judged on arrays has its value on the floor of the plan that they hold, `planFloor` (Floors, Judged)
+-- a contact judged on arrays has its value on the floor of the plan that they hold, `planFloor` (Judged)
 pub touches-judged : (p : Plan) (h : IsPlan p) (r : PlanArrays) → Stored r p → (x y : EvalSet) (s t : Term ℕ)
     → Means (p .names) (mem x) s → Means (p .names) (mem y) t
     → touchesOf r (mem x) (mem y) ≡ atomOn (planFloor p h) (Atom.contact s t)
@@ -95,7 +94,7 @@ pub judge-unmet : {N : Type 0} (F : Floor N) (rules : List (Formula N)) (k : ℕ
 judge-unmet F rules k = unmet-exactly F rules k
 
 -- the plan of the row that is found is a plan in words, for at most six names (Given)
-pub given-is-plan : (rules : List (Formula Name)) → length (namesOf rules) ≤ mostNames → (row : Row)
+pub given-is-plan : (rules : List (Formula Name)) → length (namesOf rules) ≤ most → (row : Row)
     → firstRowOf (length (namesOf rules)) (numberedNames rules) ≡ row ∷ [] → IsPlan (rowPlan rules row)
 given-is-plan rules few row found = Given.given-is-plan rules row found few
 

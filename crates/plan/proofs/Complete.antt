@@ -4,17 +4,14 @@ use mathlib.Core.Path.{_≡_, refl, sym, ap, _∙_}
 use mathlib.Core.List.{List, [], _∷_, _++_, map, append-nil, append-assoc}
 use Prim.Native.Nat.{ℕ, suc, _+_, _-_, _*_, _^_, _/_, _%_, _≤_, _<_}
 use native.Mathlib.Omega.{arith}
-use native.Mathlib.Nat.{pow-le-pow-right}
 use lib.ListN.{length, length-append, length-map}
+use lib.Pow.{pow-mono}
 use borrow.Author.Tests.{le-leb, lt-ltb, eq-eqb}
 use Rattle.plan.specs.declared.Word.{Word}
 use Rattle.plan.specs.declared.Word.the-variants.{First, Point, Contact, Last}
 use Rattle.plan.specs.Words.{Plan, Ascends, Rises, IsPlan, firstWord, pointWord, contactWord, lastWord, before, wordsOf}
 use Rattle.plan.specs.Reader.{kindOf, State, start, pointing, linking, whole, opened, went, pointed, linked, step, run}
 use Rattle.plan.proofs.Spelling.{first-kind, point-kind, contact-kind, last-kind}
-
-pub room-64 : (n : ℕ) → n ≤ 6 → 2 ^ n ≤ 64
-room-64 n h = pow-le-pow-right {n = 2} (omega arith) h
 
 -- ascending points leave room: there are at most high - low of them
 pub ascends-room : (low high : ℕ) (es : List ℕ) → low ≤ high → Ascends low high es → low + length es ≤ high
@@ -51,10 +48,10 @@ run-cons s t w k ws a b = ap (λ (x : State). run x ws) (ap (step s) a ∙ b)
 run-points : (n : ℕ) → n ≤ 6 → (low : ℕ) (pts : List ℕ) (e : ℕ) (es ws : List ℕ) → Ascends low (2 ^ n) (e ∷ es)
     → run (pointing n (length es) pts low) (map pointWord (e ∷ es) ++ ws) ≡ run (linking n (pts ++ (e ∷ es)) [] 0) ws
 run-points n few low pts e [] ws a =
-    run-cons _ _ (pointWord e) (Point e) ws (point-kind e (omega (arith, a .1, room-64 n few)))
+    run-cons _ _ (pointWord e) (Point e) ws (point-kind e (omega (arith, a .1, pow-mono few)))
     (point-by n 0 pts low e (a .0) (omega (arith, a .1)))
 run-points n few low pts e (f ∷ fs) ws a =
-    run-cons _ _ (pointWord e) (Point e) (map pointWord (f ∷ fs) ++ ws) (point-kind e (omega (arith, a .1, room-64 n few)))
+    run-cons _ _ (pointWord e) (Point e) (map pointWord (f ∷ fs) ++ ws) (point-kind e (omega (arith, a .1, pow-mono few)))
     (point-by n (suc (length fs)) pts low e (a .0) (omega (arith, ascends-room (suc e) (2 ^ n) (f ∷ fs) (a .1) (a .2))))
     ∙ run-points n few (suc e) (pts ++ (e ∷ [])) f fs ws (a .2)
     ∙ ap (λ (l : List ℕ). run (linking n l [] 0) ws) (append-assoc pts (e ∷ []) (f ∷ fs))
@@ -120,7 +117,7 @@ run-whole n (e ∷ es) ks p = shown
     d = record { names = n; points = e ∷ es; contacts = ks }
 
     few : 2 ^ n ≤ 64
-    few = room-64 n (p .few)
+    few = pow-mono (p .few)
 
     size : length (e ∷ es) ≤ 2 ^ n
     size = omega (arith, ascends-room 0 (2 ^ n) (e ∷ es) (omega arith) (p .ascend))

@@ -7,7 +7,9 @@ use Prim.Native.Nat.{ℕ, zero, suc, _+_, _^_, _≤_, _<_}
 use native.Mathlib.Omega.{arith}
 use lib.ListN.{length, length-append}
 use Rattle.plan.specs.Words.{Plan, Ascends, Rises, IsPlan, firstWord, pointWord, lastWord, before, wordsOf, Begins, Stops, Refusal}
-use Rattle.plan.specs.Reader.{kindOf, State, start, pointing, linking, whole, dead, step, run, Reading, plan, refused, ended, unless, readFrom, readOf}
+use Rattle.plan.specs.Reader.{kindOf, State, start, pointing, linking, whole, dead, step, run, Reading, plan, refused, ended, unless, readFrom, readOf, ReadingSays}
+use Rattle.evalset.specs.Search.{from}
+use Rattle.evalset.proofs.Search.{from-length}
 use Rattle.evalset.proofs.Bounded.{side}
 use Rattle.plan.proofs.Sound.{Seen, PointsSeen, LinksSeen, seen}
 use Rattle.plan.proofs.Complete.{complete, run-append}
@@ -34,19 +36,9 @@ run-dead (w ∷ ws) = run-dead ws
 
 -- ---- a live state can be completed
 -- so many evaluations, one after the other
-rest-points : ℕ → ℕ → List ℕ
-rest-points low zero = []
-rest-points low (suc m) = low ∷ rest-points (suc low) m
-
-rest-ascend : (low m high : ℕ) → low + m ≤ high → Ascends low high (rest-points low m)
-unfolding rest-points
+rest-ascend : (low m high : ℕ) → low + m ≤ high → Ascends low high (from low m)
 rest-ascend low zero high h = tt
 rest-ascend low (suc m) high h = (omega arith, omega arith, rest-ascend (suc low) m high (omega arith))
-
-rest-length : (low m : ℕ) → length (rest-points low m) ≡ m
-unfolding rest-points
-rest-length low zero = refl
-rest-length low (suc m) = ap suc (rest-length (suc low) m)
 
 -- the words of a whole plan
 only-last : (p : Plan) (ws : List ℕ) → ws ≡ before p → ws ++ (lastWord (length (before p)) ∷ []) ≡ wordsOf p
@@ -56,10 +48,10 @@ only-last p ws e = ap (λ (l : List ℕ). l ++ (lastWord (length (before p)) ∷
 points-begin : (ws : List ℕ) (n m : ℕ) (pts : List ℕ) (low : ℕ) → PointsSeen ws n m pts low → Begins ws
 unfolding before wordsOf
 points-begin ws n m pts low s =
-    let es = rest-points low (suc m) in
+    let es = from low (suc m) in
     let p : Plan = record { names = n; points = pts ++ es; contacts = [] } in
     let size : length (pts ++ es) ≡ length pts + suc m =
-    length-append pts es ∙ ap (λ (x : ℕ). length pts + x) (rest-length low (suc m)) in
+    length-append pts es ∙ ap (λ (x : ℕ). length pts + x) (from-length low (suc m)) in
     let spelt : ws ++ map pointWord es ≡ before p =
     ap (λ (l : List ℕ). l ++ map pointWord es) (s .words)
     ∙ ap₂ (λ (x : ℕ) (l : List ℕ). firstWord n x ∷ l) (sym size)
@@ -126,13 +118,8 @@ begins-less xs ys b =
     record { plan = b .plan; is = b .is; rest = ys ++ b .rest; words = sym (append-assoc xs ys (b .rest)) ∙ b .words }
 
 -- ---- the reader
--- what a reading says of the words
-abbrev pub Says : List ℕ → Reading → Type 0
-Says ws (plan p) = IsPlan p × (wordsOf p ≡ ws)
-Says ws (refused i) = Refusal ws i
-
 -- the words end
-at-end : (done : List ℕ) (s : State) → run start done ≡ s → (IsDead s → ⊥) → Says done (ended (length done) s)
+at-end : (done : List ℕ) (s : State) → run start done ≡ s → (IsDead s → ⊥) → ReadingSays done (ended (length done) s)
 at-end done s h live = go s h live (subst (Seen done) h (seen done))
   where
     stop : (t : State) → run start done ≡ t → (IsDead t → ⊥) → (IsWhole t → ⊥) → Refusal done (length done)
@@ -145,7 +132,7 @@ at-end done s h live = go s h live (subst (Seen done) h (seen done))
       stops = λ p i w. b (subst IsWhole (sym (complete p i) ∙ ap (run start) w ∙ e) tt);
     }
 
-    go : (t : State) → run start done ≡ t → (IsDead t → ⊥) → Seen done t → Says done (ended (length done) t)
+    go : (t : State) → run start done ≡ t → (IsDead t → ⊥) → Seen done t → ReadingSays done (ended (length done) t)
     go start e a k = stop start e a (λ x. x)
     go (pointing n m pts low) e a k = stop (pointing n m pts low) e a (λ x. x)
     go (linking n pts ks low) e a k = stop (linking n pts ks low) e a (λ x. x)
@@ -167,9 +154,9 @@ at-word done s w ws h live e =
     }
 
 read-says : (done : List ℕ) (s : State) (ws : List ℕ) → run start done ≡ s → (IsDead s → ⊥)
-    → Says (done ++ ws) (readFrom (length done) s ws)
+    → ReadingSays (done ++ ws) (readFrom (length done) s ws)
 unfolding readFrom run
-read-says done s [] h live = subst (λ (l : List ℕ). Says l (ended (length done) s)) (sym (append-nil done)) (at-end done s h live)
+read-says done s [] h live = subst (λ (l : List ℕ). ReadingSays l (ended (length done) s)) (sym (append-nil done)) (at-end done s h live)
 read-says done s (w ∷ ws) h live =
     go (step s (kindOf w)) refl (λ t q a. next t q a (read-says (done ++ (w ∷ [])) t ws (reached t q) a))
   where
@@ -180,14 +167,14 @@ read-says done s (w ∷ ws) h live =
     one-more = omega (arith, length-append done (w ∷ []))
 
     next : (t : State) → step s (kindOf w) ≡ t → (IsDead t → ⊥)
-        → Says (done ++ (w ∷ []) ++ ws) (readFrom (length (done ++ (w ∷ []))) t ws)
-        → Says (done ++ (w ∷ ws)) (readFrom (suc (length done)) t ws)
-    next t q a r = subst (λ (l : List ℕ). Says l (readFrom (suc (length done)) t ws)) (append-assoc done (w ∷ []) ws)
-        (subst (λ (i : ℕ). Says (done ++ (w ∷ []) ++ ws) (readFrom i t ws)) one-more r)
+        → ReadingSays (done ++ (w ∷ []) ++ ws) (readFrom (length (done ++ (w ∷ []))) t ws)
+        → ReadingSays (done ++ (w ∷ ws)) (readFrom (suc (length done)) t ws)
+    next t q a r = subst (λ (l : List ℕ). ReadingSays l (readFrom (suc (length done)) t ws)) (append-assoc done (w ∷ []) ws)
+        (subst (λ (i : ℕ). ReadingSays (done ++ (w ∷ []) ++ ws) (readFrom i t ws)) one-more r)
 
     go : (t : State) → step s (kindOf w) ≡ t
-        → ((t : State) → step s (kindOf w) ≡ t → (IsDead t → ⊥) → Says (done ++ (w ∷ ws)) (readFrom (suc (length done)) t ws))
-        → Says (done ++ (w ∷ ws)) (unless t (length done) (readFrom (suc (length done)) t ws))
+        → ((t : State) → step s (kindOf w) ≡ t → (IsDead t → ⊥) → ReadingSays (done ++ (w ∷ ws)) (readFrom (suc (length done)) t ws))
+        → ReadingSays (done ++ (w ∷ ws)) (unless t (length done) (readFrom (suc (length done)) t ws))
     go start q f = f start q (λ x. x)
     go (pointing n m pts low) q f = f (pointing n m pts low) q (λ x. x)
     go (linking n pts ks low) q f = f (linking n pts ks low) q (λ x. x)
@@ -195,7 +182,7 @@ read-says done s (w ∷ ws) h live =
     go dead q f = at-word done s w ws h live q
 
 -- the reading of any words: they are the words of this plan, or refusal 13 is due at this index
-pub exact : (ws : List ℕ) → Says ws (readOf ws)
+pub exact : (ws : List ℕ) → ReadingSays ws (readOf ws)
 unfolding readOf run
 exact ws = read-says [] start ws refl (λ x. x)
 
@@ -251,13 +238,13 @@ same-index ws i j r t =
 pub plan-read : (p : Plan) → IsPlan p → readOf (wordsOf p) ≡ plan p
 plan-read p h = go (readOf (wordsOf p)) (exact (wordsOf p))
   where
-    go : (r : Reading) → Says (wordsOf p) r → r ≡ plan p
+    go : (r : Reading) → ReadingSays (wordsOf p) r → r ≡ plan p
     go (plan q) s = ap plan (unique q p (s .0) h (s .1))
     go (refused i) s = absurd (refusal-no-plan (wordsOf p) i p h refl s)
 
 pub refusal-read : (ws : List ℕ) (j : ℕ) → Refusal ws j → readOf ws ≡ refused j
 refusal-read ws j r = go (readOf ws) (exact ws)
   where
-    go : (x : Reading) → Says ws x → x ≡ refused j
+    go : (x : Reading) → ReadingSays ws x → x ≡ refused j
     go (plan p) s = absurd (refusal-no-plan ws j p (s .0) (s .1) r)
     go (refused i) s = ap refused (same-index ws i j s r)

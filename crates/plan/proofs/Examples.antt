@@ -4,7 +4,7 @@ use mathlib.Core.List.{List, [], _∷_, map}
 use Prim.Native.Nat.{ℕ}
 use Rattle.plan.specs.Words.{Plan}
 use Rattle.plan.specs.Reader.{Reading, plan, refused, kindOf, readFrom, readOf}
-use Rattle.plan.specs.Held.{planOf}
+use Rattle.plan.specs.Private.{planOf}
 
 -- words and what they are read to
 abbrev pub Sheet : Type 0

@@ -4,35 +4,34 @@
 use mathlib.Core.Path.{_≡_, refl, sym, ap, _∙_, subst}
 use mathlib.Core.Bool.{Bool, true, false, not, cond}
 use mathlib.Core.Logic.{_↔_, ⊎-elim}
-use mathlib.Core.List.{List, [], _∷_, map, nil≢cons, cons≢nil, head-eq-of-cons-eq, tail-eq-of-cons-eq}
-use Prim.Native.Nat.{ℕ, zero, suc, _+_, _-_, _*_, _^_, _≤_, _<_}
+use mathlib.Core.List.{List, [], _∷_, map, map-eq-nil-iff, nil≢cons, head-eq-of-cons-eq, tail-eq-of-cons-eq}
+use Prim.Native.Nat.{ℕ, zero, suc, _+_, _-_, _*_, _/_, _^_, _≤_, _<_}
 use native.Mathlib.Omega.{arith}
-use native.Mathlib.Nat.{mul-suc, suc-mul}
+use native.Mathlib.Nat.{mul-suc, suc-mul, mul-le-mul}
 use lib.ListN.{length, getD, length-append, length-map}
+use lib.Pow.{pow-mono}
 use Rattle.formula.specs.Formula.{Formula, Name}
 use Rattle.evalset.specs.Search.{keep, gather, from, elem}
-use Rattle.evalset.proofs.Bounded.{side, keep-length}
+use Rattle.evalset.proofs.Bounded.{side, keep-length, gather-small}
 use Rattle.contact.specs.Meaning.{Floor, meetsAll}
-use Rattle.contact.specs.Numbering.{allAtoms, namesOf, mapAtom, numberedNames, numberedAtoms}
+use Rattle.contact.specs.Numbering.{allAtoms, namesOf, mapAtom, numberedNames, numberedAtoms, numberOf}
 use Rattle.contact.specs.Row.{Row, Realises, is}
 use Rattle.contact.specs.Plan.{Mark, rowMarks, separated, check, given, pointsFor, rows, good, firstRow, firstRowOf}
 use Rattle.contact.proofs.Realise.{marksFloor, points-some, plan-points, plan-touch, plan-lies}
 use Rattle.contact.proofs.Numbered.{all-atoms-map}
 use Rattle.contact.proofs.Answer.{row-found, rowFloor, plan-gives-row, plan-meets}
-use Rattle.contact.proofs.Naming.{numberOf, numbers-row, numbers-meet, first-row-named, first-row-only-named, no-plan-named}
-use Rattle.contact.proofs.Count.{first-short, points-at-most, words-at-most}
+use Rattle.contact.proofs.Naming.{numbers-row, numbers-meet, first-row-named, first-row-only-named, no-plan-named}
+use Rattle.contact.proofs.Count.{first-short, points-at-most}
 use Rattle.contact.proofs.SameFloor.{SameFloor, row-same, meets-same}
-use Rattle.plan.specs.Words.{Plan, mostNames, Ascends, IsPlan, lastWord, before, wordsOf}
-use Rattle.plan.specs.Floor.{liesIn}
+use Rattle.plan.specs.Words.{Plan, Ascends, IsPlan, lastWord, before, wordsOf}
+use Rattle.evalset.specs.Sets.{most}
+use Rattle.plan.specs.Floor.{liesIn, planFloor, namedFloor}
 use Rattle.plan.specs.Arrays.{pairOf, rowTo, linksTo}
 use Rattle.plan.specs.Given.{givenPlan, rowPlan, plansOf, IsGiven}
-use Rattle.plan.proofs.Lists.{gather-small}
-use Rattle.plan.proofs.Complete.{room-64, before-length}
-use Rattle.plan.proofs.Buffer.{pair-early, pair-small}
-use Rattle.plan.proofs.Contacts.{links-rise}
+use Rattle.plan.proofs.Complete.{before-length}
+use Rattle.plan.proofs.Contacts.{pair-early, pair-small, links-rise}
 use Rattle.plan.proofs.Judged.{few-points}
-use Rattle.plan.proofs.Again.{links-kept}
-use Rattle.plan.proofs.Floors.{planFloor, namedFloor}
+use Rattle.plan.proofs.SamePlan.{links-kept}
 
 -- ---- the plan of marks
 -- what is kept of a rising run ascends
@@ -56,14 +55,14 @@ module _ (n : ℕ) (ms : List Mark) where
 
   module _ (checked : check n ms ≡ true) where
     -- marks that pass the check have a plan in words
-    marks-plan : n ≤ mostNames → IsPlan (givenPlan n ms)
+    marks-plan : n ≤ most → IsPlan (givenPlan n ms)
     unfolding givenPlan
     marks-plan few =
         record {
           few = few;
           some = points-some n ms checked;
           ascend = points-ascend;
-          rise = links-rise (length (pointsFor n ms)) (length (pointsFor n ms)) _ (omega (arith, points-room, room-64 n few));
+          rise = links-rise (length (pointsFor n ms)) (length (pointsFor n ms)) _ (omega (arith, points-room, pow-mono few));
         }
 
     abbrev floor : Floor ℕ
@@ -102,7 +101,7 @@ module _ (rules : List (Formula Name)) (row : Row) (found : firstRowOf (length (
   checked = row-found (length (namesOf rules)) (numberedNames rules) row found .checked
 
   -- is a plan
-  pub given-is-plan : length (namesOf rules) ≤ mostNames → IsPlan (rowPlan rules row)
+  pub given-is-plan : length (namesOf rules) ≤ most → IsPlan (rowPlan rules row)
   unfolding rowPlan
   given-is-plan few = marks-plan (length (namesOf rules)) (rowMarks (allAtoms (numberedNames rules)) row) checked few
 
@@ -129,21 +128,17 @@ module _ (rules : List (Formula Name)) (row : Row) (found : firstRowOf (length (
 
 -- ---- the plans of rules are none or one
 module _ {A B : Type 0} (f : A → B) where
-  map-none : (xs : List A) → map f xs ≡ [] → xs ≡ []
-  map-none [] e = refl
-  map-none (x ∷ xs) e = absurd (cons≢nil e)
-
   map-one : (xs : List A) (y : B) → map f xs ≡ y ∷ [] → (x : A) × (xs ≡ x ∷ []) × (y ≡ f x)
   map-one [] y e = absurd (nil≢cons e)
   map-one (x ∷ xs) y e =
-      (x, ap (λ l. x ∷ l) (map-none xs (tail-eq-of-cons-eq e)), sym (head-eq-of-cons-eq e))
+      (x, ap (λ l. x ∷ l) (map-eq-nil-iff f .0 (tail-eq-of-cons-eq e)), sym (head-eq-of-cons-eq e))
 
 module _ (rules : List (Formula Name)) where
   -- none exactly if no floor meets the rules
   pub no-plan-given : (plansOf rules ≡ []) ↔ ((F : Floor Name) → meetsAll F rules ≡ true → ⊥)
   unfolding plansOf
   no-plan-given = (
-    λ e. no-plan-named rules .0 (map-none (rowPlan rules) _ e),
+    λ e. no-plan-named rules .0 (map-eq-nil-iff (rowPlan rules) .0 e),
     λ none. ap (map (rowPlan rules)) (no-plan-named rules .1 none),
   )
 
@@ -202,6 +197,13 @@ links-count rows size k (suc n) e =
         let y : suc m - 1 ≡ m = omega arith in
         let z : suc (suc m) - 1 ≡ suc m = omega arith in
         rw (y, z) (omega (arith, suc-mul (suc m) (suc m), mul-suc (suc m) m))
+
+-- 32 points, 530 words: the first, one a point, one a pair of points, the last
+words-at-most : (p : ℕ) → p ≤ 32 → 1 + p + p * (p - 1) / 2 + 1 ≤ 530
+words-at-most p h =
+    let low : p - 1 ≤ 31 = omega arith in
+    let pairs : p * (p - 1) ≤ 32 * 31 = mul-le-mul h low in
+    omega arith
 
 module _ (rules : List (Formula Name)) (few : length (allAtoms rules) ≤ 16) (p : Plan) (e : plansOf rules ≡ p ∷ []) where
   -- 16 atoms, 32 points

@@ -6,26 +6,22 @@ use mathlib.Core.List.{List, [], _∷_}
 use Prim.Native.Nat.{ℕ, zero, suc, _-_, _^_, _≤_, _<_}
 use native.Mathlib.Omega.{arith}
 use lib.ListN.{length, getD, replicate, List·getD-append}
+use lib.Pow.{pow-mono}
 use borrow.Author.Tests.{lt-ltb}
 use Rattle.formula.specs.Formula.{Term}
 use Rattle.evalset.specs.Search.{any, below}
 use Rattle.evalset.specs.Sets.{memAt}
+use Rattle.evalset.specs.Arrays.{pad}
+use Rattle.evalset.proofs.Search.{any-same, below-elim}
 use Rattle.contact.specs.Meaning.{within, isEmpty, touches}
-use Rattle.contact.specs.Plan.{at}
 use Rattle.plan.specs.declared.PlanArrays.{PlanArrays}
 use Rattle.plan.specs.Words.{Plan, Ascends, IsPlan}
-use Rattle.plan.specs.Floor.{touching, liesIn}
-use Rattle.plan.specs.Arrays.{pad, square, Stored, countOf, pointAt, touchesOf, vacantOf}
-use Rattle.plan.proofs.Complete.{ascends-room, room-64}
-use Rattle.plan.proofs.Lists.{any-same}
-use Rattle.plan.proofs.Floors.{planFloor}
-
--- the set holds the term's evaluations, of those over so many names
-abbrev pub Means : ℕ → (ℕ → Bool) → Term ℕ → Type 0
-Means names x t = (e : ℕ) → e < 2 ^ names → x e ≡ at t e
+use Rattle.plan.specs.Floor.{touching, liesIn, planFloor, Means}
+use Rattle.plan.specs.Arrays.{square, Stored, countOf, pointAt, touchesOf, vacantOf}
+use Rattle.plan.proofs.Complete.{ascends-room}
 
 pub few-points : (p : Plan) → IsPlan p → length (p .points) ≤ 64
-few-points p h = omega (arith, ascends-room 0 (2 ^ (p .names)) (p .points) (omega arith) (h .ascend), room-64 (p .names) (h .few))
+few-points p h = omega (arith, ascends-room 0 (2 ^ (p .names)) (p .points) (omega arith) (h .ascend), pow-mono (h .few))
 
 ascends-at : (low high : ℕ) (es : List ℕ) (a : ℕ) → Ascends low high es → a < length es → getD es a 0 < high
 ascends-at low high [] a h l = absurd (omega arith)
@@ -58,12 +54,14 @@ module _ (p : Plan) (h : IsPlan p) (r : PlanArrays) (s : Stored r p) where
   unfolding touchesOf planFloor
   touches-meant x y s t f g =
       ap (λ (n : ℕ). any (λ a. x (pointAt r a) && any (λ b. y (pointAt r b) && memAt (r .rows) a b) (below n)) (below n)) count-is
-      ∙ any-same _ _ (length (p .points))
-      (λ a l. ap₂ _&&_ (lies-is x s f a l)
-      (any-same _ _ (length (p .points)) (λ b m. ap₂ _&&_ (lies-is y t g b m) (row-is a b l m))))
+      ∙ any-same _ _ (below (length (p .points)))
+      (λ a i. let l = below-elim (length (p .points)) a i in
+      ap₂ _&&_ (lies-is x s f a l)
+      (any-same _ _ (below (length (p .points)))
+      (λ b j. let m = below-elim (length (p .points)) b j in ap₂ _&&_ (lies-is y t g b m) (row-is a b l m))))
 
   pub vacant-meant : (x : ℕ → Bool) (t : Term ℕ) → Means (p .names) x t → vacantOf r x ≡ isEmpty (planFloor p h) t
   unfolding vacantOf planFloor
   vacant-meant x t f =
       ap (λ (n : ℕ). not (any (λ a. x (pointAt r a)) (below n))) count-is
-      ∙ ap not (any-same _ _ (length (p .points)) (lies-is x t f))
+      ∙ ap not (any-same _ _ (below (length (p .points))) (λ a i. lies-is x t f a (below-elim (length (p .points)) a i)))

@@ -6,14 +6,15 @@ use mathlib.Core.List.{List, [], _∷_, _++_, map, append-nil, append-assoc, map
 use Prim.Native.Nat.{ℕ, zero, suc, _+_, _-_, _*_, _^_, _/_, _%_, _≤_, _<_}
 use native.Mathlib.Omega.{arith}
 use lib.Dec.{eqb, ltb, leb}
-use lib.ListN.{length, length-append, length-map}
+use lib.ListN.{length, length-append}
 use borrow.Author.Tests.{leb-true, ltb-true, eqb-true}
 use Rattle.plan.specs.declared.Word.{Word}
 use Rattle.plan.specs.declared.Word.the-variants.{First, Point, Contact, Last, Other}
 use Rattle.plan.specs.Words.{Plan, Ascends, Rises, IsPlan, firstWord, pointWord, contactWord, lastWord, before, wordsOf}
 use Rattle.plan.specs.Reader.{kindOf, State, start, pointing, linking, whole, dead, opened, went, pointed, linked, step, run}
 use Rattle.plan.proofs.Spelling.{Spells, spells}
-use Rattle.evalset.proofs.Search.{both}
+use Rattle.plan.proofs.Complete.{before-length}
+use Rattle.evalset.proofs.Truth.{both}
 
 pub record PointsSeen (ws : List ℕ) (n m : ℕ) (pts : List ℕ) (low : ℕ) : Type 0 where
   pub few : n ≤ 6
@@ -143,15 +144,6 @@ links-step ws n pts ks low w (Last c) q s = go (eqb c (1 + (length pts + length 
     p : Plan
     p = record { names = n; points = pts; contacts = ks }
 
-    size : length (before p) ≡ 1 + (length pts + length ks)
-    size = omega (
-      arith,
-      length-append (map pointWord pts)
-          (map contactWord ks),
-      length-map pts pointWord,
-      length-map ks contactWord,
-    )
-
     same : ws ≡ before p
     same = s .words
 
@@ -167,7 +159,7 @@ links-step ws n pts ks low w (Last c) q s = go (eqb c (1 + (length pts + length 
     )
       where
         spelt : c ≡ 1 + (length pts + length ks) → ws ++ (w ∷ []) ≡ wordsOf p
-        spelt e = ap₂ (λ (x : List ℕ) (y : ℕ). x ++ (y ∷ [])) same (q ∙ ap lastWord (e ∙ sym size))
+        spelt e = ap₂ (λ (x : List ℕ) (y : ℕ). x ++ (y ∷ [])) same (q ∙ ap lastWord (e ∙ sym (before-length p)))
     go false h = tt
 links-step ws n pts ks low w Other q s = tt
 

@@ -1,41 +1,26 @@
--- Arrays that hold a list, and rows that hold a square of contacts: a point more is one bit, a contact more is two.
--- Assumes nothing.
-use mathlib.Core.Path.{_≡_, refl, sym, ap, ap₂, _∙_, fun-ext}
+-- Rows that hold a square of contacts: a point more is one bit, a contact more is two. Assumes nothing.
+use mathlib.Core.Path.{_≡_, sym, ap, ap₂, _∙_, fun-ext}
 use mathlib.Core.Bool.{Bool, true, _&&_, _||_, or-false}
-use mathlib.Core.List.{List, [], _∷_, _++_, append-assoc}
+use mathlib.Core.List.{List, [], _∷_, _++_}
 use mathlib.Core.Logic.{_⊎_, inl, inr, ⊎-elim}
-use Prim.Native.Nat.{ℕ, zero, suc, _+_, _-_, _*_, _≤_, _<_}
+use Prim.Native.Nat.{ℕ, _+_, _*_, _≤_, _<_}
 use native.Mathlib.Omega.{arith}
 use native.Mathlib.Decide.{ℕ-discrete as decEq}
 use lib.Dec.{eqb, ltb}
-use lib.ListN.{length, getD, set, replicate, length-append}
-use lib.Seq.{set-append-seam}
+use lib.ListN.{length, set, replicate, length-append}
 use borrow.Author.Tests.{eqb-true, eq-eqb, ne-eqb, ltb-true, lt-ltb}
 use Rattle.evalset.specs.declared.EvalSet.{EvalSet}
 use Rattle.evalset.specs.Search.{any}
-use Rattle.evalset.specs.Sets.{room, mem, memAt, addOf}
+use Rattle.evalset.specs.Sets.{room, mem, memAt, noneOf, addOf}
 use Rattle.evalset.proofs.Bounded.{each}
-use Rattle.evalset.proofs.Bits.{bit-none}
-use Rattle.evalset.proofs.Members.{add-in, mem-at-same, mem-at-other}
+use Rattle.evalset.proofs.Members.{add-in}
+use Rattle.evalset.proofs.Arrays.{empty-rows, mem-at-same, mem-at-other}
 use Rattle.plan.specs.Words.{Plan}
 use Rattle.plan.specs.Floor.{between, touching}
-use Rattle.plan.specs.Arrays.{pad, square}
-use Rattle.plan.specs.Held.{planOf, addAt, joinedOf}
-use Rattle.plan.proofs.Lists.{any-snoc}
-use Rattle.evalset.proofs.Search.{both, and-intro, or-cases, or-left, or-right, bool-ext, untrue}
-
--- ---- a list in an array
-pub pad-set : (n : ℕ) (l : List ℕ) (a : ℕ) → length l < n → set (pad n l) (length l) a ≡ pad n (l ++ (a ∷ []))
-unfolding pad
-pad-set n l a h =
-    let m : n - length l ≡ suc (n - length (l ++ (a ∷ []))) = omega (arith, length-append l (a ∷ [])) in
-    ap (λ (k : ℕ). set (l ++ replicate k 0) (length l) a) m
-    ∙ set-append-seam l 0 (replicate (n - length (l ++ (a ∷ []))) 0) a
-    ∙ sym (append-assoc l (a ∷ []) (replicate (n - length (l ++ (a ∷ []))) 0))
-
-pub pad-none : (n : ℕ) → replicate n 0 ≡ pad n []
-unfolding pad
-pad-none n = let e : n ≡ n - 0 = omega arith in ap (λ (k : ℕ). replicate k 0) e
+use Rattle.plan.specs.Arrays.{square}
+use Rattle.plan.specs.Private.{planOf, addAt, joinedOf}
+use Rattle.evalset.proofs.Search.{any-last}
+use Rattle.evalset.proofs.Truth.{both, and-intro, or-cases, or-left, or-right, bool-ext, untrue}
 
 -- ---- what a square says
 pub record Related (p : Plan) (a b : ℕ) : Type 0 where
@@ -64,8 +49,8 @@ square-intro p a b r =
     (λ q. or-right (eqb a b) (any (between a b) (p .contacts)) q) (r .how))
 
 -- ---- one position more in a row, one contact more
-add-e : (t : ℕ → ℕ → Bool) (i j a b : ℕ) → addAt t i j a b ≡ true → (t a b ≡ true) ⊎ ((a ≡ i) × (b ≡ j))
-add-e t i j a b e =
+add-elim : (t : ℕ → ℕ → Bool) (i j a b : ℕ) → addAt t i j a b ≡ true → (t a b ≡ true) ⊎ ((a ≡ i) × (b ≡ j))
+add-elim t i j a b e =
     ⊎-elim (λ q. inl q) (λ q. let w = both (eqb a i) (eqb b j) q in inr (eqb-true a i (w .0), eqb-true b j (w .1)))
     (or-cases (t a b) (eqb a i && eqb b j) e)
 
@@ -79,7 +64,7 @@ module _ (t : ℕ → ℕ → Bool) (i j a b : ℕ) where
   joined-elim : joinedOf t i j a b ≡ true → (t a b ≡ true) ⊎ (((a ≡ i) × (b ≡ j)) ⊎ ((a ≡ j) × (b ≡ i)))
   unfolding joinedOf
   joined-elim e =
-      ⊎-elim (λ q. ⊎-elim (λ x. inl x) (λ x. inr (inl x)) (add-e t i j a b q)) (λ q. inr (inr q)) (add-e (addAt t i j) j i a b e)
+      ⊎-elim (λ q. ⊎-elim (λ x. inl x) (λ x. inr (inl x)) (add-elim t i j a b q)) (λ q. inr (inr q)) (add-elim (addAt t i j) j i a b e)
 
   joined-old : t a b ≡ true → joinedOf t i j a b ≡ true
   unfolding joinedOf
@@ -94,16 +79,10 @@ module _ (t : ℕ → ℕ → Bool) (i j a b : ℕ) where
   joined-other p q = add-new (addAt t i j) j i a b p q
 
 -- ---- rows of sets
-getD-all : {A : Type 0} (n i : ℕ) (a : A) → getD (replicate n a) i a ≡ a
-getD-all zero i a = refl
-getD-all (suc n) zero a = refl
-getD-all (suc n) (suc i) a = getD-all n i a
-
-pub rows-none : (n names : ℕ) → memAt (replicate n (record { bits = 0 })) ≡ square (planOf names [] [])
-unfolding memAt mem
-rows-none n names =
+pub rows-none : (n names : ℕ) (none : EvalSet) → mem none ≡ noneOf → memAt (replicate n none) ≡ square (planOf names [] [])
+rows-none n names none h =
     fun-ext (λ a. fun-ext (λ b.
-    ap (λ (s : EvalSet). mem s b) (getD-all n a (record { bits = 0 })) ∙ bit-none b
+    empty-rows n a b none h
     ∙ sym (untrue (square (planOf names [] []) a b) (λ e. let l = square-elim (planOf names [] []) a b e .left in omega arith))))
 
 pub row-set : (rows : List EvalSet) (i j : ℕ) (v : EvalSet) → i < length rows → j < room → mem v ≡ addOf (memAt rows i) j
@@ -164,7 +143,7 @@ module _ (n : ℕ) (pts ks : List ℕ) (i j : ℕ) (later : i < j) (within : j <
       k = i * 256 + j
 
       more : (a b : ℕ) → any (between a b) (ks ++ (k ∷ [])) ≡ (any (between a b) ks || between a b k)
-      more a b = any-snoc (between a b) ks k
+      more a b = any-last (between a b) ks k
 
       there : (a b : ℕ) → joinedOf (square (planOf n pts ks)) i j a b ≡ true → square (planOf n pts (ks ++ (k ∷ []))) a b ≡ true
       there a b q =

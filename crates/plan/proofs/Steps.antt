@@ -1,14 +1,16 @@
 -- The code's reader follows the machine: each test that it makes is one of the machine's, and the arrays grow as the lists do.
 -- Assumes nothing.
 use mathlib.Core.Path.{_≡_, refl, sym, ap, ap₂, _∙_, subst}
-use mathlib.Core.Bool.{Bool, true, false, _&&_, cond}
+use mathlib.Core.Bool.{Bool, true, false, not, _&&_, cond}
 use mathlib.Core.List.{List, [], _∷_, _++_}
 use Prim.Native.Nat.{ℕ, zero, suc, _+_, _-_, _*_, _^_, _≤_, _<_}
 use native.Mathlib.Omega.{arith}
 use native.Mathlib.Numerals.{add-one}
-use lib.Dec.{ltb, leb}
+use lib.Dec.{T, ltb, leb}
 use lib.ListN.{length, length-append}
+use lib.Pow.{pow-mono}
 use types.Run.{OneOf, miss}
+use mir.Val.{hasKey}
 use denote.Enum.Declared.{tagOf}
 use borrow.Author.Tests.{le-leb, lt-leb, lt-ltb, le-ltb, ne-eqb}
 use Rattle.plan.proofs.Word.{the-type}
@@ -22,8 +24,8 @@ use Rattle.plan.specs.declared.Progress.{Progress}
 use Rattle.plan.specs.Reader.{State, start, pointing, linking, whole, dead, opened, went, pointed, linked, step}
 use Rattle.evalset.specs.Sets.{memAt}
 use Rattle.plan.specs.Arrays.{Stored}
-use Rattle.plan.specs.Held.{planOf, joinedOf, Adds, HeldPoints, HeldLinks, Holds, SomePoints, SomeLinks, SomeState}
-use Rattle.plan.proofs.Complete.{room-64, open-by, point-by, link-by, last-by}
+use Rattle.plan.specs.Private.{planOf, joinedOf, Adds, HeldPoints, HeldLinks, Holds, SomePoints, SomeLinks, SomeState}
+use Rattle.plan.proofs.Complete.{open-by, point-by, link-by, last-by}
 use Rattle.plan.proofs.Squares.{square-point, square-link}
 
 pub dead-holds : (at : ℕ) (r : Progress) (s : State) → r .phase ≡ phase.Dead → s ≡ dead → Holds at r s
@@ -58,7 +60,7 @@ module _ (w : Word) (n c : ℕ) (e : w ≡ First n c) where
         least = z;
         few = h;
         small = omega
-            (arith, room-64 n h);
+            (arith, pow-mono h);
         lowest = omega arith;
         words = refl;
         stored = s;
@@ -113,7 +115,7 @@ module _ (at : ℕ) (p : Progress) (n m : ℕ) (pts : List ℕ) (low : ℕ) (w :
       size = length-append pts (e ∷ [])
 
       top : 2 ^ n ≤ 64
-      top = room-64 n (h .few)
+      top = pow-mono (h .few)
 
       go : (m : ℕ) → p .left ≡ m → length pts + m < 64 → Holds (at + 1) r (went n m (pts ++ (e ∷ [])) e)
       go zero z y =
@@ -206,25 +208,52 @@ not-link n pts ks low (Last c) h = absurd (miss (0 ∷ 1 ∷ 4 ∷ []) 3 tt h)
 not-link n pts ks low Other h = refl
 
 -- ---- which state it is, by the phase
+abbrev pub phaseOf : State → Phase
+phaseOf start = phase.Start
+phaseOf (pointing n m pts low) = phase.Points
+phaseOf (linking n pts ks low) = phase.Contacts
+phaseOf (whole p) = phase.Whole
+phaseOf dead = phase.Dead
+
+holds-phase : (at : ℕ) (p : Progress) (s : State) → Holds at p s → p .phase ≡ phaseOf s
+holds-phase at p start h = h .0
+holds-phase at p (pointing n m pts low) h = h .phase
+holds-phase at p (linking n pts ks low) h = h .phase
+holds-phase at p (whole q) h = h .0
+holds-phase at p dead h = h
+
+-- a state of no phase in the list
+pub other-phase : {P : Type 0} (at : ℕ) (p : Progress) (s : State) (ks : List ℕ) → OneOf ks (tagOf phase-type.the-type (p .phase))
+    → Holds at p s → T (not (hasKey ks (tagOf phase-type.the-type (phaseOf s)))) → P
+other-phase at p s ks o h t =
+    absurd (miss ks (tagOf phase-type.the-type (phaseOf s)) t
+    (subst (λ (x : Phase). OneOf ks (tagOf phase-type.the-type x)) (holds-phase at p s h) o))
+
 pub some-points : (at : ℕ) (p : Progress) → p .phase ≡ phase.Points → SomeState at p → SomePoints at p
 some-points at p e t = go (t .s) (t .held)
   where
+    o : OneOf (1 ∷ []) (tagOf phase-type.the-type (p .phase))
+    o = ap (tagOf phase-type.the-type) e
+
     go : (s : State) → Holds at p s → SomePoints at p
-    go start h = let a = h .0 in let z : _≡_ {A = ℕ} 0 1 = cc in absurd (omega arith)
+    go start h = other-phase at p start (1 ∷ []) o h tt
     go (pointing n m pts low) h = record { n = n; m = m; pts = pts; lo = low; held = h }
-    go (linking n pts ks low) h = let a = h .phase in let z : _≡_ {A = ℕ} 0 1 = cc in absurd (omega arith)
-    go (whole q) h = let a = h .0 in let z : _≡_ {A = ℕ} 0 1 = cc in absurd (omega arith)
-    go dead h = let z : _≡_ {A = ℕ} 0 1 = cc in absurd (omega arith)
+    go (linking n pts ks low) h = other-phase at p (linking n pts ks low) (1 ∷ []) o h tt
+    go (whole q) h = other-phase at p (whole q) (1 ∷ []) o h tt
+    go dead h = other-phase at p dead (1 ∷ []) o h tt
 
 pub some-links : (at : ℕ) (p : Progress) → p .phase ≡ phase.Contacts → SomeState at p → SomeLinks at p
 some-links at p e t = go (t .s) (t .held)
   where
+    o : OneOf (2 ∷ []) (tagOf phase-type.the-type (p .phase))
+    o = ap (tagOf phase-type.the-type) e
+
     go : (s : State) → Holds at p s → SomeLinks at p
-    go start h = let a = h .0 in let z : _≡_ {A = ℕ} 0 1 = cc in absurd (omega arith)
-    go (pointing n m pts low) h = let a = h .phase in let z : _≡_ {A = ℕ} 0 1 = cc in absurd (omega arith)
+    go start h = other-phase at p start (2 ∷ []) o h tt
+    go (pointing n m pts low) h = other-phase at p (pointing n m pts low) (2 ∷ []) o h tt
     go (linking n pts ks low) h = record { n = n; pts = pts; ks = ks; lo = low; held = h }
-    go (whole q) h = let a = h .0 in let z : _≡_ {A = ℕ} 0 1 = cc in absurd (omega arith)
-    go dead h = let z : _≡_ {A = ℕ} 0 1 = cc in absurd (omega arith)
+    go (whole q) h = other-phase at p (whole q) (2 ∷ []) o h tt
+    go dead h = other-phase at p dead (2 ∷ []) o h tt
 
 -- the progress follows the machine over one word
 abbrev pub Next : ℕ → Progress → Progress → Word → Type 0
@@ -232,38 +261,53 @@ Next at p r w = (s : State) → Holds at p s → Holds (at + 1) r (step s w)
 
 module _ (at : ℕ) (p r : Progress) (w : Word) where
   pub next-start : p .phase ≡ phase.Start → Holds 1 r (opened w) → Next at p r w
-  next-start e f start h = let q : at + 1 ≡ 1 = omega (arith, h .1) in subst (λ (x : ℕ). Holds x r (opened w)) (sym q) f
-  next-start e f (pointing n m pts low) h = let a = h .phase in let z : _≡_ {A = ℕ} 0 1 = cc in absurd (omega arith)
-  next-start e f (linking n pts ks low) h = let a = h .phase in let z : _≡_ {A = ℕ} 0 1 = cc in absurd (omega arith)
-  next-start e f (whole q) h = let a = h .0 in let z : _≡_ {A = ℕ} 0 1 = cc in absurd (omega arith)
-  next-start e f dead h = let z : _≡_ {A = ℕ} 0 1 = cc in absurd (omega arith)
+  next-start e f = go
+    where
+      o : OneOf (0 ∷ []) (tagOf phase-type.the-type (p .phase))
+      o = ap (tagOf phase-type.the-type) e
+
+      go : Next at p r w
+      go start h = let q : at + 1 ≡ 1 = omega (arith, h .1) in subst (λ (x : ℕ). Holds x r (opened w)) (sym q) f
+      go (pointing n m pts low) h = other-phase at p (pointing n m pts low) (0 ∷ []) o h tt
+      go (linking n pts ks low) h = other-phase at p (linking n pts ks low) (0 ∷ []) o h tt
+      go (whole q) h = other-phase at p (whole q) (0 ∷ []) o h tt
+      go dead h = other-phase at p dead (0 ∷ []) o h tt
 
   pub next-points : p .phase ≡ phase.Points
       → ((n m : ℕ) (pts : List ℕ) (low : ℕ) → HeldPoints at p n m pts low → Holds (at + 1) r (pointed n m pts low w))
       → Next at p r w
-  next-points e f start h = let a = h .0 in let z : _≡_ {A = ℕ} 0 1 = cc in absurd (omega arith)
-  next-points e f (pointing n m pts low) h = f n m pts low h
-  next-points e f (linking n pts ks low) h = let a = h .phase in let z : _≡_ {A = ℕ} 0 1 = cc in absurd (omega arith)
-  next-points e f (whole q) h = let a = h .0 in let z : _≡_ {A = ℕ} 0 1 = cc in absurd (omega arith)
-  next-points e f dead h = let z : _≡_ {A = ℕ} 0 1 = cc in absurd (omega arith)
+  next-points e f = go
+    where
+      o : OneOf (1 ∷ []) (tagOf phase-type.the-type (p .phase))
+      o = ap (tagOf phase-type.the-type) e
+
+      go : Next at p r w
+      go start h = other-phase at p start (1 ∷ []) o h tt
+      go (pointing n m pts low) h = f n m pts low h
+      go (linking n pts ks low) h = other-phase at p (linking n pts ks low) (1 ∷ []) o h tt
+      go (whole q) h = other-phase at p (whole q) (1 ∷ []) o h tt
+      go dead h = other-phase at p dead (1 ∷ []) o h tt
 
   pub next-links : p .phase ≡ phase.Contacts
       → ((n : ℕ) (pts ks : List ℕ) (low : ℕ) → HeldLinks at p n pts ks low → Holds (at + 1) r (linked n pts ks low w))
       → Next at p r w
-  next-links e f start h = let a = h .0 in let z : _≡_ {A = ℕ} 0 1 = cc in absurd (omega arith)
-  next-links e f (pointing n m pts low) h = let a = h .phase in let z : _≡_ {A = ℕ} 0 1 = cc in absurd (omega arith)
-  next-links e f (linking n pts ks low) h = f n pts ks low h
-  next-links e f (whole q) h = let a = h .0 in let z : _≡_ {A = ℕ} 0 1 = cc in absurd (omega arith)
-  next-links e f dead h = let z : _≡_ {A = ℕ} 0 1 = cc in absurd (omega arith)
+  next-links e f = go
+    where
+      o : OneOf (2 ∷ []) (tagOf phase-type.the-type (p .phase))
+      o = ap (tagOf phase-type.the-type) e
+
+      go : Next at p r w
+      go start h = other-phase at p start (2 ∷ []) o h tt
+      go (pointing n m pts low) h = other-phase at p (pointing n m pts low) (2 ∷ []) o h tt
+      go (linking n pts ks low) h = f n pts ks low h
+      go (whole q) h = other-phase at p (whole q) (2 ∷ []) o h tt
+      go dead h = other-phase at p dead (2 ∷ []) o h tt
 
   -- a phase that is over
   pub next-over : OneOf (3 ∷ 4 ∷ []) (tagOf phase-type.the-type (p .phase)) → r .phase ≡ phase.Dead
       → Next at p r w
-  next-over o d start h = absurd
-      (miss (3 ∷ 4 ∷ []) 0 tt (subst (λ (x : Phase). OneOf (3 ∷ 4 ∷ []) (tagOf phase-type.the-type x)) (h .0) o))
-  next-over o d (pointing n m pts low) h =
-      absurd (miss (3 ∷ 4 ∷ []) 1 tt (subst (λ (x : Phase). OneOf (3 ∷ 4 ∷ []) (tagOf phase-type.the-type x)) (h .phase) o))
-  next-over o d (linking n pts ks low) h =
-      absurd (miss (3 ∷ 4 ∷ []) 2 tt (subst (λ (x : Phase). OneOf (3 ∷ 4 ∷ []) (tagOf phase-type.the-type x)) (h .phase) o))
+  next-over o d start h = other-phase at p start (3 ∷ 4 ∷ []) o h tt
+  next-over o d (pointing n m pts low) h = other-phase at p (pointing n m pts low) (3 ∷ 4 ∷ []) o h tt
+  next-over o d (linking n pts ks low) h = other-phase at p (linking n pts ks low) (3 ∷ 4 ∷ []) o h tt
   next-over o d (whole q) h = d
   next-over o d dead h = d

@@ -8,30 +8,20 @@ use native.Mathlib.Omega.{arith}
 use lib.ListN.{length}
 use Rattle.formula.specs.Formula.{Formula}
 use Rattle.contact.specs.Meaning.{Floor, meets, meetsAll}
-use Rattle.plan.specs.Judging.{Judgement, yes, unmet, judgeFrom, judge}
-use Rattle.evalset.proofs.Search.{both}
+use Rattle.plan.specs.Judging.{Judgement, yes, unmet, judgeFrom, judge, FirstUnmet}
+use Rattle.evalset.proofs.Truth.{both}
 
 module _ {N : Type 0} (F : Floor N) where
-  -- rule k, numbered from `one`, is not met and all before it are
-  pub record FirstUnmet (one : ℕ) (rules : List (Formula N)) (k : ℕ) : Type 0 where
-    pub earlier : List (Formula N)
-    pub rule : Formula N
-    pub later : List (Formula N)
-    pub parts : earlier ++ (rule ∷ later) ≡ rules
-    pub number : k ≡ one + length earlier
-    pub met : meetsAll F earlier ≡ true
-    pub not-met : meets F rule ≡ false
-
   -- what a judgement says of the rules
-  abbrev pub Says : ℕ → List (Formula N) → Judgement → Type 0
-  Says one rules yes = meetsAll F rules ≡ true
-  Says one rules (unmet k) = FirstUnmet one rules k
+  abbrev JudgementSays : ℕ → List (Formula N) → Judgement → Type 0
+  JudgementSays one rules yes = meetsAll F rules ≡ true
+  JudgementSays one rules (unmet k) = FirstUnmet F one rules k
 
-  pub judged : (one : ℕ) (rules : List (Formula N)) → Says one rules (judgeFrom one F rules)
+  judged : (one : ℕ) (rules : List (Formula N)) → JudgementSays one rules (judgeFrom one F rules)
   judged one [] = refl
   judged one (f ∷ rules) = go (meets F f) refl (judgeFrom (suc one) F rules) (judged (suc one) rules)
     where
-      go : (b : Bool) → meets F f ≡ b → (j : Judgement) → Says (suc one) rules j → Says one (f ∷ rules) (cond b j (unmet one))
+      go : (b : Bool) → meets F f ≡ b → (j : Judgement) → JudgementSays (suc one) rules j → JudgementSays one (f ∷ rules) (cond b j (unmet one))
       go true e yes s = ap₂ _&&_ e s
       go true e (unmet k) s = record {
         earlier = f ∷ s .earlier;
@@ -65,12 +55,12 @@ module _ {N : Type 0} (F : Floor N) where
 
   pub yes-exactly : (rules : List (Formula N))
       → (judge F rules ≡ yes → meetsAll F rules ≡ true) × (meetsAll F rules ≡ true → judge F rules ≡ yes)
-  yes-exactly rules = (λ e. subst (Says 1 rules) e (judged 1 rules), from-met 1 rules)
+  yes-exactly rules = (λ e. subst (JudgementSays 1 rules) e (judged 1 rules), from-met 1 rules)
 
   pub unmet-exactly : (rules : List (Formula N)) (k : ℕ)
-      → (judge F rules ≡ unmet k → FirstUnmet 1 rules k) × (FirstUnmet 1 rules k → judge F rules ≡ unmet k)
+      → (judge F rules ≡ unmet k → FirstUnmet F 1 rules k) × (FirstUnmet F 1 rules k → judge F rules ≡ unmet k)
   unmet-exactly rules k = (
-    λ e. subst (Says 1 rules) e (judged 1 rules),
+    λ e. subst (JudgementSays 1 rules) e (judged 1 rules),
     λ u. ap (judgeFrom 1 F) (sym (u .parts)) ∙ from-parts 1 (u .earlier) (u .rule) (u .later) (u .met) (u .not-met)
         ∙ ap unmet (sym (u .number)),
   )

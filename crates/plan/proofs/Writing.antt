@@ -3,7 +3,7 @@
 use mathlib.Core.Path.{_≡_, sym, ap, ap₂, _∙_}
 use mathlib.Core.Bool.{Bool, true, false, cond}
 use mathlib.Core.List.{List, [], _∷_, _++_, map}
-use Prim.Native.Nat.{ℕ, _+_, _≤_, _<_}
+use Prim.Native.Nat.{ℕ, _+_, _*_, _≤_, _<_}
 use native.Mathlib.Omega.{arith}
 use native.Mathlib.Nat.{zero-add}
 use lib.Dec.{leb}
@@ -14,8 +14,14 @@ use Rattle.plan.specs.declared.Written.the-variants.{Words, Needs}
 use Rattle.plan.specs.Words.{firstWord, pointWord, contactWord, lastWord, before, wordsOf}
 use Rattle.evalset.specs.Sets.{memAt}
 use Rattle.plan.specs.Arrays.{countOf, linksTo, planBy, over, Writes}
-use Rattle.plan.specs.Held.{written, Wrote}
+use Rattle.plan.specs.Private.{written, Wrote}
+use Rattle.plan.proofs.Complete.{before-length}
+use Rattle.plan.proofs.Contacts.{links-small}
 use Rattle.plan.proofs.Buffer.{written-none, written-length, written-set, written-more, written-over, wrote-length}
+
+-- how many points and contacts arrays can have
+pub sizes : (p : PlanArrays) (n : ℕ) → n ≡ countOf p → (n ≤ 64) × (length (linksTo n n (memAt (p .rows))) ≤ n * 64)
+sizes p n m = let few : n ≤ 64 = omega arith in (few, links-small n n (memAt (p .rows)) few)
 
 module _ (p : PlanArrays) (n : ℕ) (full : length (p .points) ≡ 64) (m : n ≡ countOf p) where
   points-size : length (take n (p .points)) ≡ n
@@ -31,17 +37,11 @@ module _ (p : PlanArrays) (n : ℕ) (full : length (p .points) ≡ 64) (m : n �
       (map pointWord (take x (p .points)) ++ map contactWord (linksTo x x (memAt (p .rows))))) m
 
   before-size : length (before (planBy p)) ≡ 1 + n + length (linksTo n n (memAt (p .rows)))
+  unfolding planBy
   before-size =
-      ap length (sym before-is)
-      ∙ omega (
-        arith,
-        points-size,
-        length-append (map pointWord (take n (p .points)))
-            (map contactWord (linksTo n n (memAt (p .rows)))),
-        length-map (take n (p .points)) pointWord,
-        length-map
-            (linksTo n n (memAt (p .rows))) contactWord,
-      )
+      before-length (planBy p)
+      ∙ ap (λ (x : ℕ). 1 + (length (take x (p .points)) + length (linksTo x x (memAt (p .rows))))) (sym m)
+      ∙ omega (arith, points-size)
 
   size-is : (s : ℕ) → s ≡ length (linksTo n n (memAt (p .rows))) → 2 + n + s ≡ length (wordsOf (planBy p))
   unfolding wordsOf

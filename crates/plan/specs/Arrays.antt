@@ -3,11 +3,12 @@
 use mathlib.Core.Path.{_≡_}
 use mathlib.Core.Bool.{Bool, not, _&&_, cond}
 use mathlib.Core.List.{List, [], _∷_, _++_}
-use Prim.Native.Nat.{ℕ, min, _+_, _-_, _*_}
+use Prim.Native.Nat.{ℕ, min, _+_, _*_}
 use lib.Dec.{ltb, leb}
-use lib.ListN.{length, getD, replicate, take, drop}
+use lib.ListN.{length, getD, take, drop}
 use Rattle.evalset.specs.Search.{any, gather, below}
 use Rattle.evalset.specs.Sets.{memAt}
+use Rattle.evalset.specs.Arrays.{pad}
 use Rattle.plan.specs.declared.PlanArrays.{PlanArrays}
 use Rattle.plan.specs.declared.PlanAnswer.{PlanAnswer}
 use Rattle.plan.specs.declared.PlanAnswer.the-variants as answer-is
@@ -19,10 +20,6 @@ use Rattle.plan.specs.Floor.{touching}
 use Rattle.plan.specs.Reader.{Reading, plan, refused, readOf}
 
 -- ---- reading
--- a list in an array of n places, with zeros after it
-unfoldable pub pad : ℕ → List ℕ → List ℕ
-pad n l = l ++ replicate (n - length l) 0
-
 -- "A plan's contacts form a square of bits, one row for each point": row a has position b
 unfoldable pub square : Plan → ℕ → ℕ → Bool
 square p a b = (ltb a (length (p .points)) && ltb b (length (p .points))) && touching p a b
@@ -34,6 +31,7 @@ pub record Stored (r : PlanArrays) (p : Plan) : Type 0 where
   pub points : r .points ≡ pad 64 (p .points)
   pub rows : memAt (r .rows) ≡ square p
 
+-- the answer: a plan, or refusal 13 and its index
 abbrev pub answerOf : Reading → PlanAnswer
 answerOf (plan p) = answer-is.Plan
 answerOf (refused i) = answer-is.Refused i

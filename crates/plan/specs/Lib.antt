@@ -3,5 +3,5 @@ pub mod Floor
 pub mod Judging
 pub mod Reader
 pub mod Arrays
-pub mod Held
+pub mod Private
 pub mod Given

@@ -1,5 +1,6 @@
 -- How plan words are read, as it is computed: a machine that takes a word at a time. It is dead as soon as no plan has the words
 -- so far as its first words. Assumes nothing.
+use mathlib.Core.Path.{_≡_}
 use mathlib.Core.Bool.{_&&_, cond}
 use mathlib.Core.List.{List, [], _∷_, _++_}
 use Prim.Native.Nat.{ℕ, zero, suc, _+_, _-_, _*_, _^_, _/_, _%_}
@@ -7,7 +8,8 @@ use lib.Dec.{eqb, ltb, leb}
 use lib.ListN.{length}
 use Rattle.plan.specs.declared.Word.{Word}
 use Rattle.plan.specs.declared.Word.the-variants.{First, Point, Contact, Last, Other}
-use Rattle.plan.specs.Words.{Plan, mostNames}
+use Rattle.plan.specs.Words.{Plan, IsPlan, wordsOf, Refusal}
+use Rattle.evalset.specs.Sets.{most}
 
 -- a word by its kind and the rest of its bits; Other where an unnamed bit is set
 abbrev pub byKind : ℕ → ℕ → Word
@@ -32,8 +34,9 @@ pub data State : Type 0 where
   whole : Plan → State
   dead : State
 
+-- after the first word
 abbrev pub opened : Word → State
-opened (First n c) = cond (leb n mostNames && (leb 1 c && leb c (2 ^ n))) (pointing n (c - 1) [] 0) dead
+opened (First n c) = cond (leb n most && (leb 1 c && leb c (2 ^ n))) (pointing n (c - 1) [] 0) dead
 opened (Point e) = dead
 opened (Contact i j) = dead
 opened (Last c) = dead
@@ -52,6 +55,7 @@ pointed n m pts low (Contact i j) = dead
 pointed n m pts low (Last c) = dead
 pointed n m pts low Other = dead
 
+-- after a contact, or the last word
 abbrev pub linked : ℕ → List ℕ → List ℕ → ℕ → Word → State
 linked n pts ks low (First i c) = dead
 linked n pts ks low (Point e) = dead
@@ -62,6 +66,7 @@ linked n pts ks low (Last c) =
     cond (eqb c (1 + (length pts + length ks))) (whole (record { names = n; points = pts; contacts = ks })) dead
 linked n pts ks low Other = dead
 
+-- after one word
 abbrev pub step : State → Word → State
 step start w = opened w
 step (pointing n m pts low) w = pointed n m pts low w
@@ -95,9 +100,16 @@ unless (linking n pts ks low) i r = r
 unless (whole p) i r = r
 unless dead i r = refused i
 
+-- what the words from index i on give
 unfoldable pub readFrom : ℕ → State → List ℕ → Reading
 readFrom i s [] = ended i s
 readFrom i s (w ∷ ws) = let t = step s (kindOf w) in let r = readFrom (suc i) t ws in unless t i r
 
+-- what the words give
 unfoldable pub readOf : List ℕ → Reading
 readOf ws = readFrom 0 start ws
+
+-- what a reading says of the words
+abbrev pub ReadingSays : List ℕ → Reading → Type 0
+ReadingSays ws (plan p) = IsPlan p × (wordsOf p ≡ ws)
+ReadingSays ws (refused i) = Refusal ws i

@@ -3,6 +3,7 @@ use mathlib.Core.Path.{_≡_}
 use mathlib.Core.List.{List, [], _∷_, _++_, map}
 use Prim.Native.Nat.{ℕ, suc, _+_, _*_, _^_, _/_, _%_, _≤_, _<_}
 use lib.ListN.{length}
+use Rattle.evalset.specs.Sets.{most}
 
 -- A plan as it is written: the number of names, the points' evaluations, and the contacts of two points. A contact is one
 -- number, the smaller position times 256 and the larger one, so that its order is "by smaller then larger".
@@ -10,10 +11,6 @@ pub record Plan : Type 0 where
   pub names : ℕ
   pub points : List ℕ
   pub contacts : List ℕ
-
--- the most names
-abbrev pub mostNames : ℕ
-mostNames = 6
 
 -- "strictly ascending", from low on, and below high
 abbrev pub Ascends : ℕ → ℕ → List ℕ → Type 0
@@ -28,12 +25,12 @@ Rises low n (k ∷ ks) = (low ≤ k) × (k / 256 < k % 256) × (k % 256 < n) × 
 -- "names (0 to 6) .. points (1 to 2^names) .. strictly ascending: .. the evaluation, below 2^names"; at most 2^names points
 -- follow from that
 pub record IsPlan (p : Plan) : Type 0 where
-  pub few : p .names ≤ mostNames
+  pub few : p .names ≤ most
   pub some : 0 < length (p .points)
   pub ascend : Ascends 0 (2 ^ (p .names)) (p .points)
   pub rise : Rises 0 (length (p .points)) (p .contacts)
 
--- "Kind 1, first: bits 15..8 names, bits 7..0 points"
+-- "Kind 1, first: bits 15..8 names (0 to 6), bits 7..0 points (1 to 2^names)"
 abbrev pub firstWord : ℕ → ℕ → ℕ
 firstWord names count = 0x10000000 + (names * 256 + count)
 
@@ -49,6 +46,7 @@ contactWord k = 0x30000000 + k
 abbrev pub lastWord : ℕ → ℕ
 lastWord n = 0x40000000 + n
 
+-- the words before the last one
 unfoldable pub before : Plan → List ℕ
 before p = firstWord (p .names) (length (p .points)) ∷ (map pointWord (p .points) ++ map contactWord (p .contacts))
 

@@ -7,11 +7,12 @@ ghost use mathlib.Core.Bool.{cond};
 ghost use mathlib.Core.List.{List, [], map};
 ghost use Prim.Native.Nat.{ℕ, min, _+_, _*_, _<_, _≤_, _^_};
 ghost use lib.ListN.{length, take};
-ghost use Rattle.evalset.specs.Sets.{mem, memAt, addOf};
-ghost use Rattle.plan.specs.Words.{mostNames, pointWord, contactWord};
+ghost use Rattle.evalset.specs.Sets.{most, mem, memAt, addOf};
+ghost use Rattle.evalset.specs.Arrays.{positionsOf};
+ghost use Rattle.plan.specs.Words.{pointWord, contactWord};
 ghost use Rattle.plan.specs.Reader.{kindOf, State, step, opened, pointed, linked};
 ghost use Rattle.plan.specs.Arrays.{Stored, Reads, pairOf, rowTo, linksTo, Writes, touchesOf, vacantOf};
-ghost use Rattle.plan.specs.Held.{planOf, joinedOf, Adds, Holds, HeldPoints, HeldLinks, SomePoints, SomeLinks, SomeState, written, Wrote, placesOf, reachesOf, reachedOf};
+ghost use Rattle.plan.specs.Private.{planOf, joinedOf, Adds, Holds, HeldPoints, HeldLinks, SomePoints, SomeLinks, SomeState, written, Wrote, reachesOf, reachedOf};
 use evalset::EvalSet;
 
 // A plan: the evaluations of its points, ascending, and the square of contacts, one row for each point.
@@ -90,8 +91,8 @@ fn kind_of(word: u32) -> Word
 }
 
 // The number of evaluations over so many names.
-fn room(names: u8) -> u32
-    requires { ⌜ names ≤ mostNames ⌝ }
+fn evaluations(names: u8) -> u32
+    requires { ⌜ names ≤ most ⌝ }
     ensures { λ r. ⌜ r ≡ 2 ^ names ⌝ }
 {
     match names {
@@ -110,7 +111,7 @@ fn blank(names: u8) -> PlanArrays
     ensures { λ r. ⌜ Stored r (planOf names [] []) ⌝ }
 {
     let points = [0u8; 64];
-    let none = EvalSet { bits: 0 };
+    let none = evalset::empty();
     let rows = [none; 64];
     PlanArrays {
         names: names,
@@ -159,7 +160,7 @@ fn open(word: Word) -> Progress
         return dead();
     }
     let few = names as u8;
-    if room(few) < points {
+    if evaluations(few) < points {
         return dead();
     }
     Progress {
@@ -202,7 +203,7 @@ fn point(p: Progress, at: usize, word: Word) -> Progress
     if e < low {
         return dead();
     }
-    let top = room(plan.names);
+    let top = evaluations(plan.names);
     if top <= e {
         return dead();
     }
@@ -498,7 +499,7 @@ fn with_place(s: EvalSet, j: usize, belongs: bool) -> EvalSet
 // The positions of the points whose evaluations are in x.
 fn places(points: [u8; 64], n: usize, x: EvalSet) -> EvalSet
     requires { ⌜ n ≤ 64 ⌝ }
-    ensures { λ r. ⌜ mem r ≡ placesOf n points (mem x) ⌝ }
+    ensures { λ r. ⌜ mem r ≡ positionsOf n points (mem x) ⌝ }
 {
     let mut found = evalset::empty();
     let mut j: usize = 0;

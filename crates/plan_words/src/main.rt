@@ -17,7 +17,7 @@ fn write_number(n: usize) {
     io::print_decimal(libc::STDOUT_FILENO, n as u64);
 }
 
-// Writes the capital hexadecimal digit of a number below 16.
+// Writes the capital hexadecimal digit of a number modulo 16.
 fn write_digit(d: u32) {
     let digits = b"0123456789ABCDEF";
     let i = (d % 16) as usize;
@@ -72,18 +72,24 @@ fn write_contact(i: usize, j: usize) {
     write_number(j);
 }
 
+// Whether position i, of this row, is in contact with a later position j.
+fn later(row: EvalSet, i: usize, j: usize, count: usize) -> bool {
+    if i < j {
+        if j < count {
+            return evalset::contains(row, j);
+        }
+    }
+    false
+}
+
 // Writes the contacts of position i with later ones, and answers whether there is one.
 fn write_row(row: EvalSet, i: usize, count: usize) -> bool {
     let mut some = false;
     let mut j: usize = 0;
     while j < 64 {
-        if i < j {
-            if j < count {
-                if evalset::contains(row, j) {
-                    write_contact(i, j);
-                    some = true;
-                }
-            }
+        if later(row, i, j, count) {
+            write_contact(i, j);
+            some = true;
         }
         j += 1;
     }
@@ -217,7 +223,7 @@ fn buffers() {
     into_buffer(&mut six);
 }
 
-// The word at a place of the plan of all 64 points over six names, from contact i, j on.
+// The word of the contact of positions i and j.
 fn contact_word(i: usize, j: usize) -> u32 {
     0x3000_0000 + (i % 64 * 256 + j % 64) as u32
 }

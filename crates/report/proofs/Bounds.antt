@@ -1,31 +1,22 @@
 -- A text is at most as long as its parts may be: numbers have few digits, names at most 16 bytes, and a plan that is given few points
 -- and contacts. Assumes nothing.
-use mathlib.Core.Path.{_≡_, refl, ap}
+use mathlib.Core.Path.{ap}
 use mathlib.Core.Bool.{Bool, true, false, cond}
 use mathlib.Core.List.{List, [], _∷_}
-use Prim.Native.Nat.{ℕ, zero, suc, _+_, _*_, _/_, _%_, _^_, _≤_, _<_}
+use Prim.Native.Nat.{ℕ, suc, _*_, _/_, _%_, _^_, _≤_, _<_}
 use native.Mathlib.Omega.{arith}
 use lib.ListN.{length, getD, length-append}
 use Rattle.formula.specs.Formula.{Name}
 use Rattle.lexer.specs.Text.{bytes}
 use Rattle.evalset.specs.Bit.{bit}
-use Rattle.evalset.specs.Search.{In, here, next, gather, from, below, orElse}
+use Rattle.evalset.specs.Search.{gather, below, orElse}
 use Rattle.plan.specs.Words.{Plan, Rises, IsPlan, before, lastWord, wordsOf}
 use Rattle.plan.proofs.Complete.{before-length}
-use Rattle.plan.proofs.Lists.{below-e, gather-small}
+use Rattle.evalset.proofs.Search.{gather-few, from-length, below-elim}
+use Rattle.evalset.proofs.Bounded.{gather-small}
 use Rattle.report.specs.Output.{headLine, blanked, nameIf, pointNames, namesOrNone, pointLine, pointLines, contactLine, planText, refusedText}
 use Rattle.report.proofs.Digits.{decimal-few}
 use Rattle.report.proofs.Parts.{names-parts}
-
-gather-few : {A : Type 0} (f : A → List ℕ) (c : ℕ) (xs : List A) → ((x : A) → In x xs → length (f x) ≤ c) → length (gather f xs) ≤ length xs * c
-gather-few f c [] h = omega arith
-gather-few f c (x ∷ xs) h =
-    let z : suc (length xs) * c ≡ c + length xs * c = omega arith in
-    omega (arith, length-append (f x) (gather f xs), h x here, gather-few f c xs (λ y i. h y (next i)))
-
-from-length : (k n : ℕ) → length (from k n) ≡ n
-from-length k zero = refl
-from-length k (suc n) = ap suc (from-length (suc k) n)
 
 -- ---- a plan
 
@@ -63,7 +54,7 @@ module _ (names : List Name) (few : length names ≤ 6) (short : (i : ℕ) → l
       omega (
         arith,
         from-length 0 (length points),
-        gather-few f 112 (below (length points)) (λ i at. point-few i (getD points i 0) (omega (arith, below-e i (length points) at))),
+        gather-few f 112 (below (length points)) (λ i at. point-few i (getD points i 0) (omega (arith, below-elim (length points) i at))),
       )
 
 contact-few : (k n : ℕ) → n ≤ 32 → k / 256 < k % 256 → k % 256 < n → length (contactLine k) ≤ 14

@@ -5,7 +5,7 @@ use Prim.Native.Nat.{ℕ}
 use Prim.Native.String.{String}
 use Rattle.lexer.specs.Text.{bytes}
 use Rattle.evalset.specs.Bit.{bit}
-use Rattle.plan.specs.Held.{planOf}
+use Rattle.plan.specs.Private.{planOf}
 use Rattle.plan.proofs.Examples.{P1, P2, P3}
 use Rattle.report.specs.Output.{digits, decimal, headLine, pointNames, namesOrNone, pointLine, pointLines, contactLine, planText, refusedText}
 

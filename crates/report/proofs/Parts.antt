@@ -11,11 +11,11 @@ use Rattle.formula.specs.Formula.{Name}
 use Rattle.lexer.specs.Text.{bytes}
 use Rattle.evalset.specs.Search.{gather, below, orElse}
 use Rattle.evalset.specs.Sets.{memAt}
-use Rattle.names.proofs.Texts.{gather-append}
+use Rattle.evalset.proofs.Search.{gather-append}
 use Rattle.plan.specs.Arrays.{pairOf, rowTo, linksTo, planBy}
 use Rattle.plan.specs.declared.PlanArrays.{PlanArrays}
-use Rattle.plan.proofs.Buffer.{pair-there}
-use Rattle.plan.proofs.Lists.{gather-more, gather-within}
+use Rattle.plan.proofs.Contacts.{pair-there}
+use Rattle.evalset.proofs.Bounded.{gather-more, gather-within}
 use Rattle.report.specs.Output.{labelled, ended, headLine, blanked, nameIf, pointNames, namesOrNone, pointLine, pointLines, contactLine, planText}
 
 gather-gather : {A B C : Type 0} (g : B → List C) (f : A → List B) (xs : List A) → gather g (gather f xs) ≡ gather (λ x. gather g (f x)) xs

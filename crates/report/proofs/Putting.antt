@@ -5,7 +5,7 @@ use Prim.Native.Nat.{ℕ, _+_, _≤_}
 use native.Mathlib.Omega.{arith}
 use native.Mathlib.Nat.{add-zero}
 use lib.ListN.{length, set, length-append}
-use Rattle.plan.specs.Held.{written}
+use Rattle.plan.specs.Private.{written}
 use Rattle.plan.proofs.Buffer.{written-none, written-set, written-more, written-length}
 use Rattle.report.specs.Putting.{Puts}
 

@@ -18,7 +18,7 @@ use Rattle.plan.specs.declared.PlanRead.{PlanRead}
 use Rattle.plan.specs.Words.{Plan, IsPlan, wordsOf}
 use Rattle.plan.specs.Arrays.{Stored, Reads, over, planBy}
 use Rattle.plan.specs.Given.{plansOf}
-use Rattle.plan.proofs.Again.{plan-again}
+use Rattle.plan.proofs.SamePlan.{plan-again}
 use Rattle.plan.proofs.Buffer.{written-over}
 use Rattle.plan.proofs.Claims.{no-plan-given, given-exactly, given-is-plan, given-words, given-points}
 use Rattle.table.specs.declared.Table.{Table}

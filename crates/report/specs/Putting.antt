@@ -4,7 +4,7 @@ use mathlib.Core.Path.{_≡_}
 use mathlib.Core.List.{List}
 use Prim.Native.Nat.{ℕ, _+_, _≤_}
 use lib.ListN.{length}
-use Rattle.plan.specs.Held.{written}
+use Rattle.plan.specs.Private.{written}
 use Rattle.plan.specs.Arrays.{over}
 use Rattle.report.specs.Output.{outputOf}
 

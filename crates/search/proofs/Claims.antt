@@ -11,7 +11,7 @@ use lib.ListN.{length, getD, length-map}
 use borrow.Author.Tests.{lt-ltb}
 use Rattle.formula.specs.Formula.{Atom}
 use Rattle.evalset.specs.Search.{In}
-use Rattle.evalset.specs.Sets.{memAt}
+use Rattle.evalset.specs.Sets.{memAt, room}
 use Rattle.contact.specs.Meaning.{Floor}
 use Rattle.contact.specs.Numbering.{AtomBelow}
 use Rattle.contact.specs.Row.{Row, is, RealisesPart}
@@ -25,7 +25,7 @@ use Rattle.search.specs.Rows.{rowBits}
 use Rattle.search.specs.Compiled.{limit, atomAt, Compiled, Fit, StepSays, RealisableSays}
 use Rattle.search.specs.Planned.{marksIn, PlanOf, PlanSays}
 use Rattle.search.proofs.Rows.{row-length, row-true, row-false, marks-last}
-use Rattle.search.proofs.Listing.{pad-at}
+use Rattle.evalset.proofs.Arrays.{pad-at}
 
 -- ---- the state (Fitting)
 
@@ -100,7 +100,7 @@ module _ (sheet : Sheet) (atoms : List (Atom ℕ)) (compiled : Compiled sheet at
       let ms = marksIn sheet atoms row in
       let p : PlanOf n ms r = planned-is row says in
       let at : (k : ℕ) → k < r .count → getD (r .points) k 0 ≡ getD (pointsFor n ms) k 0 =
-      λ k l. ap (λ (xs : List ℕ). getD xs k 0) (p .listed) ∙ pad-at (pointsFor n ms) k (omega (arith, p .counted)) in
+      λ k l. ap (λ (xs : List ℕ). getD xs k 0) (p .listed) ∙ pad-at room (pointsFor n ms) k (omega (arith, p .counted)) in
       p .contacts i j
       ∙ ap₂ (λ (a b : Bool). (a && b) && not (separated ms (getD (r .points) i 0) (getD (r .points) j 0))) (lt-ltb i (r .count) li)
       (lt-ltb j (r .count) lj)

@@ -12,14 +12,14 @@ use Rattle.evalset.specs.Search.{any, all, below}
 use Rattle.evalset.specs.Sets.{most, room, mem, memAt, belowOf, meetOf, minusOf}
 use Rattle.evalset.proofs.Bounded.{side, each}
 use Rattle.evalset.proofs.Members.{names-room, below-few, any-names}
-use Rattle.evalset.proofs.Search.{untrue}
+use Rattle.evalset.proofs.Truth.{untrue}
 use Rattle.contact.specs.Meaning.{partTerm}
 use Rattle.contact.specs.Plan.{at, evaluations, Mark, touching, apart, vacant, inhabited, zeroMark, mark, parts, separated, empties, allowed, fills, partners, leads, witnessed, check}
 use Rattle.contact.proofs.Realise.{allowed-elim, fills-elim, partners-elim, leads-elim, check-elim}
 use Rattle.search.specs.declared.State.{State}
 use Rattle.search.specs.Tests.{crossed, lessOf, partOf, startsOf, witnessedOf}
 use Rattle.search.specs.Compiled.{Stands, AtomIs, Fit, Follows}
-use Rattle.search.proofs.Lists.{any-last, all-last}
+use Rattle.evalset.proofs.Search.{any-last, all-last}
 
 -- ---- what is allowed, and all that is taken from it, is below 2 ^ n
 
@@ -215,10 +215,7 @@ module _ (n : ℕ) (ms : List Mark) (m : Mark) (h : Unchanging m) where
   same-allowed =
       fun-ext
       (λ e. ap₂ (λ (b c : Bool). ltb e (2 ^ n) && (not b && not c)) (same-any (empties e) (h .forbids-none e))
-      (each (each-row same-separated e) e))
-    where
-      each-row : {p q : ℕ → ℕ → Bool} → p ≡ q → (e : ℕ) → p e ≡ q e
-      each-row z e = ap (λ (r : ℕ → ℕ → Bool). r e) z
+      (each (each same-separated e) e))
 
   same-witnessed : (o : Mark) → witnessed n ms o ≡ witnessed n more o
   unfolding leads partners fills

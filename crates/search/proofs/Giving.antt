@@ -10,13 +10,13 @@ use Rattle.evalset.specs.Search.{In, here, any, first, orElse, gather, below, e
 use Rattle.evalset.specs.Sets.{most, room, mem, memAt, meetOf}
 use Rattle.evalset.proofs.Bounded.{any-at, any-none}
 use Rattle.evalset.proofs.Members.{first-names}
-use Rattle.evalset.proofs.Search.{clash, none-in, uncons, first-in, below-elim, elem-intro, elem-elim, gather-elim, or-else-cases}
+use Rattle.evalset.proofs.Search.{none-in, uncons, first-in, below-elim, elem-intro, elem-elim, gather-elim, or-else-cases, gather-same}
+use Rattle.evalset.proofs.Truth.{clash}
 use Rattle.contact.specs.Meaning.{partTerm}
 use Rattle.contact.specs.Plan.{evaluations, Mark, touching, apart, vacant, inhabited, zeroMark, mark, allowed, fills, partners, leads, withPartner, gives, given}
 use Rattle.search.specs.declared.State.{State}
 use Rattle.search.specs.Tests.{pairFrom, pairOf, givesOf}
 use Rattle.search.specs.Compiled.{Stands, AtomIs, Fit}
-use Rattle.search.proofs.Lists.{gather-same}
 use Rattle.search.proofs.Fitting.{allowed-low, fills-low, partners-low, leads-low, fills-is, partners-is, leads-is}
 
 -- ---- what an atom with its value gives

@@ -10,7 +10,7 @@ use lib.Dec.{eqb}
 use borrow.Author.Count.{below-more}
 use Rattle.evalset.specs.Search.{any, first, gather, below, elem}
 use Rattle.evalset.specs.Sets.{room, noneOf, minusOf, addOf}
-use Rattle.evalset.proofs.Bounded.{side, Least, first-at, first-none}
+use Rattle.evalset.proofs.Bounded.{side, Least, first-at, first-none-below}
 use Rattle.evalset.proofs.Members.{add-in}
 use Rattle.evalset.proofs.Walk.{Step}
 use Rattle.search.specs.Tests.{Separates, startsOf, pairFrom, pairOf}
@@ -60,7 +60,7 @@ module _ (f : ℕ → Bool) where
       add-in noneOf p (h .within) e ∙ sym (ap (elem e) (first-at f room p h) ∙ or-false (eqb e p))
 
   pub none-found : ((d : ℕ) → d < room → f d ≡ false) → (e : ℕ) → false ≡ elem e (first f (below room))
-  none-found h e = sym (ap (elem e) (first-none f room h))
+  none-found h e = sym (ap (elem e) (first-none-below f room h))
 
 -- ---- the least of f with a partner in g
 
@@ -106,4 +106,4 @@ module _ (f g : ℕ → Bool) (sep : ℕ → ℕ → Bool) where
 
   pub pair-none : Passed room → (e : ℕ) → false ≡ elem e (pairOf f g sep)
   unfolding pairOf
-  pair-none h e = sym (ap (λ (xs : List ℕ). elem e (gather (pairFrom g sep) xs)) (first-none (startsOf f g sep) room h))
+  pair-none h e = sym (ap (λ (xs : List ℕ). elem e (gather (pairFrom g sep) xs)) (first-none-below (startsOf f g sep) room h))

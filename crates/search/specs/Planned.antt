@@ -1,24 +1,21 @@
 -- What the functions that make the plan of a row ensure, of every list of atoms that the sheet is compiled from. Assumes nothing.
 use mathlib.Core.Bool.{not, _&&_}
 use mathlib.Core.Path.{_≡_}
-use mathlib.Core.List.{List, _++_}
-use Prim.Native.Nat.{ℕ, _-_, _≤_, _<_}
+use mathlib.Core.List.{List}
+use Prim.Native.Nat.{ℕ, _≤_, _<_}
 use lib.Dec.{ltb}
-use lib.ListN.{length, getD, replicate}
+use lib.ListN.{length, getD}
 use Rattle.formula.specs.Formula.{Atom}
 use Rattle.evalset.specs.declared.EvalSet.{EvalSet}
 use Rattle.evalset.specs.Search.{gather, elem}
 use Rattle.evalset.specs.Sets.{room, mem, memAt}
+use Rattle.evalset.specs.Arrays.{pad}
 use Rattle.contact.specs.Plan.{Mark, rowMarks, separated, gives, given, pointsFor}
 use Rattle.search.specs.declared.Sheet.{Sheet}
 use Rattle.search.specs.declared.State.{State}
 use Rattle.search.specs.declared.RowPlan.{RowPlan}
 use Rattle.search.specs.Rows.{rowBits}
 use Rattle.search.specs.Compiled.{Compiled, Fit}
-
--- a list in an array with room for every evaluation: zeros stand after it, so the whole array is decided
-unfoldable pub pad : List ℕ → List ℕ
-pad points = points ++ replicate (room - length points) 0
 
 -- the marks of a whole row
 abbrev pub marksIn : Sheet → List (Atom ℕ) → ℕ → List Mark
@@ -46,7 +43,7 @@ pub record Positions (count : ℕ) (points : List ℕ) : Type 0 where
 -- the plan of a list of marks: its points, and row i has position j exactly if both are positions and the two are not separated
 pub record PlanOf (names : ℕ) (ms : List Mark) (r : RowPlan) : Type 0 where
   pub counted : r .count ≡ length (pointsFor names ms)
-  pub listed : r .points ≡ pad (pointsFor names ms)
+  pub listed : r .points ≡ pad room (pointsFor names ms)
   pub contacts : (i j : ℕ) → memAt (r .rows) i j
       ≡ ((ltb i (r .count) && ltb j (r .count)) && not (separated ms (getD (r .points) i 0) (getD (r .points) j 0)))
 

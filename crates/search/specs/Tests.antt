@@ -4,10 +4,10 @@ use mathlib.Core.Bool.{Bool, true, false, not, _&&_, _||_}
 use mathlib.Core.Path.{_≡_}
 use mathlib.Core.List.{List, [], _∷_}
 use Prim.Native.Nat.{ℕ, _≤_, _<_}
-use lib.Dec.{ltb}
 use lib.ListN.{getD}
 use Rattle.evalset.specs.Search.{any, first, gather, below}
 use Rattle.evalset.specs.Sets.{room, noneOf, meetOf, minusOf}
+use Rattle.evalset.specs.Arrays.{positionsOf}
 
 -- each of x is separated from each of y
 abbrev pub Separates : (ℕ → ℕ → Bool) → (ℕ → Bool) → (ℕ → Bool) → (ℕ → ℕ → Bool) → Type 0
@@ -64,8 +64,8 @@ pickOf true a b = a
 pickOf false a b = b
 
 -- the positions below n of the points that are not in `apart`
-unfoldable pub rowOf : ℕ → List ℕ → (ℕ → Bool) → ℕ → Bool
-rowOf n points apart j = ltb j n && not (apart (getD points j 0))
+abbrev pub rowOf : ℕ → List ℕ → (ℕ → Bool) → ℕ → Bool
+rowOf n points apart = positionsOf n points (λ e. not (apart e))
 
 -- the contact rows of n points, by what is separated from each evaluation
 abbrev pub rowsOf : ℕ → List ℕ → (ℕ → ℕ → Bool) → ℕ → ℕ → Bool

@@ -13,7 +13,8 @@ ghost use Rattle.evalset.specs.Sets.{room, most, mem, memAt, addOf};
 ghost use Rattle.search.specs.Rows.{rowBits};
 ghost use Rattle.search.specs.Tests.{Separates, Parts, witnessedOf, pairOf, givesOf, pickOf, rowOf, rowsOf, Filled};
 ghost use Rattle.search.specs.Compiled.{limit, Fit, Follows, StepSays, WitnessedSays, RealisableSays, NextSays};
-ghost use Rattle.search.specs.Planned.{pad, StateSays, GatheredSays, GivenSays, Positions, PlanSays};
+ghost use Rattle.search.specs.Planned.{StateSays, GatheredSays, GivenSays, Positions, PlanSays};
+ghost use Rattle.evalset.specs.Arrays.{pad};
 use evalset::EvalSet;
 use evalset::Found;
 use evalset::ROOM;
@@ -316,7 +317,7 @@ fn given(sheet: Sheet, s: State, row: usize) -> EvalSet
 
 // The evaluations of a set, "ascending, each once"; zeros stand after them.
 fn ascending(s: EvalSet) -> Listed
-    ensures { λ r. ⌜ (r .count ≡ length (keep (mem s) (below room))) × (r .points ≡ pad (keep (mem s) (below room))) ⌝ }
+    ensures { λ r. ⌜ (r .count ≡ length (keep (mem s) (below room))) × (r .points ≡ pad room (keep (mem s) (below room))) ⌝ }
 {
     let mut points = [0u8; ROOM];
     let mut rest = s;

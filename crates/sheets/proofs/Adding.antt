@@ -17,7 +17,7 @@ use Rattle.syntax.specs.declared.Rule.{Rule}
 use Rattle.syntax.proofs.Claims.{length-codes, text-read}
 use Rattle.evalset.specs.Search.{In}
 use Rattle.evalset.proofs.Search.{in-right}
-use Rattle.contact.specs.Numbering.{allAtoms, namesOf, mapAtom, mapForm, numberForm, numberFrom, numberedNames, numberedAtoms}
+use Rattle.contact.specs.Numbering.{numberOf, allAtoms, namesOf, mapAtom, mapForm, numberForm, numberFrom, numberedNames, numberedAtoms}
 use Rattle.contact.proofs.Numbered.{all-atoms-map, numbered-map, numbers-below}
 use Rattle.names.specs.declared.Gathered.{Gathered}
 use Rattle.names.specs.Gather.{arraysOf, knownOf, gathered, Gathers}
@@ -34,7 +34,7 @@ use Rattle.sheets.specs.declared.Compiling.{Compiling}
 use Rattle.sheets.specs.Ends.{lastEnd}
 use Rattle.sheets.specs.Counted.{nameCount}
 use Rattle.sheets.specs.Texts.{CompiledRules, OneMore}
-use Rattle.sheets.proofs.Numbers.{numberIn, numbered-names-with, all-atoms-with, numbered-atoms-with}
+use Rattle.sheets.proofs.Numbers.{numbered-names-with, all-atoms-with, numbered-atoms-with}
 use Rattle.sheets.proofs.Coding.{last-few, coded-with, sets-first, sets-part}
 use Rattle.sheets.proofs.Counting.{count-few, names-counted}
 
@@ -45,10 +45,10 @@ numbers-count k [] = refl
 numbers-count k (f ∷ fs) = ap suc (numbers-count (k + length (atomsOf f)) fs)
 
 numbered-count : (rules : List (Formula Name)) → length (numberedAtoms (numberedNames rules)) ≡ length rules
-numbered-count rules = numbers-count 0 (numberedNames rules) ∙ length-map rules (mapForm (mapAtom (numberIn rules)))
+numbered-count rules = numbers-count 0 (numberedNames rules) ∙ length-map rules (mapForm (mapAtom (numberOf rules)))
 
 atoms-count : (rules : List (Formula Name)) → length (allAtoms (numberedNames rules)) ≡ length (allAtoms rules)
-atoms-count rules = ap length (all-atoms-map (mapAtom (numberIn rules)) rules) ∙ length-map (allAtoms rules) (mapAtom (numberIn rules))
+atoms-count rules = ap length (all-atoms-map (mapAtom (numberOf rules)) rules) ∙ length-map (allAtoms rules) (mapAtom (numberOf rules))
 
 -- a formula's code is no longer than its order
 code-short : (g : Name → ℕ) (f : Formula Name) (atoms : List (Atom ℕ)) → length (codeAfter f atoms) ≤ length (postfix f)
@@ -74,14 +74,14 @@ module _ (rules : List (Formula Name)) (f : Formula Name) where
   abbrev last : Form ℕ
   last = numberForm (length earlier) f
 
-  atoms-after : atomsAfter (numberIn all) f earlier ≡ allAtoms (numberedNames all)
-  atoms-after = sym (ap allAtoms (numbered-names-with rules f) ∙ all-atoms-with (numberedNames rules) (mapForm (mapAtom (numberIn all)) f))
+  atoms-after : atomsAfter (numberOf all) f earlier ≡ allAtoms (numberedNames all)
+  atoms-after = sym (ap allAtoms (numbered-names-with rules f) ∙ all-atoms-with (numberedNames rules) (mapForm (mapAtom (numberOf all)) f))
 
   numbers-with : numberedAtoms (numberedNames all) ≡ numberedAtoms (numberedNames rules) ++ last ∷ []
   numbers-with =
-      numbered-map (mapAtom (numberIn all)) all
+      numbered-map (mapAtom (numberOf all)) all
       ∙ numbered-atoms-with rules f
-      ∙ ap (λ (l : List (Form ℕ)). l ++ numberForm (length (allAtoms rules)) f ∷ []) (sym (numbered-map (mapAtom (numberIn rules)) rules))
+      ∙ ap (λ (l : List (Form ℕ)). l ++ numberForm (length (allAtoms rules)) f ∷ []) (sym (numbered-map (mapAtom (numberOf rules)) rules))
       ∙ ap (λ (k : ℕ). numberedAtoms (numberedNames rules) ++ numberForm k f ∷ []) (sym (atoms-count rules))
 
   last-below : (i : ℕ) → In i (atomsOf last) → i < length (allAtoms (numberedNames all))
@@ -122,17 +122,17 @@ module _ (text : List ℕ) (c : Compiling) (code : List ℕ) (rules : List (Form
   used-is rule e = ap nameCount (order-is rule e) ∙ names-counted f
 
   numbers-are : (g : Gathered) (used : ℕ) → g ≡ gathered text (knownOf (c .names)) → used ≡ length (formulaNames f)
-      → take used (g .numbers) ≡ map (numberIn every) (formulaNames f)
+      → take used (g .numbers) ≡ map (numberOf every) (formulaNames f)
   numbers-are g used e u =
-      let ns = map (numberIn every) (formulaNames f) in
+      let ns = map (numberOf every) (formulaNames f) in
       ap (λ (h : Gathered). take used (h .numbers)) (e ∙ gathered-is)
-      ∙ take-at ns (replicate (256 - length ns) 0) used (length-map (formulaNames f) (numberIn every) ∙ sym u)
+      ∙ take-at ns (replicate (256 - length ns) 0) used (length-map (formulaNames f) (numberOf every) ∙ sym u)
 
-  fits-after : length (atomsAfter (numberIn every) f (allAtoms (numberedNames rules))) ≤ 16
+  fits-after : length (atomsAfter (numberOf every) f (allAtoms (numberedNames rules))) ≤ 16
   fits-after = omega (arith, ap length (atoms-after rules f), atoms-count every, m .room .atoms-fit)
 
-  given-for : (order numbers : List ℕ) → order ≡ codes (postfix f) → numbers ≡ map (numberIn every) (formulaNames f)
-      → Given order numbers (c .sheet) f (numberIn every) (allAtoms (numberedNames rules))
+  given-for : (order numbers : List ℕ) → order ≡ codes (postfix f) → numbers ≡ map (numberOf every) (formulaNames f)
+      → Given order numbers (c .sheet) f (numberOf every) (allAtoms (numberedNames rules))
   given-for order numbers e n = record { order-is = e; numbers-are = n; compiled = m .so-far .compiled; few = fits-after }
 
   from-few : from ≤ 256 * 15
@@ -168,7 +168,7 @@ module _ (text : List ℕ) (c : Compiling) (code : List ℕ) (rules : List (Form
       abbrev numbers : List ℕ
       numbers = take (nameCount order) (g .numbers)
 
-      given-is : Given order numbers (c .sheet) f (numberIn every) (allAtoms (numberedNames rules))
+      given-is : Given order numbers (c .sheet) f (numberOf every) (allAtoms (numberedNames rules))
       given-is = given-for order numbers (order-is rule read) (numbers-are g (nameCount order) gather-is (used-is rule read))
 
       pub compile-asked : Asked order numbers (c .sheet) from
@@ -176,7 +176,7 @@ module _ (text : List ℕ) (c : Compiling) (code : List ℕ) (rules : List (Form
           let l : length order ≤ 256 = omega (arith, ap length (order-is rule read), length-codes (postfix f), order-few) in
           record {
             formula = f;
-            numbering = numberIn every;
+            numbering = numberOf every;
             atoms = allAtoms (numberedNames rules);
             given = given-is;
             short = l;
@@ -187,12 +187,12 @@ module _ (text : List ℕ) (c : Compiling) (code : List ℕ) (rules : List (Form
         abbrev ws : List ℕ
         ws = codeAfter f (allAtoms (numberedNames rules))
 
-        result : Result f (numberIn every) (allAtoms (numberedNames rules)) (c .sheet) code from r out
+        result : Result f (numberOf every) (allAtoms (numberedNames rules)) (c .sheet) code from r out
         unfolding Compiles
-        result = says f (numberIn every) (allAtoms (numberedNames rules)) given-is
+        result = says f (numberOf every) (allAtoms (numberedNames rules)) given-is
 
         ws-few : length ws ≤ 256
-        ws-few = omega (arith, code-short (numberIn every) f (allAtoms (numberedNames rules)), order-few)
+        ws-few = omega (arith, code-short (numberOf every) f (allAtoms (numberedNames rules)), order-few)
 
         ws-fits : from + length ws ≤ length code
         ws-fits = omega (arith, from-few, ws-few, m .so-far .whole)
@@ -206,7 +206,7 @@ module _ (text : List ℕ) (c : Compiling) (code : List ℕ) (rules : List (Form
               arith,
               m .so-far .compiled .counted,
               result .compiled .counted,
-              length-append (allAtoms (numberedNames rules)) (atomsOf (mapForm (mapAtom (numberIn every)) f)),
+              length-append (allAtoms (numberedNames rules)) (atomsOf (mapForm (mapAtom (numberOf every)) f)),
             )
 
         part-now : PartIs (r .sheet .atoms) out from (r .end) (last rules f)

@@ -22,11 +22,12 @@ use Rattle.search.specs.Compiled.{limit}
 use Rattle.search.specs.Planned.{marksIn, PlanSays}
 use Rattle.search.proofs.Claims.{planned-is, planned-few}
 use Rattle.plan.specs.declared.PlanArrays.{PlanArrays}
-use Rattle.plan.specs.Words.{Plan, mostNames, IsPlan}
+use Rattle.plan.specs.Words.{Plan, IsPlan}
+use Rattle.evalset.specs.Sets.{most}
 use Rattle.plan.specs.Arrays.{Stored, planBy}
 use Rattle.plan.specs.Given.{givenPlan, rowPlan}
 use Rattle.plan.specs.Judging.{judge}
-use Rattle.plan.proofs.Floors.{namedFloor}
+use Rattle.plan.specs.Floor.{namedFloor}
 use Rattle.judging.specs.declared.Judged.{Judged}
 use Rattle.judging.specs.Values.{judgedOf}
 use Rattle.judging.specs.Judges.{JudgesSay}
@@ -88,7 +89,7 @@ module _ (rules : List (Formula Name)) (c : Compiling) (code : List ℕ) (h : Co
   -- ---- for a caller of the plan of a row
 
   -- the sheet has at most 6 names and 16 atoms, so `plan_of` may be called with it
-  pub may-plan : (c .sheet .names ≤ mostNames) × (c .sheet .atoms ≤ limit)
+  pub may-plan : (c .sheet .names ≤ most) × (c .sheet .atoms ≤ limit)
   may-plan = (omega (arith, h .names-counted, h .fits .names-fit), omega (arith, h .compiled .counted, h .compiled .few))
 
   -- what `planned` answers is, beside the number of names, the plan of the row (Planning)

@@ -11,15 +11,15 @@ use lib.Seq.{take-at}
 use borrow.Author.Tests.{lt-ltb}
 use Rattle.evalset.specs.Search.{below}
 use Rattle.evalset.specs.Sets.{room, memAt}
-use Rattle.evalset.proofs.Search.{below-elim}
+use Rattle.evalset.proofs.Search.{below-elim, gather-same}
 use Rattle.contact.specs.Plan.{Mark, separated, pointsFor}
 use Rattle.search.specs.declared.RowPlan.{RowPlan}
-use Rattle.search.specs.Planned.{pad, PlanOf}
-use Rattle.search.proofs.Lists.{gather-same}
-use Rattle.search.proofs.Listing.{pad-at}
+use Rattle.search.specs.Planned.{PlanOf}
+use Rattle.evalset.specs.Arrays.{pad}
+use Rattle.evalset.proofs.Arrays.{pad-at}
 use Rattle.plan.specs.declared.PlanArrays.{PlanArrays}
 use Rattle.plan.specs.Arrays.{pairOf, rowTo, linksTo, planBy}
-use Rattle.plan.specs.Held.{planOf}
+use Rattle.plan.specs.Private.{planOf}
 use Rattle.plan.specs.Given.{givenPlan}
 
 -- rows that agree below n have the same contacts there
@@ -31,7 +31,7 @@ links-same n s t h =
     (λ j b. ap (λ (x : Bool). cond (ltb i j && x) ((i * 256 + j) ∷ []) []) (h i j (below-elim n i a) (below-elim n j b))))
 
 -- a list in the array, read to its length
-pad-taken : (xs : List ℕ) → take (length xs) (pad xs) ≡ xs
+pad-taken : (xs : List ℕ) → take (length xs) (pad room xs) ≡ xs
 unfolding pad
 pad-taken xs = take-at xs (replicate (room - length xs) 0) (length xs) refl
 
@@ -44,7 +44,7 @@ module _ (names : ℕ) (ms : List Mark) (r : RowPlan) (p : PlanOf names ms r) wh
   points = pointsFor names ms
 
   point-same : (i : ℕ) → i < length points → getD (r .points) i 0 ≡ getD points i 0
-  point-same i l = ap (λ (xs : List ℕ). getD xs i 0) (p .listed) ∙ pad-at points i l
+  point-same i l = ap (λ (xs : List ℕ). getD xs i 0) (p .listed) ∙ pad-at room points i l
 
   touch-same : (i j : ℕ) → i < length points → j < length points → memAt (r .rows) i j ≡ not (separated ms (getD points i 0) (getD points j 0))
   touch-same i j k l =

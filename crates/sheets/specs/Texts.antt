@@ -20,7 +20,7 @@ use Rattle.plan.specs.Words.{Plan, IsPlan}
 use Rattle.plan.specs.Arrays.{Stored, planBy}
 use Rattle.plan.specs.Given.{rowPlan}
 use Rattle.plan.specs.Judging.{judge}
-use Rattle.plan.proofs.Floors.{namedFloor}
+use Rattle.plan.specs.Floor.{namedFloor}
 use Rattle.judging.specs.declared.Judged.{Judged}
 use Rattle.judging.specs.Values.{judgedOf}
 use Rattle.compile.specs.Sheet.{CompiledFrom}

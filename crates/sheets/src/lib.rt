@@ -7,7 +7,7 @@ ghost use mathlib.Core.Path.{_≡_};
 ghost use Prim.Native.Nat.{_≤_};
 ghost use lib.ListN.{take};
 ghost use Rattle.search.specs.Compiled.{limit};
-ghost use Rattle.plan.specs.Words.{mostNames};
+ghost use Rattle.evalset.specs.Sets.{most};
 ghost use Rattle.sheets.specs.Ends.{lastEnd};
 ghost use Rattle.sheets.specs.Counted.{nameCount};
 ghost use Rattle.sheets.specs.Texts.{NothingCompiled, Ready, WithText, Whole, FirstRowIs, RowPlanIs, JudgedIs};
@@ -108,7 +108,7 @@ pub fn row_of(c: Compiling, code: &[u8]) -> RowAnswer
 
 // The plan of a row of the compiled rules. Its arrays have the number of names in a byte.
 pub fn plan_of(c: Compiling, row: usize) -> PlanArrays
-    requires { ⌜ (c .sheet .names ≤ mostNames) × (c .sheet .atoms ≤ limit) ⌝ }
+    requires { ⌜ (c .sheet .names ≤ most) × (c .sheet .atoms ≤ limit) ⌝ }
     ensures { λ r. ⌜ RowPlanIs c row r ⌝ }
 {
     let sheet = c.sheet;

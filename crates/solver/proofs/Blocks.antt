@@ -17,9 +17,11 @@ use Rattle.evalset.specs.Bit.{bit}
 use Rattle.evalset.specs.Sets.{most, mem, meetOf, minusOf, belowOf, shiftOf}
 use Rattle.evalset.proofs.Bits.{bit-none, bit-zero, bit-suc, bit-above}
 use Rattle.evalset.proofs.Bounded.{side}
+use Rattle.evalset.proofs.Arrays.{every-at}
 use Rattle.evalset.proofs.Members.{names-room, below-few}
 use Rattle.contact.specs.Row.{is, unknown}
 use Rattle.contact.specs.Tableau.{refutes}
+use Rattle.contact.proofs.Searching.{row-known}
 use Rattle.kleene.specs.declared.Two.{Two}
 use Rattle.kleene.specs.Rails.{duo, sure, duoOf, duoAt, twoAt}
 use Rattle.search.specs.Rows.{rowBits}
@@ -29,11 +31,6 @@ use Rattle.solver.specs.Tree.{extended, decidedAt, candidatesOf}
 
 -- ---- the values of the atoms
 
-known-in : (row : List Bool) (i : ℕ) → i < length row → getD (map is row) i unknown ≡ is (getD row i false)
-known-in [] i l = absurd (omega arith)
-known-in (b ∷ row) zero l = refl
-known-in (b ∷ row) (suc i) l = known-in row i (omega arith)
-
 module _ (k d row e i : ℕ) where
   block-length : length (rowBits k row ++ rowBits d e) ≡ k + d
   block-length = length-append (rowBits k row) (rowBits d e) ∙ ap₂ _+_ (row-length k row) (row-length d e)
@@ -41,7 +38,7 @@ module _ (k d row e i : ℕ) where
   -- of the row itself
   pub leaf-first : i < k → decidedAt k row d e i ≡ sure (getD (rowBits k row) i false)
   leaf-first l =
-      ap duoOf (known-in (rowBits k row ++ rowBits d e) i (omega (arith, block-length)))
+      ap duoOf (row-known (rowBits k row ++ rowBits d e) i (omega (arith, block-length)))
       ∙ ap sure (List·getD-append (rowBits k row) (rowBits d e) false i (omega (arith, row-length k row)))
 
   -- of the block
@@ -49,7 +46,7 @@ module _ (k d row e i : ℕ) where
   leaf-second l m =
       let z : i ≡ length (rowBits k row) + (i - k) = omega (arith, row-length k row) in
       let y : d - 1 - (i - k) ≡ k + d - 1 - i = omega arith in
-      ap duoOf (known-in (rowBits k row ++ rowBits d e) i (omega (arith, block-length)))
+      ap duoOf (row-known (rowBits k row ++ rowBits d e) i (omega (arith, block-length)))
       ∙ ap sure (ap (λ (x : ℕ). getD (rowBits k row ++ rowBits d e) x false) z
       ∙ getD-append-add (rowBits k row) (rowBits d e) (i - k) false
       ∙ row-at d e (i - k) (omega arith) ∙ ap (λ (x : ℕ). not (bit e x)) y)
@@ -66,9 +63,7 @@ module _ (k d row e i : ℕ) where
 
 pub nil-at : (n i : ℕ) (x : Two) (e : ℕ) → duoAt x e ≡ duo false false → twoAt (replicate n x) i e ≡ duo false false
 unfolding twoAt duoAt mem
-nil-at zero i x e h = ap₂ duo (bit-none e) (bit-none e)
-nil-at (suc n) zero x e h = h
-nil-at (suc n) (suc i) x e h = nil-at n i x e h
+nil-at n i x e h = every-at (λ (s : Two). duoAt s e ≡ duo false false) h (ap₂ duo (bit-none e) (bit-none e)) n i
 
 -- ---- the halves
 

@@ -17,15 +17,16 @@ use Rattle.formula.specs.Formula.{Atom, Form}
 use Rattle.evalset.specs.declared.EvalSet.{EvalSet}
 use Rattle.evalset.specs.Search.{In, any, first, orElse, below}
 use Rattle.evalset.specs.Sets.{room, most, mem, meetOf, belowOf, shiftOf}
-use Rattle.evalset.proofs.Search.{clash, untrue, both, and-intro, map-elim, any-elim, none-elim, none-intro, below-intro, first-none, first-append}
+use Rattle.evalset.proofs.Search.{map-elim, any-elim, none-elim, none-intro, below-intro, first-none, first-append}
+use Rattle.evalset.proofs.Truth.{clash, untrue, both, and-intro}
 use Rattle.evalset.proofs.Bounded.{each}
 use Rattle.evalset.proofs.Members.{names-room}
 use Rattle.contact.specs.Numbering.{allAtoms}
 use Rattle.contact.specs.Row.{is, Extends, rulesTrue}
 use Rattle.contact.specs.Plan.{rowMarks, check, rows, good, firstRow}
-use Rattle.contact.specs.Tableau.{refutes, closes}
+use Rattle.contact.specs.Tableau.{refutes, closes, under}
 use Rattle.contact.proofs.Answer.{rows-elim}
-use Rattle.contact.proofs.Searching.{refutes-sound, closes-exact, extends-prefix, under-split}
+use Rattle.contact.proofs.Searching.{refutes-sound, closes-exact, extends-prefix, under-split, check-prefix}
 use Rattle.search.specs.declared.Sheet.{Sheet}
 use Rattle.search.specs.declared.State.{State}
 use Rattle.search.specs.Rows.{rowBits}
@@ -35,9 +36,8 @@ use Rattle.search.proofs.Claims.{step-true, step-false}
 use Rattle.solver.specs.declared.RowAnswer.{RowAnswer}
 use Rattle.solver.specs.declared.RowAnswer.the-variants.{At, Nothing}
 use Rattle.solver.specs.Coded.{Coded}
-use Rattle.solver.specs.Tree.{candidatesOf, CandidatesSay, ParentPasses, PassesSays, ComesFrom, Runnable, Node, under, rowsOf, UnderSays, FirstRowSays}
+use Rattle.solver.specs.Tree.{candidatesOf, CandidatesSay, ParentPasses, PassesSays, ComesFrom, Runnable, Node, rowsOf, UnderSays, FirstRowSays}
 use Rattle.solver.proofs.Codes.{coded-numbers}
-use Rattle.solver.proofs.Fewer.{check-prefix}
 use Rattle.solver.proofs.Blocks.{number, lower-half, upper-half}
 
 -- ---- the rows under a row

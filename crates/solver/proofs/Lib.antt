@@ -1,5 +1,4 @@
 pub mod Codes
 pub mod Blocks
-pub mod Fewer
 pub mod Branches
 pub mod Claims

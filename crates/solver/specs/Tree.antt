@@ -10,8 +10,8 @@ use Rattle.evalset.specs.declared.EvalSet.{EvalSet}
 use Rattle.evalset.specs.Search.{first}
 use Rattle.evalset.specs.Sets.{most, mem}
 use Rattle.contact.specs.Row.{is, unknown, PartialRow}
-use Rattle.contact.specs.Plan.{rowMarks, check, rows, good, firstRow}
-use Rattle.contact.specs.Tableau.{refutes}
+use Rattle.contact.specs.Plan.{rowMarks, check, good, firstRow}
+use Rattle.contact.specs.Tableau.{refutes, under}
 use Rattle.kleene.specs.Rails.{Duo, duoOf}
 use Rattle.search.specs.declared.Sheet.{Sheet}
 use Rattle.search.specs.declared.State.{State}
@@ -78,10 +78,6 @@ pub record Node (code ends : List ℕ) (sheet : Sheet) (row k j : ℕ) : Type 0 
   pub row-fits : row < 2 ^ k
   pub few : j ≤ most
   pub block-fits : k + j ≤ sheet .atoms
-
--- the rows that begin with `row` and have d atoms more, in their order
-abbrev pub under : List Bool → ℕ → List (List Bool)
-under row d = map (λ ext. row ++ ext) (rows d)
 
 -- what is found, as a list of none or one
 abbrev pub rowsOf : ℕ → RowAnswer → List (List Bool)

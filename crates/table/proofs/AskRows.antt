@@ -11,15 +11,14 @@ use lib.Dec.{leb, eqb}
 use lib.ListN.{length}
 use borrow.Author.Tests.{leb-true, leb-false, le-leb, lt-leb, eq-eqb, ne-eqb}
 use Rattle.formula.specs.Formula.{Formula, Name}
-use Rattle.contact.specs.Meaning.{Floor}
-use Rattle.contact.specs.Numbering.{namesOf}
-use Rattle.contact.proofs.Naming.{renamed, numberOf}
+use Rattle.contact.specs.Meaning.{Floor, renamed}
+use Rattle.contact.specs.Numbering.{namesOf, numberOf}
 use Rattle.plan.specs.Words.{Plan, IsPlan, wordsOf}
-use Rattle.plan.specs.Reader.{Reading, plan, refused, readOf}
+use Rattle.plan.specs.Reader.{Reading, plan, refused, readOf, ReadingSays}
 use Rattle.plan.specs.Given.{plansOf, IsGiven}
 use Rattle.plan.specs.Judging.{Judgement, judge}
-use Rattle.plan.proofs.Exact.{Says, exact}
-use Rattle.plan.proofs.Floors.{planFloor, namedFloor}
+use Rattle.plan.proofs.Exact.{exact}
+use Rattle.plan.specs.Floor.{planFloor, namedFloor}
 use Rattle.plan.proofs.Claims.{plan-is-read, refused-exactly, judge-yes, judge-unmet, no-plan-given, given-exactly, given-at-most-one}
 use Rattle.table.specs.declared.AskAnswer.{AskAnswer}
 use Rattle.table.specs.declared.AskAnswer.the-variants as AskAnswer
@@ -87,7 +86,7 @@ module _ (words : List ℕ) where
           (met-row rs some p (record { is = h; words-are = w; named = e }) (judge (namedFloor (formulasOf rs) p h) (formulasOf rs)) refl)
       go (no e) = subst (λ (b : Bool). JudgeRow rs words (judgeOutcome (answer b))) (sym (ne-eqb (p .names) (length (namesOf (formulasOf rs))) e)) (JudgeRow.differ some h w e)
 
-  reading-row : (rs : List Text) → SomeStand rs → (r : Reading) (h : Says words r) → JudgeRow rs words (judgeOutcome (judgeReading (formulasOf rs) words r h))
+  reading-row : (rs : List Text) → SomeStand rs → (r : Reading) (h : ReadingSays words r) → JudgeRow rs words (judgeOutcome (judgeReading (formulasOf rs) words r h))
   reading-row rs some (plan p) h = plan-row rs some p (h .0) (h .1)
   reading-row rs some (refused j) h = JudgeRow.unread some h
 
@@ -112,7 +111,7 @@ module _ (words : List ℕ) where
   judged-plan rs some p h w =
       judged-some rs some words ∙ go (readOf words) (exact words) (sym (ap readOf w) ∙ plan-is-read p h)
     where
-      go : (r : Reading) (s : Says words r) → r ≡ plan p → judgeReading (formulasOf rs) words r s ≡ judgePlan (formulasOf rs) p h
+      go : (r : Reading) (s : ReadingSays words r) → r ≡ plan p → judgeReading (formulasOf rs) words r s ≡ judgePlan (formulasOf rs) p h
       go (plan q) s e = let z : q ≡ p = cc in same-plan (formulasOf rs) q p z (s .0) h
       go (refused j) s e = absurd (let z : _≡_ {A = ℕ} 0 1 = cc in omega arith)
 
@@ -129,7 +128,7 @@ module _ (words : List ℕ) where
   judge-row-only rs o (JudgeRow.none e) = sym (ap (λ (l : List Text). judgeOutcome (judgeAnswer l words)) e)
   judge-row-only rs o (JudgeRow.unread {j} some r) = sym (ap judgeOutcome (judged-some rs some words ∙ go (readOf words) (exact words) (refused-exactly words j .1 r)))
     where
-      go : (x : Reading) (s : Says words x) → x ≡ refused j → judgeReading (formulasOf rs) words x s ≡ JudgeAnswer.NotAPlan j
+      go : (x : Reading) (s : ReadingSays words x) → x ≡ refused j → judgeReading (formulasOf rs) words x s ≡ JudgeAnswer.NotAPlan j
       go (plan q) s e = absurd (let z : _≡_ {A = ℕ} 0 1 = cc in omega arith)
       go (refused i) s e = let z : i ≡ j = cc in ap JudgeAnswer.NotAPlan z
   judge-row-only rs o (JudgeRow.differ {p} some h w n) = sym (ap judgeOutcome (judged-plan rs some p h w ∙ by-names rs p h false (ne-eqb (p .names) (length (namesIn rs)) n)))

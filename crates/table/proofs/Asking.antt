@@ -20,13 +20,13 @@ use Rattle.plan.specs.declared.PlanRead.{PlanRead}
 use Rattle.plan.specs.declared.Written.{Written}
 use Rattle.plan.specs.declared.Written.the-variants as Written
 use Rattle.plan.specs.Words.{Plan, IsPlan, wordsOf}
-use Rattle.plan.specs.Reader.{Reading, plan, refused, readOf}
+use Rattle.plan.specs.Reader.{Reading, plan, refused, readOf, ReadingSays}
 use Rattle.plan.specs.Arrays.{Stored, answerOf, planIn, Reads, planBy, Writes, over}
 use Rattle.plan.specs.Given.{rowPlan, plansOf, IsGiven}
 use Rattle.plan.specs.Judging.{Judgement, yes, unmet, judge}
 use Rattle.plan.proofs.Claims.{given-exactly}
-use Rattle.plan.proofs.Exact.{Says, exact}
-use Rattle.plan.proofs.Floors.{namedFloor}
+use Rattle.plan.proofs.Exact.{exact}
+use Rattle.plan.specs.Floor.{namedFloor}
 use Rattle.judging.specs.declared.Judged.{Judged}
 use Rattle.judging.specs.Values.{judgedOf}
 use Rattle.sheets.specs.declared.Compiling.{Compiling}
@@ -187,7 +187,7 @@ module _ (t : Table) (v : FromUs t) (words : List ℕ) where
     pub judges-words : 0 < t .count → (at : ℕ) → r .answer ≡ PlanAnswer.Refused at → Judges t words (judgeResult t (JudgeAnswer.NotAPlan at))
     judges-words h at e = judges-some h (JudgeAnswer.NotAPlan at) (sym (go (readOf words) (exact words) (sym (reads .answer) ∙ e)))
       where
-        go : (x : Reading) (says : Says words x) → answerOf x ≡ PlanAnswer.Refused at → judgeReading (formulasOf (rulesOf t)) words x says ≡ JudgeAnswer.NotAPlan at
+        go : (x : Reading) (says : ReadingSays words x) → answerOf x ≡ PlanAnswer.Refused at → judgeReading (formulasOf (rulesOf t)) words x says ≡ JudgeAnswer.NotAPlan at
         go (plan p) says q = absurd (let z : _≡_ {A = ℕ} 0 1 = cc in omega arith)
         go (refused j) says q = let z : j ≡ at = cc in ap JudgeAnswer.NotAPlan z
 
@@ -197,6 +197,6 @@ module _ (t : Table) (v : FromUs t) (words : List ℕ) where
     unfolding JudgeAnswerSays
     judges-plan h e c code compiled a says = judges-some h a (go (readOf words) (exact words) (sym (reads .answer) ∙ e) (reads .plan))
       where
-        go : (x : Reading) (s : Says words x) → answerOf x ≡ PlanAnswer.Plan → Stored (r .plan) (planIn x) → a ≡ judgeReading (formulasOf (rulesOf t)) words x s
+        go : (x : Reading) (s : ReadingSays words x) → answerOf x ≡ PlanAnswer.Plan → Stored (r .plan) (planIn x) → a ≡ judgeReading (formulasOf (rulesOf t)) words x s
         go (plan p) s q stored = says (formulasOf (rulesOf t)) compiled p (s .0) stored
         go (refused j) s q stored = absurd (let z : _≡_ {A = ℕ} 0 1 = cc in omega arith)

@@ -11,7 +11,8 @@ use Rattle.formula.specs.Formula.{Formula, Name}
 use Rattle.formula.specs.Atoms.{atomsOf}
 use Rattle.formula.specs.Names.{atomNames}
 use Rattle.evalset.specs.Search.{In, here, next, keep, gather}
-use Rattle.evalset.proofs.Search.{clash, none-in, uncons, at-head, keep-elim, gather-intro, gather-elim}
+use Rattle.evalset.proofs.Search.{none-in, uncons, at-head, keep-elim, gather-intro, gather-elim}
+use Rattle.evalset.proofs.Truth.{clash}
 use Rattle.contact.specs.Numbering.{allAtoms, distinct, sameName, namesOf}
 use Rattle.contact.proofs.Naming.{Decides, distinct-in, same-name}
 use Rattle.names.proofs.Distinct.{from-distinct}

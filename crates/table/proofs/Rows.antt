@@ -16,7 +16,7 @@ use Rattle.syntax.specs.declared.RuleAnswer.{RuleAnswer}
 use Rattle.syntax.specs.declared.RuleAnswer.the-variants as RuleAnswer
 use Rattle.syntax.proofs.Claims.{text-answered, text-answered-only, is-rule}
 use Rattle.evalset.specs.Search.{gather}
-use Rattle.evalset.proofs.Search.{cases}
+use Rattle.evalset.proofs.Truth.{cases}
 use Rattle.contact.specs.Numbering.{allAtoms}
 use Rattle.names.specs.Gather.{gathered, placesOf, ruleTokens}
 use Rattle.names.specs.Seventh.{SeventhAt}

@@ -16,12 +16,11 @@ use Rattle.syntax.specs.declared.RuleAnswer.{RuleAnswer}
 use Rattle.syntax.specs.declared.RuleAnswer.the-variants as RuleAnswer
 use Rattle.syntax.proofs.Claims.{is-rule}
 use Rattle.evalset.specs.Search.{In, here}
-use Rattle.evalset.proofs.Search.{none-in, uncons, in-left, in-right, in-either, map-intro, map-elim}
+use Rattle.evalset.proofs.Search.{none-in, uncons, in-left, in-right, in-either, map-intro, map-elim, gather-append}
 use Rattle.contact.specs.Numbering.{allAtoms, namesOf}
 use Rattle.names.specs.Gather.{gathered}
 use Rattle.names.specs.declared.NamesAnswer.{NamesAnswer}
 use Rattle.names.specs.declared.NamesAnswer.the-variants as NamesAnswer
-use Rattle.names.proofs.Texts.{gather-append}
 use Rattle.names.proofs.Claims.{rule-enough}
 use Rattle.table.specs.declared.AddAnswer.{AddAnswer}
 use Rattle.table.specs.declared.AddAnswer.the-variants as AddAnswer

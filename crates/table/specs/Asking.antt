@@ -9,12 +9,12 @@ use Rattle.formula.specs.Formula.{Formula, Name}
 use Rattle.contact.specs.Numbering.{namesOf}
 use Rattle.plan.specs.declared.Written.the-variants as Written
 use Rattle.plan.specs.Words.{Plan, IsPlan, wordsOf}
-use Rattle.plan.specs.Reader.{Reading, plan, refused, readOf}
+use Rattle.plan.specs.Reader.{Reading, plan, refused, readOf, ReadingSays}
 use Rattle.plan.specs.Arrays.{over}
 use Rattle.plan.specs.Given.{plansOf}
 use Rattle.plan.specs.Judging.{Judgement, yes, unmet, judge}
-use Rattle.plan.proofs.Floors.{namedFloor}
-use Rattle.plan.proofs.Exact.{Says, exact}
+use Rattle.plan.proofs.Exact.{exact}
+use Rattle.plan.specs.Floor.{namedFloor}
 use Rattle.judging.specs.declared.Judged.the-variants as Judged
 use Rattle.table.specs.declared.Table.{Table}
 use Rattle.table.specs.declared.AskAnswer.{AskAnswer}
@@ -74,7 +74,7 @@ judgePlan rules p h =
     cond (eqb (p .names) (length (namesOf rules))) (judgementAnswer (judge (namedFloor rules p h) rules)) (JudgeAnswer.NamesDiffer (p .names))
 
 -- refusal 13: "words up to here begin no plan, or end early | word index, or the length"; what is read is a plan (`exact`)
-abbrev pub judgeReading : List (Formula Name) → (words : List ℕ) → (r : Reading) → Says words r → JudgeAnswer
+abbrev pub judgeReading : List (Formula Name) → (words : List ℕ) → (r : Reading) → ReadingSays words r → JudgeAnswer
 judgeReading rules words (plan p) h = judgePlan rules p (h .0)
 judgeReading rules words (refused j) h = JudgeAnswer.NotAPlan j
 

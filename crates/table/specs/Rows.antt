@@ -15,8 +15,8 @@ use Rattle.contact.specs.Numbering.{allAtoms}
 use Rattle.contact.specs.Meaning.{Floor, meetsAll}
 use Rattle.plan.specs.Words.{Plan, IsPlan, wordsOf, Refusal}
 use Rattle.plan.specs.Given.{IsGiven}
-use Rattle.plan.proofs.Floors.{namedFloor}
-use Rattle.plan.proofs.Unmet.{FirstUnmet}
+use Rattle.plan.specs.Floor.{namedFloor}
+use Rattle.plan.specs.Judging.{FirstUnmet}
 use Rattle.names.specs.Gather.{placesOf, ruleTokens}
 use Rattle.names.specs.Seventh.{SeventhAt}
 use Rattle.table.specs.Store.{Text}

@@ -17,7 +17,7 @@ use Rattle.plan.specs.Words.{Plan, IsPlan, wordsOf}
 use Rattle.plan.specs.Reader.{Reading, plan, readOf}
 use Rattle.plan.specs.Arrays.{Stored, answerOf, planIn, Reads}
 use Rattle.plan.specs.Given.{givenPlan, rowPlan, plansOf, IsGiven}
-use Rattle.plan.proofs.Unmet.{FirstUnmet}
+use Rattle.plan.specs.Judging.{FirstUnmet}
 use Rattle.plan.proofs.Claims.{plan-is-read, no-plan-given, given-exactly, given-at-most-one, given-is-plan, given-meets}
 use Rattle.contact.specs.Row.{Row, IsFirstRow}
 use Rattle.contact.proofs.Claims.{first-row-only-named}

@@ -16,7 +16,7 @@ use Rattle.syntax.specs.Postfix.{puts}
 use Rattle.syntax.specs.Rule.{ruleOf, meaningOf}
 use Rattle.evalset.specs.Search.{In, here, next}
 use Rattle.evalset.specs.Bit.{bit}
-use Rattle.evalset.proofs.Search.{clash}
+use Rattle.evalset.proofs.Truth.{clash}
 use Rattle.contact.specs.Row.{rulesTrue}
 use Rattle.contact.specs.Plan.{separated, allowed, fills, partners, leads, check, given, pointsFor, good, firstRow}
 use Rattle.names.specs.Gather.{placesOf, ruleTokens, withName, namesAfter, gatheredOf, gathered}

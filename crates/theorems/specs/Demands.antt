@@ -18,7 +18,7 @@ use Rattle.plan.specs.declared.PlanRead.{PlanRead}
 use Rattle.plan.specs.Words.{Plan, wordsOf}
 use Rattle.plan.specs.Arrays.{Stored, Reads, over}
 use Rattle.plan.specs.Given.{IsGiven}
-use Rattle.plan.proofs.Unmet.{FirstUnmet}
+use Rattle.plan.specs.Judging.{FirstUnmet}
 use Rattle.table.specs.declared.Table.{Table}
 use Rattle.table.specs.declared.Outcome.{Outcome}
 use Rattle.table.specs.declared.Outcome.the-variants as Outcome

@@ -1,11 +1,16 @@
 -- `plan::blank` meets its contract: nothing is stored, and no row has a position.
 use mathlib.Core.Path.{refl}
-use Rattle.plan.proofs.Squares.{pad-none, rows-none}
+use borrow.Author.Needs.{needs}
+use Rattle.evalset.proofs.Arrays.{pad-none}
+use Rattle.plan.proofs.Squares.{rows-none}
 use Rattle.plan.proofs.blank.Statement.{statement}
 use Rattle.plan.proofs.blank.Tie as tie
 
+empty-requires : tie.Need-empty-requires
+empty-requires c κs = search needs
+
 returns : tie.Need-returns
-returns c = record { names = refl; count = refl; points = pad-none 64; rows = rows-none 64 _ }
+returns c = record { names = refl; count = refl; points = pad-none 64; rows = rows-none 64 _ _ (c .empty .ensures) }
 
 pub blank-spec : {M : Type 1} → statement M
-blank-spec = tie.close (tie.spec returns)
+blank-spec = tie.close (tie.spec empty-requires returns)

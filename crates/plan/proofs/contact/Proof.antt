@@ -3,7 +3,7 @@ use Prim.Native.Nat.{_+_}
 use mathlib.Core.Path.{sym, subst}
 use Rattle.plan.specs.declared.Word.{Word}
 use Rattle.plan.specs.Reader.{linked}
-use Rattle.plan.specs.Held.{Holds}
+use Rattle.plan.specs.Private.{Holds}
 use Rattle.plan.proofs.Steps.{dead-holds, not-link}
 use borrow.Author.Needs.{needs}
 use Rattle.plan.proofs.contact.Statement.{statement}

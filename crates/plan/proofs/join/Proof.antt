@@ -5,7 +5,7 @@ use mathlib.Core.Path.{_≡_, ap, _∙_}
 use mathlib.Core.Bool.{Bool}
 use lib.ListN.{length, set, length-set}
 use Rattle.evalset.specs.Sets.{room, memAt}
-use Rattle.plan.specs.Held.{addAt, joinedOf}
+use Rattle.plan.specs.Private.{addAt, joinedOf}
 use Rattle.plan.proofs.Squares.{row-set}
 use borrow.Author.Needs.{needs}
 use Rattle.plan.proofs.join.Statement.{statement}

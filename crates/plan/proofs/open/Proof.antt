@@ -38,8 +38,8 @@ returns-3 c =
 cast-few : tie.Need-cast-few
 cast-few c = omega arith
 
-room-requires : tie.Need-room-requires
-room-requires c κs = search needs
+evaluations-requires : tie.Need-evaluations-requires
+evaluations-requires c κs = search needs
 
 dead-requires-4 : tie.Need-dead-requires-4
 dead-requires-4 c κs = search needs
@@ -73,7 +73,7 @@ open-spec =
     dead-requires-3
     returns-3
     cast-few
-    room-requires
+    evaluations-requires
     dead-requires-4
     returns-4
     blank-requires

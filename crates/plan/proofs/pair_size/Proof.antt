@@ -3,7 +3,7 @@ use native.Mathlib.Omega.{arith}
 use mathlib.Core.Path.{sym, ap, _∙_}
 use lib.ListN.{length}
 use Rattle.evalset.specs.Sets.{mem}
-use Rattle.plan.proofs.Buffer.{pair-early, pair-there, pair-apart}
+use Rattle.plan.proofs.Contacts.{pair-early, pair-there, pair-apart}
 use borrow.Author.Needs.{needs}
 use Rattle.plan.proofs.pair_size.Statement.{statement}
 use Rattle.plan.proofs.pair_size.Tie as tie

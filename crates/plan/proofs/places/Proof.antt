@@ -5,13 +5,13 @@ use mathlib.Core.Path.{_≡_, ap, ap₂, _∙_}
 use mathlib.Core.Bool.{Bool, cond}
 use borrow.Author.Needs.{needs}
 use Rattle.evalset.specs.Sets.{room, mem, addOf}
-use Rattle.plan.specs.Held.{placesOf}
-use Rattle.plan.proofs.Positions.{places-none, places-more}
+use Rattle.evalset.specs.Arrays.{positionsOf}
+use Rattle.evalset.proofs.Arrays.{positions-none, positions-more}
 use Rattle.plan.proofs.places.Statement.{statement}
 use Rattle.plan.proofs.places.Tie as tie
 
 abbrev Inv-loop : tie.InvT-loop
-Inv-loop n x points found₀ j₀ found j = (j ≤ n) × (mem found ≡ placesOf j points (mem x))
+Inv-loop n x points found₀ j₀ found j = (j ≤ n) × (mem found ≡ positionsOf j points (mem x))
 
 abbrev μ-loop : tie.MeasureT-loop
 μ-loop n x points found₀ j₀ found j = n - j
@@ -22,7 +22,7 @@ empty-requires c κs = search needs
 loop-holds : tie.Need-loop-holds Inv-loop μ-loop
 loop-holds c =
     let a = c .before .args in
-    (omega arith, c .empty .ensures ∙ places-none (a .t1) (mem (a .x)))
+    (omega arith, c .empty .ensures ∙ positions-none (a .t1) (mem (a .x)))
 
 array-read-e : tie.Need-array-read-e Inv-loop μ-loop
 array-read-e c = omega arith
@@ -50,7 +50,7 @@ loop-again c =
       omega arith,
       c .with-place .ensures
           ∙ ap₂ (λ (v : Bool) (s : ℕ → Bool). cond v (addOf s (k .j)) s) (c .before .contains .ensures) (k .inv .1)
-          ∙ places-more (k .j) (a .t1) (mem (a .x)) (omega arith),
+          ∙ positions-more (k .j) (a .t1) (mem (a .x)) (omega arith),
     )
 
 returns : tie.Need-returns Inv-loop μ-loop
@@ -58,7 +58,7 @@ returns c =
     let loop = c .before .loop in
     let a = c .before .before .before .args in
     let z : loop .j ≡ a .n = omega arith in
-    loop .inv .1 ∙ ap (λ (k : ℕ). placesOf k (a .t1) (mem (a .x))) z
+    loop .inv .1 ∙ ap (λ (k : ℕ). positionsOf k (a .t1) (mem (a .x))) z
 
 pub places-spec : {M : Type 1} → statement M
 places-spec =

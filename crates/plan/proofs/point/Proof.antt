@@ -1,8 +1,8 @@
 -- `plan::point` meets its contract: each test that fails is the machine's, and what passes them all is its state.
 use native.Mathlib.Omega.{arith}
+use lib.Pow.{pow-mono}
 use Prim.Native.Nat.{ℕ, _^_}
 use mathlib.Core.Path.{_≡_, refl, ap, _∙_}
-use Rattle.plan.proofs.Complete.{room-64}
 use Rattle.plan.proofs.Steps.{dead-holds, not-point, point-low, point-room, point-top, point-good}
 use borrow.Author.Needs.{needs}
 use Rattle.plan.proofs.point.Statement.{statement}
@@ -30,8 +30,8 @@ returns-2 c =
     dead-holds _ _ _ (c .dead2 .ensures)
     (point-low (a .at) (a .p) n m pts low (a .word) (given .0 .0) (given .1) h (omega arith))
 
-room-requires : tie.Need-room-requires
-room-requires c κs = search needs
+evaluations-requires : tie.Need-evaluations-requires
+evaluations-requires c κs = search needs
 
 dead-requires-3 : tie.Need-dead-requires-3
 dead-requires-3 c κs = search needs
@@ -40,9 +40,9 @@ returns-3 : tie.Need-returns-3
 returns-3 c =
     let a = c .before .before .before .before .before .before .before .before .args in
     let given = c .before .before .before .before .before .word .given in
-    let room = c .before .before .room in
+    let evaluations = c .before .before .evaluations in
     λ n m pts low h.
-    let top : room .result ≡ 2 ^ n = point-top (a .at) (a .p) n m pts low (a .word) (given .0 .0) (given .1) h _ (room .ensures) in
+    let top : evaluations .result ≡ 2 ^ n = point-top (a .at) (a .p) n m pts low (a .word) (given .0 .0) (given .1) h _ (evaluations .ensures) in
     dead-holds _ _ _ (c .dead3 .ensures)
     (point-room (a .at) (a .p) n m pts low (a .word) (given .0 .0) (given .1) h (omega arith) (omega arith))
 
@@ -56,9 +56,9 @@ returns-4 : tie.Need-returns-4
 returns-4 c =
     let a = c .before .before .before .before .before .before .before .before .before .args in
     let given = c .before .before .before .before .before .before .word .given in
-    let room = c .before .before .before .room in
+    let evaluations = c .before .before .before .evaluations in
     λ n m pts low h.
-    let top : room .result ≡ 2 ^ n = point-top (a .at) (a .p) n m pts low (a .word) (given .0 .0) (given .1) h _ (room .ensures) in
+    let top : evaluations .result ≡ 2 ^ n = point-top (a .at) (a .p) n m pts low (a .word) (given .0 .0) (given .1) h _ (evaluations .ensures) in
     dead-holds _ _ _ (c .dead4 .ensures)
     (point-room (a .at) (a .p) n m pts low (a .word) (given .0 .0) (given .1) h (omega arith) (omega arith))
 
@@ -66,9 +66,9 @@ with-point-requires : tie.Need-with-point-requires
 with-point-requires c κs =
     let pre = c .before .before .before .before .before .before .before .before .pre in
     let h = pre .held in
-    let top : c .before .before .room .result ≡ 2 ^ (pre .n) =
-    c .before .before .room .ensures ∙ ap (λ (x : ℕ). 2 ^ x) (h .stored .names) in
-    (omega (arith, h .stored .count, h .small), omega (arith, room-64 (pre .n) (h .few)))
+    let top : c .before .before .evaluations .result ≡ 2 ^ (pre .n) =
+    c .before .before .evaluations .ensures ∙ ap (λ (x : ℕ). 2 ^ x) (h .stored .names) in
+    (omega (arith, h .stored .count, h .small), omega (arith, pow-mono (h .few)))
 
 sub-t15 : tie.Need-sub-t15
 sub-t15 c = search needs
@@ -80,9 +80,9 @@ returns-5 : tie.Need-returns-5
 returns-5 c =
     let a = c .before .before .before .before .before .before .before .before .before .before .args in
     let given = c .before .before .before .before .before .before .before .word .given in
-    let room = c .before .before .before .before .room in
+    let evaluations = c .before .before .before .before .evaluations in
     λ n m pts low h.
-    let top : room .result ≡ 2 ^ n = point-top (a .at) (a .p) n m pts low (a .word) (given .0 .0) (given .1) h _ (room .ensures) in
+    let top : evaluations .result ≡ 2 ^ n = point-top (a .at) (a .p) n m pts low (a .word) (given .0 .0) (given .1) h _ (evaluations .ensures) in
     point-good (a .at) (a .p) n m pts low (a .word) (given .0 .0) (given .1) h _ (omega arith) (omega arith)
     (c .before .with-point .ensures) (λ e. (refl, refl)) (λ k e. absurd (omega arith))
 
@@ -90,9 +90,9 @@ returns-6 : tie.Need-returns-6
 returns-6 c =
     let a = c .before .before .before .before .before .before .before .before .before .before .args in
     let given = c .before .before .before .before .before .before .before .word .given in
-    let room = c .before .before .before .before .room in
+    let evaluations = c .before .before .before .before .evaluations in
     λ n m pts low h.
-    let top : room .result ≡ 2 ^ n = point-top (a .at) (a .p) n m pts low (a .word) (given .0 .0) (given .1) h _ (room .ensures) in
+    let top : evaluations .result ≡ 2 ^ n = point-top (a .at) (a .p) n m pts low (a .word) (given .0 .0) (given .1) h _ (evaluations .ensures) in
     point-good (a .at) (a .p) n m pts low (a .word) (given .0 .0) (given .1) h _ (omega arith) (omega arith)
     (c .before .with-point .ensures) (λ e. absurd (omega arith)) (λ k e. (refl, omega arith, refl))
 
@@ -105,7 +105,7 @@ point-spec =
     returns
     dead-requires-2
     returns-2
-    room-requires
+    evaluations-requires
     dead-requires-3
     returns-3
     sub-if3

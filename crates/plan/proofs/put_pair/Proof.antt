@@ -6,8 +6,9 @@ use mathlib.Core.List.{List}
 use lib.ListN.{length, set}
 use Rattle.evalset.specs.Sets.{mem}
 use Rattle.plan.specs.Words.{contactWord}
-use Rattle.plan.specs.Held.{Wrote}
-use Rattle.plan.proofs.Buffer.{pair-early, pair-there, pair-apart, wrote-none, wrote-one}
+use Rattle.plan.specs.Private.{Wrote}
+use Rattle.plan.proofs.Buffer.{wrote-none, wrote-one}
+use Rattle.plan.proofs.Contacts.{pair-early, pair-there, pair-apart}
 use borrow.Author.Needs.{needs}
 use Rattle.plan.proofs.put_pair.Statement.{statement}
 use Rattle.plan.proofs.put_pair.Tie as tie

@@ -6,7 +6,7 @@ use mathlib.Core.List.{List, map}
 use borrow.Author.Needs.{needs}
 use lib.ListN.{length, set, take, length-set}
 use Rattle.plan.specs.Words.{pointWord}
-use Rattle.plan.specs.Held.{written}
+use Rattle.plan.specs.Private.{written}
 use Rattle.plan.proofs.Buffer.{written-none, points-more}
 use Rattle.plan.proofs.put_points.Statement.{statement}
 use Rattle.plan.proofs.put_points.Tie as tie

@@ -6,8 +6,9 @@ use mathlib.Core.List.{List}
 use lib.ListN.{length, length-append}
 use Rattle.evalset.specs.Sets.{mem}
 use Rattle.plan.specs.Arrays.{rowTo, pairOf}
-use Rattle.plan.specs.Held.{Wrote}
-use Rattle.plan.proofs.Buffer.{row-none, row-more, row-within, wrote-none, wrote-next, wrote-length}
+use Rattle.plan.specs.Private.{Wrote}
+use Rattle.plan.proofs.Buffer.{wrote-none, wrote-next, wrote-length}
+use Rattle.plan.proofs.Contacts.{row-none, row-more, row-within}
 use Rattle.plan.proofs.put_row.Statement.{statement}
 use Rattle.plan.proofs.put_row.Tie as tie
 

@@ -6,8 +6,9 @@ use mathlib.Core.List.{List}
 use lib.ListN.{length, length-append}
 use Rattle.evalset.specs.Sets.{memAt}
 use Rattle.plan.specs.Arrays.{rowTo, linksTo}
-use Rattle.plan.specs.Held.{Wrote}
-use Rattle.plan.proofs.Buffer.{links-none, links-more, links-within, wrote-none, wrote-next, wrote-length}
+use Rattle.plan.specs.Private.{Wrote}
+use Rattle.plan.proofs.Buffer.{wrote-none, wrote-next, wrote-length}
+use Rattle.plan.proofs.Contacts.{links-none, links-more, links-within}
 use Rattle.plan.proofs.put_rows.Statement.{statement}
 use Rattle.plan.proofs.put_rows.Tie as tie
 

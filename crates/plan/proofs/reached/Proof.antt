@@ -5,7 +5,7 @@ use mathlib.Core.Path.{_≡_, sym, ap, _∙_}
 use mathlib.Core.Bool.{false}
 use borrow.Author.Needs.{needs}
 use Rattle.evalset.specs.Sets.{mem, memAt}
-use Rattle.plan.specs.Held.{reachedOf}
+use Rattle.plan.specs.Private.{reachedOf}
 use Rattle.plan.proofs.Positions.{reached-none, reached-more, reached-here}
 use Rattle.plan.proofs.reached.Statement.{statement}
 use Rattle.plan.proofs.reached.Tie as tie

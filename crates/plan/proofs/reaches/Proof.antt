@@ -5,7 +5,7 @@ use Prim.Native.Nat.{ℕ}
 use borrow.Author.Needs.{needs}
 use Rattle.evalset.specs.Search.{any, below}
 use Rattle.evalset.specs.Sets.{mem, meetOf, room}
-use Rattle.plan.specs.Held.{reachesOf}
+use Rattle.plan.specs.Private.{reachesOf}
 use Rattle.plan.proofs.reaches.Statement.{statement}
 use Rattle.plan.proofs.reaches.Tie as tie
 

@@ -4,7 +4,7 @@ use Prim.Native.Nat.{_-_}
 use mathlib.Core.Path.{refl}
 use borrow.Author.Needs.{needs}
 use lib.ListN.{length}
-use Rattle.plan.proofs.Going.{Going, going-start, going-some, going-dead, going-on, reads-refused, ends-early, reads-whole}
+use Rattle.plan.proofs.ReadLoop.{Going, going-start, going-some, going-dead, going-on, reads-refused, ends-early, reads-whole}
 use Rattle.plan.proofs.read_plan.Statement.{statement}
 use Rattle.plan.proofs.read_plan.Tie as tie
 

@@ -2,7 +2,7 @@
 use native.Mathlib.Omega.{arith}
 use mathlib.Core.Path.{ap, _∙_}
 use Rattle.evalset.specs.Sets.{room, mem, memAt}
-use Rattle.plan.specs.Held.{reachedOf}
+use Rattle.plan.specs.Private.{reachedOf}
 use Rattle.plan.proofs.Positions.{touches-is}
 use borrow.Author.Needs.{needs}
 use Rattle.plan.proofs.touches.Statement.{statement}

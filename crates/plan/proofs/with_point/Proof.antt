@@ -4,7 +4,7 @@ use Prim.Native.Nat.{ℕ}
 use mathlib.Core.Path.{refl, sym, ap₂, _∙_}
 use mathlib.Core.List.{List}
 use lib.ListN.{set}
-use Rattle.plan.proofs.Squares.{pad-set}
+use Rattle.evalset.proofs.Arrays.{pad-set}
 use borrow.Author.Needs.{needs}
 use Rattle.plan.proofs.with_point.Statement.{statement}
 use Rattle.plan.proofs.with_point.Tie as tie

@@ -1,13 +1,10 @@
 -- `plan::write_plan` meets its contract: the pieces one after the other are the plan's words, and all of them fit.
 use native.Mathlib.Omega.{arith}
-use Prim.Native.Nat.{min, _*_, _≤_}
+use Prim.Native.Nat.{min}
 use mathlib.Core.Path.{_≡_}
 use mathlib.Core.List.{[]}
 use lib.ListN.{length, length-set}
-use Rattle.evalset.specs.Sets.{memAt}
-use Rattle.plan.specs.Arrays.{linksTo}
-use Rattle.plan.proofs.Buffer.{links-small}
-use Rattle.plan.proofs.Writing.{needs-more, mid-length, late-length, writes-all}
+use Rattle.plan.proofs.Writing.{sizes, needs-more, mid-length, late-length, writes-all}
 use borrow.Author.Needs.{needs}
 use Rattle.plan.proofs.write_plan.Statement.{statement}
 use Rattle.plan.proofs.write_plan.Tie as tie
@@ -26,10 +23,8 @@ add-size-2 c =
     let a = c .before .before .before .before .before .args in
     let n = c .before .clamped .result in
     let m : n ≡ min (a .plan .count) 64 = c .before .clamped .ensures in
-    let few : n ≤ 64 = omega arith in
     let s = c .contact-count .ensures in
-    let small : length (linksTo n n (memAt (a .plan .rows))) ≤ n * 64 = links-small n n (memAt (a .plan .rows)) few in
-    let full : length (a .plan .points) ≡ 64 = search needs in
+    let small = sizes (a .plan) n m in
     omega arith
 
 returns : tie.Need-returns
@@ -37,9 +32,8 @@ returns c =
     let a = c .before .before .before .before .before .before .args in
     let n = c .before .before .clamped .result in
     let m : n ≡ min (a .plan .count) 64 = c .before .before .clamped .ensures in
-    let few : n ≤ 64 = omega arith in
     let s = c .before .contact-count .ensures in
-    let small : length (linksTo n n (memAt (a .plan .rows))) ≤ n * 64 = links-small n n (memAt (a .plan .rows)) few in
+    let small = sizes (a .plan) n m in
     let full : length (a .plan .points) ≡ 64 = search needs in
     needs-more (a .plan) n full m _ (a .buffer .now) s (omega arith)
 
@@ -66,11 +60,9 @@ put-points-requires c κs =
     let a = c .before .before .before .before .before .before .before .args in
     let n = c .before .before .before .clamped .result in
     let m : n ≡ min (a .plan .count) 64 = c .before .before .before .clamped .ensures in
-    let few : n ≤ 64 = omega arith in
     let s = c .before .before .contact-count .ensures in
-    let small : length (linksTo n n (memAt (a .plan .rows))) ≤ n * 64 = links-small n n (memAt (a .plan .rows)) few in
-    let full : length (a .plan .points) ≡ 64 = search needs in
-    (few, simp length-set (omega arith))
+    let small = sizes (a .plan) n m in
+    (small .0, simp length-set (omega arith))
 
 add-put-rows : tie.Need-add-put-rows
 add-put-rows c = search needs
@@ -80,11 +72,10 @@ put-rows-requires c κs =
     let a = c .before .before .before .before .before .before .before .before .before .before .before .args in
     let n = c .before .before .before .before .before .before .before .clamped .result in
     let m : n ≡ min (a .plan .count) 64 = c .before .before .before .before .before .before .before .clamped .ensures in
-    let few : n ≤ 64 = omega arith in
     let s = c .before .before .before .before .before .before .contact-count .ensures in
-    let small : length (linksTo n n (memAt (a .plan .rows))) ≤ n * 64 = links-small n n (memAt (a .plan .rows)) few in
+    let small = sizes (a .plan) n m in
     let full : length (a .plan .points) ≡ 64 = search needs in (
-      few,
+      small .0,
       omega (
         arith,
         mid-length (a .plan) n full m (a .buffer .now) _ [] 0 (omega arith)
@@ -98,10 +89,8 @@ cast-buffer-3 c =
     let n = c .before .before .before .before .before .before .before .before .before .before .clamped .result in
     let m : n ≡ min (a .plan .count) 64 =
     c .before .before .before .before .before .before .before .before .before .before .clamped .ensures in
-    let few : n ≤ 64 = omega arith in
     let s = c .before .before .before .before .before .before .before .before .before .contact-count .ensures in
-    let small : length (linksTo n n (memAt (a .plan .rows))) ≤ n * 64 = links-small n n (memAt (a .plan .rows)) few in
-    let full : length (a .plan .points) ≡ 64 = search needs in
+    let small = sizes (a .plan) n m in
     omega (arith, c .before .before .put-rows .ensures .place)
 
 add-buffer-3 : tie.Need-add-buffer-3
@@ -110,10 +99,8 @@ add-buffer-3 c =
     let n = c .before .before .before .before .before .before .before .before .before .before .clamped .result in
     let m : n ≡ min (a .plan .count) 64 =
     c .before .before .before .before .before .before .before .before .before .before .clamped .ensures in
-    let few : n ≤ 64 = omega arith in
     let s = c .before .before .before .before .before .before .before .before .before .contact-count .ensures in
-    let small : length (linksTo n n (memAt (a .plan .rows))) ≤ n * 64 = links-small n n (memAt (a .plan .rows)) few in
-    let full : length (a .plan .points) ≡ 64 = search needs in
+    let small = sizes (a .plan) n m in
     omega (arith, c .before .before .put-rows .ensures .place)
 
 mul-buffer-2 : tie.Need-mul-buffer-2
@@ -125,9 +112,8 @@ slice-write-buffer-2 c =
     let n = c .before .before .before .before .before .before .before .before .before .before .clamped .result in
     let m : n ≡ min (a .plan .count) 64 =
     c .before .before .before .before .before .before .before .before .before .before .clamped .ensures in
-    let few : n ≤ 64 = omega arith in
     let s = c .before .before .before .before .before .before .before .before .before .contact-count .ensures in
-    let small : length (linksTo n n (memAt (a .plan .rows))) ≤ n * 64 = links-small n n (memAt (a .plan .rows)) few in
+    let small = sizes (a .plan) n m in
     let full : length (a .plan .points) ≡ 64 = search needs in
     omega (
       arith,
@@ -142,9 +128,8 @@ same-length c =
     let n = c .before .before .before .before .before .before .before .before .before .before .clamped .result in
     let m : n ≡ min (a .plan .count) 64 =
     c .before .before .before .before .before .before .before .before .before .before .clamped .ensures in
-    let few : n ≤ 64 = omega arith in
     let s = c .before .before .before .before .before .before .before .before .before .contact-count .ensures in
-    let small : length (linksTo n n (memAt (a .plan .rows))) ≤ n * 64 = links-small n n (memAt (a .plan .rows)) few in
+    let small = sizes (a .plan) n m in
     let full : length (a .plan .points) ≡ 64 = search needs in
     simp length-set (late-length (a .plan) n full m (a .buffer .now) _ _ _ (omega arith)
     (c .before .before .before .before .before .before .put-points .ensures) (c .before .before .put-rows .ensures))
@@ -155,9 +140,8 @@ returns-2 c =
     let n = c .before .before .before .before .before .before .before .before .before .before .clamped .result in
     let m : n ≡ min (a .plan .count) 64 =
     c .before .before .before .before .before .before .before .before .before .before .clamped .ensures in
-    let few : n ≤ 64 = omega arith in
     let s = c .before .before .before .before .before .before .before .before .before .contact-count .ensures in
-    let small : length (linksTo n n (memAt (a .plan .rows))) ≤ n * 64 = links-small n n (memAt (a .plan .rows)) few in
+    let small = sizes (a .plan) n m in
     let full : length (a .plan .points) ≡ 64 = search needs in
     writes-all (a .plan) n full m (a .buffer .now) _ _ _ (omega arith)
     (c .before .before .before .before .before .before .put-points .ensures) (c .before .before .put-rows .ensures) _ s

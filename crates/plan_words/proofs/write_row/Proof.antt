@@ -13,8 +13,8 @@ abbrev μ-loop : tie.MeasureT-loop
 loop-holds : tie.Need-loop-holds Inv-loop μ-loop
 loop-holds c = search needs
 
-contains-requires : tie.Need-contains-requires Inv-loop μ-loop
-contains-requires c κs = search needs
+later-requires : tie.Need-later-requires Inv-loop μ-loop
+later-requires c κs = search needs
 
 write-contact-requires : tie.Need-write-contact-requires Inv-loop μ-loop
 write-contact-requires c κs = search needs
@@ -38,7 +38,7 @@ write-row-spec =
     Inv-loop
     μ-loop
     loop-holds
-    contains-requires
+    later-requires
     write-contact-requires
     add-j
     loop-less

@@ -6,7 +6,7 @@ use native.Mathlib.Omega.{arith}
 use lib.ListN.{length}
 use Rattle.evalset.specs.Search.{gather, below}
 use Rattle.names.specs.Gather.{knownOf}
-use Rattle.plan.proofs.Lists.{gather-more}
+use Rattle.evalset.proofs.Bounded.{gather-more}
 use Rattle.report.specs.Output.{nameIf, blanked}
 use Rattle.report.specs.Putting.{Puts}
 use Rattle.report.proofs.Putting.{puts-none, puts-text, fits-next, puts-length, puts-more}

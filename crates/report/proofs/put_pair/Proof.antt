@@ -4,7 +4,7 @@ use native.Mathlib.Omega.{arith}
 use lib.ListN.{length}
 use Rattle.evalset.specs.Search.{gather}
 use Rattle.evalset.specs.Sets.{mem}
-use Rattle.plan.proofs.Buffer.{pair-early, pair-apart}
+use Rattle.plan.proofs.Contacts.{pair-early, pair-apart}
 use Rattle.report.specs.Output.{contactLine}
 use Rattle.report.proofs.Putting.{puts-none, puts-text}
 use Rattle.report.proofs.Parts.{pair-text}

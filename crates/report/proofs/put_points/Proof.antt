@@ -8,7 +8,7 @@ use lib.ListN.{length, getD, take}
 use lib.Seq.{getD-take}
 use Rattle.evalset.specs.Search.{gather, below}
 use Rattle.names.specs.Gather.{knownOf}
-use Rattle.plan.proofs.Lists.{gather-more}
+use Rattle.evalset.proofs.Bounded.{gather-more}
 use Rattle.report.specs.Output.{pointLine}
 use Rattle.report.specs.Putting.{Puts}
 use Rattle.report.proofs.Putting.{puts-none, puts-text, fits-next, puts-length, puts-more}

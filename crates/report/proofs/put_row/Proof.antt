@@ -7,7 +7,7 @@ use lib.ListN.{length}
 use Rattle.evalset.specs.Search.{gather, below}
 use Rattle.evalset.specs.Sets.{mem}
 use Rattle.plan.specs.Arrays.{pairOf}
-use Rattle.plan.proofs.Lists.{gather-more}
+use Rattle.evalset.proofs.Bounded.{gather-more}
 use Rattle.report.specs.Output.{contactLine}
 use Rattle.report.specs.Putting.{Puts}
 use Rattle.report.proofs.Putting.{puts-none, puts-text, fits-next, puts-length, puts-more}

@@ -11,12 +11,12 @@ use borrow.Author.Tests.{not-true, not-false}
 use Rattle.formula.specs.Formula.{Atom}
 use Rattle.evalset.specs.Search.{all}
 use Rattle.evalset.specs.Sets.{memAt}
-use Rattle.evalset.proofs.Search.{clash, untrue, all-elim}
+use Rattle.evalset.proofs.Search.{all-elim, all-last}
+use Rattle.evalset.proofs.Truth.{clash, untrue}
 use Rattle.contact.specs.Plan.{Mark, mark, rowMarks, witnessed}
 use Rattle.search.specs.Rows.{rowBits}
 use Rattle.search.specs.Compiled.{atomAt, Compiled, Fit, WitnessedSays}
 use Rattle.search.proofs.Rows.{row-length, no-marks, marks-take, marks-whole, mark-in}
-use Rattle.search.proofs.Lists.{all-last}
 use Rattle.search.proofs.Fitting.{witnessed-is}
 use Rattle.search.proofs.all_witnessed.Statement.{statement}
 use Rattle.search.proofs.all_witnessed.Tie as tie

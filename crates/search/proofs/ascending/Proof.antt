@@ -8,17 +8,17 @@ use lib.ListN.{length, set}
 use borrow.Author.Needs.{needs}
 use Rattle.evalset.specs.Search.{keep, below}
 use Rattle.evalset.specs.Sets.{room, mem, fromOf}
-use Rattle.evalset.proofs.Bounded.{keep-length}
-use Rattle.evalset.proofs.Walk.{from-zero, Step, step, stop, keep-step, keep-stop, count-step, count-stop}
-use Rattle.search.specs.Planned.{pad}
-use Rattle.search.proofs.Listing.{pad-set}
+use Rattle.evalset.proofs.Bounded.{keep-length, keep-cut}
+use Rattle.evalset.proofs.Walk.{from-zero, Step, step, stop, keep-step, count-step}
+use Rattle.evalset.specs.Arrays.{pad}
+use Rattle.evalset.proofs.Arrays.{pad-set}
 use Rattle.search.proofs.ascending.Statement.{statement}
 use Rattle.search.proofs.ascending.Tie as tie
 
 abbrev Inv-loop : tie.InvT-loop
 Inv-loop points₀ rest₀ from₀ count₀ points rest from count =
     (from ≤ room) × (mem rest ≡ fromOf from (mem rest₀)) × (count ≡ length (keep (mem rest₀) (below from)))
-    × (points ≡ pad (keep (mem rest₀) (below from)))
+    × (points ≡ pad room (keep (mem rest₀) (below from)))
 
 abbrev μ-loop : tie.MeasureT-loop
 μ-loop points₀ rest₀ from₀ count₀ points rest from count = room - from
@@ -48,8 +48,8 @@ returns : tie.Need-returns Inv-loop μ-loop
 returns c =
     let k = c .before .before .before .before .loop in
     let rest = stop room (k .from) _ _ (k .inv .1) (sym (c .before .before .least .ensures) ∙ c .enum-told .given .1) in (
-      k .inv .2 ∙ sym (count-stop room (k .from) _ (k .inv .0) rest),
-      k .inv .3 ∙ ap pad (sym (keep-stop room (k .from) _ (k .inv .0) rest)),
+      k .inv .2 ∙ ap length (sym (keep-cut _ (k .from) room (k .inv .0) rest)),
+      k .inv .3 ∙ ap (pad room) (sym (keep-cut _ (k .from) room (k .inv .0) rest)),
     )
 
 -- there is room for it
@@ -91,8 +91,8 @@ loop-again c =
       c .without .ensures ∙ t .rest,
       ap (λ (x : ℕ). x + 1) (k .inv .2) ∙ sym (count-step _ _ _ (t .low) (t .passes) (t .between)),
       ap₂ (λ (x : List ℕ) (y : ℕ). set x y e) (k .inv .3) (k .inv .2)
-          ∙ pad-set so-far e (omega (arith, fits (c .before), k .inv .2))
-          ∙ ap pad (sym (keep-step _ _ _ (t .low) (t .passes) (t .between))),
+          ∙ pad-set room so-far e (omega (arith, fits (c .before), k .inv .2))
+          ∙ ap (pad room) (sym (keep-step _ _ _ (t .low) (t .passes) (t .between))),
     )
 
 returns-2 : tie.Need-returns-2 Inv-loop μ-loop
@@ -101,7 +101,7 @@ returns-2 c =
     let k = c .before .loop in
     let z : k .from ≡ room = omega (arith, k .inv .0) in (
       k .inv .2 ∙ ap (λ (x : ℕ). length (keep (mem (c .before .before .args .s)) (below x))) z,
-      k .inv .3 ∙ ap (λ (x : ℕ). pad (keep (mem (c .before .before .args .s)) (below x))) z,
+      k .inv .3 ∙ ap (λ (x : ℕ). pad room (keep (mem (c .before .before .args .s)) (below x))) z,
     )
 
 pub ascending-spec : {M : Type 1} → statement M

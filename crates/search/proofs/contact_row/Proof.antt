@@ -21,7 +21,7 @@ empty-requires : tie.Need-empty-requires Inv-loop μ-loop
 empty-requires c κs = search needs
 
 loop-holds : tie.Need-loop-holds Inv-loop μ-loop
-loop-holds c = (omega arith, c .empty .ensures ∙ row-none _ _)
+loop-holds c = let a = c .before .args in (omega arith, c .empty .ensures ∙ row-none (a .t1) (mem (a .apart)))
 
 array-read-e : tie.Need-array-read-e Inv-loop μ-loop
 unfolding room

@@ -5,9 +5,9 @@ use native.Mathlib.Omega.{arith}
 use lib.ListN.{length, length-set}
 use borrow.Author.Needs.{needs}
 use Rattle.evalset.specs.Sets.{room, memAt}
-use Rattle.evalset.proofs.Members.{mem-at-same, mem-at-other}
+use Rattle.evalset.proofs.Arrays.{mem-at-same, mem-at-other, empty-rows}
 use Rattle.search.specs.Tests.{rowsOf, Filled}
-use Rattle.search.proofs.Listing.{empty-rows, filled-none, filled-more}
+use Rattle.search.proofs.Listing.{filled-none, filled-more}
 use Rattle.search.proofs.contact_rows.Statement.{statement}
 use Rattle.search.proofs.contact_rows.Tie as tie
 

@@ -1,13 +1,14 @@
 -- `search::realisable_next` meets its contract: a mark that forbids and separates nothing changes the check by its own witness alone.
 -- Assumes nothing.
-use mathlib.Core.Bool.{Bool, true, false, Bool·beq}
-use mathlib.Core.Path.{_≡_, refl, sym, ap, _∙_}
+use mathlib.Core.Bool.{Bool}
+use mathlib.Core.Path.{sym, ap, _∙_}
 use mathlib.Core.List.{List, [], _∷_, _++_}
 use Prim.Native.Nat.{_-_, _/_, _<_}
 use native.Mathlib.Omega.{arith}
 use lib.ListN.{length}
 use borrow.Author.Needs.{needs}
 use Rattle.evalset.specs.Sets.{memAt}
+use Rattle.evalset.proofs.Truth.{beq-same}
 use Rattle.contact.specs.Plan.{Mark, mark, rowMarks}
 use Rattle.search.specs.Rows.{rowBits}
 use Rattle.search.specs.Compiled.{atomAt, RealisableSays, NextSays}
@@ -42,13 +43,6 @@ witnessed-requires c κs = search needs
 
 realisable-requires : tie.Need-realisable-requires
 realisable-requires c κs = search needs
-
--- the test of equality, as the code makes it
-beq-same : (a b : Bool) → Bool·beq a b ≡ true → a ≡ b
-beq-same true true h = refl
-beq-same true false h = sym h
-beq-same false true h = h
-beq-same false false h = refl
 
 returns : tie.Need-returns
 unfolding NextSays memAt

@@ -7,7 +7,7 @@ use lib.ListN.{length, length-set}
 use borrow.Author.Needs.{needs}
 use Rattle.evalset.specs.Sets.{room, mem, memAt, fromOf}
 use Rattle.evalset.proofs.Bounded.{each}
-use Rattle.evalset.proofs.Members.{mem-at-same, mem-at-other}
+use Rattle.evalset.proofs.Arrays.{mem-at-same, mem-at-other}
 use Rattle.evalset.proofs.Walk.{from-zero, Step, step, stop}
 use Rattle.search.proofs.Walks.{SeparatedTo, separate-none, separate-on, separate-ends}
 use Rattle.search.proofs.separate.Statement.{statement}

@@ -2,7 +2,7 @@
 -- Assumes nothing.
 use borrow.Author.Needs.{needs}
 use Rattle.evalset.specs.Sets.{room}
-use Rattle.search.proofs.Listing.{empty-rows}
+use Rattle.evalset.proofs.Arrays.{empty-rows}
 use Rattle.search.proofs.Fitting.{fit-start}
 use Rattle.search.proofs.start.Statement.{statement}
 use Rattle.search.proofs.start.Tie as tie

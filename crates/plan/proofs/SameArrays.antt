@@ -1,11 +1,11 @@
 -- Arrays that hold a plan are determined by it: rows with the same positions are the same words. So reading is one function of the
 -- words. Assumes nothing.
-use mathlib.Core.Path.{_≡_, refl, sym, ap, ap₂, _∙_}
+use mathlib.Core.Path.{_≡_, sym, ap, ap₂, _∙_}
 use mathlib.Core.Bool.{Bool}
-use mathlib.Core.List.{List, [], _∷_}
-use Prim.Native.Nat.{ℕ, suc, _^_, _<_}
-use native.Mathlib.Omega.{arith}
+use mathlib.Core.List.{List}
+use Prim.Native.Nat.{ℕ, _^_, _<_}
 use lib.ListN.{length, getD}
+use lib.Seq.{ext-getD}
 use Rattle.evalset.specs.declared.EvalSet.{EvalSet}
 use Rattle.evalset.specs.Sets.{room, memAt}
 use Rattle.evalset.proofs.Members.{same-members}
@@ -21,19 +21,13 @@ pub record InRange (r : PlanArrays) : Type 0 where
   pub rows : length (r .rows) ≡ 64
   pub words : (i : ℕ) → getD (r .rows) i (record { bits = 0 }) .bits < 2 ^ room
 
-same-list : {A : Type 0} (d : A) (xs ys : List A) → length xs ≡ length ys → ((i : ℕ) → getD xs i d ≡ getD ys i d) → xs ≡ ys
-same-list d [] [] l f = refl
-same-list d [] (y ∷ ys) l f = absurd (omega arith)
-same-list d (x ∷ xs) [] l f = absurd (omega arith)
-same-list d (x ∷ xs) (y ∷ ys) l f = ap₂ _∷_ (f 0) (same-list d xs ys (omega arith) (λ i. f (suc i)))
-
 stored-once : (p : Plan) (r s : PlanArrays) → InRange r → InRange s → Stored r p → Stored s p → r ≡ s
 unfolding memAt
 stored-once p r s v w a b =
     let rows : memAt (r .rows) ≡ memAt (s .rows) = a .rows ∙ sym (b .rows) in
     let same : r .rows ≡ s .rows =
-    same-list (record { bits = 0 }) (r .rows) (s .rows) (v .rows ∙ sym (w .rows))
-    (λ i. same-members _ _ (v .words i) (w .words i) (ap (λ (t : ℕ → ℕ → Bool). t i) rows)) in
+    ext-getD (record { bits = 0 }) (r .rows) (s .rows) (v .rows ∙ sym (w .rows))
+    (λ i l. same-members _ _ (v .words i) (w .words i) (ap (λ (t : ℕ → ℕ → Bool). t i) rows)) in
     ap₂ (λ (x y : ℕ). arrays x y (r .points) (r .rows)) (a .names ∙ sym (b .names)) (a .count ∙ sym (b .count))
     ∙ ap₂ (λ (x : List ℕ) (y : List EvalSet). arrays (s .names) (s .count) x y) (a .points ∙ sym (b .points)) same
   where

@@ -6,11 +6,10 @@ use native.Mathlib.Omega.{arith}
 use native.Mathlib.Numerals.{add-one}
 use lib.ListN.{length, drop, getD}
 use lib.Seq.{drop-cons, drop-length}
-use types.Run.{OneOf, miss}
+use types.Run.{OneOf}
 use denote.Enum.Declared.{tagOf}
 use Rattle.plan.proofs.Phase.{the-type}
 use Rattle.plan.specs.declared.PlanArrays.{PlanArrays}
-use Rattle.plan.specs.declared.Phase.{Phase}
 use Rattle.plan.specs.declared.Phase.the-variants as phase
 use Rattle.plan.specs.declared.Progress.{Progress}
 use Rattle.plan.specs.declared.PlanAnswer.the-variants as answer-is
@@ -18,8 +17,9 @@ use Rattle.plan.specs.declared.PlanRead.{PlanRead}
 use Rattle.plan.specs.Words.{Plan}
 use Rattle.plan.specs.Reader.{kindOf, State, start, pointing, linking, whole, dead, step, Reading, plan, refused, ended, unless, readFrom, readOf}
 use Rattle.plan.specs.Arrays.{Stored, answerOf, planIn, Reads}
-use Rattle.plan.specs.Held.{planOf, Holds, SomeState}
+use Rattle.plan.specs.Private.{planOf, Holds, SomeState}
 use Rattle.plan.proofs.Exact.{IsDead}
+use Rattle.plan.proofs.Steps.{other-phase}
 
 pub record Going (ws : List ℕ) (at : ℕ) (p : Progress) : Type 0 where
   pub within : at ≤ length ws
@@ -50,12 +50,15 @@ module _ (ws : List ℕ) (at : ℕ) (p r : Progress) (g : Going ws at p) (h : at
   pub going-dead : r .phase ≡ phase.Dead → readOf ws ≡ refused at
   going-dead e = go (step (g .s) (kindOf (getD ws at 0))) (f (g .s) (g .held)) after
     where
+      o : OneOf (4 ∷ []) (tagOf the-type (r .phase))
+      o = ap (tagOf the-type) e
+
       go : (t : State) → Holds (at + 1) r t → unless t at (readFrom (suc at) t (drop (suc at) ws)) ≡ readOf ws
           → readOf ws ≡ refused at
-      go start k q = let a = k .0 in let z : _≡_ {A = ℕ} 0 1 = cc in absurd (omega arith)
-      go (pointing n m pts low) k q = let a = k .phase in let z : _≡_ {A = ℕ} 0 1 = cc in absurd (omega arith)
-      go (linking n pts ks low) k q = let a = k .phase in let z : _≡_ {A = ℕ} 0 1 = cc in absurd (omega arith)
-      go (whole d) k q = let a = k .0 in let z : _≡_ {A = ℕ} 0 1 = cc in absurd (omega arith)
+      go start k q = other-phase (at + 1) r start (4 ∷ []) o k tt
+      go (pointing n m pts low) k q = other-phase (at + 1) r (pointing n m pts low) (4 ∷ []) o k tt
+      go (linking n pts ks low) k q = other-phase (at + 1) r (linking n pts ks low) (4 ∷ []) o k tt
+      go (whole d) k q = other-phase (at + 1) r (whole d) (4 ∷ []) o k tt
       go dead k q = sym q
 
   pub going-on : OneOf (0 ∷ 1 ∷ 2 ∷ 3 ∷ []) (tagOf the-type (r .phase)) → Going ws (at + 1) r
@@ -77,8 +80,7 @@ module _ (ws : List ℕ) (at : ℕ) (p r : Progress) (g : Going ws at p) (h : at
       go (pointing n m pts low) k q = on (pointing n m pts low) (λ x. x) k q
       go (linking n pts ks low) k q = on (linking n pts ks low) (λ x. x) k q
       go (whole d) k q = on (whole d) (λ x. x) k q
-      go dead k q = absurd (miss (0 ∷ 1 ∷ 2 ∷ 3 ∷ []) 4 tt
-          (subst (λ (x : Phase). OneOf (0 ∷ 1 ∷ 2 ∷ 3 ∷ []) (tagOf the-type x)) k o))
+      go dead k q = other-phase (at + 1) r dead (0 ∷ 1 ∷ 2 ∷ 3 ∷ []) o k tt
 
 pub reads-refused : (ws : List ℕ) (at : ℕ) (r : PlanRead) → readOf ws ≡ refused at
     → (r .answer ≡ answer-is.Refused at) × Stored (r .plan) (planOf 0 [] []) → Reads ws r
@@ -102,13 +104,15 @@ module _ (ws : List ℕ) (at : ℕ) (p : Progress) (g : Going ws at p) (h : leng
       go start k q = sym q
       go (pointing n m pts low) k q = sym q
       go (linking n pts ks low) k q = sym q
-      go (whole d) k q = absurd (miss (0 ∷ 1 ∷ 2 ∷ 4 ∷ []) 3 tt
-          (subst (λ (x : Phase). OneOf (0 ∷ 1 ∷ 2 ∷ 4 ∷ []) (tagOf the-type x)) (k .0) o))
+      go (whole d) k q = other-phase at p (whole d) (0 ∷ 1 ∷ 2 ∷ 4 ∷ []) o k tt
       go dead k q = sym q
 
   pub reads-whole : (r : PlanRead) → p .phase ≡ phase.Whole → r .answer ≡ answer-is.Plan → r .plan ≡ p .plan → Reads ws r
   reads-whole r e v l = go (g .s) (g .held) over
     where
+      o : OneOf (3 ∷ []) (tagOf the-type (p .phase))
+      o = ap (tagOf the-type) e
+
       made : (x : Reading) (d : Plan) → x ≡ plan d → Stored (p .plan) d → x ≡ readOf ws → Reads ws r
       made x d y k q = record {
         answer = v ∙ ap answerOf (sym y ∙ q);
@@ -117,8 +121,8 @@ module _ (ws : List ℕ) (at : ℕ) (p : Progress) (g : Going ws at p) (h : leng
       }
 
       go : (t : State) → Holds at p t → ended at t ≡ readOf ws → Reads ws r
-      go start k q = let a = k .0 in let z : _≡_ {A = ℕ} 0 1 = cc in absurd (omega arith)
-      go (pointing n m pts low) k q = let a = k .phase in let z : _≡_ {A = ℕ} 0 1 = cc in absurd (omega arith)
-      go (linking n pts ks low) k q = let a = k .phase in let z : _≡_ {A = ℕ} 0 1 = cc in absurd (omega arith)
+      go start k q = other-phase at p start (3 ∷ []) o k tt
+      go (pointing n m pts low) k q = other-phase at p (pointing n m pts low) (3 ∷ []) o k tt
+      go (linking n pts ks low) k q = other-phase at p (linking n pts ks low) (3 ∷ []) o k tt
       go (whole d) k q = made (plan d) d refl (k .1) q
-      go dead k q = let z : _≡_ {A = ℕ} 0 1 = cc in absurd (omega arith)
+      go dead k q = other-phase at p dead (3 ∷ []) o k tt

@@ -1,7 +1,7 @@
 -- Arrays that hold a plan hold no other: lists that rise and have the same elements are equal, and the contacts that the plan's
 -- square gives are its contacts. So what was read is written as it came. Assumes nothing.
 use mathlib.Core.Path.{_≡_, refl, sym, ap, ap₂, _∙_, subst}
-use mathlib.Core.Bool.{Bool, true, false, _&&_, _||_, cond, or-comm, true≢false}
+use mathlib.Core.Bool.{Bool, true, false, _&&_, _||_, cond, or-comm}
 use mathlib.Core.List.{List, [], _∷_}
 use mathlib.Core.Logic.{inr, ⊎-elim}
 use Prim.Native.Nat.{ℕ, suc, _+_, _-_, _*_, _/_, _%_, _≤_, _<_}
@@ -13,26 +13,20 @@ use lib.Seq.{take-at}
 use borrow.Author.Tests.{eqb-true, eq-eqb, ltb-true, lt-ltb}
 use Rattle.evalset.specs.Search.{In, here, next, any, below}
 use Rattle.evalset.specs.Sets.{memAt}
+use Rattle.evalset.specs.Arrays.{pad}
 use Rattle.evalset.proofs.Bounded.{side}
 use Rattle.plan.specs.declared.PlanArrays.{PlanArrays}
 use Rattle.plan.specs.Words.{Plan, Rises, IsPlan}
 use Rattle.plan.specs.Floor.{between, touching}
-use Rattle.plan.specs.Arrays.{pad, square, Stored, countOf, pairOf, rowTo, linksTo, planBy}
-use Rattle.plan.specs.Held.{planOf}
-use Rattle.plan.proofs.Lists.{any-e, any-i, below-e, below-i, gather-e, gather-i}
+use Rattle.plan.specs.Arrays.{square, Stored, countOf, pairOf, rowTo, linksTo, planBy}
+use Rattle.plan.specs.Private.{planOf}
 use Rattle.plan.proofs.Squares.{Related, square-elim, square-intro}
 use Rattle.plan.proofs.Contacts.{links-rise}
 use Rattle.plan.proofs.Judged.{few-points, count-is}
-use Rattle.evalset.proofs.Search.{both, or-cases, or-left, or-right, bool-ext}
+use Rattle.evalset.proofs.Search.{none-in, in-one, any-intro, any-elim, gather-intro, gather-elim, below-intro, below-elim}
+use Rattle.evalset.proofs.Truth.{both, or-cases, or-left, or-right, bool-ext}
 
 -- ---- rising lists
-in-none : (k : ℕ) → In k [] → ⊥
-in-none k i = true≢false (sym (any-i (λ x. true) k [] i refl))
-
-in-one : (k x : ℕ) → In k (x ∷ []) → k ≡ x
-in-one k x here = refl
-in-one k x (next i) = absurd (in-none k i)
-
 in-tail : (k x : ℕ) (xs : List ℕ) → In k (x ∷ xs) → (k ≡ x → ⊥) → In k xs
 in-tail k x xs here h = absurd (h refl)
 in-tail k x xs (next i) h = i
@@ -48,8 +42,8 @@ rises-same : (low n : ℕ) (xs ys : List ℕ) → Rises low n xs → Rises low n
     → ((k : ℕ) → In k ys → In k xs)
     → xs ≡ ys
 rises-same low n [] [] r s f g = refl
-rises-same low n [] (y ∷ ys) r s f g = absurd (in-none y (g y here))
-rises-same low n (x ∷ xs) [] r s f g = absurd (in-none x (f x here))
+rises-same low n [] (y ∷ ys) r s f g = none-in (g y here)
+rises-same low n (x ∷ xs) [] r s f g = none-in (f x here)
 rises-same low n (x ∷ xs) (y ∷ ys) r s f g =
     let e : x ≡ y = le-antisymm (head-least y x low n xs r (g y here)) (head-least x y low n ys s (f x here)) in
     ap₂ (λ (z : ℕ) (l : List ℕ). z ∷ l) e
@@ -70,8 +64,8 @@ pair-elim k n i j row m = go (ltb i j && row j) refl
   where
     go : (b : Bool) → (ltb i j && row j) ≡ b → In k (cond b ((i * 256 + j) ∷ []) []) → Linked k n i j row
     go true q x = let w = both (ltb i j) (row j) q in
-        record { later = ltb-true i j (w .0); within = m; there = w .1; number = in-one k (i * 256 + j) x }
-    go false q x = absurd (in-none k x)
+        record { later = ltb-true i j (w .0); within = m; there = w .1; number = in-one x }
+    go false q x = none-in x
 
 pair-intro : (i j : ℕ) (row : ℕ → Bool) → i < j → row j ≡ true → In (i * 256 + j) (pairOf i j row)
 unfolding pairOf
@@ -81,15 +75,15 @@ pair-intro i j row l e =
 links-elim : (k n : ℕ) (rows : ℕ → ℕ → Bool) → In k (linksTo n n rows) → (i : ℕ) × (j : ℕ) × Linked k n i j (rows i)
 unfolding linksTo rowTo
 links-elim k n rows x =
-    let r = gather-e (λ i. rowTo n i (rows i)) k (below n) x in
-    let s = gather-e (λ j. pairOf (r .0) j (rows (r .0))) k (below n) (r .2) in
-    (r .0, s .0, pair-elim k n (r .0) (s .0) (rows (r .0)) (below-e (s .0) n (s .1)) (s .2))
+    let r = gather-elim (λ i. rowTo n i (rows i)) (below n) x in
+    let s = gather-elim (λ j. pairOf (r .0) j (rows (r .0))) (below n) (r .2) in
+    (r .0, s .0, pair-elim k n (r .0) (s .0) (rows (r .0)) (below-elim n (s .0) (s .1)) (s .2))
 
 links-intro : (n i j : ℕ) (rows : ℕ → ℕ → Bool) → i < j → j < n → rows i j ≡ true → In (i * 256 + j) (linksTo n n rows)
 unfolding linksTo rowTo
 links-intro n i j rows l m e =
-    gather-i (λ a. rowTo n a (rows a)) (i * 256 + j) i (below n) (below-i i n (omega arith))
-    (gather-i (λ b. pairOf i b (rows i)) (i * 256 + j) j (below n) (below-i j n m) (pair-intro i j (rows i) l e))
+    gather-intro (λ a. rowTo n a (rows a)) (below-intro n i (omega arith))
+    (gather-intro (λ b. pairOf i b (rows i)) (below-intro n j m) (pair-intro i j (rows i) l e))
 
 -- ---- the contacts of a plan's square are its contacts
 module _ (p : Plan) (few : length (p .points) ≤ 256) (rise : Rises 0 (length (p .points)) (p .contacts)) where
@@ -98,7 +92,7 @@ module _ (p : Plan) (few : length (p .points) ≤ 256) (rise : Rises 0 (length (
       let r = links-elim k (length (p .points)) (square p) x in
       let l = r .2 in
       let w = square-elim p (r .0) (r .1) (l .there) in
-      ⊎-elim (λ q. absurd (omega (arith, l .later))) (λ q. found (r .0) (r .1) l w (any-e (between (r .0) (r .1)) (p .contacts) q))
+      ⊎-elim (λ q. absurd (omega (arith, l .later))) (λ q. found (r .0) (r .1) l w (any-elim (between (r .0) (r .1)) (p .contacts) q))
       (w .how)
     where
       found : (i j : ℕ) → Linked k (length (p .points)) i j (square p i) → Related p i j
@@ -124,7 +118,7 @@ module _ (p : Plan) (few : length (p .points) ≤ 256) (rise : Rises 0 (length (
       (square-intro p (k / 256) (k % 256) (record {
         left = omega arith;
         right = m;
-        how = inr (any-i (between (k / 256) (k % 256)) k (p .contacts) x
+        how = inr (any-intro (between (k / 256) (k % 256)) x
             (or-left (eqb k (k / 256 * 256 + k % 256)) (eqb k (k % 256 * 256 + k / 256)) (eq-eqb k (k / 256 * 256 + k % 256) z)));
       })))
 
@@ -182,17 +176,17 @@ module _ (n : ℕ) (few : n ≤ 256) (rows : ℕ → ℕ → Bool) (self : (a : 
       there : (eqb a b || any (between a b) links) ≡ true → rows a b ≡ true
       there e =
           ⊎-elim (λ q. ap (rows a) (sym (eqb-true a b q)) ∙ self a l)
-          (λ q. let y = any-e (between a b) links q in let w = links-elim (y .0) n rows (y .1) in
+          (λ q. let y = any-elim (between a b) links q in let w = links-elim (y .0) n rows (y .1) in
           met (w .0) (w .1) (y .0) (w .2) (y .2))
           (or-cases (eqb a b) (any (between a b) links) e)
 
       back : rows a b ≡ true → (eqb a b || any (between a b) links) ≡ true
       back e =
           ⊎-elim
-          (λ s. let w = one-way a b s m e in or-right (eqb a b) _ (any-i (between a b) (a * 256 + b) links (w .1) (w .0)))
+          (λ s. let w = one-way a b s m e in or-right (eqb a b) _ (any-intro (between a b) (w .1) (w .0)))
           (λ s. ⊎-elim
           (λ t. let w = one-way b a t l (turn a b l m e) in
-          or-right (eqb a b) _ (any-i (between a b) (b * 256 + a) links (w .1)
+          or-right (eqb a b) _ (any-intro (between a b) (w .1)
           (or-comm (eqb (b * 256 + a) (a * 256 + b)) (eqb (b * 256 + a) (b * 256 + a)) ∙ w .0)))
           (λ t. or-left (eqb a b) _ (eq-eqb a b (omega arith)))
           (side b a))

@@ -1,16 +1,16 @@
--- A row that passes the check passes it without its last atoms: with fewer marks no more is forbidden and no more is separated, so
--- what was allowed and every witness stay. Assumes nothing.
+-- Marks that pass the check pass it where some are left out: no more is forbidden and no more is separated, so what was allowed and
+-- every witness stay. Assumes nothing.
 use mathlib.Core.Bool.{Bool, true, not, _&&_}
 use mathlib.Core.Path.{_≡_, refl, ap}
-use mathlib.Core.Logic.{⊎-elim}
-use mathlib.Core.List.{List, [], _∷_, _++_}
+use mathlib.Core.List.{List}
 use Prim.Native.Nat.{ℕ, _^_}
 use lib.Dec.{ltb}
 use borrow.Author.Tests.{not-true}
-use Rattle.formula.specs.Formula.{Term, Atom}
-use Rattle.evalset.specs.Search.{In, next, any, all}
-use Rattle.evalset.proofs.Search.{clash, both, and-intro, none-in, uncons, at-head, any-intro, any-elim, none-intro, all-intro, all-elim}
-use Rattle.contact.specs.Plan.{at, Mark, touching, apart, vacant, inhabited, rowMarks, evaluations, parts, empties, separated, allowed, fills, partners, leads, witnessed, check}
+use Rattle.formula.specs.Formula.{Term}
+use Rattle.evalset.specs.Search.{In, any, all}
+use Rattle.evalset.proofs.Search.{any-intro, any-elim, none-intro, all-intro, all-elim}
+use Rattle.evalset.proofs.Truth.{clash, both, and-intro}
+use Rattle.contact.specs.Plan.{at, Mark, touching, apart, vacant, inhabited, evaluations, parts, empties, separated, allowed, fills, partners, leads, witnessed, check}
 
 any-more : {A : Type 0} (p q : A → Bool) (xs : List A) → ((x : A) → p x ≡ true → q x ≡ true) → any p xs ≡ true → any q xs ≡ true
 any-more p q xs h t = let w = any-elim p xs t in any-intro q (w .1) (h (w .0) (w .2))
@@ -55,20 +55,10 @@ module _ (n : ℕ) (ms fewer : List Mark) (sub : (m : Mark) → In m fewer → I
   witnessed-fewer (vacant t) h = refl
   witnessed-fewer (inhabited t) h = any-more (fills n ms t) (fills n fewer t) (evaluations n) (fills-fewer t) h
 
-  check-fewer : check n ms ≡ true → check n fewer ≡ true
+  pub check-fewer : check n ms ≡ true → check n fewer ≡ true
   unfolding check
   check-fewer h =
       let w = both (any (allowed n ms) (evaluations n)) (all (witnessed n ms) ms) h in
       and-intro (any (allowed n fewer) (evaluations n)) _
       (any-more (allowed n ms) (allowed n fewer) (evaluations n) allowed-fewer (w .0))
       (all-intro (witnessed n fewer) fewer (λ m i. witnessed-fewer m (all-elim (witnessed n ms) (sub m i) (w .1))))
-
--- the marks of a row are among those of each row that begins with it
-marks-in : (atoms : List (Atom ℕ)) (row ext : List Bool) (m : Mark) → In m (rowMarks atoms row) → In m (rowMarks atoms (row ++ ext))
-marks-in [] row ext m i = none-in i
-marks-in (a ∷ atoms) [] ext m i = none-in i
-marks-in (a ∷ atoms) (b ∷ row) ext m i = ⊎-elim (λ q. at-head q) (λ j. next (marks-in atoms row ext m j)) (uncons i)
-
-pub check-prefix : (n : ℕ) (atoms : List (Atom ℕ)) (row ext : List Bool)
-    → check n (rowMarks atoms (row ++ ext)) ≡ true → check n (rowMarks atoms row) ≡ true
-check-prefix n atoms row ext h = check-fewer n (rowMarks atoms (row ++ ext)) (rowMarks atoms row) (marks-in atoms row ext) h

@@ -1,19 +1,20 @@
--- What the private functions' values hold: how far words have been read, what has been written over a buffer so far, and which
--- positions lie in a set. Assumes nothing.
+-- What the private functions' values hold: how far words have been read, what has been written over a buffer so far, and what
+-- has been found of a row. Assumes nothing.
 use mathlib.Core.Path.{_≡_}
 use mathlib.Core.Bool.{Bool, _&&_, _||_}
 use mathlib.Core.List.{List, [], _∷_, _++_, map}
 use Prim.Native.Nat.{ℕ, _+_, _≤_, _<_}
-use lib.Dec.{eqb, ltb}
+use lib.Dec.{eqb}
 use lib.ListN.{length, getD, take, drop}
 use Rattle.evalset.specs.Search.{any, below}
-use Rattle.evalset.specs.Sets.{room, memAt, meetOf}
+use Rattle.evalset.specs.Sets.{room, memAt, meetOf, most}
+use Rattle.evalset.specs.Arrays.{pad}
 use Rattle.plan.specs.declared.PlanArrays.{PlanArrays}
 use Rattle.plan.specs.declared.Phase.the-variants as phase
 use Rattle.plan.specs.declared.Progress.{Progress}
-use Rattle.plan.specs.Words.{Plan, mostNames, contactWord}
+use Rattle.plan.specs.Words.{Plan, contactWord}
 use Rattle.plan.specs.Reader.{State, start, pointing, linking, whole, dead}
-use Rattle.plan.specs.Arrays.{pad, Stored}
+use Rattle.plan.specs.Arrays.{Stored}
 
 -- ---- reading
 abbrev pub planOf : ℕ → List ℕ → List ℕ → Plan
@@ -39,7 +40,7 @@ pub record HeldPoints (at : ℕ) (r : Progress) (n m : ℕ) (pts : List ℕ) (lo
   pub phase : r .phase ≡ phase.Points
   pub left : r .left ≡ m
   pub least : r .low ≡ low
-  pub few : n ≤ mostNames
+  pub few : n ≤ most
   pub small : length pts + m < 64
   pub lowest : low ≤ 64
   pub words : at ≡ 1 + length pts
@@ -91,10 +92,6 @@ pub record Wrote (at : ℕ) (ks buf exit : List ℕ) (end : ℕ) : Type 0 where
   pub words : exit ≡ written at (map contactWord ks) buf
 
 -- ---- judging
--- the positions below n whose evaluations are in x
-unfoldable pub placesOf : ℕ → List ℕ → (ℕ → Bool) → ℕ → Bool
-placesOf n pts x j = ltb j n && x (getD pts j 0)
-
 -- e is in x, and the row meets the positions ys
 unfoldable pub reachesOf : (ℕ → Bool) → ℕ → (ℕ → Bool) → (ℕ → Bool) → Bool
 reachesOf row e x ys = x e && any (meetOf row ys) (below room)

@@ -1,10 +1,10 @@
--- `plan::room` meets its contract: the seven powers are written out.
+-- `plan::evaluations` meets its contract: the seven powers are written out.
 use native.Mathlib.Omega.{arith}
 use Prim.Native.Nat.{ℕ, suc, _^_, _≤_}
 use native.Mathlib.Nat.{le-antisymm}
 use mathlib.Core.Path.{_≡_, sym, ap}
-use Rattle.plan.proofs.room.Statement.{statement}
-use Rattle.plan.proofs.room.Tie as tie
+use Rattle.plan.proofs.evaluations.Statement.{statement}
+use Rattle.plan.proofs.evaluations.Tie as tie
 
 above : (k n : ℕ) → k ≤ n → (n ≡ k → ⊥) → suc k ≤ n
 above k n h d = omega arith
@@ -36,6 +36,6 @@ returns-7 c =
     (r .0 .0 .1)) (r .0 .1)) (r .1) in
     let six : 6 ≡ n = le-antisymm low (c .before .pre) in ap (λ (x : ℕ). 2 ^ x) six
 
-pub room-spec : {M : Type 1} → statement M
-room-spec =
+pub evaluations-spec : {M : Type 1} → statement M
+evaluations-spec =
     tie.close (tie.spec returns returns-2 returns-3 returns-4 returns-5 returns-6 returns-7)

@@ -1,0 +1,58 @@
+-- Two renamings that agree on the names and the atoms that are there give the same term, atom and rules; by recursion on these.
+-- Assumes nothing.
+use mathlib.Core.Path.{_≡_, refl, ap, ap₂}
+use mathlib.Core.List.{List, [], _∷_, _++_, map}
+use Rattle.formula.specs.Formula.{Term, Atom, Form}
+use Rattle.formula.specs.Names.{termNames, atomNames}
+use Rattle.evalset.specs.Search.{In, here}
+use Rattle.evalset.proofs.Search.{in-left, in-right}
+use Rattle.contact.specs.Numbering.{allAtoms, mapTerm, mapAtom, mapForm}
+use Rattle.formula.specs.Atoms.{atomsOf}
+
+module _ {N M : Type 0} (g h : N → M) where
+  abbrev Agree : List N → Type 0
+  Agree xs = (x : N) → In x xs → g x ≡ h x
+
+  -- the two sides of a sign
+  terms-same : {B : Type 0} (c : Term M → Term M → B) (s t : Term N) → Agree (termNames s ++ termNames t)
+      → (Agree (termNames s) → mapTerm g s ≡ mapTerm h s) → (Agree (termNames t) → mapTerm g t ≡ mapTerm h t)
+      → c (mapTerm g s) (mapTerm g t) ≡ c (mapTerm h s) (mapTerm h t)
+  terms-same c s t u left right = ap₂ c (left (λ x i. u x (in-left (termNames t) i))) (right (λ x i. u x (in-right (termNames s) i)))
+
+  term-same : (t : Term N) → Agree (termNames t) → mapTerm g t ≡ mapTerm h t
+  term-same Term.zero u = refl
+  term-same Term.one u = refl
+  term-same (Term.name x) u = ap Term.name (u x here)
+  term-same (Term.complement t) u = ap Term.complement (term-same t u)
+  term-same (Term.intersection s t) u = terms-same Term.intersection s t u (term-same s) (term-same t)
+  term-same (Term.union s t) u = terms-same Term.union s t u (term-same s) (term-same t)
+
+  pub atom-same : (a : Atom N) → Agree (atomNames a) → mapAtom g a ≡ mapAtom h a
+  atom-same (Atom.contact s t) u = terms-same Atom.contact s t u (term-same s) (term-same t)
+  atom-same (Atom.part s t) u = terms-same Atom.part s t u (term-same s) (term-same t)
+  atom-same (Atom.empty t) u = ap Atom.empty (term-same t u)
+
+module _ {A B : Type 0} (g h : A → B) where
+  abbrev Same : List A → Type 0
+  Same xs = (x : A) → In x xs → g x ≡ h x
+
+  -- the two sides of a binary sign
+  sides-same : (c : Form B → Form B → Form B) (f k : Form A) → Same (atomsOf f ++ atomsOf k)
+      → (Same (atomsOf f) → mapForm g f ≡ mapForm h f) → (Same (atomsOf k) → mapForm g k ≡ mapForm h k)
+      → c (mapForm g f) (mapForm g k) ≡ c (mapForm h f) (mapForm h k)
+  sides-same c f k u left right = ap₂ c (left (λ x i. u x (in-left (atomsOf k) i))) (right (λ x i. u x (in-right (atomsOf f) i)))
+
+  form-same : (f : Form A) → Same (atomsOf f) → mapForm g f ≡ mapForm h f
+  form-same Form.truth u = refl
+  form-same Form.falsity u = refl
+  form-same (Form.atom a) u = ap Form.atom (u a here)
+  form-same (Form.negation f) u = ap Form.negation (form-same f u)
+  form-same (Form.conjunction f k) u = sides-same Form.conjunction f k u (form-same f) (form-same k)
+  form-same (Form.disjunction f k) u = sides-same Form.disjunction f k u (form-same f) (form-same k)
+  form-same (Form.implication f k) u = sides-same Form.implication f k u (form-same f) (form-same k)
+  form-same (Form.equivalence f k) u = sides-same Form.equivalence f k u (form-same f) (form-same k)
+
+  pub forms-same : (fs : List (Form A)) → Same (allAtoms fs) → map (mapForm g) fs ≡ map (mapForm h) fs
+  forms-same [] u = refl
+  forms-same (f ∷ fs) u =
+      ap₂ _∷_ (form-same f (λ x i. u x (in-left (allAtoms fs) i))) (forms-same fs (λ x i. u x (in-right (atomsOf f) i)))

@@ -1,0 +1,97 @@
+-- Arrays: what holds of a value holds wherever it is repeated, a list takes one element more at its end, a set is stored at a place,
+-- and the positions in a set are found one after the other. Assumes nothing.
+use mathlib.Core.Path.{_≡_, refl, sym, ap, ap₂, _∙_, fun-ext}
+use mathlib.Core.Bool.{Bool, true, false, _&&_, _||_, cond, or-false}
+use mathlib.Core.List.{List, [], _∷_, _++_, append-assoc}
+use mathlib.Core.Logic.{⊎-elim}
+use Prim.Native.Nat.{ℕ, zero, suc, _+_, _-_, _≤_, _<_}
+use native.Mathlib.Omega.{arith}
+use native.Mathlib.Decide.{ℕ-discrete as decEq}
+use lib.Dec.{ltb, eqb}
+use lib.ListN.{length, getD, set, replicate, length-append, List·getD-append}
+use lib.Seq.{set-append-seam, getD-set-same, getD-set-other}
+use borrow.Author.Tests.{lt-ltb, le-ltb, eq-eqb, ne-eqb}
+use Rattle.evalset.specs.declared.EvalSet.{EvalSet}
+use Rattle.evalset.specs.Sets.{room, mem, memAt, noneOf, addOf}
+use Rattle.evalset.specs.Arrays.{pad, positionsOf}
+use Rattle.evalset.proofs.Bits.{bit-none}
+use Rattle.evalset.proofs.Bounded.{side, each}
+use Rattle.evalset.proofs.Members.{add-in}
+
+-- ---- one value everywhere, and another past the end
+pub every-at : {A : Type 0} (P : A → Type 0) {a d : A} → P a → P d → (n i : ℕ) → P (getD (replicate n a) i d)
+every-at P h k zero i = k
+every-at P h k (suc n) zero = h
+every-at P h k (suc n) (suc i) = every-at P h k n i
+
+-- an array of empty sets
+pub empty-rows : (n i e : ℕ) (x : EvalSet) → mem x ≡ noneOf → memAt (replicate n x) i e ≡ false
+unfolding memAt mem
+empty-rows n i e x h = every-at (λ (s : EvalSet). mem s e ≡ false) (each h e) (bit-none e) n i
+
+-- ---- a set stored
+pub mem-at-same : (xs : List EvalSet) (i : ℕ) (s : EvalSet) → i < length xs → memAt (set xs i s) i ≡ mem s
+unfolding memAt
+mem-at-same xs i s l = ap mem (getD-set-same xs i s (record { bits = 0 }) l)
+
+pub mem-at-other : (xs : List EvalSet) (i j : ℕ) (s : EvalSet) → (j ≡ i → ⊥) → memAt (set xs i s) j ≡ memAt xs j
+unfolding memAt
+mem-at-other xs i j s d = ap mem (getD-set-other xs i j s (record { bits = 0 }) d)
+
+-- ---- a list, zeros after it
+pub pad-none : (n : ℕ) → replicate n 0 ≡ pad n []
+unfolding pad
+pad-none n = let e : n ≡ n - 0 = omega arith in ap (λ (k : ℕ). replicate k 0) e
+
+pub pad-set : (n : ℕ) (xs : List ℕ) (x : ℕ) → length xs < n → set (pad n xs) (length xs) x ≡ pad n (xs ++ (x ∷ []))
+unfolding pad
+pad-set n xs x h =
+    let m : n - length xs ≡ suc (n - length (xs ++ (x ∷ []))) = omega (arith, length-append xs (x ∷ [])) in
+    ap (λ (k : ℕ). set (xs ++ replicate k 0) (length xs) x) m
+    ∙ set-append-seam xs 0 (replicate (n - length (xs ++ (x ∷ []))) 0) x
+    ∙ sym (append-assoc xs (x ∷ []) (replicate (n - length (xs ++ (x ∷ []))) 0))
+
+pub pad-at : (n : ℕ) (xs : List ℕ) (i : ℕ) → i < length xs → getD (pad n xs) i 0 ≡ getD xs i 0
+unfolding pad
+pad-at n xs i l = List·getD-append xs (replicate (n - length xs) 0) 0 i l
+
+-- ---- one position more
+pub positions-none : (points : List ℕ) (x : ℕ → Bool) → noneOf ≡ positionsOf 0 points x
+unfolding positionsOf
+positions-none points x = fun-ext (λ j. sym (ap (λ (b : Bool). b && x (getD points j 0)) (le-ltb j 0 (omega arith))))
+
+module _ (n : ℕ) (points : List ℕ) (x : ℕ → Bool) where
+  same : (j : ℕ) → (j ≡ n → ⊥) → positionsOf n points x j ≡ positionsOf (n + 1) points x j
+  unfolding positionsOf
+  same j ne = ap (λ (b : Bool). b && x (getD points j 0)) (⊎-elim low high (side j n))
+    where
+      low : j < n → ltb j n ≡ ltb j (n + 1)
+      low l = lt-ltb j n l ∙ sym (lt-ltb j (n + 1) (omega arith))
+
+      high : n ≤ j → ltb j n ≡ ltb j (n + 1)
+      high l = le-ltb j n l ∙ sym (le-ltb j (n + 1) (omega (arith, ne)))
+
+  here : (b : Bool) → x (getD points n 0) ≡ b → (j : ℕ) → j ≡ n → positionsOf (n + 1) points x j ≡ b
+  unfolding positionsOf
+  here b h j e = ap₂ _&&_ (lt-ltb j (n + 1) (omega arith)) (ap (λ (k : ℕ). x (getD points k 0)) e ∙ h)
+
+  at-end : (j : ℕ) → j ≡ n → positionsOf n points x j ≡ false
+  unfolding positionsOf
+  at-end j e = ap (λ (b : Bool). b && x (getD points j 0)) (le-ltb j n (omega arith))
+
+  pub positions-more : n < room
+      → cond (x (getD points n 0)) (addOf (positionsOf n points x) n) (positionsOf n points x) ≡ positionsOf (n + 1) points x
+  positions-more l = go (x (getD points n 0)) refl
+    where
+      add : x (getD points n 0) ≡ true → (j : ℕ) → Dec (j ≡ n) → (positionsOf n points x j || eqb j n) ≡ positionsOf (n + 1) points x j
+      add h j (yes e) = ap₂ _||_ (at-end j e) (eq-eqb j n e) ∙ sym (here true h j e)
+      add h j (no ne) = ap (λ (b : Bool). positionsOf n points x j || b) (ne-eqb j n ne) ∙ or-false (positionsOf n points x j) ∙ same j ne
+
+      skip : x (getD points n 0) ≡ false → (j : ℕ) → Dec (j ≡ n) → positionsOf n points x j ≡ positionsOf (n + 1) points x j
+      skip h j (yes e) = at-end j e ∙ sym (here false h j e)
+      skip h j (no ne) = same j ne
+
+      go : (b : Bool) → x (getD points n 0) ≡ b
+          → cond b (addOf (positionsOf n points x) n) (positionsOf n points x) ≡ positionsOf (n + 1) points x
+      go true h = fun-ext (λ j. add-in (positionsOf n points x) n l j ∙ add h j (decEq j n))
+      go false h = fun-ext (λ j. skip h j (decEq j n))
