@@ -50,11 +50,10 @@ read-written ws r s e = go (readOf ws) (exact ws) (s .plan) (sym (s .answer) ∙
     go (plan p) h t q = ap wordsOf (plan-again (r .plan) p (h .0) t) ∙ h .1
     go (refused i) h t q = absurd (let z : _≡_ {A = ℕ} 0 1 = cc in omega arith)
 
--- what was written of arrays that hold a plan is read into arrays that hold the same (Exact)
-pub written-read : (r : PlanArrays) (q : PlanRead) → IsPlan (planBy r) → Reads (wordsOf (planBy r)) q
-    → (q .answer ≡ answer-is.Plan) × Stored (q .plan) (planBy r)
-written-read r q h s =
-    let e : readOf (wordsOf (planBy r)) ≡ plan (planBy r) = plan-read (planBy r) h in
+-- what was written of a plan is read into arrays that hold it (Exact)
+pub written-read : (p : Plan) → IsPlan p → (q : PlanRead) → Reads (wordsOf p) q → (q .answer ≡ answer-is.Plan) × Stored (q .plan) p
+written-read p h q s =
+    let e : readOf (wordsOf p) ≡ plan p = plan-read p h in
     (s .answer ∙ ap answerOf e, subst (λ (x : Reading). Stored (q .plan) (planIn x)) e (s .plan))
 
 -- arrays hold a plan if their points ascend below 2^names, whatever their rows (Contacts)

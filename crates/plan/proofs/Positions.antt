@@ -39,7 +39,7 @@ module _ (n : ℕ) (pts : List ℕ) (s : ℕ → Bool) (l : n ≤ room) where
   unfolding positionsOf
   inside j h = ap (λ (b : Bool). b && s (getD pts j 0)) (lt-ltb j n h)
 
-  pub any-positions : any (positionsOf n pts s) (below room) ≡ any (λ j. s (getD pts j 0)) (below n)
+  any-positions : any (positionsOf n pts s) (below room) ≡ any (λ j. s (getD pts j 0)) (below n)
   any-positions = any-cut (positionsOf n pts s) n room l (λ d a b. outside d a)
       ∙ any-same (positionsOf n pts s) (λ j. s (getD pts j 0)) (below n) (λ j i. inside j (below-elim n j i))
 

@@ -33,9 +33,9 @@ module _ (names : List Name) (few : length names ≤ 6) (short : (i : ℕ) → l
       go true = omega (arith, length-append (blanked (getD names i [])) [], short i)
       go false = omega arith
 
-  words-few : (e : ℕ) → length (gather blanked (namesOrNone names e)) ≤ 102
+  names-few : (e : ℕ) → length (gather blanked (namesOrNone names e)) ≤ 102
   unfolding namesOrNone
-  words-few e =
+  names-few e =
       go (pointNames names e)
       (omega (arith, ap length (names-parts names e), gather-small (λ i. gather blanked (nameIf names e i)) 17 (name-few e) 0 (length names)))
     where
@@ -45,7 +45,7 @@ module _ (names : List Name) (few : length names ≤ 6) (short : (i : ℕ) → l
 
   point-few : (i e : ℕ) → i < 32 → length (pointLine names i e) ≤ 112
   unfolding pointLine
-  point-few i e h = simp length-append (omega (arith, decimal-few 1 i (omega arith), words-few e))
+  point-few i e h = simp length-append (omega (arith, decimal-few 1 i (omega arith), names-few e))
 
   points-few : (points : List ℕ) → length points ≤ 32 → length (pointLines names points) ≤ length points * 112
   unfolding pointLines

@@ -28,33 +28,33 @@ unfolding pointNames
 names-parts names e = gather-gather blanked (nameIf names e) (below (length names))
 
 -- the names of a point, or the sign that there are none
-words-none : (words : List Name) → length (gather blanked words) ≡ 0 → words ≡ []
-words-none [] e = refl
-words-none (w ∷ ws) e = absurd (omega arith)
+none-listed : (ws : List Name) → length (gather blanked ws) ≡ 0 → ws ≡ []
+none-listed [] e = refl
+none-listed (w ∷ ws) e = absurd (omega arith)
 
-words-some : (words none : List Name) → 0 < length (gather blanked words) → orElse words none ≡ words
-words-some [] none h = absurd (omega arith)
-words-some (w ∷ ws) none h = refl
+some-listed : (ws none : List Name) → 0 < length (gather blanked ws) → orElse ws none ≡ ws
+some-listed [] none h = absurd (omega arith)
+some-listed (w ∷ ws) none h = refl
 
-words-within : (words none : List Name) → length (gather blanked words) ≤ length (gather blanked (orElse words none))
-words-within [] none = omega arith
-words-within (w ∷ ws) none = omega arith
+listed-within : (ws none : List Name) → length (gather blanked ws) ≤ length (gather blanked (orElse ws none))
+listed-within [] none = omega arith
+listed-within (w ∷ ws) none = omega arith
 
 module _ (names : List Name) (e : ℕ) where
   pub no-names : length (gather blanked (pointNames names e)) ≡ 0
       → gather blanked (pointNames names e) ++ bytes " -" ≡ gather blanked (namesOrNone names e)
   unfolding namesOrNone
   no-names h =
-      let z = words-none (pointNames names e) h in
+      let z = none-listed (pointNames names e) h in
       ap (λ (ws : List Name). gather blanked ws ++ bytes " -") z ∙ ap (λ (ws : List Name). gather blanked (orElse ws (bytes "-" ∷ []))) (sym z)
 
   pub some-names : 0 < length (gather blanked (pointNames names e)) → gather blanked (pointNames names e) ≡ gather blanked (namesOrNone names e)
   unfolding namesOrNone
-  some-names h = ap (gather blanked) (sym (words-some (pointNames names e) (bytes "-" ∷ []) h))
+  some-names h = ap (gather blanked) (sym (some-listed (pointNames names e) (bytes "-" ∷ []) h))
 
   pub names-within : length (gather blanked (pointNames names e)) ≤ length (gather blanked (namesOrNone names e))
   unfolding namesOrNone
-  names-within = words-within (pointNames names e) (bytes "-" ∷ [])
+  names-within = listed-within (pointNames names e) (bytes "-" ∷ [])
 
 pub points-parts : (names : List Name) (points : List ℕ) (n : ℕ) → n ≤ length points
     → pointLines names (take n points) ≡ gather (λ i. pointLine names i (getD (take n points) i 0)) (below n)

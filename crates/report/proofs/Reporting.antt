@@ -20,7 +20,7 @@ use Rattle.plan.specs.Arrays.{Stored, Reads, over, planBy}
 use Rattle.plan.specs.Given.{plansOf}
 use Rattle.plan.proofs.SamePlan.{plan-again}
 use Rattle.plan.proofs.Buffer.{written-over}
-use Rattle.plan.proofs.Claims.{no-plan-given, given-exactly, given-is-plan, given-words, given-points}
+use Rattle.plan.proofs.Claims.{no-plan-given, given-exactly, given-is-plan, given-words, given-points, written-read}
 use Rattle.table.specs.declared.Table.{Table}
 use Rattle.table.specs.declared.AskAnswer.{AskAnswer}
 use Rattle.table.specs.declared.AskAnswer.the-variants as AskAnswer
@@ -41,7 +41,6 @@ use Rattle.table.specs.declared.Outcome.the-variants as Outcome
 use Rattle.table.specs.Numbers.{loadOutcome, askOutcome}
 use Rattle.table.proofs.Standing.{not-loaded}
 use Rattle.table.proofs.Asking.{words-written, first-words}
-use Rattle.theorems.proofs.Demands.{read-back}
 use Rattle.report.specs.Output.{planText, plansText, rulesText, outcomeText, outputOf, ended}
 use Rattle.report.specs.Putting.{Puts}
 use Rattle.report.proofs.Short.{names-short}
@@ -129,7 +128,7 @@ module _ (t : Table) (v : FromUs t) (some : SomeStand (rulesOf t)) (buffer : Lis
     it = wrote-plan n e
 
     stored : Stored (q .plan) (it .plan)
-    stored = read-back (it .plan) (it .is) q (subst (λ (ws : List ℕ). Reads ws q) (it .words) reads) .1
+    stored = written-read (it .plan) (it .is) q (subst (λ (ws : List ℕ). Reads ws q) (it .words) reads) .1
 
     known : knownOf names ≡ namesIn (rulesOf t)
     known = ap knownOf are ∙ known-back (namesIn (rulesOf t))

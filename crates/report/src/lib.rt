@@ -123,7 +123,7 @@ fn put_names(names: Names, e: u8, out: &mut [u8], at: usize) -> usize
 }
 
 // These names, or a sign that there are none.
-fn put_words(names: Names, e: u8, out: &mut [u8], at: usize) -> usize
+fn put_point_names(names: Names, e: u8, out: &mut [u8], at: usize) -> usize
     requires { ⌜ Kept names × (at + length (gather blanked (namesOrNone (knownOf names) e)) ≤ length (now out)) ⌝ }
     ensures { λ r. ⌜ Puts at (gather blanked (namesOrNone (knownOf names) e)) (now (out .entry)) (now (out .exit)) r ⌝ }
 {
@@ -142,7 +142,7 @@ fn put_point(names: Names, i: usize, e: u8, out: &mut [u8], at: usize) -> usize
 {
     let end = put_labelled(b"point ", i, out, at);
     let end = put_text(b":", out, end);
-    let end = put_words(names, e, out, end);
+    let end = put_point_names(names, e, out, end);
     put_text(b"\n", out, end)
 }
 

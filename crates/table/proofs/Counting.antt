@@ -124,34 +124,34 @@ module _ (c : Counts) (rs : List Text) (can : CanStand rs) (e : c ≡ countsOf r
   unfolding countsOf
   counted-atoms = ap (λ (x : Counts). x .atoms) e
 
-  pub counted-rules : c .rules ≡ length rs
+  counted-rules : c .rules ≡ length rs
   unfolding countsOf
   counted-rules = ap (λ (x : Counts). x .rules) e
 
   pub counted-gathers : (s : Text) (rule : Rule) → rule ≡ ruleOf s → Gathers s rule (c .names)
   counted-gathers s rule f = may-gather s rule (c .names) (namesIn rs) f counted-names (can .names)
 
-  pub counted-gathered : (s : Text) (g : Gathered) → g ≡ gathered s (knownOf (c .names)) → g ≡ gathered s (namesIn rs)
+  counted-gathered : (s : Text) (g : Gathered) → g ≡ gathered s (knownOf (c .names)) → g ≡ gathered s (namesIn rs)
   counted-gathered s g f = f ∙ ap (gathered s) (known-from (c .names) (namesIn rs) counted-names)
 
-  pub counted-refused : (s : Text) (a : AddAnswer) → judgeAdd rs s ≡ a → NotAdded a → countedWith c a ≡ countedOf rs s
+  counted-refused : (s : Text) (a : AddAnswer) → judgeAdd rs s ≡ a → NotAdded a → countedWith c a ≡ countedOf rs s
   unfolding countedOf
   counted-refused s a f n =
       ap (λ (x : Counts). countedWith x a) (e ∙ ap countsOf (sym (added-refused rs s (λ g. n (sym f ∙ g)))))
       ∙ ap (λ (b : AddAnswer). countedWith (countsOf (addRules rs s)) b) (sym f)
 
-  pub counted-taken : (s : Text) (x : Counts) (a : AddAnswer) → a ≡ AddAnswer.Added → judgeAdd rs s ≡ AddAnswer.Added → x ≡ countsOf (rs ++ s ∷ [])
+  counted-taken : (s : Text) (x : Counts) (a : AddAnswer) → a ≡ AddAnswer.Added → judgeAdd rs s ≡ AddAnswer.Added → x ≡ countsOf (rs ++ s ∷ [])
       → countedWith x a ≡ countedOf rs s
   unfolding countedOf
   counted-taken s x a k f g =
       ap (λ (y : Counts). countedWith y a) (g ∙ ap countsOf (sym (added-taken rs s f)))
       ∙ ap (λ (b : AddAnswer). countedWith (countsOf (addRules rs s)) b) (k ∙ sym f)
 
-  pub next-names : (s : Text) (g : Gathered) → judgeText s ≡ AddAnswer.Added → judgeNames rs s ≡ AddAnswer.Added → g ≡ gathered s (namesIn rs)
+  next-names : (s : Text) (g : Gathered) → judgeText s ≡ AddAnswer.Added → judgeNames rs s ≡ AddAnswer.Added → g ≡ gathered s (namesIn rs)
       → g .names ≡ arraysOf (namesIn (rs ++ s ∷ []))
   next-names s g f k h = ap (λ (x : Gathered). x .names) h ∙ names-with rs s (can .names) (text-formula s f) (names-found rs s k)
 
-  pub next-atoms : (s : Text) (rule : Rule) (n : ℕ) → rule ≡ ruleOf s → judgeText s ≡ AddAnswer.Added → n ≡ atomPlaces (take (rule .len) (rule .order))
+  next-atoms : (s : Text) (rule : Rule) (n : ℕ) → rule ≡ ruleOf s → judgeText s ≡ AddAnswer.Added → n ≡ atomPlaces (take (rule .len) (rule .order))
       → c .atoms + n ≡ atomsIn (rs ++ s ∷ [])
   next-atoms s rule n f k h = omega (arith, counted-atoms, atoms-with rs s (text-formula s k), read-atoms s rule n f h)
 

@@ -12,13 +12,11 @@ use Rattle.formula.specs.Formula.{Formula, Name}
 use Rattle.syntax.proofs.Claims.{text-means, is-rule}
 use Rattle.contact.specs.Meaning.{Floor, meetsAll}
 use Rattle.plan.specs.declared.PlanAnswer.the-variants as PlanAnswer
-use Rattle.plan.specs.declared.PlanRead.{PlanRead}
-use Rattle.plan.specs.Words.{Plan, IsPlan, wordsOf}
-use Rattle.plan.specs.Reader.{Reading, plan, readOf}
-use Rattle.plan.specs.Arrays.{Stored, answerOf, planIn, Reads}
+use Rattle.plan.specs.Words.{Plan, wordsOf}
+use Rattle.plan.specs.Reader.{plan}
 use Rattle.plan.specs.Given.{givenPlan, rowPlan, plansOf, IsGiven}
 use Rattle.plan.specs.Judging.{FirstUnmet}
-use Rattle.plan.proofs.Claims.{plan-is-read, no-plan-given, given-exactly, given-at-most-one, given-is-plan, given-meets}
+use Rattle.plan.proofs.Claims.{written-read, no-plan-given, given-exactly, given-at-most-one, given-is-plan, given-meets}
 use Rattle.contact.specs.Row.{Row, IsFirstRow}
 use Rattle.contact.proofs.Claims.{first-row-only-named}
 use Rattle.table.specs.declared.Table.{Table}
@@ -112,13 +110,7 @@ plan-found rules F m = go (plansOf rules) refl (given-at-most-one rules)
     go (p ∷ []) e l = (p, given-exactly rules p .0 e)
     go (p ∷ q ∷ ps) e l = absurd (omega arith)
 
--- reading the words of a plan gives it
-pub read-back : (p : Plan) → IsPlan p → (q : PlanRead) → Reads (wordsOf p) q → (q .answer ≡ PlanAnswer.Plan) × Stored (q .plan) p
-read-back p h q reads =
-    let e : readOf (wordsOf p) ≡ plan p = plan-is-read p h in
-    (reads .answer ∙ ap answerOf e, subst (λ (x : Reading). Stored (q .plan) (planIn x)) e (reads .plan))
-
--- the plan of the first row is drawn by its words, and meets the rules
+-- the words of the plan of the first row decode to it, and it meets the rules
 row-given : (rs : List Text) → SomeStand rs → length (namesIn rs) ≤ 6 → (row : Row) → IsFirstRow (formulasOf rs) row → Given rs (wordsOf (rowPlan (formulasOf rs) row))
 unfolding namesIn rowPlan givenPlan
 row-given rs some few row first =
@@ -126,7 +118,7 @@ row-given rs some few row first =
     let is = given-is-plan (formulasOf rs) few row found in
     record {
       met = record { some = some; plan = rowPlan (formulasOf rs) row; decodes = record { is = is; words-are = refl; named = refl }; meets = given-meets (formulasOf rs) row found is };
-      back = read-back (rowPlan (formulasOf rs) row) is;
+      back = written-read (rowPlan (formulasOf rs) row) is;
     }
 
 -- ---- a list of calls
@@ -194,7 +186,7 @@ module _ (cs : List Call) where
 
   -- ---- demand 2
 
-  -- the plan that is given is drawn by its words, and meets the rules
+  -- the words of the plan that is given decode to it, and it meets the rules
   plan-given : SomeStand (standing cs) → (p : Plan) → IsGiven (formulasOf (standing cs)) p → Given (standing cs) (wordsOf p)
   plan-given some p g =
       subst (λ (q : Plan). Given (standing cs) (wordsOf q)) (sym (g .is)) (row-given (standing cs) some (stands .names) (g .row) (g .first))

@@ -30,9 +30,9 @@ put-text-requires c κs =
     let a = s .args in
     fits-next (c .before .before .before .before .put-labelled .ensures) (bytes ":") (fits-first (a .at) (length (a .out .now)) (labelled (bytes "point ") (a .i) ++ bytes ":") (gather blanked (namesOrNone (knownOf (a .names)) (a .e))) (fits-first (a .at) (length (a .out .now)) (labelled (bytes "point ") (a .i) ++ bytes ":" ++ gather blanked (namesOrNone (knownOf (a .names)) (a .e))) (10 ∷ []) (s .pre .1)))
 
-put-words-requires : tie.Need-put-words-requires
+put-point-names-requires : tie.Need-put-point-names-requires
 unfolding pointLine
-put-words-requires c κs =
+put-point-names-requires c κs =
     let s = c .before .before .before .before .before .before .before .before .before .before .before .before in
     let a = s .args in
     (s .pre .0, fits-next (puts-more (c .before .before .before .before .before .before .before .before .put-labelled .ensures) (c .before .before .before .put-text .ensures)) (gather blanked (namesOrNone (knownOf (a .names)) (a .e))) (fits-first (a .at) (length (a .out .now)) (labelled (bytes "point ") (a .i) ++ bytes ":" ++ gather blanked (namesOrNone (knownOf (a .names)) (a .e))) (10 ∷ []) (s .pre .1)))
@@ -43,7 +43,7 @@ slice-aggregate-put-text-2 c = search needs
 put-text-requires-2 : tie.Need-put-text-requires-2
 unfolding pointLine
 put-text-requires-2 c κs =
-    fits-next (puts-more (puts-more (c .before .before .before .before .before .before .before .before .before .before .before .before .before .put-labelled .ensures) (c .before .before .before .before .before .before .before .before .put-text .ensures)) (c .before .before .before .before .put-words .ensures)) (10 ∷ []) (c .before .before .before .before .before .before .before .before .before .before .before .before .before .before .before .before .before .pre .1)
+    fits-next (puts-more (puts-more (c .before .before .before .before .before .before .before .before .before .before .before .before .before .put-labelled .ensures) (c .before .before .before .before .before .before .before .before .put-text .ensures)) (c .before .before .before .before .put-point-names .ensures)) (10 ∷ []) (c .before .before .before .before .before .before .before .before .before .before .before .before .before .before .before .before .before .pre .1)
 
 same-length : tie.Need-same-length
 same-length c = search needs
@@ -51,7 +51,7 @@ same-length c = search needs
 returns : tie.Need-returns
 unfolding pointLine
 returns c =
-    puts-more (puts-more (puts-more (c .before .before .before .before .before .before .before .before .before .before .before .before .before .before .before .before .put-labelled .ensures) (c .before .before .before .before .before .before .before .before .before .before .before .put-text .ensures)) (c .before .before .before .before .before .before .before .put-words .ensures)) (c .before .before .put-text2 .ensures)
+    puts-more (puts-more (puts-more (c .before .before .before .before .before .before .before .before .before .before .before .before .before .before .before .before .put-labelled .ensures) (c .before .before .before .before .before .before .before .before .before .before .before .put-text .ensures)) (c .before .before .before .before .before .before .before .put-point-names .ensures)) (c .before .before .put-text2 .ensures)
 
 pub put-point-spec : {M : Type 1} → statement M
 put-point-spec =
@@ -61,7 +61,7 @@ put-point-spec =
     put-labelled-requires
     slice-aggregate-put-text
     put-text-requires
-    put-words-requires
+    put-point-names-requires
     slice-aggregate-put-text-2
     put-text-requires-2
     same-length

@@ -1,4 +1,4 @@
--- `put_words` meets its contract: where no byte was put there are no names. Assumes nothing.
+-- `put_point_names` meets its contract: where no byte was put there are no names. Assumes nothing.
 use mathlib.Core.Path.{ap}
 use native.Mathlib.Omega.{arith}
 use lib.ListN.{length}
@@ -7,8 +7,8 @@ use Rattle.names.specs.Gather.{knownOf}
 use Rattle.report.proofs.Putting.{puts-text, fits-next, puts-more}
 use Rattle.report.proofs.Parts.{no-names, some-names, names-within}
 use borrow.Author.Needs.{needs}
-use Rattle.report.proofs.put_words.Statement.{statement}
-use Rattle.report.proofs.put_words.Tie as tie
+use Rattle.report.proofs.put_point_names.Statement.{statement}
+use Rattle.report.proofs.put_point_names.Tie as tie
 
 put-names-requires : tie.Need-put-names-requires
 put-names-requires c κs =
@@ -44,8 +44,8 @@ returns-2 c =
     let first = c .before .before .before .put-names .ensures in
     puts-text (some-names (knownOf (a .names)) (a .e) (omega (arith, first .place))) first
 
-pub put-words-spec : {M : Type 1} → statement M
-put-words-spec =
+pub put-point-names-spec : {M : Type 1} → statement M
+put-point-names-spec =
     tie.close
     (tie.spec
     put-names-requires
