@@ -4,7 +4,7 @@ use mathlib.Core.Bool.{Bool, true, false}
 use mathlib.Core.Path.{_≡_}
 use mathlib.Core.List.{List, [], _∷_, map}
 use Prim.Native.Nat.{ℕ}
-use lib.ListN.{getD}
+use lib.ListN.{length, getD}
 use Rattle.formula.specs.Formula.{Atom, Form, Formula}
 use Rattle.evalset.specs.Search.{all}
 use Rattle.contact.specs.Meaning.{Floor, atomOn, value}
@@ -64,3 +64,13 @@ Extends (c ∷ row) (is b ∷ p) = (c ≡ b) × Extends row p
 -- the floor gives the decided atoms their values
 abbrev pub RealisesPart : {N : Type 0} → Floor N → List (Atom N) → PartialRow → Type 0
 RealisesPart F atoms part = Extends (map (atomOn F) atoms) part
+
+-- ---- tests that close branches
+
+-- a test that closes branches is sound for the rows that pass: no such row extends what it closes
+abbrev pub Sound : (Row → Bool) → (PartialRow → Bool) → Type 0
+Sound passes test = (part : PartialRow) → test part ≡ true → (row : Row) → Extends row part → passes row ≡ false
+
+-- and exact at the leaves: a whole row of n atoms that it leaves open passes
+abbrev pub Exact : ℕ → (Row → Bool) → (PartialRow → Bool) → Type 0
+Exact n passes test = (row : Row) → length row ≡ n → test (map is row) ≡ false → passes row ≡ true

@@ -2,13 +2,12 @@
 -- whatever the undecided atoms are, by Kleene's strong tables; no floor gives the decided atoms their values.
 -- Assumes nothing.
 use mathlib.Core.Bool.{Bool, true, false, not, _||_, cond}
-use mathlib.Core.Path.{_≡_}
 use mathlib.Core.List.{List, [], _∷_, _++_, map}
 use Prim.Native.Nat.{ℕ, zero, suc}
-use lib.ListN.{length, getD}
+use lib.ListN.{getD}
 use Rattle.formula.specs.Formula.{Atom, Form}
 use Rattle.evalset.specs.Search.{any, orElse}
-use Rattle.contact.specs.Row.{Row, Three, is, unknown, PartialRow, Extends}
+use Rattle.contact.specs.Row.{Row, Three, is, unknown, PartialRow}
 use Rattle.contact.specs.Plan.{marksOf, check, rows}
 
 -- ---- Kleene's strong tables
@@ -57,14 +56,6 @@ unfoldable pub closes : ℕ → List (Atom ℕ) → List (Form ℕ) → PartialR
 closes names atoms rules part = refutes rules part || not (check names (marksOf atoms part))
 
 -- ---- the search
-
--- a test that closes branches is sound for the rows that pass: no such row extends what it closes
-abbrev pub Sound : (Row → Bool) → (PartialRow → Bool) → Type 0
-Sound passes test = (part : PartialRow) → test part ≡ true → (row : Row) → Extends row part → passes row ≡ false
-
--- and exact at the leaves: a whole row of n atoms that it leaves open passes
-abbrev pub Exact : ℕ → (Row → Bool) → (PartialRow → Bool) → Type 0
-Exact n passes test = (row : Row) → length row ≡ n → test (map is row) ≡ false → passes row ≡ true
 
 -- the rows that begin with `row` and have d atoms more, in their order
 abbrev pub under : Row → ℕ → List Row

@@ -13,7 +13,7 @@ use Rattle.search.specs.declared.Sheet.{Sheet}
 use Rattle.plan.specs.declared.PlanArrays.{PlanArrays}
 use Rattle.plan.specs.Words.{Plan, IsPlan}
 use Rattle.plan.specs.Arrays.{Stored}
-use Rattle.plan.specs.Judging.{Judgement, yes, unmet, judge, FirstUnmet}
+use Rattle.plan.specs.Judging.{Judgement, yes, unmet, judge}
 use Rattle.plan.specs.Floor.{planFloor, namedFloor}
 use Rattle.plan.proofs.Claims.{judge-yes, judge-unmet}
 use Rattle.solver.specs.Tree.{ComesFrom}
@@ -22,6 +22,7 @@ use Rattle.judging.specs.declared.Judged.the-variants.{Yes, Unmet}
 use Rattle.judging.specs.Values.{judgedOf}
 use Rattle.judging.specs.Judges.{JudgesSay}
 use Rattle.judging.proofs.Renamed.{judge-map}
+use Rattle.plan.specs.Meant.{FirstUnmet}
 
 -- ---- the answer
 

@@ -27,11 +27,12 @@ use Rattle.plan.specs.Words.{Plan, Ascends, IsPlan, lastWord, before, wo
 use Rattle.evalset.specs.Sets.{most}
 use Rattle.plan.specs.Floor.{liesIn, planFloor, namedFloor}
 use Rattle.plan.specs.Arrays.{pairOf, rowTo, linksTo}
-use Rattle.plan.specs.Given.{givenPlan, rowPlan, plansOf, IsGiven}
+use Rattle.plan.specs.Given.{givenPlan, rowPlan, plansOf}
 use Rattle.plan.proofs.Complete.{before-length}
 use Rattle.plan.proofs.Contacts.{pair-early, pair-small, links-rise}
 use Rattle.plan.proofs.Judged.{few-points}
 use Rattle.plan.proofs.SamePlan.{links-kept}
+use Rattle.plan.specs.Meant.{IsGiven}
 
 -- ---- the plan of marks
 -- what is kept of a rising run ascends

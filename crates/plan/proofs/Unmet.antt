@@ -8,8 +8,9 @@ use native.Mathlib.Omega.{arith}
 use lib.ListN.{length}
 use Rattle.formula.specs.Formula.{Formula}
 use Rattle.contact.specs.Meaning.{Floor, meets, meetsAll}
-use Rattle.plan.specs.Judging.{Judgement, yes, unmet, judgeFrom, judge, FirstUnmet}
+use Rattle.plan.specs.Judging.{Judgement, yes, unmet, judgeFrom, judge}
 use Rattle.evalset.proofs.Truth.{both}
+use Rattle.plan.specs.Meant.{FirstUnmet}
 
 module _ {N : Type 0} (F : Floor N) where
   -- what a judgement says of the rules

@@ -1,12 +1,11 @@
--- The plan that is given for rules, as plan words have it. Assumes nothing.
+-- What is computed: the plan that is given for rules, as plan words have it. Assumes nothing.
 use mathlib.Core.Bool.{not}
-use mathlib.Core.Path.{_≡_}
 use mathlib.Core.List.{List, map}
 use Prim.Native.Nat.{ℕ}
 use lib.ListN.{length, getD}
 use Rattle.formula.specs.Formula.{Formula, Name}
 use Rattle.contact.specs.Numbering.{allAtoms, namesOf, numberedNames}
-use Rattle.contact.specs.Row.{Row, IsFirstRow}
+use Rattle.contact.specs.Row.{Row}
 use Rattle.contact.specs.Plan.{Mark, rowMarks, separated, pointsFor, firstRowOf}
 use Rattle.plan.specs.Words.{Plan}
 use Rattle.plan.specs.Arrays.{linksTo}
@@ -28,9 +27,3 @@ rowPlan rules row = givenPlan (length (namesOf rules)) (rowMarks (allAtoms (numb
 -- "The answer uses the first realisable row that makes all rules true": a list of one plan; the empty list is 'no plan'
 unfoldable pub plansOf : List (Formula Name) → List Plan
 plansOf rules = map (rowPlan rules) (firstRowOf (length (namesOf rules)) (numberedNames rules))
-
--- what is meant: the plan is that of the first realisable row that makes all rules true
-pub record IsGiven (rules : List (Formula Name)) (p : Plan) : Type 0 where
-  pub row : Row
-  pub first : IsFirstRow rules row
-  pub is : p ≡ rowPlan rules row

@@ -5,3 +5,4 @@ pub mod Reader
 pub mod Arrays
 pub mod Private
 pub mod Given
+pub mod Meant

@@ -14,8 +14,8 @@ use Rattle.formula.specs.Formula.{Formula, Name}
 use Rattle.contact.specs.Meaning.{Floor, renamed}
 use Rattle.contact.specs.Numbering.{namesOf, numberOf}
 use Rattle.plan.specs.Words.{Plan, IsPlan, wordsOf}
-use Rattle.plan.specs.Reader.{Reading, plan, refused, readOf, ReadingSays}
-use Rattle.plan.specs.Given.{plansOf, IsGiven}
+use Rattle.plan.specs.Reader.{Reading, plan, refused, readOf}
+use Rattle.plan.specs.Given.{plansOf}
 use Rattle.plan.specs.Judging.{Judgement, judge}
 use Rattle.plan.proofs.Exact.{exact}
 use Rattle.plan.specs.Floor.{planFloor, namedFloor}
@@ -31,6 +31,7 @@ use Rattle.table.specs.declared.Outcome.{Outcome}
 use Rattle.table.proofs.Asking.{asked-some, judged-some}
 use Rattle.table.specs.Numbers.{askOutcome, judgeOutcome}
 use Rattle.table.specs.Rows.{SomeStand, AskRow, Decodes, floorOf, JudgeRow}
+use Rattle.plan.specs.Meant.{ReadingSays, IsGiven}
 
 -- ---- ask
 

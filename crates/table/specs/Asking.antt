@@ -9,7 +9,7 @@ use Rattle.formula.specs.Formula.{Formula, Name}
 use Rattle.contact.specs.Numbering.{namesOf}
 use Rattle.plan.specs.declared.Written.the-variants as Written
 use Rattle.plan.specs.Words.{Plan, IsPlan, wordsOf}
-use Rattle.plan.specs.Reader.{Reading, plan, refused, readOf, ReadingSays}
+use Rattle.plan.specs.Reader.{Reading, plan, refused, readOf}
 use Rattle.plan.specs.Arrays.{over}
 use Rattle.plan.specs.Given.{plansOf}
 use Rattle.plan.specs.Judging.{Judgement, yes, unmet, judge}
@@ -25,6 +25,7 @@ use Rattle.table.specs.declared.JudgeAnswer.the-variants as JudgeAnswer
 use Rattle.table.specs.declared.JudgeResult.{JudgeResult}
 use Rattle.table.specs.Store.{Text, tableOf, rulesOf}
 use Rattle.table.specs.Calls.{formulasOf, FromUs}
+use Rattle.plan.specs.Meant.{ReadingSays}
 
 -- ---- ask
 

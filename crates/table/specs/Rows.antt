@@ -14,15 +14,14 @@ use Rattle.evalset.specs.Search.{gather}
 use Rattle.contact.specs.Numbering.{allAtoms}
 use Rattle.contact.specs.Meaning.{Floor, meetsAll}
 use Rattle.plan.specs.Words.{Plan, IsPlan, wordsOf, Refusal}
-use Rattle.plan.specs.Given.{IsGiven}
 use Rattle.plan.specs.Floor.{namedFloor}
-use Rattle.plan.specs.Judging.{FirstUnmet}
 use Rattle.names.specs.Gather.{placesOf, ruleTokens}
 use Rattle.names.specs.Seventh.{SeventhAt}
 use Rattle.table.specs.Store.{Text}
 use Rattle.table.specs.declared.Outcome.{Outcome}
 use Rattle.table.specs.declared.Outcome.the-variants as Outcome
 use Rattle.table.specs.Calls.{formulasOf, namesIn, atomsIn, linesOf, blankLine, filled, CanStand}
+use Rattle.plan.specs.Meant.{IsGiven, FirstUnmet}
 
 -- add's text s where the texts rs stand
 pub data AddRow (rs : List Text) (s : Text) : Outcome → Type 0 where

@@ -14,8 +14,7 @@ use Rattle.contact.specs.Meaning.{Floor, meetsAll}
 use Rattle.plan.specs.declared.PlanAnswer.the-variants as PlanAnswer
 use Rattle.plan.specs.Words.{Plan, wordsOf}
 use Rattle.plan.specs.Reader.{plan}
-use Rattle.plan.specs.Given.{givenPlan, rowPlan, plansOf, IsGiven}
-use Rattle.plan.specs.Judging.{FirstUnmet}
+use Rattle.plan.specs.Given.{givenPlan, rowPlan, plansOf}
 use Rattle.plan.proofs.Claims.{written-read, no-plan-given, given-exactly, given-at-most-one, given-is-plan, given-meets}
 use Rattle.contact.specs.Row.{Row, IsFirstRow}
 use Rattle.contact.proofs.Claims.{first-row-only-named}
@@ -43,6 +42,7 @@ use Rattle.table.proofs.Results.{adds-of, withdraws-of, loads-of}
 use Rattle.table.proofs.Asking.{asks-of, words-none, words-written, words-short, first-words}
 use Rattle.table.proofs.Claims as table
 use Rattle.theorems.specs.Demands.{Called, Leaves, Exactly, Answered, Met, NotMet, Given, Meant, Same}
+use Rattle.plan.specs.Meant.{IsGiven, FirstUnmet}
 
 -- ---- calls of the code leave the table of the run
 

@@ -17,8 +17,6 @@ use Rattle.plan.specs.declared.PlanAnswer.the-variants as PlanAnswer
 use Rattle.plan.specs.declared.PlanRead.{PlanRead}
 use Rattle.plan.specs.Words.{Plan, wordsOf}
 use Rattle.plan.specs.Arrays.{Stored, Reads, over}
-use Rattle.plan.specs.Given.{IsGiven}
-use Rattle.plan.specs.Judging.{FirstUnmet}
 use Rattle.table.specs.declared.Table.{Table}
 use Rattle.table.specs.declared.Outcome.{Outcome}
 use Rattle.table.specs.declared.Outcome.the-variants as Outcome
@@ -33,6 +31,7 @@ use Rattle.table.specs.Asking.{Asks, Judges}
 use Rattle.table.specs.Numbers.{addOutcome, withdrawOutcome, loadOutcome, askOutcome, judgeOutcome}
 use Rattle.table.specs.Rows.{AddRow, WithdrawRow, LoadRow, SomeStand, AskRow, Decodes, floorOf, JudgeRow}
 use Rattle.table.specs.Runs.{Call, standing, adds}
+use Rattle.plan.specs.Meant.{IsGiven, FirstUnmet}
 
 -- "each call taking the table as the last one gave it back": these calls of the code, the first on t, leave the table u
 pub data Called : Table → List Call → Table → Type 0 where
