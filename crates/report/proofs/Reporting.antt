@@ -14,6 +14,7 @@ use Rattle.contact.proofs.Claims.{first-row-only-named}
 use Rattle.names.specs.Gather.{arraysOf, knownOf, Kept}
 use Rattle.names.specs.declared.Names.{Names}
 use Rattle.names.proofs.Arrays.{known-back, kept-names}
+use Rattle.plan.specs.declared.PlanArrays.{PlanArrays}
 use Rattle.plan.specs.declared.PlanRead.{PlanRead}
 use Rattle.plan.specs.Words.{Plan, IsPlan, wordsOf}
 use Rattle.plan.specs.Arrays.{Stored, Reads, over, planBy}
@@ -66,6 +67,13 @@ is-plan (AskAnswer.Plan k) {n} e = let z : k ≡ n = cc in ap AskAnswer.Plan z
 is-plan AskAnswer.NoPlan e = absurd (let z : _≡_ {A = ℕ} 0 1 = cc in omega arith)
 is-plan AskAnswer.NoRule e = absurd (let z : _≡_ {A = ℕ} 0 1 = cc in omega arith)
 is-plan (AskAnswer.ShortBuffer k) e = absurd (let z : _≡_ {A = ℕ} 0 1 = cc in omega arith)
+
+-- names and a plan that can be put out, and the text is that of these rules
+pub record Puttable (names : Names) (plan : PlanArrays) (rules : List (Formula Name)) : Type 0 where
+  pub kept : Kept names
+  pub count : plan .count ≤ 64
+  pub fits : length (planText (knownOf names) (planBy plan)) ≤ 10551
+  pub text : planText (knownOf names) (planBy plan) ≡ rulesText rules
 
 module _ (t : Table) (v : FromUs t) (some : SomeStand (rulesOf t)) (buffer : List ℕ) (room : length buffer ≡ 530) (r : AskResult) (exit : List ℕ) (asks : Asks t buffer r exit) where
   abbrev rules : List (Formula Name)
@@ -133,25 +141,28 @@ module _ (t : Table) (v : FromUs t) (some : SomeStand (rulesOf t)) (buffer : Lis
     known : knownOf names ≡ namesIn (rulesOf t)
     known = ap knownOf are ∙ known-back (namesIn (rulesOf t))
 
-    pub put-kept : Kept names
+    put-kept : Kept names
     put-kept = subst Kept (sym are) (kept-names (namesIn (rulesOf t)) (v .standing .names))
 
     points : length (it .plan .points) ≤ 32
     points = given-points rules few-atoms (it .plan) (it .only)
 
-    pub put-count : q .plan .count ≤ 64
+    put-count : q .plan .count ≤ 64
     put-count = omega (arith, stored .count, points)
 
-    pub put-text-is : planText (knownOf names) (planBy (q .plan)) ≡ rulesText rules
+    put-text-is : planText (knownOf names) (planBy (q .plan)) ≡ rulesText rules
     unfolding rulesText namesIn
     put-text-is =
         ap₂ planText known (plan-again (q .plan) (it .plan) (it .is) stored)
         ∙ sym (ap (plansText (namesOf rules)) (it .only))
 
-    pub put-fits : length (planText (knownOf names) (planBy (q .plan))) ≤ 10551
+    put-fits : length (planText (knownOf names) (planBy (q .plan))) ≤ 10551
     put-fits =
         subst (λ (l : List ℕ). length l ≤ 10551) (sym (ap₂ planText known (plan-again (q .plan) (it .plan) (it .is) stored)))
         (plan-few (namesIn (rulesOf t)) (v .standing .names) (names-short (rulesOf t) (v .standing .rules)) (it .plan) (it .is) points (given-words rules few-atoms (it .plan) (it .only)))
+
+    pub may-put : Puttable names (q .plan) (formulasOf (rulesOf t))
+    may-put = record { kept = put-kept; count = put-count; fits = put-fits; text = put-text-is }
 
 -- ---- a sheet
 

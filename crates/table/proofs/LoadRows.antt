@@ -3,12 +3,13 @@
 use Prim.Native.Nat.{ℕ, suc, _+_, _≤_}
 use mathlib.Core.Path.{_≡_, refl, sym, ap, subst, _∙_}
 use mathlib.Core.Logic.{_⊎_, inl, inr, ⊎-elim}
-use mathlib.Core.Bool.{Bool, true, false, cond}
+use mathlib.Core.Bool.{Bool, true, false, cond, not}
 use mathlib.Core.List.{List, [], _∷_, _++_, cons≢nil, append-assoc, append-nil}
 use native.Mathlib.Omega.{arith}
 use lib.ListN.{length, length-append}
 use lib.Dec.{ltb}
 use borrow.Author.Tests.{ltb-true, ltb-false}
+use Rattle.evalset.proofs.Search.{keep-append}
 use Rattle.evalset.proofs.Truth.{cases}
 use Rattle.table.specs.declared.AddAnswer.{AddAnswer}
 use Rattle.table.specs.declared.AddAnswer.the-variants as AddAnswer
@@ -28,12 +29,7 @@ use Rattle.table.proofs.Rows.{add-row, add-row-only}
 
 filled-append : (a b : List Text) → filled (a ++ b) ≡ filled a ++ filled b
 unfolding filled
-filled-append [] b = refl
-filled-append (l ∷ a) b = go (blankLine l) (filled-append a b)
-  where
-    go : (t : Bool) → filled (a ++ b) ≡ filled a ++ filled b → cond t (filled (a ++ b)) (l ∷ filled (a ++ b)) ≡ cond t (filled a) (l ∷ filled a) ++ filled b
-    go true e = e
-    go false e = ap (λ (ls : List Text). l ∷ ls) e
+filled-append a b = keep-append (λ l. not (blankLine l)) a b
 
 no-lines : filled [] ≡ []
 unfolding filled
@@ -157,11 +153,11 @@ passed (l ∷ before) n rs rest h = go (blankLine l) refl h (passed before (n + 
     z : n + 1 + length before ≡ n + suc (length before)
     z = omega arith
 
-    go : (b : Bool) → blankLine l ≡ b → CanStand (rs ++ cond b (filled before) (l ∷ filled before))
+    go : (b : Bool) → blankLine l ≡ b → CanStand (rs ++ cond (not b) (l ∷ filled before) (filled before))
         → (CanStand (rs ++ filled before) → judgeLines (n + 1) rs (before ++ rest) ≡ judgeLines (n + 1 + length before) (rs ++ filled before) rest)
         → (CanStand ((rs ++ l ∷ []) ++ filled before)
         → judgeLines (n + 1) (rs ++ l ∷ []) (before ++ rest) ≡ judgeLines (n + 1 + length before) ((rs ++ l ∷ []) ++ filled before) rest)
-        → judgeLines n rs (l ∷ before ++ rest) ≡ judgeLines (n + suc (length before)) (rs ++ cond b (filled before) (l ∷ filled before)) rest
+        → judgeLines n rs (l ∷ before ++ rest) ≡ judgeLines (n + suc (length before)) (rs ++ cond (not b) (l ∷ filled before) (filled before)) rest
     go true e k skip more = judge-blank n rs l (before ++ rest) e ∙ skip k ∙ ap (λ (m : ℕ). judgeLines m (rs ++ filled before) rest) z
     go false e k skip more =
         let s : CanStand ((rs ++ l ∷ []) ++ filled before) = subst CanStand (sym (append-assoc rs (l ∷ []) (filled before))) k in

@@ -3,7 +3,7 @@
 use Prim.Native.Nat.{ℕ, _+_, _-_, _≤_, _<_}
 use mathlib.Core.Path.{_≡_, refl, sym, ap, subst, _∙_}
 use mathlib.Core.List.{List, [], _∷_, _++_, append-assoc, append-nil}
-use mathlib.Core.Bool.{Bool, true, false, cond}
+use mathlib.Core.Bool.{Bool, true, false, cond, not}
 use native.Mathlib.Omega.{arith}
 use lib.ListN.{length, take, drop}
 use borrow.Author.Tests.{lt-leb, le-leb, le-ltb, lt-ltb}
@@ -82,11 +82,11 @@ module _ (n : ℕ) (rs : List Text) (l : Text) (ls : List Text) where
 
 pub filled-blank : (l : Text) (ls : List Text) → blankLine l ≡ true → filled (l ∷ ls) ≡ filled ls
 unfolding filled
-filled-blank l ls e = ap (λ (b : Bool). cond b (filled ls) (l ∷ filled ls)) e
+filled-blank l ls e = ap (λ (b : Bool). cond (not b) (l ∷ filled ls) (filled ls)) e
 
 pub filled-more : (l : Text) (ls : List Text) → blankLine l ≡ false → filled (l ∷ ls) ≡ l ∷ filled ls
 unfolding filled
-filled-more l ls e = ap (λ (b : Bool). cond b (filled ls) (l ∷ filled ls)) e
+filled-more l ls e = ap (λ (b : Bool). cond (not b) (l ∷ filled ls) (filled ls)) e
 
 pub start : (file : Text) (t : Table) (c : Counts) → length file ≤ 8192 → t ≡ tableOf [] → c ≡ countsOf [] → Progress file t c 0 0
 start file t c h e f =

@@ -4,7 +4,7 @@ use Prim.Native.Nat.{ℕ, zero, suc, _+_, _-_, _≤_, _<_}
 use mathlib.Core.Path.{_≡_, refl, sym, ap, subst, _∙_}
 use mathlib.Core.Logic.{_↔_, _⊎_, inl, inr, ⊎-elim}
 use mathlib.Core.List.{List, [], _∷_, _++_, map-append, append-assoc, append-nil}
-use mathlib.Core.Bool.{Bool, true, false, cond}
+use mathlib.Core.Bool.{Bool, true, false, cond, not}
 use native.Mathlib.Omega.{arith}
 use lib.ListN.{length, take, drop, length-append, length-take, length-drop, take-append-drop}
 use lib.Dec.{ltb, leb}
@@ -252,7 +252,7 @@ stand-lines (l ∷ ls) n rs h e =
         → (CanStand (rs ++ l ∷ []) → judgeLines (n + 1) (rs ++ l ∷ []) ls ≡ LoadAnswer.Loaded → CanStand ((rs ++ l ∷ []) ++ filled ls))
         → (b : Bool)
         → cond b (judgeLines (n + 1) rs ls) (ifAdded (judgeAdd rs l) (judgeLines (n + 1) (rs ++ l ∷ []) ls) (LoadAnswer.Line n (judgeAdd rs l))) ≡ LoadAnswer.Loaded
-        → CanStand (rs ++ cond b (filled ls) (l ∷ filled ls))
+        → CanStand (rs ++ cond (not b) (l ∷ filled ls) (filled ls))
     go skip more true e = skip e
     go skip more false e =
         let a = lines-added (judgeAdd rs l) n _ e in

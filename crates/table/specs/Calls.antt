@@ -4,7 +4,7 @@
 use Prim.Native.Nat.{ℕ, suc, _+_, _-_, _≤_}
 use mathlib.Core.Path.{_≡_}
 use mathlib.Core.List.{List, [], _∷_, _++_, map}
-use mathlib.Core.Bool.{Bool, true, false, cond}
+use mathlib.Core.Bool.{Bool, true, false, cond, not}
 use lib.ListN.{length, take, drop}
 use lib.Dec.{ltb, leb, eqb}
 use Rattle.formula.specs.Formula.{Formula, Name}
@@ -14,7 +14,7 @@ use Rattle.lexer.specs.declared.Class.the-variants as Class
 use Rattle.syntax.specs.Rule.{ruleOf, meaningOf}
 use Rattle.syntax.specs.declared.RuleAnswer.{RuleAnswer}
 use Rattle.syntax.specs.declared.RuleAnswer.the-variants as RuleAnswer
-use Rattle.evalset.specs.Search.{In, all}
+use Rattle.evalset.specs.Search.{In, all, keep}
 use Rattle.contact.specs.Numbering.{allAtoms, namesOf}
 use Rattle.names.specs.Gather.{gathered}
 use Rattle.names.specs.declared.NamesAnswer.{NamesAnswer}
@@ -156,8 +156,7 @@ blankLine s = all blankByte s
 
 -- "its lines that are not blank"
 unfoldable pub filled : List Text → List Text
-filled [] = []
-filled (l ∷ ls) = cond (blankLine l) (filled ls) (l ∷ filled ls)
+filled ls = keep (λ l. not (blankLine l)) ls
 
 -- "Load's lines that are not blank are judged as adds that start from an empty list"; "line (from 1, blank ones counted)":
 -- the lines from line n on, where rs stand

@@ -2,7 +2,7 @@
 use borrow.Author.Needs.{needs}
 use native.Mathlib.Omega.{arith}
 use Rattle.report.proofs.Putting.{puts-text}
-use Rattle.report.proofs.Reporting.{told-other, no-text, wrote-plan, put-kept, put-count, put-text-is, put-fits}
+use Rattle.report.proofs.Reporting.{told-other, no-text, wrote-plan, may-put}
 use Rattle.report.proofs.put_rules.Statement.{statement}
 use Rattle.report.proofs.put_rules.Tie as tie
 
@@ -31,25 +31,42 @@ same-length : tie.Need-same-length
 same-length c = search needs
 
 returns : tie.Need-returns
-returns c = puts-text (no-text (c .before .before .before .before .before .before .before .before .before .before .before .before .args .table) (c .before .before .before .before .before .before .before .before .before .before .before .before .pre .0) (c .before .before .before .before .before .before .before .before .before .before .before .before .pre .1) _ (c .before .before .before .before .before .before .before .before .before .no-words .ensures) _ _ (c .before .before .before .before .before .before .before .ask .ensures) (told-other _ (c .before .before .before .before .before .match .keys2))) (c .before .before .put-text .ensures)
+returns c =
+    let start = c .before .before .before .before .before .before .before .before .before .before .before .before in
+    let asked = c .before .before .before .before .before .before .before in
+    puts-text (no-text (start .args .table) (start .pre .0) (start .pre .1) _ (asked .before .before .no-words .ensures) _ _ (asked .ask .ensures) (told-other _ (c .before .before .before .before .before .match .keys2))) (c .before .before .put-text .ensures)
 
 array-share-prefix-words : tie.Need-array-share-prefix-words
-array-share-prefix-words c = wrote-plan (c .before .before .before .before .before .before .before .before .before .args .table) (c .before .before .before .before .before .before .before .before .before .pre .0) (c .before .before .before .before .before .before .before .before .before .pre .1) _ (c .before .before .before .before .before .before .no-words .ensures) _ _ (c .before .before .before .before .ask .ensures) _ (c .before .answer .given .1) .within
+array-share-prefix-words c =
+    let start = c .before .before .before .before .before .before .before .before .before in
+    let asked = c .before .before .before .before in
+    wrote-plan (start .args .table) (start .pre .0) (start .pre .1) _ (asked .before .before .no-words .ensures) _ _ (asked .ask .ensures) _ (c .before .answer .given .1) .within
 
 slice-aggregate-read-plan : tie.Need-slice-aggregate-read-plan
-slice-aggregate-read-plan c = wrote-plan (c .before .before .before .before .before .before .before .before .before .before .args .table) (c .before .before .before .before .before .before .before .before .before .before .pre .0) (c .before .before .before .before .before .before .before .before .before .before .pre .1) _ (c .before .before .before .before .before .before .before .no-words .ensures) _ _ (c .before .before .before .before .before .ask .ensures) _ (c .before .before .answer .given .1) .counted
+slice-aggregate-read-plan c =
+    let start = c .before .before .before .before .before .before .before .before .before .before in
+    let asked = c .before .before .before .before .before in
+    wrote-plan (start .args .table) (start .pre .0) (start .pre .1) _ (asked .before .before .no-words .ensures) _ _ (asked .ask .ensures) _ (c .before .before .answer .given .1) .counted
 
 read-plan-requires : tie.Need-read-plan-requires
 read-plan-requires c κs = search needs
 
 put-plan-requires : tie.Need-put-plan-requires
-put-plan-requires c κs = (put-kept (c .before .before .before .before .before .before .before .before .before .before .before .before .before .args .table) (c .before .before .before .before .before .before .before .before .before .before .before .before .before .pre .0) (c .before .before .before .before .before .before .before .before .before .before .before .before .before .pre .1) _ (c .before .before .before .before .before .before .before .before .before .before .no-words .ensures) _ _ (c .before .before .before .before .before .before .before .before .ask .ensures) _ (c .before .before .before .before .before .answer .given .1) _ (c .before .before .read-plan .ensures) _ (c .before .before .before .before .before .before .before .before .before .before .before .names .ensures), put-count (c .before .before .before .before .before .before .before .before .before .before .before .before .before .args .table) (c .before .before .before .before .before .before .before .before .before .before .before .before .before .pre .0) (c .before .before .before .before .before .before .before .before .before .before .before .before .before .pre .1) _ (c .before .before .before .before .before .before .before .before .before .before .no-words .ensures) _ _ (c .before .before .before .before .before .before .before .before .ask .ensures) _ (c .before .before .before .before .before .answer .given .1) _ (c .before .before .read-plan .ensures) _ (c .before .before .before .before .before .before .before .before .before .before .before .names .ensures), omega (arith, put-fits (c .before .before .before .before .before .before .before .before .before .before .before .before .before .args .table) (c .before .before .before .before .before .before .before .before .before .before .before .before .before .pre .0) (c .before .before .before .before .before .before .before .before .before .before .before .before .before .pre .1) _ (c .before .before .before .before .before .before .before .before .before .before .no-words .ensures) _ _ (c .before .before .before .before .before .before .before .before .ask .ensures) _ (c .before .before .before .before .before .answer .given .1) _ (c .before .before .read-plan .ensures) _ (c .before .before .before .before .before .before .before .before .before .before .before .names .ensures), c .before .before .before .before .before .before .before .before .before .before .before .before .before .pre .2))
+put-plan-requires c κs =
+    let start = c .before .before .before .before .before .before .before .before .before .before .before .before .before in
+    let asked = c .before .before .before .before .before .before .before .before in
+    let puts = may-put (start .args .table) (start .pre .0) (start .pre .1) _ (asked .before .before .no-words .ensures) _ _ (asked .ask .ensures) _ (c .before .before .before .before .before .answer .given .1) _ (c .before .before .read-plan .ensures) _ (c .before .before .before .before .before .before .before .before .before .before .before .names .ensures) in
+    (puts .kept, puts .count, omega (arith, puts .fits, start .pre .2))
 
 same-length-2 : tie.Need-same-length-2
 same-length-2 c = search needs
 
 returns-2 : tie.Need-returns-2
-returns-2 c = puts-text (put-text-is (c .before .before .before .before .before .before .before .before .before .before .before .before .before .before .before .before .args .table) (c .before .before .before .before .before .before .before .before .before .before .before .before .before .before .before .before .pre .0) (c .before .before .before .before .before .before .before .before .before .before .before .before .before .before .before .before .pre .1) _ (c .before .before .before .before .before .before .before .before .before .before .before .before .before .no-words .ensures) _ _ (c .before .before .before .before .before .before .before .before .before .before .before .ask .ensures) _ (c .before .before .before .before .before .before .before .before .answer .given .1) _ (c .before .before .before .before .before .read-plan .ensures) _ (c .before .before .before .before .before .before .before .before .before .before .before .before .before .before .names .ensures)) (c .before .before .put-plan .ensures)
+returns-2 c =
+    let start = c .before .before .before .before .before .before .before .before .before .before .before .before .before .before .before .before in
+    let asked = c .before .before .before .before .before .before .before .before .before .before .before in
+    let puts = may-put (start .args .table) (start .pre .0) (start .pre .1) _ (asked .before .before .no-words .ensures) _ _ (asked .ask .ensures) _ (c .before .before .before .before .before .before .before .before .answer .given .1) _ (c .before .before .before .before .before .read-plan .ensures) _ (c .before .before .before .before .before .before .before .before .before .before .before .before .before .before .names .ensures) in
+    puts-text (puts .text) (c .before .before .put-plan .ensures)
 
 pub put-rules-spec : {M : Type 1} → statement M
 put-rules-spec =
