@@ -12,41 +12,24 @@ ghost use Rattle.compile.specs.Kinds.{takenBy, termKind, atomKind, names
 ghost use Rattle.compile.specs.Sheet.{CompiledFrom, Grows};
 ghost use Rattle.compile.specs.Compiles.{Asked, Compiles};
 use evalset::EvalSet;
+use lexer::AND;
+use lexer::CONTACT;
+use lexer::FALSITY;
+use lexer::IFF;
+use lexer::IMPLIES;
+use lexer::IS_ZERO;
+use lexer::MINUS;
+use lexer::NAME;
+use lexer::ONE;
+use lexer::OR;
+use lexer::PART;
+use lexer::PLUS;
+use lexer::TILDE;
+use lexer::TIMES;
+use lexer::TRUTH;
+use lexer::ZERO;
 use search::ATOMS;
 use search::Sheet;
-
-// The kinds of tokens, by the lexer's numbers.
-const IMPLIES: u8 = 0;
-
-const IFF: u8 = 1;
-
-const OR: u8 = 2;
-
-const AND: u8 = 3;
-
-const PLUS: u8 = 4;
-
-const TIMES: u8 = 5;
-
-const MINUS: u8 = 6;
-
-const TILDE: u8 = 7;
-
-const IS_ZERO: u8 = 10;
-
-const TRUTH: u8 = 12;
-
-const FALSITY: u8 = 13;
-
-const CONTACT: u8 = 14;
-
-const PART: u8 = 15;
-
-const ZERO: u8 = 16;
-
-const ONE: u8 = 17;
-
-const NAME: u8 = 18;
 
 // The sheet with the rule's atoms behind those before, and the place after the rule's code.
 pub struct CompiledRule {
@@ -98,7 +81,7 @@ fn is_term(kind: u8) -> bool
 }
 
 // Whether a token makes an atom.
-fn is_atom(kind: u8) -> bool
+pub fn is_atom(kind: u8) -> bool
     ensures { λ r. ⌜ r ≡ atomKind kind ⌝ }
 {
     match kind {

@@ -1,7 +1,7 @@
 // Kleene's strong three values on two rails of sets, surely true and surely false, for the postfix code of one rule over
 // atom numbers: a run gives a value for each evaluation of a set, so ROOM rows at once. What is on neither rail is undecided.
 // Values are pairs, `Duo` of specs/Rails.antt, and each contract says the pair at each evaluation. The code comes from our own
-// reader: `run` requires that it is safe, as that of a formula is (proofs/Formed.antt). Assumes nothing.
+// compiler: `run` requires that it is safe, as that of a formula is (proofs/Formed.antt). Assumes nothing.
 ghost use mathlib.Core.Path.{_≡_};
 ghost use mathlib.Core.List.{[], _∷_};
 ghost use Prim.Native.Nat.{ℕ, _≤_, _<_};
@@ -79,7 +79,7 @@ fn constant(c: u8) -> Two
 }
 
 // The code of a formula run on its atoms' values: the formula's value at each evaluation. Only our own crates call it, with
-// code of at most 256 signs that they read from a rule, so that the stack never overflows.
+// code of at most 256 signs that they compiled from a rule, so that the stack never overflows.
 pub fn run(code: &[u8], leaves: [Two; 16]) -> Two
     requires { ⌜ Safe 128 16 (now code) 0 ⌝ }
     ensures { λ r. ⌜ ((e : ℕ) → e < room → exec (leafAt leaves e) (now (code .entry)) [] ≡ (duoAt r e ∷ [])) ⌝ }

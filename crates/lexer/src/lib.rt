@@ -369,30 +369,69 @@ pub fn class_of(b: u8) -> Class
     class_in(&table, b)
 }
 
+// The numbers of the kinds of tokens, as `codeOf` has them.
+pub const IMPLIES: u8 = 0;
+
+pub const IFF: u8 = 1;
+
+pub const OR: u8 = 2;
+
+pub const AND: u8 = 3;
+
+pub const PLUS: u8 = 4;
+
+pub const TIMES: u8 = 5;
+
+pub const MINUS: u8 = 6;
+
+pub const TILDE: u8 = 7;
+
+pub const OPEN: u8 = 8;
+
+pub const CLOSE: u8 = 9;
+
+pub const IS_ZERO: u8 = 10;
+
+pub const COMMA: u8 = 11;
+
+pub const TRUTH: u8 = 12;
+
+pub const FALSITY: u8 = 13;
+
+pub const CONTACT: u8 = 14;
+
+pub const PART: u8 = 15;
+
+pub const ZERO: u8 = 16;
+
+pub const ONE: u8 = 17;
+
+pub const NAME: u8 = 18;
+
 // The number that stands for a kind in the array `kinds`.
 pub fn code_of(k: Kind) -> u8
     ensures { λ r. ⌜ r ≡ codeOf k ⌝ }
 {
     match k {
-        Kind::Implies => 0,
-        Kind::Iff => 1,
-        Kind::Or => 2,
-        Kind::And => 3,
-        Kind::Plus => 4,
-        Kind::Times => 5,
-        Kind::Minus => 6,
-        Kind::Not => 7,
-        Kind::Open => 8,
-        Kind::Close => 9,
-        Kind::IsZero => 10,
-        Kind::Comma => 11,
-        Kind::Truth => 12,
-        Kind::Falsity => 13,
-        Kind::Contact => 14,
-        Kind::Part => 15,
-        Kind::Zero => 16,
-        Kind::One => 17,
-        Kind::Name => 18,
+        Kind::Implies => IMPLIES,
+        Kind::Iff => IFF,
+        Kind::Or => OR,
+        Kind::And => AND,
+        Kind::Plus => PLUS,
+        Kind::Times => TIMES,
+        Kind::Minus => MINUS,
+        Kind::Not => TILDE,
+        Kind::Open => OPEN,
+        Kind::Close => CLOSE,
+        Kind::IsZero => IS_ZERO,
+        Kind::Comma => COMMA,
+        Kind::Truth => TRUTH,
+        Kind::Falsity => FALSITY,
+        Kind::Contact => CONTACT,
+        Kind::Part => PART,
+        Kind::Zero => ZERO,
+        Kind::One => ONE,
+        Kind::Name => NAME,
     }
 }
 

@@ -2,7 +2,7 @@ pub mod Scans
 pub mod Distinct
 pub mod Arrays
 pub mod Tokens
-pub mod Going
+pub mod Gathering
 pub mod Outcome
 pub mod Places
 pub mod Texts

@@ -12,10 +12,8 @@ ghost use Rattle.evalset.specs.Sets.{most};
 ghost use Rattle.names.specs.Gather.{arraysOf, nameOf, knownOf, Gathers, gathered};
 ghost use Rattle.names.specs.Steps.{sameKept, placeIn, withKept};
 use evalset::NAMES;
+use lexer::NAME;
 use syntax::Rule;
-
-// The kind of a token that is a name, by the lexer's numbers.
-const NAME: u8 = 18;
 
 // A name's bytes, zeros after them.
 pub struct KeptName {

@@ -153,8 +153,11 @@ fn open(word: Word) -> Progress
     let Word::First { names, points } = word else {
         return dead();
     };
-    if 6 < names {
-        return dead();
+    match names {
+        0..=6 => {}
+        _ => {
+            return dead();
+        }
     }
     if points < 1 {
         return dead();

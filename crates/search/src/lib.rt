@@ -9,7 +9,7 @@ ghost use mathlib.Core.List.{[]};
 ghost use Prim.Native.Nat.{ℕ, _≤_, _<_};
 ghost use lib.ListN.{length, getD};
 ghost use Rattle.evalset.specs.Search.{first, keep, below, elem};
-ghost use Rattle.evalset.specs.Sets.{room, most, mem, memAt, addOf};
+ghost use Rattle.evalset.specs.Sets.{room, most, mem, memAt, belowOf, addOf};
 ghost use Rattle.search.specs.Rows.{rowBits};
 ghost use Rattle.search.specs.Tests.{Separates, Parts, witnessedOf, pairOf, givesOf, pickOf, rowOf, rowsOf, Filled};
 ghost use Rattle.search.specs.Compiled.{limit, Fit, Follows, StepSays, WitnessedSays, RealisableSays, NextSays};
@@ -112,9 +112,9 @@ fn decided(s: State, contact: bool, x: EvalSet, y: EvalSet, value: bool) -> Stat
     }
 }
 
-// The state before any atom is decided.
+// The state before any atom is decided: the evaluations below 2 ^ names, all of them from NAMES up, and none separated.
 pub fn start(names: usize) -> State
-    ensures { λ r. ⌜ (names ≤ most → Fit names r []) ⌝ }
+    ensures { λ r. ⌜ (mem (r .allowed) ≡ belowOf names) × ((p q : ℕ) → memAt (r .rows) p q ≡ false) × (names ≤ most → Fit names r []) ⌝ }
 {
     let none = evalset::empty();
     let rows = [none; ROOM];

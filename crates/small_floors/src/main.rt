@@ -6,7 +6,7 @@
 // there are more floors: where one of these meets the rules ask must give a plan, and its row may not be later than theirs. Every plan
 // must meet the rules on the floor that its words have, and all its words must be those of document 01, 'The plan that is given',
 // for its row. A sheet that disagrees is written, and why. The file `stdout` has document 01's answers to P1 to P12 and the counts
-// that a separate computation gave.
+// that a separate computation gave; `= 0` is counted with `=0`, and the comma with C and <=.
 ghost use Rattle.table.specs.Calls.{FromUs};
 
 mod floors;
@@ -36,8 +36,6 @@ use table::Table;
 
 // How many sheets are generated.
 const SHEETS: u64 = 3000;
-
-// The second name of a form.
 
 // ---- the table's answer
 

@@ -14,7 +14,7 @@ use Rattle.syntax.specs.Grammar.{leafTerm, IsTerm, IsFormula, t-leaf, t-
 use Rattle.syntax.specs.Postfix.{termAfter, formulaAfter, postfix}
 use Rattle.syntax.specs.Machine.{Sym, pickRank, rankOf, loosest, Frame, inParenthesis, afterMinus, afterTilde, afterBinary, firstOf, secondOf, allow, want, have, call, Popped, guard, close, zeroed, join, accepted, run, reading}
 use Rattle.syntax.specs.Reader.{top, goes, goesOn}
-use Rattle.syntax.proofs.Laws.{pop-keep, feed, goes-formula, goes-term}
+use Rattle.syntax.proofs.MachineLaws.{pop-keep, feed, goes-formula, goes-term}
 use Rattle.syntax.proofs.Ranks.{Tree, tightestRank, after, joined, constantOf, related, after-leaf, after-constant, after-related, after-joined}
 
 -- the place after some tokens

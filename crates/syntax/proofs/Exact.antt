@@ -18,7 +18,7 @@ use Rattle.syntax.specs.Postfix.{postfix}
 use Rattle.syntax.specs.Machine.{Sym, rankOf, loosest, Frame, inParenthesis, afterMinus, afterTilde, afterBinary, firstOf, secondOf, signOf, allow, State, want, have, call, dead, Popped, pop, guard, shut, zeroed, parted, partAt, join, step, Result, accepted, refused, done, finish, run, reading}
 use Rattle.syntax.specs.Reader.{top, goesOn}
 use Rattle.syntax.specs.Refusal.{Stops, Refusal}
-use Rattle.syntax.proofs.Laws.{run-dead, pop-keep, feed}
+use Rattle.syntax.proofs.MachineLaws.{run-dead, pop-keep, feed}
 use Rattle.syntax.proofs.Sound.{Begun, b-none, b-parenthesis, b-minus, b-tilde, b-binary, b-first, b-second, Stands, step-stands, refused≢accepted, sound}
 use Rattle.syntax.proofs.Complete.{complete}
 

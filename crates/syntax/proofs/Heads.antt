@@ -16,7 +16,7 @@ use Rattle.formula.specs.Formula.{Name}
 use Rattle.syntax.specs.Symbol.{Leaf, Relation, leaf, minus, tilde, opening, closing, comma, isZero, binary, constant, relation, contact, part}
 use Rattle.syntax.specs.Machine.{Sym, Frame, rankOf, allow, loosest, State, want, have, call, dead, Popped, shut, close, zeroed, parted, step, refused, done, run, guard, partAt, afterTilde}
 use Rattle.syntax.specs.Reader.{code, codes, kindAt, top, goes, goesOn, bindingOf, goesAt}
-use Rattle.syntax.proofs.Laws.{run-dead, pop-keep, goes-formula}
+use Rattle.syntax.proofs.MachineLaws.{run-dead, pop-keep, goes-formula}
 
 -- the kind of what stands first, and what stands after it
 abbrev pub kindOn : List Sym → ℕ

@@ -1,4 +1,4 @@
-pub mod Laws
+pub mod MachineLaws
 pub mod Returns
 pub mod Heads
 pub mod Steps

@@ -16,7 +16,7 @@ use Rattle.syntax.specs.Machine.{Sym, Frame, inParenthesis, afterMinus, 
 use Rattle.syntax.specs.Reader.{code, codes, kindAt, top, bindingOf, goesAt, followsOf, Holds, EndsAs, StopsBelow, Sorted, Within, Inside, Room, expectedOf, endedOf, endedIn, relatedOf, relatedIn, zeroedOf, zeroedIn, Asked, Said, MoreAsked, MoreSaid, ParenthesisSaid, RelationAsked, RelationSaid, startOf, Parsed, ParseSaid}
 use Rattle.syntax.specs.declared.Read.{Read}
 use Rattle.syntax.specs.declared.Read.the-variants.{Value, Refused}
-use Rattle.syntax.proofs.Laws.{pop-keep}
+use Rattle.syntax.proofs.MachineLaws.{pop-keep}
 use Rattle.syntax.proofs.Returns.{kind-inside}
 use Rattle.syntax.proofs.Heads.{length-codes, kindOn, Joins, binding-term, binding-formula, binding-zero, binding-end, rejected, NoTerm, no-term, no-opening, kind-at, goes-at, at-sign, at-leaf, at-binary}
 use Rattle.syntax.proofs.Steps.{holds-one, inside-of, room-of, within-from, stops-looser, sorted-formula, goes-false, goes-last, stops-last, Turns, ended-goes, closed-goes, parted-goes, related-goes, zeroed-goes, ended-stops, ended-sorted, ended-within, expected-sorted, expected-within, zeroed-within, zeroed-stops}

@@ -17,7 +17,7 @@ use Rattle.syntax.specs.Grammar.{leafTerm, IsTerm, t-leaf, t-minus, t-lo
 use Rattle.syntax.specs.Postfix.{termAfter, formulaAfter, postfix}
 use Rattle.syntax.specs.Machine.{Sym, rankOf, loosest, Frame, inParenthesis, afterMinus, afterTilde, afterBinary, firstOf, secondOf, need, signOf, allow, State, want, have, call, dead, Popped, pop, guard, shut, zeroed, parted, join, step, accepted, refused, done, finish, run, reading}
 use Rattle.syntax.specs.Reader.{top}
-use Rattle.syntax.proofs.Laws.{pop-feed, pop-keep}
+use Rattle.syntax.proofs.MachineLaws.{pop-feed, pop-keep}
 use Rattle.syntax.proofs.Ranks.{Tree, tightestRank, Reads, after, joined, constantOf, related, after-leaf, after-constant, after-related, after-joined, r-constant, r-related, r-parenthesis, r-binary, to-rank}
 
 -- the frames stand for the tokens before the place, with the order o

@@ -17,7 +17,7 @@ use Rattle.syntax.specs.Machine.{Sym, Frame, inParenthesis, afterMinus, 
 use Rattle.syntax.specs.Reader.{code, codes, kindAt, top, goesOn, bindingOf, goesAt, Holds, EndsAs, StopsBelow, Sorted, Within, Inside, Room, expectedOf, endedOf, endedIn, relatedOf, relatedIn, zeroedOf, zeroedIn, startOf}
 use Rattle.syntax.specs.declared.Read.{Read}
 use Rattle.syntax.specs.declared.Read.the-variants.{Value, Refused}
-use Rattle.syntax.proofs.Laws.{pop-keep, Waits, feed}
+use Rattle.syntax.proofs.MachineLaws.{pop-keep, Waits, feed}
 use Rattle.syntax.proofs.Returns.{kind-inside}
 use Rattle.syntax.proofs.Heads.{length-codes, binding-term, binding-formula, rejected, kind-at, goes-at, at-sign}
 

@@ -15,46 +15,28 @@ ghost use Rattle.syntax.specs.Reader.{kindAt, goes, bindingOf, followsOf
 ghost use Rattle.syntax.specs.RuleText.{symbolsOf, placeOf};
 ghost use Rattle.syntax.specs.Rule.{refusalOf, readTokens, ruleOf};
 use formula::Sign;
+use lexer::AND;
+use lexer::CLOSE;
+use lexer::COMMA;
+use lexer::CONTACT;
+use lexer::FALSITY;
+use lexer::IFF;
+use lexer::IMPLIES;
+use lexer::IS_ZERO;
 use lexer::LexAnswer;
+use lexer::MINUS;
+use lexer::NAME;
+use lexer::OPEN;
+use lexer::OR;
+use lexer::PART;
+use lexer::PLUS;
+use lexer::TILDE;
+use lexer::TIMES;
+use lexer::TRUTH;
 use lexer::Tokens;
+use lexer::ZERO;
 
-// The kinds of tokens, by the lexer's numbers; END stands past the last token.
-const IMPLIES: u8 = 0;
-
-const IFF: u8 = 1;
-
-const OR: u8 = 2;
-
-const AND: u8 = 3;
-
-const PLUS: u8 = 4;
-
-const TIMES: u8 = 5;
-
-const MINUS: u8 = 6;
-
-const TILDE: u8 = 7;
-
-const OPEN: u8 = 8;
-
-const CLOSE: u8 = 9;
-
-const IS_ZERO: u8 = 10;
-
-const COMMA: u8 = 11;
-
-const TRUTH: u8 = 12;
-
-const FALSITY: u8 = 13;
-
-const CONTACT: u8 = 14;
-
-const PART: u8 = 15;
-
-const ZERO: u8 = 16;
-
-const NAME: u8 = 18;
-
+// The kind past the last token, which no token has.
 const END: u8 = 19;
 
 // How a rule text is answered; what is refused carries its place.

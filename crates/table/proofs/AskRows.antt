@@ -2,6 +2,7 @@
 -- are read exactly if they are those of a plan. Assumes nothing.
 use Prim.Native.Nat.{ℕ, _≤_, _<_}
 use mathlib.Core.Path.{_≡_, refl, sym, ap, _∙_, subst}
+use mathlib.Core.Logic.{_↔_}
 use mathlib.Core.Bool.{Bool, true, false, cond}
 use mathlib.Core.List.{List, [], _∷_, cons≢nil}
 use native.Mathlib.Omega.{arith}
@@ -13,7 +14,7 @@ use borrow.Author.Tests.{leb-true, leb-false, le-leb, lt-leb, eq-eqb, ne-eqb}
 use Rattle.formula.specs.Formula.{Formula, Name}
 use Rattle.contact.specs.Meaning.{Floor, renamed}
 use Rattle.contact.specs.Numbering.{namesOf, numberOf}
-use Rattle.plan.specs.Words.{Plan, IsPlan, wordsOf}
+use Rattle.plan.specs.Words.{Plan, IsPlan, wordsOf, Refusal}
 use Rattle.plan.specs.Reader.{Reading, plan, refused, readOf}
 use Rattle.plan.specs.Given.{plansOf}
 use Rattle.plan.specs.Judging.{Judgement, judge}
@@ -27,9 +28,12 @@ use Rattle.table.specs.declared.JudgeAnswer.the-variants as JudgeAnswer
 use Rattle.table.specs.Store.{Text}
 use Rattle.table.specs.Calls.{formulasOf, namesIn}
 use Rattle.table.specs.Asking.{planAnswer, foundAnswer, askAnswer, judgementAnswer, judgePlan, judgeReading, judgeAnswer}
+use Rattle.plan.specs.declared.PlanRead.{PlanRead}
+use Rattle.plan.specs.Arrays.{answerOf, Reads}
 use Rattle.table.specs.declared.Outcome.{Outcome}
+use Rattle.table.specs.declared.Outcome.the-variants as Outcome
 use Rattle.table.proofs.Asking.{asked-some, judged-some}
-use Rattle.table.specs.Numbers.{askOutcome, judgeOutcome}
+use Rattle.table.specs.Numbers.{askOutcome, judgeOutcome, planOutcome}
 use Rattle.table.specs.Rows.{SomeStand, AskRow, Decodes, floorOf, JudgeRow}
 use Rattle.plan.specs.Meant.{ReadingSays, IsGiven}
 
@@ -136,3 +140,16 @@ module _ (words : List ℕ) where
   judge-row-only rs o (JudgeRow.met {p} some d m) = sym (ap judgeOutcome (decoded-judged rs some p d ∙ ap judgementAnswer (judge-yes (floorOf d) (formulasOf rs) .1 m)))
   judge-row-only rs o (JudgeRow.unmet {p} {k} some d u) =
       sym (ap judgeOutcome (decoded-judged rs some p d ∙ ap judgementAnswer (judge-unmet (floorOf d) (formulasOf rs) k .1 u)))
+
+-- ---- plan words alone
+
+-- they are refused with 13 exactly where words up to here begin no plan, or end early
+pub words-refused : (words : List ℕ) (q : PlanRead) → Reads words q → (j : ℕ) → (planOutcome (q .answer) ≡ Outcome.Refused 13 j) ↔ Refusal words j
+words-refused words q reads j = (
+  λ e. go (readOf words) refl (sym (ap planOutcome (reads .answer)) ∙ e),
+  λ r. ap planOutcome (reads .answer) ∙ ap (λ (x : Reading). planOutcome (answerOf x)) (refused-exactly words j .1 r),
+)
+  where
+    go : (x : Reading) → readOf words ≡ x → planOutcome (answerOf x) ≡ Outcome.Refused 13 j → Refusal words j
+    go (plan p) e f = absurd (let z : _≡_ {A = ℕ} 0 1 = cc in omega arith)
+    go (refused i) e f = let z : i ≡ j = cc in refused-exactly words j .0 (e ∙ ap refused z)

@@ -43,7 +43,7 @@ use Rattle.table.specs.Calls.{formulasOf, FromUs}
 use Rattle.table.specs.Asking.{foundAnswer, askAnswer, foundWords, askWords, asked, Asks, judgementAnswer, judgePlan, judgeReading, judgeAnswer, judged, Judges}
 use Rattle.table.specs.Steps.{writtenAnswer, judgedAnswer, JudgeAnswerSays}
 use Rattle.table.specs.Rows.{SomeStand}
-use Rattle.table.proofs.Held.{count-is}
+use Rattle.table.proofs.Lines.{count-is}
 use Rattle.plan.specs.Meant.{ReadingSays, IsGiven}
 
 -- ---- where some rule stands

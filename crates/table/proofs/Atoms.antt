@@ -19,12 +19,13 @@ use Rattle.syntax.specs.declared.RuleAnswer.the-variants as RuleAnswer
 use Rattle.syntax.specs.declared.Rule.{Rule}
 use Rattle.syntax.proofs.Claims.{length-codes, text-read, is-rule}
 use Rattle.table.specs.Store.{Text}
-use Rattle.table.specs.Steps.{isAtom, atomPlaces, WasRead}
+use Rattle.compile.specs.Kinds.{atomKind}
+use Rattle.table.specs.Steps.{atomPlaces, WasRead}
 
 places-append : (a b : List ℕ) → atomPlaces (a ++ b) ≡ atomPlaces a + atomPlaces b
-unfolding atomPlaces
+unfolding atomPlaces atomKind
 places-append [] b = omega arith
-places-append (k ∷ a) b = go (isAtom k) (places-append a b)
+places-append (k ∷ a) b = go (atomKind k) (places-append a b)
   where
     go : (t : Bool) → atomPlaces (a ++ b) ≡ atomPlaces a + atomPlaces b
         → cond t (suc (atomPlaces (a ++ b))) (atomPlaces (a ++ b)) ≡ cond t (suc (atomPlaces a)) (atomPlaces a) + atomPlaces b
@@ -32,9 +33,9 @@ places-append (k ∷ a) b = go (isAtom k) (places-append a b)
     go false e = omega (arith, e)
 
 pub places-most : (ks : List ℕ) → atomPlaces ks ≤ length ks
-unfolding atomPlaces
+unfolding atomPlaces atomKind
 places-most [] = omega arith
-places-most (k ∷ ks) = go (isAtom k) (places-most ks)
+places-most (k ∷ ks) = go (atomKind k) (places-most ks)
   where
     go : (t : Bool) → atomPlaces ks ≤ length ks → cond t (suc (atomPlaces ks)) (atomPlaces ks) ≤ suc (length ks)
     go true h = omega arith
@@ -56,7 +57,7 @@ other : (o : List Sym) (x : Sym) → count (x ∷ []) ≡ 0 → count (o ++ x �
 other o x e = omega (arith, count-last o x)
 
 term-count : (t : Term Name) (o : List Sym) → count (termAfter t o) ≡ count o
-unfolding termAfter codes atomPlaces
+unfolding termAfter codes atomPlaces atomKind
 term-count Term.zero o = other o _ refl
 term-count Term.one o = other o _ refl
 term-count (Term.name x) o = other o _ refl
@@ -76,7 +77,7 @@ both : (f g : Formula Name) (o p q : ℕ) → p ≡ o + length (atomsOf f) → q
 both f g o p q e h = sides (length (atomsOf f)) (length (atomsOf g)) o p q e h ∙ ap (λ (n : ℕ). o + n) (sym (length-append (atomsOf f) (atomsOf g)))
 
 formula-count : (f : Formula Name) (o : List Sym) → count (formulaAfter f o) ≡ count o + length (atomsOf f)
-unfolding formulaAfter codes atomPlaces
+unfolding formulaAfter codes atomPlaces atomKind
 formula-count Form.truth o = other o _ refl ∙ omega arith
 formula-count Form.falsity o = other o _ refl ∙ omega arith
 formula-count (Form.atom (Atom.contact t u)) o = sign o (termAfter u (termAfter t o)) (relation contact) refl (term-count u (termAfter t o) ∙ term-count t o)
@@ -89,7 +90,7 @@ formula-count (Form.implication f g) o = other (formulaAfter g (formulaAfter f o
 formula-count (Form.equivalence f g) o = other (formulaAfter g (formulaAfter f o)) _ refl ∙ both f g _ _ _ (formula-count f o) (formula-count g (formulaAfter f o))
 
 order-count : (f : Formula Name) → count (postfix f) ≡ length (atomsOf f)
-unfolding codes atomPlaces
+unfolding codes atomPlaces atomKind
 order-count f = omega (arith, formula-count f [])
 
 -- ---- of a rule that was read

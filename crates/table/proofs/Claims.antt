@@ -14,8 +14,13 @@ use Rattle.table.specs.declared.AskResult.{AskResult}
 use Rattle.table.specs.Store.{Text, tableOf, rulesOf}
 use Rattle.table.specs.Calls.{judgeAdd, judgeWithdraw, judgeLoad, CanStand, FromUs, Adds, Withdraws, Loads}
 use Rattle.table.specs.Asking.{askAnswer, Asks, judgeAnswer}
+use Rattle.syntax.specs.Rule.{ruleOf}
+use Rattle.plan.specs.declared.PlanRead.{PlanRead}
+use Rattle.plan.specs.Words.{Refusal}
+use Rattle.plan.specs.Arrays.{Reads}
 use Rattle.table.specs.declared.Outcome.{Outcome}
-use Rattle.table.specs.Numbers.{addOutcome, withdrawOutcome, loadOutcome, askOutcome, judgeOutcome}
+use Rattle.table.specs.declared.Outcome.the-variants as Outcome
+use Rattle.table.specs.Numbers.{addOutcome, withdrawOutcome, loadOutcome, askOutcome, judgeOutcome, ruleOutcome, planOutcome}
 use Rattle.table.specs.Rows.{AddRow, WithdrawRow, LoadRow, AskRow, JudgeRow}
 use Rattle.table.specs.Runs.{Call, add, withdraw, load, ask, step, run, after, standing, adds, Faithful}
 use Rattle.table.proofs.Stored as Stored
@@ -107,3 +112,13 @@ judge-answered = AskRows.judge-row
 
 pub judge-answered-only : (words : List ℕ) (rs : List Text) (o : Outcome) → JudgeRow rs words o → o ≡ judgeOutcome (judgeAnswer rs words)
 judge-answered-only = AskRows.judge-row-only
+
+-- ---- rule texts and plan words alone
+
+-- what the reader of rule text refuses has the number and the place that add gives it, whatever rules stand
+pub text-refused : (rs : List Text) (s : Text) (k p : ℕ) → ruleOutcome (ruleOf s .answer) ≡ Outcome.Refused k p → addOutcome (judgeAdd rs s) ≡ Outcome.Refused k p
+text-refused = Rows.text-refused
+
+-- the reader of plan words refuses with 13 exactly where the words up to there begin no plan, or end early
+pub words-refused : (words : List ℕ) (q : PlanRead) → Reads words q → (j : ℕ) → (planOutcome (q .answer) ≡ Outcome.Refused 13 j) ↔ Refusal words j
+words-refused = AskRows.words-refused

@@ -2,7 +2,7 @@ pub mod Fewer
 pub mod Stored
 pub mod Standing
 pub mod Running
-pub mod Held
+pub mod Lines
 pub mod Shift
 pub mod Scan
 pub mod Results

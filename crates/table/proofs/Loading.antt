@@ -21,7 +21,7 @@ use Rattle.table.proofs.Standing.{NotAdded, refused-else, stand-none, s
 use Rattle.syntax.proofs.Claims.{read-short}
 use Rattle.table.proofs.Counting.{answer-is, counts-next}
 use Rattle.table.proofs.Stored.{rules-table, from-us-table}
-use Rattle.table.proofs.Held.{count-is}
+use Rattle.table.proofs.Lines.{count-is}
 
 -- the loop's invariant: the lines before `from` have been judged and kept, `line` of them, and their rules are counted
 pub record Progress (file : Text) (t : Table) (c : Counts) (line from : ℕ) : Type 0 where

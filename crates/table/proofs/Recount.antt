@@ -22,7 +22,7 @@ use Rattle.table.specs.Steps.{atomPlaces, countsOf}
 use Rattle.table.proofs.Stored.{text-line}
 use Rattle.table.proofs.Standing.{stand-first, stand-added, room}
 use Rattle.table.proofs.Counting.{names-with, atoms-with, read-atoms, counts-are}
-use Rattle.table.proofs.Held.{count-is, line-is}
+use Rattle.table.proofs.Lines.{count-is, line-is}
 
 -- the loop's invariant: the names and atoms are those of the first i texts
 pub record CountedTo (t : Table) (ns : Names) (n i : ℕ) : Type 0 where

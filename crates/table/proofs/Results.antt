@@ -24,7 +24,7 @@ use Rattle.table.proofs.Stored.{from-us-table}
 use Rattle.table.proofs.Standing.{NotAdded, room, added-taken, added-refused, stand-add, stand-withdraw, stand-load}
 use Rattle.syntax.proofs.Claims.{read-short}
 use Rattle.table.proofs.Counting.{answer-is}
-use Rattle.table.proofs.Held.{count-is}
+use Rattle.table.proofs.Lines.{count-is}
 
 abbrev addResult : Table → AddAnswer → AddResult
 addResult t a = record { table = t; answer = a }

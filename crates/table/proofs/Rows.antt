@@ -1,7 +1,7 @@
 -- Add and withdraw are answered by the row of the table of calls that applies first, and by no other: the judgement tests the rows in
 -- their order, and each test decides what its row says. Assumes nothing.
 use Prim.Native.Nat.{ℕ, _≤_, _<_}
-use mathlib.Core.Path.{_≡_, refl, sym, ap, subst}
+use mathlib.Core.Path.{_≡_, refl, sym, ap, subst, _∙_}
 use mathlib.Core.Logic.{_⊎_, inl, inr, ⊎-elim}
 use mathlib.Core.List.{List, [], _∷_, _++_}
 use native.Mathlib.Omega.{arith}
@@ -15,21 +15,24 @@ use Rattle.syntax.specs.Rule.{ruleOf, meaningOf}
 use Rattle.syntax.specs.declared.RuleAnswer.{RuleAnswer}
 use Rattle.syntax.specs.declared.RuleAnswer.the-variants as RuleAnswer
 use Rattle.syntax.proofs.Claims.{text-answered, text-answered-only, is-rule}
+use Rattle.lexer.specs.Token.{Token}
 use Rattle.evalset.specs.Search.{gather}
 use Rattle.evalset.proofs.Truth.{cases}
 use Rattle.contact.specs.Numbering.{allAtoms}
-use Rattle.names.specs.Gather.{gathered, placesOf, ruleTokens}
+use Rattle.names.specs.Gather.{gathered, placesOf}
 use Rattle.names.specs.Seventh.{SeventhAt}
 use Rattle.names.specs.declared.NamesAnswer.{NamesAnswer}
 use Rattle.names.specs.declared.NamesAnswer.the-variants as NamesAnswer
 use Rattle.names.proofs.Claims.{rule-seventh}
+use Rattle.names.proofs.Tokens.{tokens-of-rule}
 use Rattle.table.specs.declared.AddAnswer.{AddAnswer}
 use Rattle.table.specs.declared.AddAnswer.the-variants as AddAnswer
 use Rattle.table.specs.declared.WithdrawAnswer.{WithdrawAnswer}
 use Rattle.table.specs.Store.{Text}
 use Rattle.table.specs.Calls.{formulasOf, namesIn, atomsIn, readAnswer, judgeNames, judgeText, judgeAdd, judgeWithdraw, CanStand}
 use Rattle.table.specs.declared.Outcome.{Outcome}
-use Rattle.table.specs.Numbers.{addOutcome, withdrawOutcome}
+use Rattle.table.specs.declared.Outcome.the-variants as Outcome
+use Rattle.table.specs.Numbers.{addOutcome, withdrawOutcome, ruleOutcome}
 use Rattle.table.specs.Rows.{AddRow, full, seventh, many, stands, WithdrawRow, none, taken}
 use Rattle.table.proofs.Standing.{NotAdded, read-formula, enough}
 use Rattle.table.proofs.Counting.{text-is, names-are, judge-text, judge-full, judge-names, judge-atoms, judge-added}
@@ -75,7 +78,10 @@ module _ (rs : List Text) (s : Text) (h : CanStand rs) where
 
     seventh-row : (p : ℕ) → gathered s (namesIn rs) .answer ≡ NamesAnswer.SeventhName p → Holds (AddAnswer.SeventhName p)
     unfolding namesIn
-    seventh-row p f = seventh rule few (rule-seventh (formulasOf rs) (h .names) s (meaningOf s) rule p .0 f)
+    seventh-row p f =
+        seventh rule few
+        (subst (λ (ts : List Token). SeventhAt (gather atomNames (allAtoms (formulasOf rs))) (placesOf s ts) p) (tokens-of-rule s (meaningOf s) rule)
+        (rule-seventh (formulasOf rs) (h .names) s (meaningOf s) rule p .0 f))
 
     counted : gathered s (namesIn rs) .answer ≡ NamesAnswer.Enough → Holds (judgeAdd rs s)
     counted f =
@@ -108,10 +114,12 @@ module _ (rs : List Text) (s : Text) (h : CanStand rs) where
   of-formula : {f : Formula Name} → IsRule s f → ruleOf s .answer ≡ RuleAnswer.Formula
   of-formula r = sym (text-answered-only s RuleAnswer.Formula (formula r))
 
-  seventh-found : {f : Formula Name} (p : ℕ) (r : IsRule s f) → SeventhAt (gather atomNames (allAtoms (formulasOf rs))) (placesOf s (ruleTokens s)) p → judgeNames rs s ≡ AddAnswer.SeventhName p
+  seventh-found : {f : Formula Name} (p : ℕ) (r : IsRule s f) → SeventhAt (gather atomNames (allAtoms (formulasOf rs))) (placesOf s (r .tokens-of)) p → judgeNames rs s ≡ AddAnswer.SeventhName p
   unfolding namesIn
-  seventh-found p r x =
-      names-are rs s (NamesAnswer.SeventhName p) (rule-seventh (formulasOf rs) (h .names) s (meaningOf s) (is-rule s (of-formula r)) p .1 x)
+  seventh-found {f = f} p r x =
+      names-are rs s (NamesAnswer.SeventhName p)
+      (rule-seventh (formulasOf rs) (h .names) s (meaningOf s) (is-rule s (of-formula r)) p .1
+      (subst (λ (ts : List Token). SeventhAt (gather atomNames (allAtoms (formulasOf rs))) (placesOf s ts) p) (sym (tokens-of-rule s f r)) x))
 
   unread-only : (a : RuleAnswer) → Answers s a → (a ≡ RuleAnswer.Formula → ⊥) → addOutcome (readAnswer a) ≡ addOutcome (judgeAdd rs s)
   unread-only a r n =
@@ -139,6 +147,12 @@ module _ (rs : List Text) (s : Text) (h : CanStand rs) where
       sym
       (ap addOutcome
       (judge-added rs s (text-is s RuleAnswer.Formula (of-formula r)) few (names-are rs s NamesAnswer.Enough (enough rs s (h .names) (of-formula r) .1 names)) k))
+
+-- a text that is refused alone is so by add, whatever rules stand
+pub text-refused : (rs : List Text) (s : Text) (k p : ℕ) → ruleOutcome (ruleOf s .answer) ≡ Outcome.Refused k p → addOutcome (judgeAdd rs s) ≡ Outcome.Refused k p
+text-refused rs s k p e =
+    ap addOutcome (judge-text rs s (readAnswer (ruleOf s .answer)) (text-is s (ruleOf s .answer) refl) (λ f. let z : Outcome.Done ≡ Outcome.Refused k p = sym (ap addOutcome f) ∙ e in absurd (let y : _≡_ {A = ℕ} 0 1 = cc in omega arith)))
+    ∙ e
 
 -- ---- withdraw
 

@@ -9,7 +9,7 @@ use Rattle.table.specs.declared.Line.{Line}
 use Rattle.table.specs.declared.Table.{Table}
 use Rattle.table.specs.Store.{Text, tableOf, rulesOf, lineOf}
 use Rattle.table.specs.Calls.{without, FromUs}
-use Rattle.table.proofs.Held.{count-is, lines-are, linesWith, tableWith, map-take, map-drop}
+use Rattle.table.proofs.Lines.{count-is, lines-are, linesWith, tableWith, map-take, map-drop}
 
 -- the lines after those from k up to i have moved down
 abbrev pub moved : List Line → ℕ → ℕ → List Line

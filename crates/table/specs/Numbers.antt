@@ -1,5 +1,8 @@
 -- Document 01's number of each answer, and what it carries, by the table of calls. Assumes nothing.
 use Prim.Native.Nat.{ℕ}
+use Rattle.syntax.specs.declared.RuleAnswer.{RuleAnswer}
+use Rattle.plan.specs.declared.PlanAnswer.{PlanAnswer}
+use Rattle.plan.specs.declared.PlanAnswer.the-variants as PlanAnswer
 use Rattle.table.specs.declared.Outcome.{Outcome}
 use Rattle.table.specs.declared.Outcome.the-variants as Outcome
 use Rattle.table.specs.declared.AddAnswer.{AddAnswer}
@@ -12,6 +15,7 @@ use Rattle.table.specs.declared.AskAnswer.{AskAnswer}
 use Rattle.table.specs.declared.AskAnswer.the-variants as AskAnswer
 use Rattle.table.specs.declared.JudgeAnswer.{JudgeAnswer}
 use Rattle.table.specs.declared.JudgeAnswer.the-variants as JudgeAnswer
+use Rattle.table.specs.Calls.{readAnswer}
 
 abbrev pub addOutcome : AddAnswer → Outcome
 addOutcome AddAnswer.Added = Outcome.Done
@@ -57,3 +61,14 @@ judgeOutcome (JudgeAnswer.Unmet k) = Outcome.Unmet k
 judgeOutcome JudgeAnswer.NoRule = Outcome.Refused 11 0
 judgeOutcome (JudgeAnswer.NotAPlan i) = Outcome.Refused 13 i
 judgeOutcome (JudgeAnswer.NamesDiffer n) = Outcome.Refused 14 n
+
+-- ---- the same of the readers' answers
+
+-- a rule text alone, as add has it
+abbrev pub ruleOutcome : RuleAnswer → Outcome
+ruleOutcome a = addOutcome (readAnswer a)
+
+-- plan words alone, as judge has them
+abbrev pub planOutcome : PlanAnswer → Outcome
+planOutcome PlanAnswer.Plan = Outcome.Done
+planOutcome (PlanAnswer.Refused i) = Outcome.Refused 13 i

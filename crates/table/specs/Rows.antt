@@ -15,7 +15,7 @@ use Rattle.contact.specs.Numbering.{allAtoms}
 use Rattle.contact.specs.Meaning.{Floor, meetsAll}
 use Rattle.plan.specs.Words.{Plan, IsPlan, wordsOf, Refusal}
 use Rattle.plan.specs.Floor.{namedFloor}
-use Rattle.names.specs.Gather.{placesOf, ruleTokens}
+use Rattle.names.specs.Gather.{placesOf}
 use Rattle.names.specs.Seventh.{SeventhAt}
 use Rattle.table.specs.Store.{Text}
 use Rattle.table.specs.declared.Outcome.{Outcome}
@@ -40,7 +40,7 @@ pub data AddRow (rs : List Text) (s : Text) : Outcome → Type 0 where
   -- 9: "16 rules stand"
   full : {f : Formula Name} → IsRule s f → 16 ≤ length rs → AddRow rs s (Outcome.Refused 9 0)
   -- 7: "a seventh name", at "that name's first byte"
-  seventh : {f : Formula Name} {p : ℕ} → IsRule s f → length rs < 16 → SeventhAt (gather atomNames (allAtoms (formulasOf rs))) (placesOf s (ruleTokens s)) p
+  seventh : {f : Formula Name} {p : ℕ} → (h : IsRule s f) → length rs < 16 → SeventhAt (gather atomNames (allAtoms (formulasOf rs))) (placesOf s (h .tokens-of)) p
       → AddRow rs s (Outcome.Refused 7 p)
   -- 8: "more than 16 atoms in all"
   many : {f : Formula Name} → IsRule s f → length rs < 16 → length (namesIn (rs ++ s ∷ [])) ≤ 6 → 16 < atomsIn (rs ++ s ∷ []) → AddRow rs s (Outcome.Refused 8 0)

@@ -2,14 +2,14 @@
 -- the plan writer and of the judge of plans as those of the calls. Assumes nothing.
 use Prim.Native.Nat.{ℕ, suc}
 use mathlib.Core.Path.{_≡_}
-use mathlib.Core.Bool.{Bool, _||_, cond}
+use mathlib.Core.Bool.{cond}
 use mathlib.Core.List.{List, [], _∷_}
-use lib.Dec.{eqb}
 use lib.ListN.{length}
 use Rattle.syntax.specs.Rule.{ruleOf}
 use Rattle.syntax.specs.declared.RuleAnswer.the-variants as RuleAnswer
 use Rattle.syntax.specs.declared.Rule.{Rule}
 use Rattle.formula.specs.Formula.{Formula, Name}
+use Rattle.compile.specs.Kinds.{atomKind}
 use Rattle.names.specs.Gather.{arraysOf}
 use Rattle.plan.specs.declared.Written.{Written}
 use Rattle.plan.specs.declared.Written.the-variants as Written
@@ -39,14 +39,10 @@ pub record WasRead (rule : Rule) : Type 0 where
   pub read : rule ≡ ruleOf text
   pub formula : ruleOf text .answer ≡ RuleAnswer.Formula
 
--- the kinds of =0, C and <=, by the lexer's numbers
-abbrev pub isAtom : ℕ → Bool
-isAtom k = eqb k 10 || (eqb k 14 || eqb k 15)
-
 -- how many of a list of kinds are atoms
 unfoldable pub atomPlaces : List ℕ → ℕ
 atomPlaces [] = 0
-atomPlaces (k ∷ ks) = cond (isAtom k) (suc (atomPlaces ks)) (atomPlaces ks)
+atomPlaces (k ∷ ks) = cond (atomKind k) (suc (atomPlaces ks)) (atomPlaces ks)
 
 -- "Rules, names and atoms are counted in this list"
 unfoldable pub countsOf : List Text → Counts

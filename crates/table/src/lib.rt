@@ -14,7 +14,7 @@ ghost use Rattle.sheets.specs.Texts.{CompiledTexts, Whole};
 ghost use Rattle.table.specs.Store.{lineOf, tableOf, rulesOf};
 ghost use Rattle.table.specs.Calls.{namesIn, readAnswer, namesAnswer, judgeText, blankByte, blankLine, linesOf, linesFrom, FromUs, Adds, Withdraws, Loads};
 ghost use Rattle.table.specs.Asking.{Asks, Judges};
-ghost use Rattle.table.specs.Steps.{writtenAnswer, judgedAnswer, JudgeAnswerSays, WasRead, isAtom, atomPlaces, countsOf, Counting, CountsWith, loadResult};
+ghost use Rattle.table.specs.Steps.{writtenAnswer, judgedAnswer, JudgeAnswerSays, WasRead, atomPlaces, countsOf, Counting, CountsWith, loadResult};
 ghost use Rattle.table.specs.Numbers.{addOutcome, withdrawOutcome, onLine, loadOutcome, askOutcome, judgeOutcome};
 ghost use Rattle.table.specs.declared.AddAnswer.the-variants as AddAnswer;
 use judging::Judged;
@@ -24,27 +24,19 @@ use names::NamesAnswer;
 use plan::PlanAnswer;
 use plan::PlanArrays;
 use plan::Written;
+use search::ATOMS;
 use sheets::Compiling;
 use solver::RowAnswer;
 use syntax::Rule;
 use syntax::RuleAnswer;
 
-// How many rules and atoms there may be, and how many bytes a file may have.
+// How many rules there may be, and how many bytes a file may have.
 const RULES: usize = 16;
-
-const ATOMS: usize = 16;
 
 const FILE: usize = 8192;
 
 // The byte at which a file is split.
 const LINE_END: u8 = 10;
-
-// The kinds of tokens that are atoms, by the lexer's numbers.
-const IS_ZERO: u8 = 10;
-
-const CONTACT: u8 = 14;
-
-const PART: u8 = 15;
 
 // A text, zeros after its bytes.
 struct Line {
@@ -251,18 +243,6 @@ fn names_answer(a: NamesAnswer) -> AddAnswer
     }
 }
 
-// Whether a token of this kind is an atom's sign.
-fn is_atom(kind: u8) -> bool
-    ensures { λ r. ⌜ r ≡ isAtom kind ⌝ }
-{
-    match kind {
-        IS_ZERO => true,
-        CONTACT => true,
-        PART => true,
-        _ => false,
-    }
-}
-
 // How many of these kinds are atoms' signs.
 fn atom_places(kinds: &[u8]) -> usize
     ensures { λ r. ⌜ r ≡ atomPlaces (now (kinds .entry)) ⌝ }
@@ -270,7 +250,7 @@ fn atom_places(kinds: &[u8]) -> usize
     let mut n: usize = 0;
     let mut i: usize = 0;
     while i < kinds.len() {
-        let a = is_atom(kinds[i]);
+        let a = compile::is_atom(kinds[i]);
         if a {
             n += 1;
         }

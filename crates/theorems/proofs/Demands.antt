@@ -118,6 +118,7 @@ row-given rs some few row first =
     let is = given-is-plan (formulasOf rs) few row found in
     record {
       met = record { some = some; plan = rowPlan (formulasOf rs) row; decodes = record { is = is; words-are = refl; named = refl }; meets = given-meets (formulasOf rs) row found is };
+      is = record { row = row; first = first; is = refl };
       back = written-read (rowPlan (formulasOf rs) row) is;
     }
 

@@ -89,9 +89,10 @@ pub record NotMet (rs : List Text) (words : List ℕ) (k : ℕ) : Type 0 where
   pub decodes : Decodes rs words plan
   pub lowest : FirstUnmet (floorOf decodes) 1 (formulasOf rs) k
 
--- the words of a plan that was given; what is read from them is the plan
+-- the words of the plan that document 01 defines; it meets the rules, and what is read from the words is the plan
 pub record Given (rs : List Text) (words : List ℕ) : Type 0 where
   pub met : Met rs words
+  pub is : IsGiven (formulasOf rs) (met .plan)
   pub back : (q : PlanRead) → Reads words q → (q .answer ≡ PlanAnswer.Plan) × Stored (q .plan) (met .plan)
 
 pub record Meant (cs : List Call) (t : Table) : Type 0 where

@@ -2,7 +2,7 @@
 // from a result, so that `FromUs`, which each call requires, is what the call before it ensures; it is never opened.
 //
 // Standard input is a list of scripts. A line that begins with `#` heads a script, and the table is then the empty one.
-// Every other line is one call, and is written again with ` => ` and its answer:
+// Every other line that is not empty is one call, and is written again with ` => ` and its answer:
 //
 //     add TEXT     withdraw K     load TEXT     ask N, with N words lent     judge WORDS
 //     every N, which judges the plan over N names that has every point and every contact

@@ -6,7 +6,7 @@ use native.Mathlib.Omega.{arith}
 use borrow.Author.Needs.{needs}
 use lib.ListN.{length, getD, take, drop, length-take}
 use Rattle.evalset.specs.Sets.{most}
-use Rattle.names.proofs.Going.{Going, going-first, few-tokens, few-names, number-few, going-end, token-inside, token-short, going-other, going-seventh, going-name}
+use Rattle.names.proofs.Gathering.{Going, going-first, few-tokens, few-names, number-few, going-end, token-inside, token-short, going-other, going-seventh, going-name}
 use Rattle.names.proofs.gather.Statement.{statement}
 use Rattle.names.proofs.gather.Tie as tie
 

@@ -15,7 +15,7 @@ first-under-requires : tie.Need-first-under-requires
 first-under-requires c κs = root-node (c .before .before .before .before .pre)
 
 returns : tie.Need-returns
-returns c = from-root _ _ _ _ _ _ (c .before .before .start .ensures) (c .before .candidates .ensures) (c .first-under .ensures)
+returns c = from-root _ _ _ _ _ _ (c .before .before .start .ensures .2) (c .before .candidates .ensures) (c .first-under .ensures)
 
 pub first-row-spec : {M : Type 1} → statement M
 first-row-spec =

@@ -1,6 +1,6 @@
 -- `put_last` meets its contract: the first empty line takes the text. Assumes nothing.
 use borrow.Author.Needs.{needs}
-use Rattle.table.proofs.Held.{put-table}
+use Rattle.table.proofs.Lines.{put-table}
 use Rattle.table.proofs.put_last.Statement.{statement}
 use Rattle.table.proofs.put_last.Tie as tie
 

@@ -2,7 +2,7 @@
 use borrow.Author.Needs.{needs}
 use Prim.Native.Nat.{_-_, _<_}
 use native.Mathlib.Omega.{arith}
-use Rattle.table.proofs.Held.{none, count-is}
+use Rattle.table.proofs.Lines.{none, count-is}
 use Rattle.table.proofs.Recount.{text-within, text-length}
 use Rattle.table.proofs.Compiled.{Reached, reached-none, reached-all, reached-ready, reached-next}
 use Rattle.table.proofs.Table.compiled.Statement.{statement}

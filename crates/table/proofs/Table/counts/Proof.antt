@@ -1,7 +1,7 @@
 -- The invariant: the names and atoms are those of the first i texts. Assumes nothing.
 use borrow.Author.Needs.{needs}
 use Prim.Native.Nat.{_-_, _<_}
-use Rattle.table.proofs.Held.{none, count-is}
+use Rattle.table.proofs.Lines.{none, count-is}
 use Rattle.table.proofs.Counting.{was-read}
 use Rattle.table.proofs.Recount.{CountedTo, counted-none, counted-all, text-within, text-length, text-read, counted-gathers, counted-few, counted-next}
 use native.Mathlib.Omega.{arith}

@@ -7,7 +7,7 @@ use lib.ListN.{length, getD, set}
 use Rattle.table.specs.declared.Line.{Line}
 use Rattle.table.specs.Store.{rulesOf}
 use Rattle.table.proofs.Results.{withdraw-zero, withdraw-high, withdraw-good, withdrawn-by}
-use Rattle.table.proofs.Held.{none, count-is, tableWith}
+use Rattle.table.proofs.Lines.{none, count-is, tableWith}
 use Rattle.table.proofs.Shift.{moved, moved-none, moved-next, left-table, lines-length}
 use native.Mathlib.Omega.{arith}
 use Rattle.table.proofs.Table.withdraw.Statement.{statement}
