@@ -3,14 +3,15 @@
 use mathlib.Core.Bool.{Bool, _&&_}
 use mathlib.Core.Path.{_≡_, sym, ap, _∙_}
 use mathlib.Core.List.{List, [], _++_}
-use Prim.Native.Nat.{ℕ, _-_, _≤_, _<_}
+use Prim.Native.Nat.{ℕ, _≤_, _<_}
 use native.Mathlib.Omega.{arith}
-use lib.ListN.{length, take, replicate, length-append}
-use lib.Seq.{take-at}
+use lib.ListN.{length, take}
 use borrow.Author.Tests.{lt-ltb}
+use Rattle.lists.proofs.Truth.{each}
+use Rattle.lists.specs.Padded.{pad}
+use Rattle.lists.proofs.Padded.{pad-taken, pad-within}
 use Rattle.formula.specs.Formula.{Term, Atom, Formula, Name}
 use Rattle.formula.specs.Atoms.{atomsOf}
-use Rattle.lexer.specs.Arrays.{pad}
 use Rattle.syntax.specs.Postfix.{postfix}
 use Rattle.syntax.specs.RuleText.{IsRule}
 use Rattle.syntax.specs.Reader.{codes}
@@ -18,7 +19,6 @@ use Rattle.syntax.specs.Rule.{ruleOf}
 use Rattle.syntax.specs.declared.Rule.{Rule}
 use Rattle.syntax.proofs.Claims.{length-codes, text-read}
 use Rattle.evalset.specs.Sets.{room, memAt}
-use Rattle.evalset.proofs.Bounded.{each}
 use Rattle.contact.specs.Numbering.{mapAtom, mapForm, numberForm}
 use Rattle.contact.specs.Plan.{at}
 use Rattle.search.specs.declared.Sheet.{Sheet}
@@ -59,10 +59,10 @@ module _ (s : List ℕ) (f : Formula Name) (h : IsRule s f) where
   pub order-read : take (ruleOf s .len) (ruleOf s .order) ≡ codes (postfix f)
   order-read =
       ap (λ (r : Rule). take (r .len) (r .order)) (text-read s f h)
-      ∙ take-at (codes (postfix f)) (replicate (256 - length (codes (postfix f))) 0) (length (postfix f)) (length-codes (postfix f))
+      ∙ pad-taken 256 (codes (postfix f)) (length (postfix f)) (length-codes (postfix f))
 
   -- and short enough, since it has a place in the array
   pub order-short : length (ruleOf s .order) ≡ 256 → length (codes (postfix f)) ≤ 256
   order-short l =
-      let e : length (pad (codes (postfix f))) ≡ 256 = sym (ap (λ (r : Rule). length (r .order)) (text-read s f h)) ∙ l in
-      omega (arith, length-append (codes (postfix f)) (replicate (256 - length (codes (postfix f))) 0))
+      let e : length (pad 256 (codes (postfix f))) ≡ 256 = sym (ap (λ (r : Rule). length (r .order)) (text-read s f h)) ∙ l in
+      omega (arith, pad-within 256 (codes (postfix f)))

@@ -5,10 +5,10 @@ use mathlib.Core.Path.{_≡_, refl, sym, ap, ap₂, subst, _∙_}
 use mathlib.Core.List.{List, [], _∷_, _++_, map}
 use Prim.Native.Nat.{ℕ, zero, suc, _+_, _-_, _*_, _≤_, _<_}
 use native.Mathlib.Omega.{arith}
-use native.Mathlib.Numerals.{add-one}
 use lib.Dec.{eqb}
 use lib.ListN.{length, getD, take, drop, set, length-append, length-drop, length-set, take-append-drop}
-use lib.Seq.{sets, length-take-le, take-suc, take-length}
+use lib.Seq.{sets, length-take-le, take-length}
+use Rattle.lists.proofs.Lists.{take-next}
 use Rattle.formula.specs.Formula.{Atom, Formula, Name}
 use Rattle.syntax.specs.Symbol.{Leaf, leaf, opening}
 use Rattle.syntax.specs.Postfix.{postfix, symbolNames, namesIn}
@@ -39,13 +39,10 @@ code-at (x ∷ xs) (suc i) l = code-at xs i (omega arith)
 abbrev pub passed : List Sym → ℕ → ℕ
 passed xs i = length (namesIn (take i xs))
 
-take-next : (xs : List Sym) (i : ℕ) → i < length xs → take (i + 1) xs ≡ take i xs ++ symbolAt xs i ∷ []
-take-next xs i l = ap (λ (k : ℕ). take k xs) (add-one i) ∙ take-suc xs i opening l
-
 passed-next : (xs : List Sym) (i : ℕ) → i < length xs → passed xs (i + 1) ≡ passed xs i + namesBy (code (symbolAt xs i))
 unfolding namesIn
 passed-next xs i l =
-    ap (λ (p : List Sym). length (namesIn p)) (take-next xs i l) ∙ ap length (names-last (take i xs) (symbolAt xs i))
+    ap (λ (p : List Sym). length (namesIn p)) (take-next xs i opening l) ∙ ap length (names-last (take i xs) (symbolAt xs i))
     ∙ length-append (namesIn (take i xs)) (symbolNames (symbolAt xs i)) ∙ ap (λ (k : ℕ). passed xs i + k) (names-by (symbolAt xs i))
 
 passed-few : (xs : List Sym) (i : ℕ) → i ≤ length xs → passed xs i ≤ i
@@ -86,7 +83,7 @@ module _ (f : Formula Name) (g : Name → ℕ) (atoms : List (Atom ℕ)) where
   here i = symbolAt (postfix f) i
 
   reached-next : (i : ℕ) → i < length (postfix f) → reached f g atoms (i + 1) ≡ step g (here i) (reached f g atoms i)
-  reached-next i l = ap (λ (p : List Sym). run g p (start atoms)) (take-next (postfix f) i l) ∙ run-last g (take i (postfix f)) (here i) (start atoms)
+  reached-next i l = ap (λ (p : List Sym). run g p (start atoms)) (take-next (postfix f) i opening l) ∙ run-last g (take i (postfix f)) (here i) (start atoms)
 
   -- at the end stand the formula's atoms and its code
   reached-end : (i : ℕ) → i ≡ length (postfix f) → reached f g atoms i ≡ record { terms = []; atoms = atomsAfter g f atoms; code = codeAfter f atoms }

@@ -6,12 +6,12 @@ use Prim.Native.Nat.{ℕ, _≤_, _<_}
 use native.Mathlib.Omega.{arith}
 use lib.ListN.{length, getD, take, length-append, List·getD-append}
 use lib.Seq.{take-append-le, take-append-seam, getD-append-seam}
+use Rattle.lists.proofs.Truth.{side}
 use Rattle.formula.specs.Formula.{Term, Atom, Form, Formula, Name}
 use Rattle.syntax.specs.Symbol.{leaf, minus, tilde, opening, closing, comma, isZero, binary, constant, relation, contact, part}
 use Rattle.syntax.specs.Postfix.{termAfter, formulaAfter, postfix}
 use Rattle.syntax.specs.Machine.{Sym}
 use Rattle.syntax.specs.Reader.{code}
-use Rattle.evalset.proofs.Bounded.{side}
 use Rattle.compile.specs.Kinds.{takenBy}
 use Rattle.compile.specs.Machine.{State, run}
 use Rattle.compile.proofs.Orders.{term-run, terms-run}

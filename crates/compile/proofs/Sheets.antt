@@ -9,11 +9,12 @@ use lib.Dec.{eqb, eqb·zero-suc, eqb·suc-zero, eqb·suc-suc}
 use lib.ListN.{length, getD, set, replicate, length-append}
 use lib.Seq.{getD-set-same, getD-set-other}
 use borrow.Author.Tests.{eqb-true, eqb-false}
+use Rattle.lists.proofs.Lists.{every-at}
 use Rattle.formula.specs.Formula.{Atom}
 use Rattle.evalset.specs.declared.EvalSet.{EvalSet}
 use Rattle.evalset.specs.Sets.{mem, memAt, noneOf}
-use Rattle.evalset.proofs.Truth.{cases}
-use Rattle.evalset.proofs.Arrays.{every-at, empty-rows}
+use Rattle.lists.proofs.Truth.{cases}
+use Rattle.evalset.proofs.Arrays.{empty-rows}
 use Rattle.search.specs.declared.Sheet.{Sheet}
 use Rattle.search.specs.Compiled.{noAtom, atomAt}
 use Rattle.compile.specs.Sheet.{isContact, firstSet, secondSet, CompiledFrom, Grows}

@@ -15,7 +15,7 @@ use Rattle.syntax.specs.Machine.{Sym}
 use Rattle.syntax.specs.Reader.{code}
 use Rattle.evalset.specs.declared.EvalSet.{EvalSet}
 use Rattle.evalset.specs.Sets.{mem, memAt, fullOf, meetOf, joinOf, minusOf}
-use Rattle.evalset.proofs.Truth.{clash, cases}
+use Rattle.lists.proofs.Truth.{clash, cases}
 use Rattle.evalset.proofs.Arrays.{mem-at-same, mem-at-other}
 use Rattle.search.specs.declared.Sheet.{Sheet}
 use Rattle.compile.specs.Kinds.{takenBy, termKind, atomKind, namesBy, setBy, firstBy, secondBy, signBy}

@@ -1,18 +1,19 @@
 -- The first row that makes the rules true and passes the check decides the rules: its plan gives exactly the row, so it meets
 -- them; and the row of any floor that meets them is one of those tried, so where no row is found no floor meets them. The
 -- claims hold for any numbering of the atoms under which the numbered rules say what the rules say. Assumes nothing.
-use mathlib.Core.Bool.{Bool, true, false, Bool-set}
+use mathlib.Core.Bool.{Bool, true, false, Bool-set, and-eq-true-iff}
 use mathlib.Core.Path.{_≡_, refl, sym, ap, ap₂, _∙_, subst}
 use mathlib.Core.Logic.{⊎-elim, _↔_, ∥∥₁-elim}
 use mathlib.Core.List.{List, [], _∷_, map, nil≢cons, head-eq-of-cons-eq}
+use mathlib.Mathlib.Data.Bool.Basic.{and-intro}
 use Prim.Native.Nat.{ℕ, zero, suc}
 use native.Mathlib.Omega.{arith}
 use native.Mathlib.Nat.{ℕ-set}
 use lib.ListN.{length, length-map}
 use Rattle.formula.specs.Formula.{Atom, Form, Formula}
-use Rattle.evalset.specs.Search.{In, here, any, first, orElse}
-use Rattle.evalset.proofs.Search.{none-in, uncons, in-left, in-right, in-either, map-intro, map-elim, any-intro, none-elim, none-intro, first-some, first-none, first-found, first-append, first-map}
-use Rattle.evalset.proofs.Truth.{clash, cases, and-intro, both}
+use Rattle.lists.specs.Search.{In, here, any, first, orElse}
+use Rattle.lists.proofs.Search.{none-in, uncons, in-left, in-right, in-either, map-intro, map-elim, any-intro, none-elim, none-intro, first-some, first-none, first-found, first-append, first-map}
+use Rattle.lists.proofs.Truth.{clash, cases}
 use Rattle.contact.specs.Meaning.{Floor, atomOn, meetsAll}
 use Rattle.contact.specs.Numbering.{allAtoms, numberedAtoms, AtomBelow, RulesBelow}
 use Rattle.contact.specs.Row.{IsFirstRow, Row, Realises, Realisable, rulesTrue, Before}
@@ -112,7 +113,7 @@ module _ (n : ℕ) (atoms : List (Atom ℕ)) (nums : List (Form ℕ)) where
   good-elim : (row : Row) → In row (rows (length atoms)) → good n atoms nums row ≡ true → Good row
   unfolding good
   good-elim row i g =
-      let k = both (rulesTrue nums row) (check n (rowMarks atoms row)) g in
+      let k = and-eq-true-iff (rulesTrue nums row) (check n (rowMarks atoms row)) .0 g in
       record { whole = rows-elim (length atoms) row i; makes = k .0; checked = k .1 }
 
   first-good : (row : Row) → firstRow n atoms nums ≡ row ∷ [] → Good row
@@ -130,7 +131,7 @@ module _ (n : ℕ) (atoms : List (Atom ℕ)) (nums : List (Form ℕ)) where
     -- a realisable row that makes the rules true is good
     realised-good : (row : Row) (F : Floor ℕ) → Realises F atoms row → rulesTrue nums row ≡ true → good n atoms nums row ≡ true
     unfolding good
-    realised-good row F h k = and-intro (rulesTrue nums row) (check n (rowMarks atoms row)) k (row-check n atoms names row F h)
+    realised-good row F h k = and-intro k (row-check n atoms names row F h)
 
     -- no realisable row before the first makes the rules true
     pub first-earliest : (row other : Row) → firstRow n atoms nums ≡ row ∷ [] → Realisable atoms other → rulesTrue nums other ≡ true

@@ -7,7 +7,7 @@ use mathlib.Core.List.{List, [], _∷_, map}
 use Prim.Native.Nat.{ℕ, _+_, _*_, _^_, _≤_, _<_, max}
 use lib.ListN.{length, getD}
 use Rattle.formula.specs.Formula.{Atom, Form, Formula, Name}
-use Rattle.evalset.specs.Search.{In, first, gather, below}
+use Rattle.lists.specs.Search.{In, first, gather, below}
 use Rattle.evalset.specs.Bit.{bit}
 use Rattle.contact.specs.Meaning.{Floor, atomOn, meetsAll}
 use Rattle.formula.specs.Names.{atomNames}

@@ -9,9 +9,9 @@ use lib.ListN.{length, length-append}
 use lib.Dec.{eqb}
 use borrow.Author.Tests.{eqb-true, ne-eqb}
 use Rattle.formula.specs.Formula.{Term, Atom}
-use Rattle.evalset.specs.Search.{first, keep, orElse, gather, from, elem}
-use Rattle.evalset.proofs.Search.{keep-nothing, from-elim}
-use Rattle.evalset.proofs.Truth.{cases}
+use Rattle.lists.specs.Search.{first, keep, orElse, gather, from, elem}
+use Rattle.lists.proofs.Search.{keep-nothing, from-elim}
+use Rattle.lists.proofs.Truth.{cases}
 use Rattle.contact.specs.Row.{PartialRow, is, unknown}
 use Rattle.contact.specs.Plan.{Mark, touching, apart, vacant, inhabited, marksOf, allowed, fills, partners, leads, evaluations, withPartner, gives, given, pointsFor, trueContacts, falseZeros}
 

@@ -1,15 +1,16 @@
 -- Marks that pass the check pass it where some are left out: no more is forbidden and no more is separated, so what was allowed and
 -- every witness stay. Assumes nothing.
-use mathlib.Core.Bool.{Bool, true, not, _&&_}
+use mathlib.Core.Bool.{Bool, true, not, _&&_, and-eq-true-iff}
 use mathlib.Core.Path.{_≡_, refl, ap}
 use mathlib.Core.List.{List}
+use mathlib.Mathlib.Data.Bool.Basic.{and-intro}
 use Prim.Native.Nat.{ℕ, _^_}
 use lib.Dec.{ltb}
 use borrow.Author.Tests.{not-true}
 use Rattle.formula.specs.Formula.{Term}
-use Rattle.evalset.specs.Search.{In, any, all}
-use Rattle.evalset.proofs.Search.{any-intro, any-elim, none-intro, all-intro, all-elim}
-use Rattle.evalset.proofs.Truth.{clash, both, and-intro}
+use Rattle.lists.specs.Search.{In, any, all}
+use Rattle.lists.proofs.Search.{any-intro, any-elim, none-intro, all-intro, all-elim}
+use Rattle.lists.proofs.Truth.{clash}
 use Rattle.contact.specs.Plan.{at, Mark, touching, apart, vacant, inhabited, evaluations, parts, empties, separated, allowed, fills, partners, leads, witnessed, check}
 
 any-more : {A : Type 0} (p q : A → Bool) (xs : List A) → ((x : A) → p x ≡ true → q x ≡ true) → any p xs ≡ true → any q xs ≡ true
@@ -26,27 +27,27 @@ module _ (n : ℕ) (ms fewer : List Mark) (sub : (m : Mark) → In m fewer → I
   allowed-fewer : (e : ℕ) → allowed n ms e ≡ true → allowed n fewer e ≡ true
   unfolding allowed
   allowed-fewer e h =
-      let w = both (ltb e (2 ^ n)) (not (any (empties e) ms) && not (separated ms e e)) h in
-      let v = both (not (any (empties e) ms)) (not (separated ms e e)) (w .1) in
-      and-intro (ltb e (2 ^ n)) _ (w .0) (and-intro (not (any (empties e) fewer)) _ (none-fewer (empties e) (v .0)) (unseparated e e (v .1)))
+      let w = and-eq-true-iff (ltb e (2 ^ n)) (not (any (empties e) ms) && not (separated ms e e)) .0 h in
+      let v = and-eq-true-iff (not (any (empties e) ms)) (not (separated ms e e)) .0 (w .1) in
+      and-intro (w .0) (and-intro (none-fewer (empties e) (v .0)) (unseparated e e (v .1)))
 
   fills-fewer : (t : Term ℕ) (e : ℕ) → fills n ms t e ≡ true → fills n fewer t e ≡ true
   unfolding fills
   fills-fewer t e h =
-      let w = both (allowed n ms e) (at t e) h in
-      and-intro (allowed n fewer e) _ (allowed-fewer e (w .0)) (w .1)
+      let w = and-eq-true-iff (allowed n ms e) (at t e) .0 h in
+      and-intro (allowed-fewer e (w .0)) (w .1)
 
   partners-fewer : (y : Term ℕ) (p q : ℕ) → partners n ms y p q ≡ true → partners n fewer y p q ≡ true
   unfolding partners
   partners-fewer y p q h =
-      let w = both (fills n ms y q) (not (separated ms p q)) h in
-      and-intro (fills n fewer y q) _ (fills-fewer y q (w .0)) (unseparated p q (w .1))
+      let w = and-eq-true-iff (fills n ms y q) (not (separated ms p q)) .0 h in
+      and-intro (fills-fewer y q (w .0)) (unseparated p q (w .1))
 
   leads-fewer : (x y : Term ℕ) (p : ℕ) → leads n ms x y p ≡ true → leads n fewer x y p ≡ true
   unfolding leads
   leads-fewer x y p h =
-      let w = both (fills n ms x p) (any (partners n ms y p) (evaluations n)) h in
-      and-intro (fills n fewer x p) _ (fills-fewer x p (w .0))
+      let w = and-eq-true-iff (fills n ms x p) (any (partners n ms y p) (evaluations n)) .0 h in
+      and-intro (fills-fewer x p (w .0))
       (any-more (partners n ms y p) (partners n fewer y p) (evaluations n) (partners-fewer y p) (w .1))
 
   witnessed-fewer : (m : Mark) → witnessed n ms m ≡ true → witnessed n fewer m ≡ true
@@ -58,7 +59,7 @@ module _ (n : ℕ) (ms fewer : List Mark) (sub : (m : Mark) → In m fewer → I
   pub check-fewer : check n ms ≡ true → check n fewer ≡ true
   unfolding check
   check-fewer h =
-      let w = both (any (allowed n ms) (evaluations n)) (all (witnessed n ms) ms) h in
-      and-intro (any (allowed n fewer) (evaluations n)) _
+      let w = and-eq-true-iff (any (allowed n ms) (evaluations n)) (all (witnessed n ms) ms) .0 h in
+      and-intro
       (any-more (allowed n ms) (allowed n fewer) (evaluations n) allowed-fewer (w .0))
       (all-intro (witnessed n fewer) fewer (λ m i. witnessed-fewer m (all-elim (witnessed n ms) (sub m i) (w .1))))

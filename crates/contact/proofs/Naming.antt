@@ -1,23 +1,24 @@
 -- Numbers may stand for names: a floor over numbers is one over names, each name at its number, and meets the rules as read
 -- where it meets the numbered ones; the numbered rules with the names put back are the rules as read, so the same holds the
 -- other way round. Assumes nothing.
-use mathlib.Core.Bool.{Bool, true, false, not, _&&_, _||_, Bool·beq, cond}
+use mathlib.Core.Bool.{Bool, true, false, not, _&&_, _||_, Bool·beq, cond, and-eq-true-iff}
 use mathlib.Core.Path.{_≡_, refl, sym, ap, ap₂, _∙_, subst, fun-ext}
 use mathlib.Core.Logic.{⊎-elim, _↔_, ∥∥₁-map}
 use mathlib.Core.List.{List, [], _∷_, _++_, map, map-map, nil≢cons, cons≢nil, head-eq-of-cons-eq, tail-eq-of-cons-eq}
+use mathlib.Mathlib.Data.Bool.Basic.{and-intro}
 use Prim.Native.Nat.{ℕ, zero, suc, _<_}
 use native.Mathlib.Omega.{arith}
 use lib.Dec.{eqb}
 use lib.ListN.{length, getD}
 use borrow.Author.Tests.{eqb-true, eq-eqb}
 use Rattle.formula.specs.Formula.{Term, Atom, Form, Formula, Name}
-use Rattle.evalset.specs.Search.{In, here, next, any, all, gather, below}
-use Rattle.evalset.proofs.Search.{none-in, uncons, at-head, in-left, in-right, map-elim, all-map, keep-intro, gather-intro}
+use Rattle.lists.specs.Search.{In, here, next, any, all, gather, below}
+use Rattle.lists.proofs.Search.{none-in, uncons, at-head, in-left, in-right, map-elim, all-map, keep-intro, gather-intro}
 use Rattle.contact.specs.Meaning.{Floor, holds, within, partTerm, atomOn, value, meets, meetsAll, renamed}
 use Rattle.formula.specs.Atoms.{atomsOf}
 use Rattle.formula.specs.Names.{termNames, atomNames}
 use Rattle.contact.specs.Numbering.{allAtoms, distinct, position, sameName, namesOf, mapTerm, mapAtom, mapForm, numberedNames, numberedAtoms, TermBelow, AtomBelow, RulesBelow, numberOf, nameOf}
-use Rattle.evalset.proofs.Truth.{clash, cases, and-intro, both}
+use Rattle.lists.proofs.Truth.{clash, cases}
 use Rattle.contact.specs.Row.{IsFirstRow, Row, Realises, Realisable, rulesTrue}
 use Rattle.contact.specs.Plan.{firstRowOf}
 use Rattle.contact.proofs.Numbered.{all-atoms-map, numbered-map}
@@ -150,8 +151,8 @@ same-name [] [] = (λ h. refl, λ e. refl)
 same-name [] (b ∷ w) = (λ h. clash h refl, λ e. absurd (nil≢cons e))
 same-name (a ∷ v) [] = (λ h. clash h refl, λ e. absurd (cons≢nil e))
 same-name (a ∷ v) (b ∷ w) = (
-  λ h. let r = both (eqb a b) (sameName v w) h in ap₂ _∷_ (eqb-true a b (r .0)) (same-name v w .0 (r .1)),
-  λ e. and-intro (eqb a b) (sameName v w) (eq-eqb a b (head-eq-of-cons-eq e)) (same-name v w .1 (tail-eq-of-cons-eq e)),
+  λ h. let r = and-eq-true-iff (eqb a b) (sameName v w) .0 h in ap₂ _∷_ (eqb-true a b (r .0)) (same-name v w .0 (r .1)),
+  λ e. and-intro (eq-eqb a b (head-eq-of-cons-eq e)) (same-name v w .1 (tail-eq-of-cons-eq e)),
 )
 
 module _ {N : Type 0} (same : N → N → Bool) (decides : Decides same) where

@@ -7,8 +7,8 @@ use Prim.Native.Nat.{ℕ, suc, _+_, _<_}
 use native.Mathlib.Omega.{arith}
 use lib.ListN.{length, getD, length-append, length-map}
 use Rattle.formula.specs.Formula.{Atom, Form, Formula}
-use Rattle.evalset.specs.Search.{In, all, from, below}
-use Rattle.evalset.proofs.Search.{from-append, below-elim}
+use Rattle.lists.specs.Search.{In, all, from, below}
+use Rattle.lists.proofs.Search.{from-append, below-elim}
 use Rattle.contact.specs.Meaning.{Floor, atomOn, value, meetsAll}
 use Rattle.formula.specs.Atoms.{atomsOf}
 use Rattle.contact.specs.Numbering.{allAtoms, mapForm, numberForm, numberFrom, numberedAtoms}

@@ -1,20 +1,21 @@
 -- The check passes exactly where some floor gives the decided atoms their values. The evaluations of a floor's points are
 -- allowed, those of points in contact are not separated, so every mark is witnessed; and where every mark is witnessed, the points
 -- of the plan, all unseparated pairs in contact, are such a floor. For any number of names and of points. Assumes nothing.
-use mathlib.Core.Bool.{Bool, true, false, not, _&&_, or-comm, Bool-set}
+use mathlib.Core.Bool.{Bool, true, false, not, _&&_, or-comm, Bool-set, and-eq-true-iff}
 use mathlib.Core.Path.{_≡_, refl, sym, ap, ap₂, _∙_, subst, fun-ext}
 use mathlib.Core.Logic.{⊎-elim, _↔_, ∥∥₁-elim}
 use mathlib.Core.List.{List, [], _∷_, map}
+use mathlib.Mathlib.Data.Bool.Basic.{and-intro, eq-false-of-not-eq-true, or-inl}
 use Prim.Native.Nat.{ℕ, _^_, _≤_, _<_}
 use native.Mathlib.Omega.{arith}
 use lib.ListN.{length, getD, length-map}
 use lib.Dec.{ltb}
 use borrow.Author.Tests.{not-true, not-false, ltb-true, lt-ltb}
 use Rattle.formula.specs.Formula.{Term, Atom}
-use Rattle.evalset.specs.Search.{In, here, next, any, all, first, gather, below, elem}
+use Rattle.lists.specs.Search.{In, here, next, any, all, first, gather, below, elem}
 use Rattle.evalset.specs.Bit.{bit}
-use Rattle.evalset.proofs.Search.{any-intro, any-elim, none-elim, none-intro, all-elim, all-intro, first-some, first-in, keep-intro, keep-elim, uncons, none-in, place, placed, gather-intro, gather-elim, below-intro, below-elim, elem-intro, elem-elim, or-else-left, or-else-cases, or-else-some}
-use Rattle.evalset.proofs.Truth.{clash, untrue, bool-ext, and-intro, both, or-left, or-cases}
+use Rattle.lists.proofs.Search.{any-intro, any-elim, none-elim, none-intro, all-elim, all-intro, first-some, first-in, keep-intro, keep-elim, uncons, none-in, place, placed, gather-intro, gather-elim, below-intro, below-elim, elem-intro, elem-elim, or-else-left, or-else-cases, or-else-some}
+use Rattle.lists.proofs.Truth.{clash, bool-ext, or-cases}
 use Rattle.contact.specs.Meaning.{Floor, within, isEmpty, touches, atomOn}
 use Rattle.contact.specs.Numbering.{TermBelow, AtomBelow}
 use Rattle.contact.specs.Row.{Row, Realises, Realisable, is, unknown, PartialRow, Extends, RealisesPart}
@@ -77,7 +78,7 @@ floorOf ms pts some own =
       some = omega arith;
       touch = λ p q. not (separated ms (getD pts p 0) (getD pts q 0));
       reflexive = λ p h. ap not (own (getD pts p 0) (placed 0 pts p h));
-      symmetric = λ p q hp hq h. ap not (untrue _ (λ k. clash (separated-symmetric ms _ _ k) (not-true _ h)));
+      symmetric = λ p q hp hq h. ap not (eq-false-of-not-eq-true (λ k. clash (separated-symmetric ms _ _ k) (not-true _ h)));
       lies = λ i p. bit (getD pts p 0) i;
     }
 
@@ -116,49 +117,49 @@ module _ (n : ℕ) (ms : List Mark) where
   pub allowed-elim : (e : ℕ) → allowed n ms e ≡ true → Allowed n ms e
   unfolding allowed
   allowed-elim e h =
-      let r = both (ltb e (2 ^ n)) (not (any (empties e) ms) && not (separated ms e e)) h in
-      let s = both (not (any (empties e) ms)) (not (separated ms e e)) (r .1) in
+      let r = and-eq-true-iff (ltb e (2 ^ n)) (not (any (empties e) ms) && not (separated ms e e)) .0 h in
+      let s = and-eq-true-iff (not (any (empties e) ms)) (not (separated ms e e)) .0 (r .1) in
       (ltb-true e (2 ^ n) (r .0), not-true _ (s .0), not-true _ (s .1))
 
   allowed-intro : (e : ℕ) → Allowed n ms e → allowed n ms e ≡ true
   unfolding allowed
   allowed-intro e h =
-      and-intro (ltb e (2 ^ n)) (not (any (empties e) ms) && not (separated ms e e)) (lt-ltb e (2 ^ n) (h .0))
-      (and-intro (not (any (empties e) ms)) (not (separated ms e e)) (ap not (h .1)) (ap not (h .2)))
+      and-intro (lt-ltb e (2 ^ n) (h .0))
+      (and-intro (ap not (h .1)) (ap not (h .2)))
 
   pub fills-elim : (t : Term ℕ) (e : ℕ) → fills n ms t e ≡ true → (allowed n ms e ≡ true) × (at t e ≡ true)
   unfolding fills
-  fills-elim t e h = both (allowed n ms e) (at t e) h
+  fills-elim t e h = and-eq-true-iff (allowed n ms e) (at t e) .0 h
 
   fills-intro : (t : Term ℕ) (e : ℕ) → allowed n ms e ≡ true → at t e ≡ true → fills n ms t e ≡ true
   unfolding fills
-  fills-intro t e h k = and-intro (allowed n ms e) (at t e) h k
+  fills-intro t e h k = and-intro h k
 
   pub partners-elim : (y : Term ℕ) (p q : ℕ) → partners n ms y p q ≡ true → (fills n ms y q ≡ true) × (separated ms p q ≡ false)
   unfolding partners
-  partners-elim y p q h = let r = both (fills n ms y q) (not (separated ms p q)) h in (r .0, not-true _ (r .1))
+  partners-elim y p q h = let r = and-eq-true-iff (fills n ms y q) (not (separated ms p q)) .0 h in (r .0, not-true _ (r .1))
 
   partners-intro : (y : Term ℕ) (p q : ℕ) → fills n ms y q ≡ true → separated ms p q ≡ false → partners n ms y p q ≡ true
   unfolding partners
-  partners-intro y p q h k = and-intro (fills n ms y q) (not (separated ms p q)) h (ap not k)
+  partners-intro y p q h k = and-intro h (ap not k)
 
   pub leads-elim : (x y : Term ℕ) (p : ℕ) → leads n ms x y p ≡ true
       → (fills n ms x p ≡ true) × (any (partners n ms y p) (evaluations n) ≡ true)
   unfolding leads
-  leads-elim x y p h = both (fills n ms x p) (any (partners n ms y p) (evaluations n)) h
+  leads-elim x y p h = and-eq-true-iff (fills n ms x p) (any (partners n ms y p) (evaluations n)) .0 h
 
   leads-intro : (x y : Term ℕ) (p : ℕ) → fills n ms x p ≡ true → any (partners n ms y p) (evaluations n) ≡ true
       → leads n ms x y p ≡ true
   unfolding leads
-  leads-intro x y p h k = and-intro (fills n ms x p) (any (partners n ms y p) (evaluations n)) h k
+  leads-intro x y p h k = and-intro h k
 
   pub check-elim : check n ms ≡ true → (any (allowed n ms) (evaluations n) ≡ true) × (all (witnessed n ms) ms ≡ true)
   unfolding check
-  check-elim h = both (any (allowed n ms) (evaluations n)) (all (witnessed n ms) ms) h
+  check-elim h = and-eq-true-iff (any (allowed n ms) (evaluations n)) (all (witnessed n ms) ms) .0 h
 
   check-intro : any (allowed n ms) (evaluations n) ≡ true → all (witnessed n ms) ms ≡ true → check n ms ≡ true
   unfolding check
-  check-intro h k = and-intro (any (allowed n ms) (evaluations n)) (all (witnessed n ms) ms) h k
+  check-intro h k = and-intro h k
 
 -- ---- from the check to the plan
 
@@ -247,18 +248,18 @@ module _ (n : ℕ) (ms : List Mark) where
         let pair : (e : ℕ) → In e (withPartner n ms y p) → In e (pointsFor n ms) =
         λ e j. gives-point i (gather-intro (withPartner n ms y) p-in j) in
         any-intro (meetsOn x y) (pair p here)
-        (and-intro (at x p) (any (reach y p) (pointsFor n ms)) (fills-elim n ms x p (hp .0) .1)
+        (and-intro (fills-elim n ms x p (hp .0) .1)
         (any-intro (reach y p) (pair q (next (subst (In q) (sym (s .1)) here)))
-        (and-intro (at y q) (not (separated ms p q)) (fills-elim n ms y q (hq .0) .1) (ap not (hq .1)))))
+        (and-intro (fills-elim n ms y q (hq .0) .1) (ap not (hq .1)))))
     on-plan (apart x y) i =
         none-intro (meetsOn x y) (pointsFor n ms)
         (λ e j h.
-        let k = both (at x e) (any (reach y e) (pointsFor n ms)) h in
+        let k = and-eq-true-iff (at x e) (any (reach y e) (pointsFor n ms)) .0 h in
         let r = any-elim (reach y e) (pointsFor n ms) (k .1) in
         let f : ℕ = r .0 in
-        let l = both (at y f) (not (separated ms e f)) (r .2) in
+        let l = and-eq-true-iff (at y f) (not (separated ms e f)) .0 (r .2) in
         clash
-        (any-intro (parts e f) i (or-left (at x e && at y f) (at x f && at y e) (and-intro (at x e) (at y f) (k .0) (l .0))))
+        (any-intro (parts e f) i (or-inl (at x e && at y f) (at x f && at y e) (and-intro (k .0) (l .0))))
         (not-true _ (l .1)))
     on-plan (vacant t) i =
         ap not
@@ -278,8 +279,8 @@ touches-intro : (F : Floor ℕ) (x y : Term ℕ) (p q : ℕ) → p < F .points �
     → F .touch p q ≡ true → touches F x y ≡ true
 touches-intro F x y p q hp hq ix iy h =
     any-intro (λ k. within F x k && any (λ l. within F y l && F .touch k l) (below (F .points))) (below-intro (F .points) p hp)
-    (and-intro (within F x p) (any (λ l. within F y l && F .touch p l) (below (F .points))) ix
-    (any-intro (λ l. within F y l && F .touch p l) (below-intro (F .points) q hq) (and-intro (within F y q) (F .touch p q) iy h)))
+    (and-intro ix
+    (any-intro (λ l. within F y l && F .touch p l) (below-intro (F .points) q hq) (and-intro iy h)))
 
 record Met (F : Floor ℕ) (x y : Term ℕ) : Type 0 where
   p : ℕ
@@ -293,9 +294,9 @@ record Met (F : Floor ℕ) (x y : Term ℕ) : Type 0 where
 touches-elim : (F : Floor ℕ) (x y : Term ℕ) → touches F x y ≡ true → Met F x y
 touches-elim F x y h =
     let r = any-elim (λ k. within F x k && any (λ l. within F y l && F .touch k l) (below (F .points))) (below (F .points)) h in
-    let k = both (within F x (r .0)) (any (λ l. within F y l && F .touch (r .0) l) (below (F .points))) (r .2) in
+    let k = and-eq-true-iff (within F x (r .0)) (any (λ l. within F y l && F .touch (r .0) l) (below (F .points))) .0 (r .2) in
     let s = any-elim (λ l. within F y l && F .touch (r .0) l) (below (F .points)) (k .1) in
-    let l = both (within F y (s .0)) (F .touch (r .0) (s .0)) (s .2) in
+    let l = and-eq-true-iff (within F y (s .0)) (F .touch (r .0) (s .0)) .0 (s .2) in
     record {
       p = r .0;
       q = s .0;
@@ -324,9 +325,9 @@ module _ (n : ℕ) (ms : List Mark) (names : (m : Mark) → In m ms → MarkBelo
       let o = names (apart x y) i in
       clash
       (⊎-elim
-      (λ l. let r = both (at x (ev p)) (at y (ev q)) l in
+      (λ l. let r = and-eq-true-iff (at x (ev p)) (at y (ev q)) .0 l in
       touches-intro F x y p q hp hq (sym (ev-at x p (o .0)) ∙ r .0) (sym (ev-at y q (o .1)) ∙ r .1) h)
-      (λ l. let r = both (at x (ev q)) (at y (ev p)) l in
+      (λ l. let r = and-eq-true-iff (at x (ev q)) (at y (ev p)) .0 l in
       touches-intro F x y q p hq hp (sym (ev-at x q (o .0)) ∙ r .0) (sym (ev-at y p (o .1)) ∙ r .1) (F .symmetric p q hp hq h))
       (or-cases (at x (ev p) && at y (ev q)) (at x (ev q) && at y (ev p)) k))
       (real (apart x y) i)

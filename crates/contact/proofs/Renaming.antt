@@ -4,8 +4,8 @@ use mathlib.Core.Path.{_≡_, refl, ap, ap₂}
 use mathlib.Core.List.{List, [], _∷_, _++_, map}
 use Rattle.formula.specs.Formula.{Term, Atom, Form}
 use Rattle.formula.specs.Names.{termNames, atomNames}
-use Rattle.evalset.specs.Search.{In, here}
-use Rattle.evalset.proofs.Search.{in-left, in-right}
+use Rattle.lists.specs.Search.{In, here}
+use Rattle.lists.proofs.Search.{in-left, in-right}
 use Rattle.contact.specs.Numbering.{allAtoms, mapTerm, mapAtom, mapForm}
 use Rattle.formula.specs.Atoms.{atomsOf}
 

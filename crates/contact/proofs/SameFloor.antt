@@ -5,8 +5,8 @@ use mathlib.Core.Path.{_≡_, ap, ap₂, _∙_, fun-ext}
 use mathlib.Core.List.{List, map}
 use Prim.Native.Nat.{ℕ, _<_}
 use Rattle.formula.specs.Formula.{Term, Atom, Formula}
-use Rattle.evalset.specs.Search.{any, all, below}
-use Rattle.evalset.proofs.Search.{any-same, below-elim}
+use Rattle.lists.specs.Search.{any, all, below}
+use Rattle.lists.proofs.Search.{any-same, below-elim}
 use Rattle.contact.specs.Meaning.{Floor, holds, within, isEmpty, touches, partTerm, atomOn, value, meetsAll}
 
 -- two floors with the same points, contacts and regions

@@ -2,18 +2,19 @@
 -- below it, an exact one leaves open no whole row that fails, and the branches are tried in the order of the rows. Both tests
 -- are sound: Kleene's values do not change when more atoms are decided, and what passes the check does so with fewer marks.
 -- Assumes nothing.
-use mathlib.Core.Bool.{Bool, true, false, not, _&&_, _||_, Bool·beq}
+use mathlib.Core.Bool.{Bool, true, false, not, _&&_, _||_, Bool·beq, and-eq-true-iff}
 use mathlib.Core.Path.{_≡_, refl, sym, ap, ap₂, _∙_, subst, fun-ext}
 use mathlib.Core.Logic.{⊎-elim}
 use mathlib.Core.List.{List, [], _∷_, _++_, map, append-assoc, append-nil, map-map, map-id, map-append}
+use mathlib.Mathlib.Data.Bool.Basic.{eq-false-of-not-eq-true}
 use Prim.Native.Nat.{ℕ, zero, suc, _+_, _<_}
 use native.Mathlib.Omega.{arith}
 use lib.ListN.{length, getD, length-append}
 use borrow.Author.Tests.{not-true, not-false}
 use Rattle.formula.specs.Formula.{Atom, Form, Formula}
-use Rattle.evalset.specs.Search.{In, here, next, any, all, first, orElse}
-use Rattle.evalset.proofs.Search.{none-in, uncons, at-head, in-left, in-right, map-elim, any-elim, none-intro, all-elim, first-none, first-append}
-use Rattle.evalset.proofs.Truth.{clash, cases, untrue, both, or-cases}
+use Rattle.lists.specs.Search.{In, here, next, any, all, first, orElse}
+use Rattle.lists.proofs.Search.{none-in, uncons, at-head, in-left, in-right, map-elim, any-elim, none-intro, all-elim, first-none, first-append}
+use Rattle.lists.proofs.Truth.{clash, cases, or-cases}
 use Rattle.contact.specs.Meaning.{value}
 use Rattle.formula.specs.Atoms.{atomsOf}
 use Rattle.contact.specs.Numbering.{allAtoms, numberedAtoms}
@@ -152,7 +153,7 @@ pub refutes-sound : (nums : List (Form ℕ)) → Sound (rulesTrue nums) (refutes
 unfolding rulesTrue refutes
 refutes-sound nums part h row ext =
     let w = any-elim (λ f. refuted (kleeneValue (λ i. getD part i unknown) f)) nums h in
-    untrue (all (value (λ i. getD row i false)) nums)
+    eq-false-of-not-eq-true
     (λ g. clash (all-elim (value (λ i. getD row i false)) (w .1) g)
     (fits-refuted (kleeneValue (λ i. getD part i unknown) (w .0)) (value (λ i. getD row i false) (w .0))
     (value-fits (λ i. getD part i unknown) (λ i. getD row i false) (extends-fits row part ext) (w .0)) (w .2)))
@@ -254,8 +255,8 @@ module _ (n : ℕ) (atoms : List (Atom ℕ)) (nums : List (Form ℕ)) where
   pub closes-sound : Sound (good n atoms nums) (closes n atoms nums)
   unfolding closes good
   closes-sound part h row ext =
-      untrue (good n atoms nums row)
-      (λ g. let w = both (rulesTrue nums row) (check n (rowMarks atoms row)) g in
+      eq-false-of-not-eq-true
+      (λ g. let w = and-eq-true-iff (rulesTrue nums row) (check n (rowMarks atoms row)) .0 g in
       ⊎-elim (λ q. clash (w .0) (refutes-sound nums part q row ext))
       (λ q. clash
       (check-fewer n (rowMarks atoms row) (marksOf atoms part) (marks-extend row part atoms ext) (w .1))

@@ -4,7 +4,7 @@ use mathlib.Core.Path.{_≡_}
 use mathlib.Core.List.{List}
 use Prim.Native.Nat.{ℕ, _<_}
 use Rattle.formula.specs.Formula.{Term, Atom, Form, Formula}
-use Rattle.evalset.specs.Search.{any, all, below}
+use Rattle.lists.specs.Search.{any, all, below}
 
 -- "A plan, and a finite floor is nothing else here, has a finite number of points, at least one, a contact relation that is
 -- reflexive and symmetric, and for each name a set of points."

@@ -7,7 +7,7 @@ use lib.ListN.{length, getD}
 use Rattle.formula.specs.Formula.{Term, Atom, Form, Formula, Name}
 use Rattle.formula.specs.Atoms.{atomsOf}
 use Rattle.formula.specs.Names.{atomNames}
-use Rattle.evalset.specs.Search.{In, keep, gather}
+use Rattle.lists.specs.Search.{In, keep, gather}
 
 module _ {A : Type 0} where
   -- the atoms of the rules, in their order

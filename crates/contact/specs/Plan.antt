@@ -6,7 +6,7 @@ use Prim.Native.Nat.{ℕ, zero, suc, _^_}
 use lib.Dec.{ltb}
 use lib.ListN.{length}
 use Rattle.formula.specs.Formula.{Term, Atom, Form, Formula}
-use Rattle.evalset.specs.Search.{any, all, first, keep, orElse, gather, below, elem}
+use Rattle.lists.specs.Search.{any, all, first, keep, orElse, gather, below, elem}
 use Rattle.evalset.specs.Bit.{bit}
 use Rattle.contact.specs.Meaning.{holds, partTerm}
 use Rattle.contact.specs.Numbering.{allAtoms, numberedAtoms}

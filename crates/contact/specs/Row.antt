@@ -6,7 +6,7 @@ use mathlib.Core.List.{List, [], _∷_, map}
 use Prim.Native.Nat.{ℕ}
 use lib.ListN.{length, getD}
 use Rattle.formula.specs.Formula.{Atom, Form, Formula}
-use Rattle.evalset.specs.Search.{all}
+use Rattle.lists.specs.Search.{all}
 use Rattle.contact.specs.Meaning.{Floor, atomOn, value}
 use Rattle.contact.specs.Numbering.{allAtoms, numberedAtoms}
 

@@ -6,7 +6,7 @@ use mathlib.Core.List.{List, [], _∷_, _++_, map}
 use Prim.Native.Nat.{ℕ, zero, suc}
 use lib.ListN.{getD}
 use Rattle.formula.specs.Formula.{Atom, Form}
-use Rattle.evalset.specs.Search.{any, orElse}
+use Rattle.lists.specs.Search.{any, orElse}
 use Rattle.contact.specs.Row.{Row, Three, is, unknown, PartialRow}
 use Rattle.contact.specs.Plan.{marksOf, check, rows}
 

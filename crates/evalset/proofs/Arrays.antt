@@ -1,28 +1,23 @@
--- Arrays: what holds of a value holds wherever it is repeated, a list takes one element more at its end, a set is stored at a place,
--- and the positions in a set are found one after the other. Assumes nothing.
+-- Arrays of sets: an empty set everywhere, a set stored at a place; and the positions in a set, found one after the other.
+-- Assumes nothing.
 use mathlib.Core.Path.{_≡_, refl, sym, ap, ap₂, _∙_, fun-ext}
 use mathlib.Core.Bool.{Bool, true, false, _&&_, _||_, cond, or-false}
-use mathlib.Core.List.{List, [], _∷_, _++_, append-assoc}
+use mathlib.Core.List.{List}
 use mathlib.Core.Logic.{⊎-elim}
-use Prim.Native.Nat.{ℕ, zero, suc, _+_, _-_, _≤_, _<_}
+use Prim.Native.Nat.{ℕ, _+_, _≤_, _<_}
 use native.Mathlib.Omega.{arith}
 use native.Mathlib.Decide.{ℕ-discrete as decEq}
 use lib.Dec.{ltb, eqb}
-use lib.ListN.{length, getD, set, replicate, length-append, List·getD-append}
-use lib.Seq.{set-append-seam, getD-set-same, getD-set-other}
+use lib.ListN.{length, getD, set, replicate}
+use lib.Seq.{getD-set-same, getD-set-other}
 use borrow.Author.Tests.{lt-ltb, le-ltb, eq-eqb, ne-eqb}
+use Rattle.lists.proofs.Truth.{side, each}
 use Rattle.evalset.specs.declared.EvalSet.{EvalSet}
 use Rattle.evalset.specs.Sets.{room, mem, memAt, noneOf, addOf}
-use Rattle.evalset.specs.Arrays.{pad, positionsOf}
+use Rattle.evalset.specs.Arrays.{positionsOf}
+use Rattle.lists.proofs.Lists.{every-at}
 use Rattle.evalset.proofs.Bits.{bit-none}
-use Rattle.evalset.proofs.Bounded.{side, each}
 use Rattle.evalset.proofs.Members.{add-in}
-
--- ---- one value everywhere, and another past the end
-pub every-at : {A : Type 0} (P : A → Type 0) {a d : A} → P a → P d → (n i : ℕ) → P (getD (replicate n a) i d)
-every-at P h k zero i = k
-every-at P h k (suc n) zero = h
-every-at P h k (suc n) (suc i) = every-at P h k n i
 
 -- an array of empty sets
 pub empty-rows : (n i e : ℕ) (x : EvalSet) → mem x ≡ noneOf → memAt (replicate n x) i e ≡ false
@@ -37,23 +32,6 @@ mem-at-same xs i s l = ap mem (getD-set-same xs i s (record { bits = 0 }) l)
 pub mem-at-other : (xs : List EvalSet) (i j : ℕ) (s : EvalSet) → (j ≡ i → ⊥) → memAt (set xs i s) j ≡ memAt xs j
 unfolding memAt
 mem-at-other xs i j s d = ap mem (getD-set-other xs i j s (record { bits = 0 }) d)
-
--- ---- a list, zeros after it
-pub pad-none : (n : ℕ) → replicate n 0 ≡ pad n []
-unfolding pad
-pad-none n = let e : n ≡ n - 0 = omega arith in ap (λ (k : ℕ). replicate k 0) e
-
-pub pad-set : (n : ℕ) (xs : List ℕ) (x : ℕ) → length xs < n → set (pad n xs) (length xs) x ≡ pad n (xs ++ (x ∷ []))
-unfolding pad
-pad-set n xs x h =
-    let m : n - length xs ≡ suc (n - length (xs ++ (x ∷ []))) = omega (arith, length-append xs (x ∷ [])) in
-    ap (λ (k : ℕ). set (xs ++ replicate k 0) (length xs) x) m
-    ∙ set-append-seam xs 0 (replicate (n - length (xs ++ (x ∷ []))) 0) x
-    ∙ sym (append-assoc xs (x ∷ []) (replicate (n - length (xs ++ (x ∷ []))) 0))
-
-pub pad-at : (n : ℕ) (xs : List ℕ) (i : ℕ) → i < length xs → getD (pad n xs) i 0 ≡ getD xs i 0
-unfolding pad
-pad-at n xs i l = List·getD-append xs (replicate (n - length xs) 0) 0 i l
 
 -- ---- one position more
 pub positions-none : (points : List ℕ) (x : ℕ → Bool) → noneOf ≡ positionsOf 0 points x

@@ -3,29 +3,16 @@
 use mathlib.Core.Path.{_≡_, refl, sym, ap, ap₂, _∙_, subst}
 use mathlib.Core.Bool.{Bool, true, false, _||_, cond, or-false}
 use mathlib.Core.List.{List, [], _∷_, _++_, append-nil}
-use mathlib.Core.Logic.{_⊎_, inl, inr, ⊎-elim}
+use mathlib.Core.Logic.{⊎-elim}
 use Prim.Native.Nat.{ℕ, zero, suc, _+_, _-_, _*_, _≤_, _<_}
 use native.Mathlib.Nat.{zero-add, eq-or-lt-of-le}
-use native.Mathlib.Decide.{decLt}
 use native.Mathlib.Omega.{arith}
 use lib.ListN.{length, length-append}
 use Rattle.evalset.specs.declared.Found.the-variants.{At, Nothing}
-use Rattle.evalset.specs.Search.{In, any, all, first, keep, orElse, gather, from, below}
+use Rattle.lists.specs.Search.{In, any, all, first, keep, orElse, gather, from, below}
 use Rattle.evalset.specs.Sets.{foundOf}
-use Rattle.evalset.proofs.Truth.{clash}
-use Rattle.evalset.proofs.Search.{any-intro, none-intro, any-append, any-last, all-elim, first-none, first-append, keep-nothing, keep-append, gather-append, gather-last, gather-few, from-length, from-elim, from-append, below-intro}
-
--- below or not
-pub side : (a b : ℕ) → (a < b) ⊎ (b ≤ a)
-side a b = go (decLt a b)
-  where
-    go : Dec (a < b) → (a < b) ⊎ (b ≤ a)
-    go (yes l) = inl l
-    go (no n) = inr (omega arith)
-
--- equal functions agree everywhere
-pub each : {A B : Type 0} {p q : A → B} → p ≡ q → (e : A) → p e ≡ q e
-each {A} {B} h e = ap (λ (r : A → B). r e) h
+use Rattle.lists.proofs.Truth.{clash}
+use Rattle.lists.proofs.Search.{any-intro, none-intro, any-append, any-last, all-elim, first-none, first-append, keep-nothing, keep-append, gather-append, gather-last, gather-few, from-length, from-elim, from-append, below-intro}
 
 -- ---- the numbers in two parts
 below-add : (m n : ℕ) → below (m + n) ≡ below m ++ from m n

@@ -1,5 +1,3 @@
-pub mod Truth
-pub mod Search
 pub mod Bounded
 pub mod Bits
 pub mod Walk

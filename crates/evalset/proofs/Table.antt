@@ -1,7 +1,7 @@
 -- The rule of a table of masks, 'bit e of mask i is bit i of e': one test that antt computes over the whole table, and a law that
 -- carries it to each entry and each evaluation. Assumes nothing.
 use mathlib.Core.Path.{_≡_, sym, ap, _∙_}
-use mathlib.Core.Bool.{Bool, true, _&&_, Bool·beq}
+use mathlib.Core.Bool.{Bool, true, _&&_, Bool·beq, and-eq-true-iff}
 use mathlib.Core.List.{List}
 use mathlib.Core.Logic.{⊎-elim}
 use Prim.Native.Nat.{ℕ, _^_, _≤_, _<_}
@@ -9,18 +9,12 @@ use lib.Dec.{ltb}
 use lib.ListN.{length, getD}
 use borrow.Author.Tests.{ltb-true, lt-ltb, le-ltb}
 use Rattle.evalset.specs.Bit.{bit}
-use Rattle.evalset.specs.Search.{all, below}
+use Rattle.lists.specs.Search.{all, below}
 use Rattle.evalset.specs.Sets.{room, nameSet}
-use Rattle.evalset.proofs.Bounded.{side, all-at}
-use Rattle.evalset.proofs.Truth.{both, beq-same}
+use Rattle.evalset.proofs.Bounded.{all-at}
+use Rattle.lists.proofs.Truth.{beq-same, side}
+use Rattle.lists.proofs.Entries.{every, at}
 use Rattle.evalset.proofs.Bits.{bit-above}
-
--- the test f passes at each entry of the table and its place
-abbrev pub every : (ℕ → ℕ → Bool) → List ℕ → Bool
-every f xs = all (λ i. f i (getD xs i 0)) (below (length xs))
-
-pub at : (f : ℕ → ℕ → Bool) (xs : List ℕ) → every f xs ≡ true → (i : ℕ) → i < length xs → f i (getD xs i 0) ≡ true
-at f xs t i h = all-at (λ k. f k (getD xs k 0)) (length xs) t i h
 
 -- x is a word whose bit e is bit i of e
 abbrev isMask : ℕ → ℕ → Bool
@@ -30,7 +24,7 @@ mask : (i x : ℕ) → isMask i x ≡ true → (e : ℕ) → bit x e ≡ nameSet
 mask i x t e = ⊎-elim low high (side e room)
   where
     parts : (ltb x (2 ^ room) ≡ true) × (all (λ d. Bool·beq (bit x d) (bit d i)) (below room) ≡ true)
-    parts = both (ltb x (2 ^ room)) (all (λ d. Bool·beq (bit x d) (bit d i)) (below room)) t
+    parts = and-eq-true-iff (ltb x (2 ^ room)) (all (λ d. Bool·beq (bit x d) (bit d i)) (below room)) .0 t
 
     low : e < room → bit x e ≡ nameSet i e
     low l =
@@ -41,5 +35,5 @@ mask i x t e = ⊎-elim low high (side e room)
     high l =
         bit-above room x e (ltb-true x (2 ^ room) (parts .0)) l ∙ sym (ap (λ (b : Bool). b && bit e i) (le-ltb e room l))
 
-pub mask-bits : (xs : List ℕ) → every isMask xs ≡ true → (i : ℕ) → i < length xs → (e : ℕ) → bit (getD xs i 0) e ≡ nameSet i e
+pub mask-bits : (xs : List ℕ) → every isMask 0 xs ≡ true → (i : ℕ) → i < length xs → (e : ℕ) → bit (getD xs i 0) e ≡ nameSet i e
 mask-bits xs t i h e = mask i (getD xs i 0) (at isMask xs t i h) e

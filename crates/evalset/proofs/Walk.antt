@@ -10,10 +10,10 @@ use lib.Dec.{eqb, leb·zero}
 use lib.ListN.{length, length-append}
 use borrow.Author.Tests.{le-leb, lt-leb, eq-eqb, ne-eqb}
 use Rattle.evalset.specs.declared.Found.the-variants.{At, Nothing}
-use Rattle.evalset.specs.Search.{first, keep, below}
+use Rattle.lists.specs.Search.{first, keep, below}
 use Rattle.evalset.specs.Sets.{fromOf, dropOf, foundOf}
-use Rattle.evalset.proofs.Bounded.{side, each, Least, found-least, found-nothing, keep-more, keep-cut}
-use Rattle.evalset.proofs.Truth.{clash}
+use Rattle.evalset.proofs.Bounded.{Least, found-least, found-nothing, keep-more, keep-cut}
+use Rattle.lists.proofs.Truth.{clash, side, each}
 
 pub from-zero : (p : ℕ → Bool) → p ≡ fromOf 0 p
 from-zero p = fun-ext (λ e. sym (ap (λ (b : Bool). b && p e) (leb·zero e)))

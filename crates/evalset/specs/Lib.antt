@@ -1,4 +1,3 @@
-pub mod Search
 pub mod Bit
 pub mod Sets
 pub mod Arrays

@@ -4,7 +4,7 @@
 // members and by `room`. Assumes nothing.
 ghost use mathlib.Core.Path.{_≡_};
 ghost use mathlib.Core.Bool.{not};
-ghost use Rattle.evalset.specs.Search.{any, first, below};
+ghost use Rattle.lists.specs.Search.{any, first, below};
 ghost use Rattle.evalset.specs.Sets.{room, mem, noneOf, fullOf, nameSet, belowOf, meetOf, joinOf, minusOf, dropOf, addOf, shiftOf, foundOf};
 
 // Evaluations are below this.

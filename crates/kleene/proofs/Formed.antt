@@ -8,8 +8,8 @@ use native.Mathlib.Omega.{arith}
 use lib.ListN.{length, length-append}
 use Rattle.formula.specs.Formula.{Form}
 use Rattle.formula.specs.Atoms.{atomsOf}
-use Rattle.evalset.specs.Search.{In, here}
-use Rattle.evalset.proofs.Search.{in-left, in-right}
+use Rattle.lists.specs.Search.{In, here}
+use Rattle.lists.proofs.Search.{in-left, in-right}
 use Rattle.kleene.specs.Code.{postfix, Class, classOf, joins, after, Takes, Safe}
 use Rattle.kleene.specs.Rails.{Duo, valueD, step, exec}
 

@@ -6,9 +6,9 @@ use mathlib.Core.List.{List, [], _∷_, head-eq-of-cons-eq}
 use Prim.Native.Nat.{ℕ}
 use Rattle.formula.specs.Formula.{Form}
 use Rattle.formula.specs.Atoms.{atomsOf}
-use Rattle.evalset.specs.Search.{In, here}
+use Rattle.lists.specs.Search.{In, here}
 use Rattle.evalset.specs.Sets.{mem}
-use Rattle.evalset.proofs.Search.{in-left, in-right}
+use Rattle.lists.proofs.Search.{in-left, in-right}
 use Rattle.contact.specs.Meaning.{value}
 use Rattle.contact.specs.Row.{Three, is, unknown}
 use Rattle.contact.specs.Tableau.{kleeneNot, kleeneAnd, kleeneOr, kleeneIff, kleeneValue, refuted}

@@ -8,9 +8,9 @@ use native.Mathlib.Omega.{arith}
 use native.Mathlib.Numerals.{add-one}
 use lib.ListN.{length, getD, set, drop, length-set, drop-of-length-le}
 use lib.Seq.{drop-cons, getD-set-same, getD-set-other}
+use Rattle.lists.proofs.Truth.{each}
 use Rattle.evalset.specs.declared.EvalSet.{EvalSet}
 use Rattle.evalset.specs.Sets.{room, mem}
-use Rattle.evalset.proofs.Bounded.{each}
 use Rattle.kleene.specs.declared.Two.{Two}
 use Rattle.kleene.specs.Code.{Class, turns, joins, pushes, classOf, after, Takes, Safe}
 use Rattle.kleene.specs.Rails.{Duo, duo, notD, tableOf, pushOf, turned, joined, stepBy, step, exec, duoAt, twoAt, leafAt}

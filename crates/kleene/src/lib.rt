@@ -72,9 +72,9 @@ fn constant(c: u8) -> Two
     ensures { λ r. ⌜ ((v : ℕ → Duo) (e : ℕ) → e < room → duoAt r e ≡ pushOf v c) ⌝ }
 {
     if c == 5 {
-        rails(evalset::empty(), evalset::full())
+        settled(false)
     } else {
-        rails(evalset::full(), evalset::empty())
+        settled(true)
     }
 }
 

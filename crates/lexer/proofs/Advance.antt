@@ -7,6 +7,7 @@ use native.Mathlib.Omega.{arith}
 use native.Mathlib.Nat.{add-zero}
 use lib.ListN.{length, getD, drop, set, replicate, drop-of-length-le}
 use lib.Seq.{drop-drop}
+use Rattle.lists.specs.Padded.{pad}
 use Rattle.lexer.specs.Token.{tokenOf}
 use Rattle.lexer.specs.Cutting.{Cutting, tokens, refused, first}
 use Rattle.lexer.specs.Cutter.{pieceOf, more, put, cutFrom}
@@ -18,7 +19,7 @@ use Rattle.lexer.specs.declared.Piece.the-variants as Piece
 use Rattle.lexer.specs.declared.LexAnswer.the-variants as LexAnswer
 use Rattle.lexer.specs.declared.Tokens.{Tokens}
 use Rattle.lexer.specs.declared.Lexed.{Lexed}
-use Rattle.lexer.proofs.Lists.{rest}
+use Rattle.lists.proofs.Lists.{rest}
 use Rattle.lexer.proofs.Pieces.{Sized, sized}
 
 -- the bytes of the token before are skipped
@@ -29,7 +30,7 @@ skip (suc k) i [] h = absurd (omega arith)
 skip (suc k) i (b ∷ s) h = skip k (i + 1) s (omega arith) ∙ ap (λ (j : ℕ). cutFrom j 0 (drop k s)) (omega arith)
 
 pub none-made : (k s l : List ℕ) → k ≡ replicate 256 0 → s ≡ replicate 256 0 → l ≡ replicate 256 0 → arrays k s l 0 ≡ tokensOf []
-unfolding tokensOf
+unfolding tokensOf pad
 none-made k s l e f g = cc
 
 -- ---- one piece at the start of a text

@@ -1,23 +1,24 @@
 -- A table has the class of each byte if one test, computed over its 256 entries, passes; and a class is known by its number.
 -- Assumes nothing.
 use mathlib.Core.List.{List}
-use mathlib.Core.Bool.{Bool}
+use mathlib.Core.Bool.{Bool, true}
 use mathlib.Core.Path.{_≡_, refl}
 use Prim.Native.Nat.{ℕ}
 use native.Mathlib.Omega.{arith}
-use lib.Dec.{T, eqb, eqb→eq}
+use lib.Dec.{eqb}
 use lib.ListN.{length, getD}
+use borrow.Author.Tests.{eqb-true}
 use Rattle.lexer.specs.Class.{classOf}
 use Rattle.lexer.specs.ClassTable.{classNumber, ClassTable}
 use Rattle.lexer.specs.declared.Class.{Class}
 use Rattle.lexer.specs.declared.Class.the-variants as Class
-use Rattle.lexer.proofs.Table.{every, at}
+use Rattle.lists.proofs.Entries.{every, at}
 
 abbrev rightAt : ℕ → ℕ → Bool
 rightAt b x = eqb x (classNumber (classOf b))
 
-pub table-right : (table : List ℕ) → length table ≡ 256 → T (every rightAt 0 table) → ClassTable table
-table-right table e t = record { right = λ b h. eqb→eq (getD table b 0) (classNumber (classOf b)) (at rightAt table t b (omega arith)) }
+pub table-right : (table : List ℕ) → length table ≡ 256 → every rightAt 0 table ≡ true → ClassTable table
+table-right table e t = record { right = λ b h. eqb-true (getD table b 0) (classNumber (classOf b)) (at rightAt table t b (omega arith)) }
 
 -- ---- a class is known by its number
 

@@ -1,38 +1,27 @@
--- The arrays filled token by token are those of the list of tokens: a number stored at the list's end in a padded list pads the longer
--- list, and there are never more than 256. Assumes nothing.
+-- The arrays filled token by token are those of the list of tokens, and there are never more than 256. Assumes nothing.
 use mathlib.Core.Path.{_≡_, refl, sym, ap, _∙_}
 use mathlib.Core.List.{List, [], _∷_, _++_, map, map-append, append-assoc, append-nil}
-use Prim.Native.Nat.{ℕ, suc, _+_, _-_, _≤_, _<_}
+use Prim.Native.Nat.{ℕ, _+_, _≤_, _<_}
 use native.Mathlib.Omega.{arith}
-use lib.ListN.{length, set, getD, replicate, length-append, length-map, List·getD-append}
+use lib.ListN.{length, set, getD, length-append, length-map}
 use lib.Dec.{eqb·suc-zero}
-use lib.Seq.{set-at}
 use borrow.Author.Tests.{lt-ltb, le-ltb}
+use Rattle.lists.specs.Padded.{pad}
 use Rattle.lexer.specs.Token.{Token}
 use Rattle.lexer.specs.Cutting.{Cutting, tokens, refused}
 use Rattle.lexer.specs.Cutter.{cutting}
-use Rattle.lexer.specs.Arrays.{codeOf, pad, tokensOf, answerOf, lexedOf, lexed}
+use Rattle.lexer.specs.Arrays.{codeOf, tokensOf, answerOf, lexedOf, lexed}
 use Rattle.lexer.specs.Steps.{arrays, push, fill, refusal, answered, finish, resume}
 use Rattle.lexer.specs.declared.Tokens.{Tokens}
 use Rattle.lexer.specs.declared.LexAnswer.the-variants as LexAnswer
-use Rattle.lexer.proofs.Lists.{map-at}
+use Rattle.lists.proofs.Lists.{map-at}
+use Rattle.lists.proofs.Padded.{pad-set, pad-at}
 use Rattle.lexer.proofs.Sound.{sound}
 use Rattle.lexer.proofs.Placement.{placed-from, few}
 
--- a number stored behind those that are there
-pub pad-set : (xs : List ℕ) (n v : ℕ) → length xs ≡ n → n < 256 → set (pad xs) n v ≡ pad (xs ++ v ∷ [])
-pad-set xs n v e h =
-    let m : ℕ = 256 - (length xs + 1) in
-    let f : 256 - length xs ≡ suc m = omega arith in
-    let g : m ≡ 256 - length (xs ++ v ∷ []) = omega (arith, length-append xs (v ∷ [])) in
-    ap (λ (k : ℕ). set (xs ++ replicate k 0) n v) f
-    ∙ set-at xs 0 (replicate m 0) v n e
-    ∙ sym (append-assoc xs (v ∷ []) (replicate m 0))
-    ∙ ap (λ (k : ℕ). (xs ++ v ∷ []) ++ replicate k 0) g
-
 -- one array of a field of the tokens
-field-set : (f : Token → ℕ) (xs : List Token) (x : Token) → length xs < 256 → set (pad (map f xs)) (length xs) (f x) ≡ pad (map f (xs ++ x ∷ []))
-field-set f xs x h = pad-set (map f xs) (length xs) (f x) (length-map xs f) h ∙ ap pad (sym (map-append f xs (x ∷ [])))
+field-set : (f : Token → ℕ) (xs : List Token) (x : Token) → length xs < 256 → set (pad 256 (map f xs)) (length xs) (f x) ≡ pad 256 (map f (xs ++ x ∷ []))
+field-set f xs x h = pad-set 256 (map f xs) (length xs) (f x) (length-map xs f) h ∙ ap (pad 256) (sym (map-append f xs (x ∷ [])))
 
 arrays-same : {k m s t l o : List ℕ} {i j : ℕ} → k ≡ m → s ≡ t → l ≡ o → i ≡ j → arrays k s l i ≡ arrays m t o j
 arrays-same e f g h = cc
@@ -82,5 +71,5 @@ not-too-long s h =
 
 -- ---- the arrays read back
 
-pub field-at : (f : Token → ℕ) (ts : List Token) (i : ℕ) (d : Token) → i < length ts → getD (pad (map f ts)) i 0 ≡ f (getD ts i d)
-field-at f ts i d h = List·getD-append (map f ts) (replicate (256 - length (map f ts)) 0) 0 i (omega (arith, length-map ts f)) ∙ map-at f ts i d 0 h
+pub field-at : (f : Token → ℕ) (ts : List Token) (i : ℕ) (d : Token) → i < length ts → getD (pad 256 (map f ts)) i 0 ≡ f (getD ts i d)
+field-at f ts i d h = pad-at 256 (map f ts) i (omega (arith, length-map ts f)) ∙ map-at f ts i d 0 h

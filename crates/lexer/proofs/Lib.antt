@@ -1,6 +1,4 @@
-pub mod Table
 pub mod Classes
-pub mod Lists
 pub mod Runs
 pub mod Signs
 pub mod Longest

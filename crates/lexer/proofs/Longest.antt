@@ -1,19 +1,17 @@
 -- The computed longest spelling is the meant one, by induction on the list: a spelling more is longer than the longest of the others or
 -- not. Assumes nothing.
-use mathlib.Core.Path.{_≡_, refl, sym, subst, _∙_}
-use mathlib.Core.Bool.{Bool, true, false, cond, true≢false}
+use mathlib.Core.Path.{_≡_, refl, sym, subst}
+use mathlib.Core.Bool.{Bool, true, false, cond}
 use mathlib.Core.List.{List, [], _∷_, List·Memᴰ, List·Memᴰ·head, List·Memᴰ·tail}
 use Prim.Native.Nat.{ℕ, _≤_}
 use native.Mathlib.Omega.{arith}
 use lib.Dec.{ltb}
 use lib.ListN.{length}
 use borrow.Author.Tests.{ltb-true, ltb-false}
+use Rattle.lists.proofs.Truth.{clash}
 use Rattle.lexer.specs.Spelling.{Spelling, starts}
 use Rattle.lexer.specs.Cutting.{Match, nothing, match, Every, Longest}
 use Rattle.lexer.specs.Cutter.{longer, longest}
-
-pub clash : {b : Bool} → b ≡ true → b ≡ false → ⊥
-clash p q = true≢false (sym p ∙ q)
 
 -- what holds of every spelling of a list holds of each
 pub every-at : {x : Spelling} {xs : List Spelling} → List·Memᴰ x xs → (P : Spelling → Type 0) → Every P xs → P x
@@ -23,7 +21,7 @@ every-at (List·Memᴰ·tail m) P h = every-at m P (h .1)
 module _ (s : List ℕ) where
   all-none : (xs : List Spelling) (n : ℕ) → Every (λ (y : Spelling). starts (y .bytes) s ≡ false) xs → Every (λ (y : Spelling). starts (y .bytes) s ≡ true → length (y .bytes) ≤ n) xs
   all-none [] n h = tt
-  all-none (y ∷ xs) n h = (λ e. absurd (clash e (h .0)), all-none xs n (h .1))
+  all-none (y ∷ xs) n h = (λ e. clash e (h .0), all-none xs n (h .1))
 
   all-more : (xs : List Spelling) (m n : ℕ) → m ≤ n → Every (λ (y : Spelling). starts (y .bytes) s ≡ true → length (y .bytes) ≤ m) xs → Every (λ (y : Spelling). starts (y .bytes) s ≡ true → length (y .bytes) ≤ n) xs
   all-more [] m n l h = tt
@@ -41,7 +39,7 @@ module _ (s : List ℕ) where
 
   keep : (x : Spelling) (xs : List Spelling) (m : Match) → starts (x .bytes) s ≡ false → Longest xs s m → Longest (x ∷ xs) s m
   keep x xs nothing e h = (e, h)
-  keep x xs (match y) e h = (List·Memᴰ·tail (h .0), h .1, (λ f. absurd (clash f e), h .2))
+  keep x xs (match y) e h = (List·Memᴰ·tail (h .0), h .1, (λ f. clash f e, h .2))
 
   pub longest-is : (xs : List Spelling) → Longest xs s (longest xs s)
   unfolding longest

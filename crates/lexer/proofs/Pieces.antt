@@ -21,7 +21,7 @@ use Rattle.lexer.specs.declared.Kind.{Kind}
 use Rattle.lexer.specs.declared.Piece.{Piece}
 use Rattle.lexer.specs.declared.Piece.the-variants as Piece
 use Rattle.lexer.proofs.Longest.{longest-is, every-at}
-use Rattle.lexer.proofs.Lists.{rest}
+use Rattle.lists.proofs.Lists.{rest}
 use Rattle.lexer.proofs.Runs.{run-fits}
 use Rattle.lexer.proofs.Signs.{sign-right}
 

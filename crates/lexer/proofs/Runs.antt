@@ -15,7 +15,7 @@ use Rattle.lexer.specs.declared.Kind.{Kind}
 use Rattle.lexer.specs.declared.Kind.the-variants as Kind
 use Rattle.lexer.specs.declared.Piece.{Piece}
 use Rattle.lexer.specs.declared.Piece.the-variants as Piece
-use Rattle.lexer.proofs.Lists.{rest}
+use Rattle.lists.proofs.Lists.{rest}
 
 module _ (s : List ℕ) (i : ℕ) where
   pub run-more : i < length s → inRun (classOf (getD s i 0)) ≡ true → runLength (drop i s) ≡ suc (runLength (drop (i + 1) s))

@@ -9,6 +9,7 @@ use lib.Dec.{ltb, eqb}
 use lib.ListN.{length, take}
 use lib.Seq.{take-append-seam, drop-append-seam}
 use borrow.Author.Tests.{lt-ltb, le-ltb, eqb-true}
+use Rattle.lists.proofs.Truth.{clash}
 use Rattle.lexer.specs.Class.{classOf}
 use Rattle.lexer.specs.Token.{tokenOf}
 use Rattle.lexer.specs.Spelling.{Meaning, Spelling, signs, starts, runKind}
@@ -19,7 +20,7 @@ use Rattle.lexer.specs.declared.Class.the-variants as Class
 use Rattle.lexer.specs.declared.Piece.{Piece}
 use Rattle.lexer.specs.declared.Piece.the-variants as Piece
 use Rattle.lexer.specs.declared.LexAnswer.the-variants as LexAnswer
-use Rattle.lexer.proofs.Longest.{longest-is, every-at, clash}
+use Rattle.lexer.proofs.Longest.{longest-is, every-at}
 use Rattle.lexer.proofs.Pieces.{class-decides}
 use Rattle.lexer.proofs.Advance.{by-piece, by-token}
 
@@ -30,15 +31,15 @@ unfolding starts
 same-start [] [] s p q e = refl
 same-start [] (y ∷ v) s p q e = absurd (omega arith)
 same-start (x ∷ w) [] s p q e = absurd (omega arith)
-same-start (x ∷ w) (y ∷ v) [] p q e = absurd (clash p refl)
+same-start (x ∷ w) (y ∷ v) [] p q e = clash p refl
 same-start (x ∷ w) (y ∷ v) (b ∷ s) p q e = go (eqb b x) refl (eqb b y) refl p q (λ f g. same-start w v s f g (omega arith))
   where
     go : (t : Bool) → eqb b x ≡ t → (u : Bool) → eqb b y ≡ u → (t && starts w s) ≡ true → (u && starts v s) ≡ true
         → (starts w s ≡ true → starts v s ≡ true → w ≡ v) → x ∷ w ≡ y ∷ v
     go true f true g p q r = let a = eqb-true b x f in let c = eqb-true b y g in let d = r p q in cc
-    go true f false g p q r = absurd (clash q refl)
-    go false f true g p q r = absurd (clash p refl)
-    go false f false g p q r = absurd (clash p refl)
+    go true f false g p q r = clash q refl
+    go false f true g p q r = clash p refl
+    go false f false g p q r = clash p refl
 
 -- a sign's own bytes are that sign, so two signs differ in their bytes
 signs-own : Every (λ (x : Spelling). longest signs (x .bytes) ≡ match x) signs
@@ -47,7 +48,7 @@ signs-own = (refl, (refl, (refl, (refl, (refl, (refl, (refl, (refl, (refl, (refl
 
 module _ (s : List ℕ) where
   only : (x : Spelling) → Longest signs s (match x) → (m : Match) → Longest signs s m → m ≡ match x
-  only x h nothing g = absurd (clash (h .1) (every-at (h .0) (λ (y : Spelling). starts (y .bytes) s ≡ false) g))
+  only x h nothing g = clash (h .1) (every-at (h .0) (λ (y : Spelling). starts (y .bytes) s ≡ false) g)
   only x h (match y) g =
       let a = every-at (g .0) (λ (z : Spelling). starts (z .bytes) s ≡ true → length (z .bytes) ≤ length (x .bytes)) (h .2) (g .1) in
       let b = every-at (h .0) (λ (z : Spelling). starts (z .bytes) s ≡ true → length (z .bytes) ≤ length (y .bytes)) (g .2) (h .1) in
@@ -59,7 +60,7 @@ module _ (s : List ℕ) where
 
   only-none : Longest signs s nothing → (m : Match) → Longest signs s m → m ≡ nothing
   only-none h nothing g = refl
-  only-none h (match y) g = absurd (clash (g .1) (every-at (g .0) (λ (y : Spelling). starts (y .bytes) s ≡ false) h))
+  only-none h (match y) g = clash (g .1) (every-at (g .0) (λ (y : Spelling). starts (y .bytes) s ≡ false) h)
 
   found : (m : Match) → Longest signs s m → longest signs s ≡ m
   found nothing h = only-none h (longest signs s) (longest-is s signs)

@@ -1,9 +1,10 @@
 -- What is computed: the answer for a text, with its tokens as arrays. Assumes nothing.
 use mathlib.Core.Bool.{cond}
-use mathlib.Core.List.{List, [], _∷_, _++_, map}
-use Prim.Native.Nat.{ℕ, _-_}
+use mathlib.Core.List.{List, [], _∷_, map}
+use Prim.Native.Nat.{ℕ}
 use lib.Dec.{ltb}
-use lib.ListN.{length, replicate}
+use lib.ListN.{length}
+use Rattle.lists.specs.Padded.{pad}
 use Rattle.lexer.specs.Token.{Token}
 use Rattle.lexer.specs.Cutting.{Cutting, tokens, refused}
 use Rattle.lexer.specs.Cutter.{cutting}
@@ -37,15 +38,12 @@ codeOf Kind.One = 17
 codeOf Kind.Name = 18
 
 -- an array's length is fixed: what is past the list is 0
-abbrev pub pad : List ℕ → List ℕ
-pad xs = xs ++ replicate (256 - length xs) 0
-
 unfoldable pub tokensOf : List Token → Tokens
 tokensOf ts =
     record {
-      kinds = pad (map (λ (t : Token). codeOf (t .kind)) ts);
-      starts = pad (map (λ (t : Token). t .start) ts);
-      lens = pad (map (λ (t : Token). t .len) ts);
+      kinds = pad 256 (map (λ (t : Token). codeOf (t .kind)) ts);
+      starts = pad 256 (map (λ (t : Token). t .start) ts);
+      lens = pad 256 (map (λ (t : Token). t .len) ts);
       n = length ts;
     }
 

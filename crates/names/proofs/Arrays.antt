@@ -3,6 +3,7 @@
 use mathlib.Core.Bool.{Bool, true, false, _&&_, cond}
 use mathlib.Core.Path.{_≡_, refl, sym, ap, ap₂, _∙_}
 use mathlib.Core.List.{List, [], _∷_, _++_, map, map-append, append-assoc}
+use mathlib.Mathlib.Data.Bool.Basic.{eq-false-of-not-eq-true}
 use Prim.Native.Nat.{ℕ, suc, _+_, _-_, _≤_, _<_}
 use native.Mathlib.Omega.{arith}
 use native.Mathlib.Decide.{ℕ-discrete}
@@ -12,7 +13,6 @@ use lib.Seq.{take-at, set-at}
 use borrow.Author.Tests.{eq-eqb, ne-eqb, lt-ltb, le-ltb}
 use Rattle.formula.specs.Formula.{Name}
 use Rattle.evalset.specs.Sets.{most}
-use Rattle.evalset.proofs.Truth.{untrue}
 use Rattle.contact.specs.Numbering.{position, sameName}
 use Rattle.contact.proofs.Naming.{same-name}
 use Rattle.names.specs.declared.KeptName.{KeptName}
@@ -36,7 +36,7 @@ same-kept v w = go (ℕ-discrete (length v) (length w))
         ∙ ap (λ (x : Name). sameName x w) (take-at v zeros (length w) e)
     go (no n) =
         ap (λ (t : Bool). t && sameName (take (length w) (v ++ zeros)) w) (ne-eqb (length v) (length w) n)
-        ∙ sym (untrue (sameName v w) (λ h. n (ap length (same-name v w .0 h))))
+        ∙ sym (eq-false-of-not-eq-true (λ h. n (ap length (same-name v w .0 h))))
 
 -- its bytes and its length are found again
 pub bytes-back : (w : Name) → bytesIn (nameOf w) ≡ w

@@ -7,13 +7,13 @@ use mathlib.Core.List.{List, [], _∷_, _++_, map}
 use Prim.Native.Nat.{ℕ, _≤_}
 use native.Mathlib.Omega.{arith}
 use lib.ListN.{length}
+use Rattle.lists.specs.Padded.{pad}
 use Rattle.formula.specs.Formula.{Formula, Name}
 use Rattle.formula.specs.Names.{atomNames, formulaNames}
-use Rattle.lexer.specs.Arrays.{pad}
 use Rattle.syntax.specs.RuleText.{IsRule}
 use Rattle.syntax.specs.Rule.{ruleOf}
 use Rattle.syntax.specs.declared.Rule.{Rule}
-use Rattle.evalset.specs.Search.{In, gather}
+use Rattle.lists.specs.Search.{In, gather}
 use Rattle.evalset.specs.Sets.{most}
 use Rattle.contact.specs.Numbering.{allAtoms, distinct, position, sameName, namesOf}
 use Rattle.contact.proofs.Naming.{same-name}
@@ -48,7 +48,7 @@ kept-after s ks h = kept-names (namesAfter ks (placesOf s (ruleTokens s)) .names
 
 -- the arrays of the names ks, with the number of each of the names ws
 abbrev pub enoughOf : List Name → List Name → Gathered
-enoughOf ks ws = record { names = arraysOf ks; numbers = pad (map (position sameName ks) ws); answer = NamesAnswer.Enough }
+enoughOf ks ws = record { names = arraysOf ks; numbers = pad 256 (map (position sameName ks) ws); answer = NamesAnswer.Enough }
 
 module _ (s : List ℕ) (f : Formula Name) (rule : IsRule s f) (earlier : List Name) (few : length (distinct sameName earlier) ≤ most) where
   abbrev after : Gathered

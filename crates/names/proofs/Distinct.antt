@@ -8,9 +8,9 @@ use mathlib.Core.List.{List, [], _∷_, _++_, append-assoc, append-nil}
 use Prim.Native.Nat.{suc, _≤_, _<_}
 use native.Mathlib.Omega.{arith}
 use lib.ListN.{length, length-append}
-use Rattle.evalset.specs.Search.{In, here, next, keep}
-use Rattle.evalset.proofs.Search.{any-intro, any-elim, uncons, at-head, in-right, keep-elim, keep-append}
-use Rattle.evalset.proofs.Truth.{clash, cases}
+use Rattle.lists.specs.Search.{In, here, next, keep}
+use Rattle.lists.proofs.Search.{any-intro, any-elim, uncons, at-head, in-right, keep-elim, keep-append}
+use Rattle.lists.proofs.Truth.{clash, cases}
 use Rattle.contact.specs.Numbering.{distinct, position}
 use Rattle.contact.proofs.Naming.{Decides, distinct-in}
 use Rattle.names.specs.Gather.{isIn, put}

@@ -8,9 +8,11 @@ use native.Mathlib.Omega.{arith}
 use lib.Dec.{ltb}
 use lib.ListN.{length, take, drop, getD, set, replicate, length-append}
 use borrow.Author.Tests.{le-ltb}
+use Rattle.lists.proofs.Padded.{pad-none, pad-set}
+use Rattle.lists.specs.Padded.{pad}
 use Rattle.formula.specs.Formula.{Name}
 use Rattle.lexer.specs.Token.{Token, bytesOf}
-use Rattle.lexer.specs.Arrays.{codeOf, pad, tokensOf}
+use Rattle.lexer.specs.Arrays.{codeOf, tokensOf}
 use Rattle.lexer.specs.Steps.{arrays}
 use Rattle.lexer.specs.declared.Tokens.{Tokens}
 use Rattle.lexer.proofs.Claims.{kind-at, start-at, len-at, count}
@@ -25,7 +27,6 @@ use Rattle.names.specs.Steps.{placeIn, withKept}
 use Rattle.names.proofs.Distinct.{position-most}
 use Rattle.names.proofs.Arrays.{kept-count, number-kept, with-kept, too-many, not-too-many}
 use Rattle.names.proofs.Tokens.{rule-tokens, tokens-lie, past, token-lies, at-name, at-other, at-end}
-use Rattle.lexer.proofs.Filling.{pad-set}
 use Rattle.evalset.specs.Sets.{most}
 
 pub record Going (text kinds starts lens : List ℕ) (n : ℕ) (first : Names) (known : Names) (numbers : List ℕ) (m i : ℕ) : Type 0 where
@@ -36,7 +37,7 @@ pub record Going (text kinds starts lens : List ℕ) (n : ℕ) (first : Names) (
   pub kept : known ≡ arraysOf names
   pub few : length names ≤ most
   pub done : List ℕ
-  pub padded : numbers ≡ pad done
+  pub padded : numbers ≡ pad 256 done
   pub many : length done ≡ m
   pub answer : behind done (namesAfter names (placesOf text (drop i (ruleTokens text)))) ≡ namesAfter (knownOf first) (placesOf text (ruleTokens text))
 
@@ -52,7 +53,7 @@ going-first text rule ns numbers g z =
       kept = g .kept .canonical;
       few = let e : ns .count ≡ length (knownOf ns) = ap (λ (x : Names). x .count) (g .kept .canonical) ∙ kept-count (knownOf ns) in omega (arith, g .kept .few);
       done = [];
-      padded = z;
+      padded = z ∙ pad-none 256;
       many = refl;
       answer = refl;
     }
@@ -83,14 +84,14 @@ module _ {text kinds starts lens : List ℕ} {n : ℕ} {first known : Names} {nu
 
   -- what is gathered, from the answer for what is left
   whole : (ns : List Name) (more : List ℕ) (a : NamesAnswer) → namesAfter (g .names) (placesOf text (drop i every)) ≡ numbered ns more a
-      → gave (arraysOf ns) (pad (g .done ++ more)) a ≡ gathered text (knownOf first)
+      → gave (arraysOf ns) (pad 256 (g .done ++ more)) a ≡ gathered text (knownOf first)
   unfolding gathered gatheredOf
   whole ns more a e = ap (λ (r : Numbered). gatheredOf (behind (g .done) r)) (sym e) ∙ ap gatheredOf (g .answer)
 
   unchanged : (ns : List Name) (more : List ℕ) (a : NamesAnswer) → ns ≡ g .names → more ≡ [] → namesAfter (g .names) (placesOf text (drop i every)) ≡ numbered ns more a
       → gave known numbers a ≡ gathered text (knownOf first)
   unchanged ns more a p q e =
-      ap₂ (λ (x : Names) (y : List ℕ). gave x y a) (g .kept ∙ ap arraysOf (sym p)) (g .padded ∙ ap pad (sym (append-nil (g .done)) ∙ ap (λ (l : List ℕ). g .done ++ l) (sym q)))
+      ap₂ (λ (x : Names) (y : List ℕ). gave x y a) (g .kept ∙ ap arraysOf (sym p)) (g .padded ∙ ap (pad 256) (sym (append-nil (g .done)) ∙ ap (λ (l : List ℕ). g .done ++ l) (sym q)))
       ∙ whole ns more a e
 
   pub going-end : n ≤ i → gave known numbers NamesAnswer.Enough ≡ gathered text (knownOf first)
@@ -173,7 +174,7 @@ module _ {text kinds starts lens : List ℕ} {n : ℕ} {first known : Names} {nu
             kept = a ∙ ap₂ (λ (x : Names) (y : ℕ). withKept x w y) (g .kept) number-is ∙ with-kept (g .names) w (g .few) (λ q. z (number-is ∙ q));
             few = fits;
             done = g .done ++ number ∷ [];
-            padded = ap (λ (l : List ℕ). set l m number) (g .padded) ∙ pad-set (g .done) m number (g .many) (omega (arith, g .fewer, few-tokens));
+            padded = ap (λ (l : List ℕ). set l m number) (g .padded) ∙ pad-set 256 (g .done) m number (g .many) (omega (arith, g .fewer, few-tokens));
             many = omega (arith, length-append (g .done) (number ∷ []), g .many);
             answer =
                 ap (λ (l : List ℕ). numbered (namesAfter (withName (g .names) w) left .names) l (namesAfter (withName (g .names) w) left .answer))

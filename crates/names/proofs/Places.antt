@@ -4,12 +4,13 @@ use mathlib.Core.Bool.{false}
 use mathlib.Core.Path.{_≡_, sym, ap, _∙_}
 use mathlib.Core.Logic.{⊎-elim, _↔_}
 use mathlib.Core.List.{List, _∷_, _++_}
+use mathlib.Mathlib.Data.Bool.Basic.{eq-false-of-not-eq-true}
 use Prim.Native.Nat.{ℕ, _≤_}
 use native.Mathlib.Omega.{arith}
 use lib.ListN.{length}
 use Rattle.formula.specs.Formula.{Name}
 use Rattle.evalset.specs.Sets.{most}
-use Rattle.evalset.proofs.Truth.{clash, untrue}
+use Rattle.lists.proofs.Truth.{clash}
 use Rattle.contact.specs.Numbering.{distinct, sameName}
 use Rattle.contact.proofs.Naming.{same-name}
 use Rattle.names.specs.declared.NamesAnswer.{NamesAnswer}
@@ -62,7 +63,7 @@ module _ (earlier : List Name) (xs : List NameAt) where
   seventh-result {p} h =
       let six : different earlier (h .before) ≡ allOf known (h .before) = different-is earlier (h .before) in
       let new : isIn sameName (different earlier (h .before)) (h .name) ≡ false =
-      untrue (isIn sameName (different earlier (h .before)) (h .name)) (λ k. h .new (distinct-in-list sameName same-name (earlier ++ namesAt (h .before)) (h .name) k)) in
+      eq-false-of-not-eq-true (λ k. h .new (distinct-in-list sameName same-name (earlier ++ namesAt (h .before)) (h .name) k)) in
       ap (namesAfter known) (h .split)
       ∙ seventh-answered known (h .before) p (h .name) (h .after) (sym (ap length six) ∙ h .six) (ap (λ (l : List Name). isIn sameName l (h .name)) (sym six) ∙ new)
       ∙ ap (λ (l : List Name). numbered l (numbersIn l (h .before)) (NamesAnswer.SeventhName p)) (sym six)

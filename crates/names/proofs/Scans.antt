@@ -5,12 +5,12 @@ use mathlib.Core.Bool.{Bool, true, false, _&&_, cond}
 use mathlib.Core.List.{List, [], _∷_, _++_}
 use Prim.Native.Nat.{ℕ, suc, _+_, _-_, _≤_, _<_}
 use native.Mathlib.Omega.{arith}
-use native.Mathlib.Numerals.{add-one}
 use lib.ListN.{length, take, drop, getD, set, replicate, drop-of-length-le, length-take}
-use lib.Seq.{set-at, take-suc, append-snoc, length-take-le, getD-take}
+use lib.Seq.{set-at, append-snoc, length-take-le, getD-take}
 use borrow.Author.Tests.{eq-eqb, ne-eqb, lt-ltb, le-ltb}
+use Rattle.lists.proofs.Lists.{take-next}
 use Rattle.formula.specs.Formula.{Name}
-use Rattle.lexer.proofs.Lists.{rest}
+use Rattle.lists.proofs.Lists.{rest}
 use Rattle.contact.specs.Numbering.{sameName}
 use Rattle.names.specs.declared.KeptName.{KeptName}
 use Rattle.names.specs.declared.Names.{Names}
@@ -86,7 +86,7 @@ copy-next m s i h k =
     ap (λ (n : ℕ). set (take i s ++ replicate n 0) i (getD s i 0)) e
     ∙ f
     ∙ sym (append-snoc (take i s) (getD s i 0) (replicate (m - (i + 1)) 0))
-    ∙ ap (λ (l : List ℕ). l ++ replicate (m - (i + 1)) 0) (sym (take-suc s i 0 h) ∙ ap (λ (n : ℕ). take n s) (sym (add-one i)))
+    ∙ ap (λ (l : List ℕ). l ++ replicate (m - (i + 1)) 0) (sym (take-next s i 0 h))
 
 -- ---- with_name
 

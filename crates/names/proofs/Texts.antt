@@ -11,8 +11,8 @@ use Rattle.syntax.specs.Symbol.{symbolOf}
 use Rattle.syntax.specs.Postfix.{symbolNames, namesIn}
 use Rattle.syntax.specs.RuleText.{symbolsOf, IsRule}
 use Rattle.syntax.proofs.Claims.{token-names}
-use Rattle.evalset.specs.Search.{gather}
-use Rattle.evalset.proofs.Search.{gather-append}
+use Rattle.lists.specs.Search.{gather}
+use Rattle.lists.proofs.Search.{gather-append}
 use Rattle.contact.specs.Numbering.{allAtoms}
 use Rattle.names.specs.Gather.{NameAt, nameAt, placesOf, ruleTokens}
 use Rattle.names.specs.Seventh.{namesAt}

@@ -20,7 +20,7 @@ use Rattle.lexer.specs.declared.LexAnswer.{LexAnswer}
 use Rattle.lexer.specs.declared.LexAnswer.the-variants as LexAnswer
 use Rattle.lexer.proofs.Claims.{meant-is-computed, placed, at-most}
 use Rattle.lexer.proofs.Placement.{placed-at}
-use Rattle.lexer.proofs.Lists.{rest}
+use Rattle.lists.proofs.Lists.{rest}
 use Rattle.syntax.specs.Symbol.{symbolOf}
 use Rattle.syntax.specs.Postfix.{symbolNames}
 use Rattle.syntax.specs.Machine.{Result, accepted, refused as refusedAt, reading}

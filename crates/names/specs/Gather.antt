@@ -6,17 +6,17 @@ use mathlib.Core.List.{List, [], _∷_, _++_, map}
 use Prim.Native.Nat.{ℕ, _-_, _≤_}
 use lib.Dec.{ltb}
 use lib.ListN.{length, take, replicate}
+use Rattle.lists.specs.Padded.{pad}
 use Rattle.formula.specs.Formula.{Name}
 use Rattle.lexer.specs.Token.{Token, bytesOf}
 use Rattle.lexer.specs.Cutter.{cutting}
-use Rattle.lexer.specs.Arrays.{pad}
 use Rattle.syntax.specs.Symbol.{symbolOf}
 use Rattle.syntax.specs.Postfix.{symbolNames}
 use Rattle.syntax.specs.Rule.{tokensIn, ruleOf}
 use Rattle.syntax.specs.declared.RuleAnswer.{RuleAnswer}
 use Rattle.syntax.specs.declared.RuleAnswer.the-variants as RuleAnswer
 use Rattle.syntax.specs.declared.Rule.{Rule}
-use Rattle.evalset.specs.Search.{any}
+use Rattle.lists.specs.Search.{any}
 use Rattle.evalset.specs.Sets.{most}
 use Rattle.contact.specs.Numbering.{position, sameName}
 use Rattle.names.specs.declared.KeptName.{KeptName}
@@ -107,7 +107,7 @@ unfoldable pub knownOf : Names → List Name
 knownOf ns = map bytesIn (take (ns .count) (ns .list))
 
 unfoldable pub gatheredOf : Numbered → Gathered
-gatheredOf r = record { names = arraysOf (r .names); numbers = pad (r .numbers); answer = r .answer }
+gatheredOf r = record { names = arraysOf (r .names); numbers = pad 256 (r .numbers); answer = r .answer }
 
 -- what is gathered from a text behind the names that are known
 unfoldable pub gathered : List ℕ → List Name → Gathered

@@ -4,7 +4,7 @@ use mathlib.Core.List.{List, _∷_, _++_, map}
 use Prim.Native.Nat.{ℕ}
 use lib.ListN.{length}
 use Rattle.formula.specs.Formula.{Name}
-use Rattle.evalset.specs.Search.{In}
+use Rattle.lists.specs.Search.{In}
 use Rattle.evalset.specs.Sets.{most}
 use Rattle.contact.specs.Numbering.{distinct, sameName}
 use Rattle.names.specs.Gather.{NameAt, nameAt}

@@ -4,9 +4,9 @@ use mathlib.Core.List.{List, [], _∷_, _++_, map, append-assoc, map-append}
 use Prim.Native.Nat.{ℕ, suc, _+_, _≤_, _<_}
 use native.Mathlib.Omega.{arith}
 use native.Mathlib.Nat.{add-zero}
-use native.Mathlib.Numerals.{add-one}
 use lib.ListN.{length, take, drop, set, getD, length-append, length-map, take-append-drop, length-drop}
-use lib.Seq.{take-suc, drop-cons, set-at, take-at, drop-drop, drop-append-add, length-take-le}
+use lib.Seq.{drop-cons, set-at, take-at, drop-drop, drop-append-add, length-take-le}
+use Rattle.lists.proofs.Lists.{take-next}
 use Rattle.plan.specs.Words.{contactWord, pointWord}
 use Rattle.plan.specs.Arrays.{over}
 use Rattle.plan.specs.Private.{written, Wrote}
@@ -112,4 +112,4 @@ points-more pts buf i h k =
     ∙ written-set 1 ws buf w (omega (arith, size))
     ∙ ap (λ (l : List ℕ). written 1 l buf)
     (sym (map-append pointWord (take i pts) (getD pts i 0 ∷ []))
-    ∙ ap (map pointWord) (sym (take-suc pts i 0 h) ∙ ap (λ (x : ℕ). take x pts) (sym (add-one i))))
+    ∙ ap (map pointWord) (sym (take-next pts i 0 h)))

@@ -1,19 +1,18 @@
 -- The contacts that rows give are their pairs, one after the other. They rise strictly, whatever the rows are: row after row, and in
 -- a row position after position. So arrays whose points ascend hold a plan. Assumes nothing.
 use mathlib.Core.Path.{_≡_, refl, sym, _∙_, subst}
-use mathlib.Core.Bool.{Bool, true, false, _&&_, cond}
+use mathlib.Core.Bool.{Bool, true, false, _&&_, cond, and-eq-true-iff}
 use mathlib.Core.List.{List, [], _∷_, _++_, append-assoc}
 use Prim.Native.Nat.{ℕ, zero, suc, _+_, _*_, _^_, _/_, _%_, _≤_, _<_}
 use native.Mathlib.Omega.{arith}
 use lib.Dec.{ltb}
 use lib.ListN.{length, take, length-take}
 use borrow.Author.Tests.{ltb-true, lt-ltb, le-ltb}
-use Rattle.evalset.specs.Search.{gather, from}
+use Rattle.lists.specs.Search.{gather, from}
 use Rattle.evalset.specs.Sets.{memAt, most}
 use Rattle.plan.specs.declared.PlanArrays.{PlanArrays}
 use Rattle.plan.specs.Words.{Ascends, Rises, IsPlan}
 use Rattle.plan.specs.Arrays.{countOf, pairOf, rowTo, linksTo, planBy}
-use Rattle.evalset.proofs.Truth.{both}
 use Rattle.evalset.proofs.Bounded.{gather-more, gather-within, gather-small}
 
 -- ---- the contacts that rows give
@@ -82,7 +81,7 @@ pair-rises i j n t js h f r = go (ltb i j && t j) refl
   where
     go : (b : Bool) → (ltb i j && t j) ≡ b → Rises (i * 256 + j) n (cond b ((i * 256 + j) ∷ []) [] ++ js)
     go true e =
-        let l : i < j = ltb-true i j (both (ltb i j) (t j) e .0) in
+        let l : i < j = ltb-true i j (and-eq-true-iff (ltb i j) (t j) .0 e .0) in
         let q : (i * 256 + j) / 256 ≡ i = omega arith in
         let s : (i * 256 + j) % 256 ≡ j = omega arith in
         let z : suc (i * 256 + j) ≡ i * 256 + suc j = omega arith in

@@ -6,11 +6,11 @@ use mathlib.Core.List.{List, [], _∷_, _++_, map, append-nil, append-assoc, map
 use Prim.Native.Nat.{ℕ, zero, suc, _+_, _^_, _≤_, _<_}
 use native.Mathlib.Omega.{arith}
 use lib.ListN.{length, length-append}
+use Rattle.lists.proofs.Truth.{side}
 use Rattle.plan.specs.Words.{Plan, Ascends, Rises, IsPlan, firstWord, pointWord, lastWord, before, wordsOf, Begins, Stops, Refusal}
 use Rattle.plan.specs.Reader.{kindOf, State, start, pointing, linking, whole, dead, step, run, Reading, plan, refused, ended, unless, readFrom, readOf}
-use Rattle.evalset.specs.Search.{from}
-use Rattle.evalset.proofs.Search.{from-length}
-use Rattle.evalset.proofs.Bounded.{side}
+use Rattle.lists.specs.Search.{from}
+use Rattle.lists.proofs.Search.{from-length}
 use Rattle.plan.proofs.Sound.{Seen, PointsSeen, LinksSeen, seen}
 use Rattle.plan.proofs.Complete.{complete, run-append}
 use Rattle.plan.specs.Meant.{ReadingSays}

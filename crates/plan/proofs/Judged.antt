@@ -8,11 +8,11 @@ use native.Mathlib.Omega.{arith}
 use lib.ListN.{length, getD, replicate, List·getD-append}
 use lib.Pow.{pow-mono}
 use borrow.Author.Tests.{lt-ltb}
+use Rattle.lists.specs.Padded.{pad}
 use Rattle.formula.specs.Formula.{Term}
-use Rattle.evalset.specs.Search.{any, below}
+use Rattle.lists.specs.Search.{any, below}
 use Rattle.evalset.specs.Sets.{memAt}
-use Rattle.evalset.specs.Arrays.{pad}
-use Rattle.evalset.proofs.Search.{any-same, below-elim}
+use Rattle.lists.proofs.Search.{any-same, below-elim}
 use Rattle.contact.specs.Meaning.{within, isEmpty, touches}
 use Rattle.plan.specs.declared.PlanArrays.{PlanArrays}
 use Rattle.plan.specs.Words.{Plan, Ascends, IsPlan}

@@ -5,11 +5,11 @@ use mathlib.Core.List.{List}
 use Prim.Native.Nat.{ℕ, _+_, _≤_, _<_}
 use lib.ListN.{getD}
 use borrow.Author.Tests.{lt-ltb, le-ltb}
-use Rattle.evalset.specs.Search.{any, below}
+use Rattle.lists.specs.Search.{any, below}
 use Rattle.evalset.specs.Sets.{room, memAt, meetOf}
 use Rattle.evalset.specs.Arrays.{positionsOf}
 use Rattle.evalset.proofs.Bounded.{any-at, any-more, any-cut}
-use Rattle.evalset.proofs.Search.{any-same, below-elim}
+use Rattle.lists.proofs.Search.{any-same, below-elim}
 use Rattle.plan.specs.declared.PlanArrays.{PlanArrays}
 use Rattle.plan.specs.Arrays.{countOf, pointAt, touchesOf, vacantOf}
 use Rattle.plan.specs.Private.{reachesOf, reachedOf}

@@ -1,9 +1,10 @@
 -- Arrays that hold a plan hold no other: lists that rise and have the same elements are equal, and the contacts that the plan's
 -- square gives are its contacts. So what was read is written as it came. Assumes nothing.
 use mathlib.Core.Path.{_≡_, refl, sym, ap, ap₂, _∙_, subst}
-use mathlib.Core.Bool.{Bool, true, false, _&&_, _||_, cond, or-comm}
+use mathlib.Core.Bool.{Bool, true, false, _&&_, _||_, cond, or-comm, and-eq-true-iff}
 use mathlib.Core.List.{List, [], _∷_}
 use mathlib.Core.Logic.{inr, ⊎-elim}
+use mathlib.Mathlib.Data.Bool.Basic.{or-inl, or-inr}
 use Prim.Native.Nat.{ℕ, suc, _+_, _-_, _*_, _/_, _%_, _≤_, _<_}
 use native.Mathlib.Omega.{arith}
 use native.Mathlib.Nat.{le-antisymm}
@@ -11,10 +12,9 @@ use lib.Dec.{eqb, ltb}
 use lib.ListN.{length, take, replicate}
 use lib.Seq.{take-at}
 use borrow.Author.Tests.{eqb-true, eq-eqb, ltb-true, lt-ltb}
-use Rattle.evalset.specs.Search.{In, here, next, any, below}
+use Rattle.lists.specs.Padded.{pad}
+use Rattle.lists.specs.Search.{In, here, next, any, below}
 use Rattle.evalset.specs.Sets.{memAt}
-use Rattle.evalset.specs.Arrays.{pad}
-use Rattle.evalset.proofs.Bounded.{side}
 use Rattle.plan.specs.declared.PlanArrays.{PlanArrays}
 use Rattle.plan.specs.Words.{Plan, Rises, IsPlan}
 use Rattle.plan.specs.Floor.{between, touching}
@@ -23,8 +23,8 @@ use Rattle.plan.specs.Private.{planOf}
 use Rattle.plan.proofs.Squares.{Related, square-elim, square-intro}
 use Rattle.plan.proofs.Contacts.{links-rise}
 use Rattle.plan.proofs.Judged.{few-points, count-is}
-use Rattle.evalset.proofs.Search.{none-in, in-one, any-intro, any-elim, gather-intro, gather-elim, below-intro, below-elim}
-use Rattle.evalset.proofs.Truth.{both, or-cases, or-left, or-right, bool-ext}
+use Rattle.lists.proofs.Search.{none-in, in-one, any-intro, any-elim, gather-intro, gather-elim, below-intro, below-elim}
+use Rattle.lists.proofs.Truth.{or-cases, bool-ext, side}
 
 -- ---- rising lists
 in-tail : (k x : ℕ) (xs : List ℕ) → In k (x ∷ xs) → (k ≡ x → ⊥) → In k xs
@@ -63,7 +63,7 @@ unfolding pairOf
 pair-elim k n i j row m = go (ltb i j && row j) refl
   where
     go : (b : Bool) → (ltb i j && row j) ≡ b → In k (cond b ((i * 256 + j) ∷ []) []) → Linked k n i j row
-    go true q x = let w = both (ltb i j) (row j) q in
+    go true q x = let w = and-eq-true-iff (ltb i j) (row j) .0 q in
         record { later = ltb-true i j (w .0); within = m; there = w .1; number = in-one x }
     go false q x = none-in x
 
@@ -119,7 +119,7 @@ module _ (p : Plan) (few : length (p .points) ≤ 256) (rise : Rises 0 (length (
         left = omega arith;
         right = m;
         how = inr (any-intro (between (k / 256) (k % 256)) x
-            (or-left (eqb k (k / 256 * 256 + k % 256)) (eqb k (k % 256 * 256 + k / 256)) (eq-eqb k (k / 256 * 256 + k % 256) z)));
+            (or-inl (eqb k (k / 256 * 256 + k % 256)) (eqb k (k % 256 * 256 + k / 256)) (eq-eqb k (k / 256 * 256 + k % 256) z)));
       })))
 
   links-again : linksTo (length (p .points)) (length (p .points)) (square p) ≡ p .contacts
@@ -145,7 +145,7 @@ module _ (n : ℕ) (few : n ≤ 256) (rows : ℕ → ℕ → Bool) (self : (a : 
   -- the contact a pair of them has
   one-way : (a b : ℕ) → a < b → b < n → rows a b ≡ true → (between a b (a * 256 + b) ≡ true) × In (a * 256 + b) (linksTo n n rows)
   one-way a b l m e = (
-    or-left (eqb (a * 256 + b) (a * 256 + b)) (eqb (a * 256 + b) (b * 256 + a))
+    or-inl (eqb (a * 256 + b) (a * 256 + b)) (eqb (a * 256 + b) (b * 256 + a))
         (eq-eqb (a * 256 + b) (a * 256 + b) refl),
     links-intro n a b rows l m e,
   )
@@ -183,12 +183,12 @@ module _ (n : ℕ) (few : n ≤ 256) (rows : ℕ → ℕ → Bool) (self : (a : 
       back : rows a b ≡ true → (eqb a b || any (between a b) links) ≡ true
       back e =
           ⊎-elim
-          (λ s. let w = one-way a b s m e in or-right (eqb a b) _ (any-intro (between a b) (w .1) (w .0)))
+          (λ s. let w = one-way a b s m e in or-inr (eqb a b) _ (any-intro (between a b) (w .1) (w .0)))
           (λ s. ⊎-elim
           (λ t. let w = one-way b a t l (turn a b l m e) in
-          or-right (eqb a b) _ (any-intro (between a b) (w .1)
+          or-inr (eqb a b) _ (any-intro (between a b) (w .1)
           (or-comm (eqb (b * 256 + a) (a * 256 + b)) (eqb (b * 256 + a) (b * 256 + a)) ∙ w .0)))
-          (λ t. or-left (eqb a b) _ (eq-eqb a b (omega arith)))
+          (λ t. or-inl (eqb a b) _ (eq-eqb a b (omega arith)))
           (side b a))
           (side a b)
 

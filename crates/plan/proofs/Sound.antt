@@ -1,7 +1,7 @@
 -- What is read is a plan, and its words are those that were read: each state says which words led to it, and a step adds its own.
 -- Assumes nothing.
 use mathlib.Core.Path.{_≡_, refl, sym, ap, ap₂, _∙_, subst}
-use mathlib.Core.Bool.{Bool, true, false, _&&_, cond}
+use mathlib.Core.Bool.{Bool, true, false, _&&_, cond, and-eq-true-iff}
 use mathlib.Core.List.{List, [], _∷_, _++_, map, append-nil, append-assoc, map-append}
 use Prim.Native.Nat.{ℕ, zero, suc, _+_, _-_, _*_, _^_, _/_, _%_, _≤_, _<_}
 use native.Mathlib.Omega.{arith}
@@ -14,7 +14,6 @@ use Rattle.plan.specs.Words.{Plan, Ascends, Rises, IsPlan, firstWord, po
 use Rattle.plan.specs.Reader.{kindOf, State, start, pointing, linking, whole, dead, opened, went, pointed, linked, step, run}
 use Rattle.plan.proofs.Spelling.{Spells, spells}
 use Rattle.plan.proofs.Complete.{before-length}
-use Rattle.evalset.proofs.Truth.{both}
 
 pub record PointsSeen (ws : List ℕ) (n m : ℕ) (pts : List ℕ) (low : ℕ) : Type 0 where
   pub few : n ≤ 6
@@ -41,8 +40,8 @@ open-step w (First n c) e = go (leb n 6 && (leb 1 c && leb c (2 ^ n))) refl
   where
     go : (b : Bool) → (leb n 6 && (leb 1 c && leb c (2 ^ n))) ≡ b → Seen (w ∷ []) (cond b (pointing n (c - 1) [] 0) dead)
     go true h =
-        let t = both (leb n 6) (leb 1 c && leb c (2 ^ n)) h in
-        let u = both (leb 1 c) (leb c (2 ^ n)) (t .1) in
+        let t = and-eq-true-iff (leb n 6) (leb 1 c && leb c (2 ^ n)) .0 h in
+        let u = and-eq-true-iff (leb 1 c) (leb c (2 ^ n)) .0 (t .1) in
         let one : 1 ≤ c = leb-true 1 c (u .0) in
         let top : c ≤ 2 ^ n = leb-true c (2 ^ n) (u .1) in
         let cs : c ≡ 0 + suc (c - 1) = omega arith in
@@ -99,7 +98,7 @@ points-step ws n m pts low w (Point e) q s = go (leb low e && ltb (e + m) (2 ^ n
   where
     go : (b : Bool) → (leb low e && ltb (e + m) (2 ^ n)) ≡ b → Seen (ws ++ (w ∷ [])) (cond b (went n m (pts ++ (e ∷ [])) e) dead)
     go true h =
-        let t = both (leb low e) (ltb (e + m) (2 ^ n)) h in
+        let t = and-eq-true-iff (leb low e) (ltb (e + m) (2 ^ n)) .0 h in
         point-step ws n m pts low w e s q (leb-true low e (t .0)) (ltb-true (e + m) (2 ^ n) (t .1))
     go false h = tt
 points-step ws n m pts low w (Contact i j) q s = tt
@@ -119,8 +118,8 @@ links-step ws n pts ks low w (Contact i j) q s = go (leb low key && (ltb i j && 
     go : (b : Bool) → (leb low key && (ltb i j && ltb j (length pts))) ≡ b
         → Seen (ws ++ (w ∷ [])) (cond b (linking n pts (ks ++ (key ∷ [])) (suc key)) dead)
     go true h =
-        let t = both (leb low key) (ltb i j && ltb j (length pts)) h in
-        let u = both (ltb i j) (ltb j (length pts)) (t .1) in
+        let t = and-eq-true-iff (leb low key) (ltb i j && ltb j (length pts)) .0 h in
+        let u = and-eq-true-iff (ltb i j) (ltb j (length pts)) .0 (t .1) in
         let a : low ≤ key = leb-true low key (t .0) in
         let b : i < j = ltb-true i j (u .0) in
         let c : j < length pts = ltb-true j (length pts) (u .1) in

@@ -1,8 +1,9 @@
 -- Rows that hold a square of contacts: a point more is one bit, a contact more is two. Assumes nothing.
 use mathlib.Core.Path.{_≡_, sym, ap, ap₂, _∙_, fun-ext}
-use mathlib.Core.Bool.{Bool, true, _&&_, _||_, or-false}
+use mathlib.Core.Bool.{Bool, true, _&&_, _||_, or-false, and-eq-true-iff}
 use mathlib.Core.List.{List, [], _∷_, _++_}
 use mathlib.Core.Logic.{_⊎_, inl, inr, ⊎-elim}
+use mathlib.Mathlib.Data.Bool.Basic.{and-intro, eq-false-of-not-eq-true, or-inl, or-inr}
 use Prim.Native.Nat.{ℕ, _+_, _*_, _≤_, _<_}
 use native.Mathlib.Omega.{arith}
 use native.Mathlib.Decide.{ℕ-discrete as decEq}
@@ -10,17 +11,16 @@ use lib.Dec.{eqb, ltb}
 use lib.ListN.{length, set, replicate, length-append}
 use borrow.Author.Tests.{eqb-true, eq-eqb, ne-eqb, ltb-true, lt-ltb}
 use Rattle.evalset.specs.declared.EvalSet.{EvalSet}
-use Rattle.evalset.specs.Search.{any}
+use Rattle.lists.specs.Search.{any}
 use Rattle.evalset.specs.Sets.{room, mem, memAt, noneOf, addOf}
-use Rattle.evalset.proofs.Bounded.{each}
 use Rattle.evalset.proofs.Members.{add-in}
 use Rattle.evalset.proofs.Arrays.{empty-rows, mem-at-same, mem-at-other}
 use Rattle.plan.specs.Words.{Plan}
 use Rattle.plan.specs.Floor.{between, touching}
 use Rattle.plan.specs.Arrays.{square}
 use Rattle.plan.specs.Private.{planOf, addAt, joinedOf}
-use Rattle.evalset.proofs.Search.{any-last}
-use Rattle.evalset.proofs.Truth.{both, and-intro, or-cases, or-left, or-right, bool-ext, untrue}
+use Rattle.lists.proofs.Search.{any-last}
+use Rattle.lists.proofs.Truth.{or-cases, bool-ext, each}
 
 -- ---- what a square says
 pub record Related (p : Plan) (a b : ℕ) : Type 0 where
@@ -32,8 +32,8 @@ pub square-elim : (p : Plan) (a b : ℕ) → square p a b ≡ true → Related p
 unfolding square touching
 square-elim p a b e =
     let n = length (p .points) in
-    let u = both (ltb a n && ltb b n) (touching p a b) e in
-    let v = both (ltb a n) (ltb b n) (u .0) in
+    let u = and-eq-true-iff (ltb a n && ltb b n) (touching p a b) .0 e in
+    let v = and-eq-true-iff (ltb a n) (ltb b n) .0 (u .0) in
     record {
       left = ltb-true a n (v .0);
       right = ltb-true b n (v .1);
@@ -44,21 +44,21 @@ pub square-intro : (p : Plan) (a b : ℕ) → Related p a b → square p a b ≡
 unfolding square touching
 square-intro p a b r =
     let n = length (p .points) in
-    and-intro (ltb a n && ltb b n) (touching p a b) (and-intro (ltb a n) (ltb b n) (lt-ltb a n (r .left)) (lt-ltb b n (r .right)))
-    (⊎-elim (λ q. or-left (eqb a b) (any (between a b) (p .contacts)) (eq-eqb a b q))
-    (λ q. or-right (eqb a b) (any (between a b) (p .contacts)) q) (r .how))
+    and-intro (and-intro (lt-ltb a n (r .left)) (lt-ltb b n (r .right)))
+    (⊎-elim (λ q. or-inl (eqb a b) (any (between a b) (p .contacts)) (eq-eqb a b q))
+    (λ q. or-inr (eqb a b) (any (between a b) (p .contacts)) q) (r .how))
 
 -- ---- one position more in a row, one contact more
 add-elim : (t : ℕ → ℕ → Bool) (i j a b : ℕ) → addAt t i j a b ≡ true → (t a b ≡ true) ⊎ ((a ≡ i) × (b ≡ j))
 add-elim t i j a b e =
-    ⊎-elim (λ q. inl q) (λ q. let w = both (eqb a i) (eqb b j) q in inr (eqb-true a i (w .0), eqb-true b j (w .1)))
+    ⊎-elim (λ q. inl q) (λ q. let w = and-eq-true-iff (eqb a i) (eqb b j) .0 q in inr (eqb-true a i (w .0), eqb-true b j (w .1)))
     (or-cases (t a b) (eqb a i && eqb b j) e)
 
 add-old : (t : ℕ → ℕ → Bool) (i j a b : ℕ) → t a b ≡ true → addAt t i j a b ≡ true
-add-old t i j a b e = or-left (t a b) (eqb a i && eqb b j) e
+add-old t i j a b e = or-inl (t a b) (eqb a i && eqb b j) e
 
 add-new : (t : ℕ → ℕ → Bool) (i j a b : ℕ) → a ≡ i → b ≡ j → addAt t i j a b ≡ true
-add-new t i j a b p q = or-right (t a b) (eqb a i && eqb b j) (and-intro (eqb a i) (eqb b j) (eq-eqb a i p) (eq-eqb b j q))
+add-new t i j a b p q = or-inr (t a b) (eqb a i && eqb b j) (and-intro (eq-eqb a i p) (eq-eqb b j q))
 
 module _ (t : ℕ → ℕ → Bool) (i j a b : ℕ) where
   joined-elim : joinedOf t i j a b ≡ true → (t a b ≡ true) ⊎ (((a ≡ i) × (b ≡ j)) ⊎ ((a ≡ j) × (b ≡ i)))
@@ -83,7 +83,7 @@ pub rows-none : (n names : ℕ) (none : EvalSet) → mem none ≡ noneOf → mem
 rows-none n names none h =
     fun-ext (λ a. fun-ext (λ b.
     empty-rows n a b none h
-    ∙ sym (untrue (square (planOf names [] []) a b) (λ e. let l = square-elim (planOf names [] []) a b e .left in omega arith))))
+    ∙ sym (eq-false-of-not-eq-true (λ e. let l = square-elim (planOf names [] []) a b e .left in omega arith))))
 
 pub row-set : (rows : List EvalSet) (i j : ℕ) (v : EvalSet) → i < length rows → j < room → mem v ≡ addOf (memAt rows i) j
     → memAt (set rows i v) ≡ addAt (memAt rows) i j
@@ -154,7 +154,7 @@ module _ (n : ℕ) (pts ks : List ℕ) (i j : ℕ) (later : i < j) (within : j <
             left = r .left;
             right = r .right;
             how = ⊎-elim (λ z. inl z)
-                (λ z. inr (more a b ∙ or-left (any (between a b) ks) (between a b k) z)) (r .how);
+                (λ z. inr (more a b ∙ or-inl (any (between a b) ks) (between a b k) z)) (r .how);
           })
           (λ x. ⊎-elim one other x)
           (joined-elim (square (planOf n pts ks)) i j a b q))
@@ -165,8 +165,8 @@ module _ (n : ℕ) (pts ks : List ℕ) (i j : ℕ) (later : i < j) (within : j <
               record {
                 left = omega (arith, z .0);
                 right = omega (arith, z .1);
-                how = inr (more a b ∙ or-right (any (between a b) ks) (between a b k)
-                    (or-left (eqb k (a * 256 + b)) (eqb k (b * 256 + a)) (eq-eqb k (a * 256 + b) s)));
+                how = inr (more a b ∙ or-inr (any (between a b) ks) (between a b k)
+                    (or-inl (eqb k (a * 256 + b)) (eqb k (b * 256 + a)) (eq-eqb k (a * 256 + b) s)));
               }
 
           other : (a ≡ j) × (b ≡ i) → Related (planOf n pts (ks ++ (k ∷ []))) a b
@@ -175,8 +175,8 @@ module _ (n : ℕ) (pts ks : List ℕ) (i j : ℕ) (later : i < j) (within : j <
               record {
                 left = omega (arith, z .0);
                 right = omega (arith, z .1);
-                how = inr (more a b ∙ or-right (any (between a b) ks) (between a b k)
-                    (or-right (eqb k (a * 256 + b)) (eqb k (b * 256 + a)) (eq-eqb k (b * 256 + a) s)));
+                how = inr (more a b ∙ or-inr (any (between a b) ks) (between a b k)
+                    (or-inr (eqb k (a * 256 + b)) (eqb k (b * 256 + a)) (eq-eqb k (b * 256 + a) s)));
               }
 
       back : (a b : ℕ) → square (planOf n pts (ks ++ (k ∷ []))) a b ≡ true → joinedOf (square (planOf n pts ks)) i j a b ≡ true

@@ -1,7 +1,7 @@
 -- Judging goes along the rules, so the first that is not met decides, and its number is one more than the rules before it.
 -- Assumes nothing.
 use mathlib.Core.Path.{_≡_, refl, sym, ap, ap₂, _∙_, subst}
-use mathlib.Core.Bool.{Bool, true, false, _&&_, cond}
+use mathlib.Core.Bool.{Bool, true, false, _&&_, cond, and-eq-true-iff}
 use mathlib.Core.List.{List, [], _∷_, _++_}
 use Prim.Native.Nat.{ℕ, suc, _+_}
 use native.Mathlib.Omega.{arith}
@@ -9,7 +9,6 @@ use lib.ListN.{length}
 use Rattle.formula.specs.Formula.{Formula}
 use Rattle.contact.specs.Meaning.{Floor, meets, meetsAll}
 use Rattle.plan.specs.Judging.{Judgement, yes, unmet, judgeFrom, judge}
-use Rattle.evalset.proofs.Truth.{both}
 use Rattle.plan.specs.Meant.{FirstUnmet}
 
 module _ {N : Type 0} (F : Floor N) where
@@ -39,7 +38,7 @@ module _ {N : Type 0} (F : Floor N) where
   from-met : (one : ℕ) (rules : List (Formula N)) → meetsAll F rules ≡ true → judgeFrom one F rules ≡ yes
   from-met one [] e = refl
   from-met one (f ∷ rules) e =
-      let t = both (meets F f) (meetsAll F rules) e in
+      let t = and-eq-true-iff (meets F f) (meetsAll F rules) .0 e in
       ap (λ (b : Bool). cond b (judgeFrom (suc one) F rules) (unmet one)) (t .0) ∙ from-met (suc one) rules (t .1)
 
   from-parts : (one : ℕ) (earlier : List (Formula N)) (rule : Formula N) (later : List (Formula N)) → meetsAll F earlier ≡ true
@@ -49,7 +48,7 @@ module _ {N : Type 0} (F : Floor N) where
       let z : one ≡ one + 0 = omega arith in
       ap (λ (b : Bool). cond b (judgeFrom (suc one) F later) (unmet one)) n ∙ ap unmet z
   from-parts one (f ∷ earlier) rule later e n =
-      let t = both (meets F f) (meetsAll F earlier) e in
+      let t = and-eq-true-iff (meets F f) (meetsAll F earlier) .0 e in
       let z : suc one + length earlier ≡ one + suc (length earlier) = omega arith in
       ap (λ (b : Bool). cond b (judgeFrom (suc one) F (earlier ++ (rule ∷ later))) (unmet one)) (t .0)
       ∙ from-parts (suc one) earlier rule later (t .1) n ∙ ap unmet z

@@ -6,9 +6,9 @@ use mathlib.Core.List.{List, [], _∷_, _++_}
 use Prim.Native.Nat.{ℕ, min, _+_, _*_}
 use lib.Dec.{ltb, leb}
 use lib.ListN.{length, getD, take, drop}
-use Rattle.evalset.specs.Search.{any, gather, below}
+use Rattle.lists.specs.Padded.{pad}
+use Rattle.lists.specs.Search.{any, gather, below}
 use Rattle.evalset.specs.Sets.{memAt}
-use Rattle.evalset.specs.Arrays.{pad}
 use Rattle.plan.specs.declared.PlanArrays.{PlanArrays}
 use Rattle.plan.specs.declared.PlanAnswer.{PlanAnswer}
 use Rattle.plan.specs.declared.PlanAnswer.the-variants as answer-is

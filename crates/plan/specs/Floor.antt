@@ -4,15 +4,15 @@
 use mathlib.Core.Path.{_≡_, refl, sym, ap, ap₂, _∙_, fun-ext}
 use mathlib.Core.Bool.{Bool, true, _||_, or-comm}
 use mathlib.Core.List.{List}
+use mathlib.Mathlib.Data.Bool.Basic.{or-inl}
 use Prim.Native.Nat.{ℕ, _*_, _+_, _^_, _<_}
 use native.Mathlib.Decide.{ℕ-discrete as decEq}
 use lib.Dec.{eqb}
 use lib.ListN.{length, getD}
 use borrow.Author.Tests.{eq-eqb, ne-eqb}
 use Rattle.formula.specs.Formula.{Term, Formula, Name}
-use Rattle.evalset.specs.Search.{any}
+use Rattle.lists.specs.Search.{any}
 use Rattle.evalset.specs.Bit.{bit}
-use Rattle.evalset.proofs.Truth.{or-left}
 use Rattle.contact.specs.Meaning.{Floor, renamed}
 use Rattle.contact.specs.Numbering.{numberOf}
 use Rattle.contact.specs.Plan.{at}
@@ -44,7 +44,7 @@ between-comm a b ks =
 
 pub touching-self : (p : Plan) (a : ℕ) → touching p a a ≡ true
 unfolding touching
-touching-self p a = or-left (eqb a a) (any (between a a) (p .contacts)) (eq-eqb a a refl)
+touching-self p a = or-inl (eqb a a) (any (between a a) (p .contacts)) (eq-eqb a a refl)
 
 pub touching-comm : (p : Plan) (a b : ℕ) → touching p a b ≡ touching p b a
 unfolding touching

@@ -6,9 +6,9 @@ use mathlib.Core.List.{List, [], _∷_, _++_, map}
 use Prim.Native.Nat.{ℕ, _+_, _≤_, _<_}
 use lib.Dec.{eqb}
 use lib.ListN.{length, getD, take, drop}
-use Rattle.evalset.specs.Search.{any, below}
+use Rattle.lists.specs.Padded.{pad}
+use Rattle.lists.specs.Search.{any, below}
 use Rattle.evalset.specs.Sets.{room, memAt, meetOf, most}
-use Rattle.evalset.specs.Arrays.{pad}
 use Rattle.plan.specs.declared.PlanArrays.{PlanArrays}
 use Rattle.plan.specs.declared.Phase.the-variants as phase
 use Rattle.plan.specs.declared.Progress.{Progress}

@@ -9,7 +9,7 @@ ghost use Prim.Native.Nat.{ℕ, min, _+_, _*_, _<_, _≤_, _^_};
 ghost use lib.ListN.{length, take};
 ghost use Rattle.evalset.specs.Sets.{most, mem, memAt, addOf};
 ghost use Rattle.evalset.specs.Arrays.{positionsOf};
-ghost use Rattle.plan.specs.Words.{pointWord, contactWord};
+ghost use Rattle.plan.specs.Words.{pointWord};
 ghost use Rattle.plan.specs.Reader.{kindOf, State, step, opened, pointed, linked};
 ghost use Rattle.plan.specs.Arrays.{Stored, Reads, pairOf, rowTo, linksTo, Writes, touchesOf, vacantOf};
 ghost use Rattle.plan.specs.Private.{planOf, joinedOf, Adds, Holds, HeldPoints, HeldLinks, SomePoints, SomeLinks, SomeState, written, Wrote, reachesOf, reachedOf};

@@ -9,10 +9,10 @@ use lib.ListN.{length, getD, length-append}
 use Rattle.formula.specs.Formula.{Name}
 use Rattle.lexer.specs.Text.{bytes}
 use Rattle.evalset.specs.Bit.{bit}
-use Rattle.evalset.specs.Search.{gather, below, orElse}
+use Rattle.lists.specs.Search.{gather, below, orElse}
 use Rattle.plan.specs.Words.{Plan, Rises, IsPlan, before, lastWord, wordsOf}
 use Rattle.plan.proofs.Complete.{before-length}
-use Rattle.evalset.proofs.Search.{gather-few, from-length, below-elim}
+use Rattle.lists.proofs.Search.{gather-few, from-length, below-elim}
 use Rattle.evalset.proofs.Bounded.{gather-small}
 use Rattle.report.specs.Output.{headLine, blanked, nameIf, pointNames, namesOrNone, pointLine, pointLines, contactLine, planText, refusedText}
 use Rattle.report.proofs.Digits.{decimal-few}

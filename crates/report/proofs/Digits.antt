@@ -6,8 +6,8 @@ use Prim.Native.Nat.{ℕ, zero, suc, _+_, _/_, _%_, _^_, _≤_, _<_}
 use native.Mathlib.Omega.{arith}
 use lib.ListN.{length, length-append}
 use borrow.Author.Tests.{lt-ltb, le-ltb}
+use Rattle.lists.proofs.Truth.{side}
 use Rattle.lexer.specs.Text.{byte}
-use Rattle.evalset.proofs.Bounded.{side}
 use Rattle.report.specs.Output.{digits, decimal}
 
 digits-small : (k n : ℕ) → n < 10 → digits (suc k) n ≡ (byte "0" + n % 10) ∷ []

@@ -7,7 +7,7 @@ use native.Mathlib.Omega.{arith}
 use lib.ListN.{length, getD, replicate}
 use Rattle.formula.specs.Formula.{Name}
 use Rattle.evalset.specs.Bit.{bit}
-use Rattle.evalset.specs.Search.{gather, below}
+use Rattle.lists.specs.Search.{gather, below}
 use Rattle.names.specs.Gather.{nameOf, arraysOf, bytesIn, knownOf, Kept}
 use Rattle.names.specs.declared.KeptName.{KeptName}
 use Rattle.names.specs.declared.Names.{Names}

@@ -9,9 +9,9 @@ use lib.ListN.{length, getD, take}
 use lib.Seq.{length-take-le}
 use Rattle.formula.specs.Formula.{Name}
 use Rattle.lexer.specs.Text.{bytes}
-use Rattle.evalset.specs.Search.{gather, below, orElse}
+use Rattle.lists.specs.Search.{gather, below, orElse}
 use Rattle.evalset.specs.Sets.{memAt}
-use Rattle.evalset.proofs.Search.{gather-append}
+use Rattle.lists.proofs.Search.{gather-append}
 use Rattle.plan.specs.Arrays.{pairOf, rowTo, linksTo, planBy}
 use Rattle.plan.specs.declared.PlanArrays.{PlanArrays}
 use Rattle.plan.proofs.Contacts.{pair-there}

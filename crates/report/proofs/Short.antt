@@ -6,6 +6,7 @@ use Prim.Native.Nat.{ℕ, zero, suc, _+_, _≤_, _<_}
 use native.Mathlib.Omega.{arith}
 use native.Mathlib.Decide.{ℕ-discrete}
 use lib.ListN.{length, getD, drop, length-take, List·getD-eq-default}
+use Rattle.lists.proofs.Truth.{side}
 use Rattle.formula.specs.Formula.{Formula, Name}
 use Rattle.formula.specs.Atoms.{atomsOf}
 use Rattle.formula.specs.Names.{atomNames, formulaNames}
@@ -13,9 +14,8 @@ use Rattle.lexer.specs.Arrays.{codeOf}
 use Rattle.lexer.specs.Token.{Token}
 use Rattle.syntax.specs.Rule.{ruleOf, meaningOf}
 use Rattle.syntax.specs.declared.RuleAnswer.the-variants as RuleAnswer
-use Rattle.evalset.specs.Search.{In, gather}
-use Rattle.evalset.proofs.Bounded.{side}
-use Rattle.evalset.proofs.Search.{none-in, uncons, placed, map-elim, any-intro, gather-intro, gather-elim}
+use Rattle.lists.specs.Search.{In, gather}
+use Rattle.lists.proofs.Search.{none-in, uncons, placed, map-elim, any-intro, gather-intro, gather-elim}
 use Rattle.contact.specs.Numbering.{allAtoms, sameName}
 use Rattle.contact.proofs.Naming.{same-name}
 use Rattle.names.specs.Gather.{NameAt, placesOf, ruleTokens}

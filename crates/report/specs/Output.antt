@@ -6,7 +6,7 @@ use lib.Dec.{ltb}
 use lib.ListN.{length, getD}
 use Rattle.formula.specs.Formula.{Formula, Name}
 use Rattle.lexer.specs.Text.{bytes, byte}
-use Rattle.evalset.specs.Search.{gather, below, orElse}
+use Rattle.lists.specs.Search.{gather, below, orElse}
 use Rattle.evalset.specs.Bit.{bit}
 use Rattle.contact.specs.Numbering.{namesOf}
 use Rattle.plan.specs.Words.{Plan}

@@ -9,8 +9,9 @@ use Prim.Native.Nat.{ℕ, _+_, _*_, _≤_, _<_}
 use native.Mathlib.Omega.{arith}
 use lib.ListN.{length, getD, length-map}
 use borrow.Author.Tests.{lt-ltb}
+use Rattle.lists.proofs.Padded.{pad-at}
 use Rattle.formula.specs.Formula.{Atom}
-use Rattle.evalset.specs.Search.{In}
+use Rattle.lists.specs.Search.{In}
 use Rattle.evalset.specs.Sets.{memAt, room}
 use Rattle.contact.specs.Meaning.{Floor}
 use Rattle.contact.specs.Numbering.{AtomBelow}
@@ -25,7 +26,6 @@ use Rattle.search.specs.Rows.{rowBits}
 use Rattle.search.specs.Compiled.{limit, atomAt, Compiled, Fit, StepSays, RealisableSays}
 use Rattle.search.specs.Planned.{marksIn, PlanOf, PlanSays}
 use Rattle.search.proofs.Rows.{row-length, row-true, row-false, marks-last}
-use Rattle.evalset.proofs.Arrays.{pad-at}
 
 -- ---- the state (Fitting)
 

@@ -4,22 +4,22 @@ use mathlib.Core.Bool.{Bool, true, false, not, _&&_, _||_, and-comm, and-true, a
 use mathlib.Core.Path.{_≡_, refl, sym, ap, ap₂, _∙_, subst, fun-ext}
 use mathlib.Core.Logic.{⊎-elim}
 use mathlib.Core.List.{List, [], _∷_, _++_}
+use mathlib.Mathlib.Data.Bool.Basic.{eq-false-of-not-eq-true}
 use Prim.Native.Nat.{ℕ, _^_, _≤_, _<_}
 use native.Mathlib.Omega.{arith}
 use lib.Dec.{ltb}
+use Rattle.lists.proofs.Truth.{side, each}
 use Rattle.formula.specs.Formula.{Term, Atom}
-use Rattle.evalset.specs.Search.{any, all, below}
+use Rattle.lists.specs.Search.{any, all, below}
 use Rattle.evalset.specs.Sets.{most, room, mem, memAt, belowOf, meetOf, minusOf}
-use Rattle.evalset.proofs.Bounded.{side, each}
 use Rattle.evalset.proofs.Members.{names-room, below-few, any-names}
-use Rattle.evalset.proofs.Truth.{untrue}
 use Rattle.contact.specs.Meaning.{partTerm}
 use Rattle.contact.specs.Plan.{at, evaluations, Mark, touching, apart, vacant, inhabited, zeroMark, mark, parts, separated, empties, allowed, fills, partners, leads, witnessed, check}
 use Rattle.contact.proofs.Realise.{allowed-elim, fills-elim, partners-elim, leads-elim, check-elim}
 use Rattle.search.specs.declared.State.{State}
 use Rattle.search.specs.Tests.{crossed, lessOf, partOf, startsOf, witnessedOf}
 use Rattle.search.specs.Compiled.{Stands, AtomIs, Fit, Follows}
-use Rattle.evalset.proofs.Search.{any-last, all-last}
+use Rattle.lists.proofs.Search.{any-last, all-last}
 
 -- ---- what is allowed, and all that is taken from it, is below 2 ^ n
 
@@ -37,10 +37,10 @@ module _ (n : ℕ) (ms : List Mark) where
   leads-low u t p h = fills-low u p (leads-elim n ms u t p h .0)
 
   allowed-out : (e : ℕ) → 2 ^ n ≤ e → allowed n ms e ≡ false
-  allowed-out e l = untrue (allowed n ms e) (λ h. omega (arith, allowed-low e h))
+  allowed-out e l = eq-false-of-not-eq-true (λ h. omega (arith, allowed-low e h))
 
   fills-out : (t : Term ℕ) (e : ℕ) → 2 ^ n ≤ e → fills n ms t e ≡ false
-  fills-out t e l = untrue (fills n ms t e) (λ h. omega (arith, fills-low t e h))
+  fills-out t e l = eq-false-of-not-eq-true (λ h. omega (arith, fills-low t e h))
 
 -- ---- no marks
 

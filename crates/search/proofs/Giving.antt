@@ -6,12 +6,12 @@ use mathlib.Core.Logic.{⊎-elim}
 use mathlib.Core.List.{List, [], _∷_}
 use Prim.Native.Nat.{ℕ, _^_, _≤_, _<_}
 use Rattle.formula.specs.Formula.{Term, Atom}
-use Rattle.evalset.specs.Search.{In, here, any, first, orElse, gather, below, elem}
+use Rattle.lists.specs.Search.{In, here, any, first, orElse, gather, below, elem}
 use Rattle.evalset.specs.Sets.{most, room, mem, memAt, meetOf}
 use Rattle.evalset.proofs.Bounded.{any-at, any-none}
 use Rattle.evalset.proofs.Members.{first-names}
-use Rattle.evalset.proofs.Search.{none-in, uncons, first-in, below-elim, elem-intro, elem-elim, gather-elim, or-else-cases, gather-same}
-use Rattle.evalset.proofs.Truth.{clash}
+use Rattle.lists.proofs.Search.{none-in, uncons, first-in, below-elim, elem-intro, elem-elim, gather-elim, or-else-cases, gather-same}
+use Rattle.lists.proofs.Truth.{clash}
 use Rattle.contact.specs.Meaning.{partTerm}
 use Rattle.contact.specs.Plan.{evaluations, Mark, touching, apart, vacant, inhabited, zeroMark, mark, allowed, fills, partners, leads, withPartner, gives, given}
 use Rattle.search.specs.declared.State.{State}

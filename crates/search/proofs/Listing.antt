@@ -10,13 +10,16 @@ use lib.Dec.{ltb}
 use lib.ListN.{length, getD}
 use borrow.Author.Count.{below-none, below-more}
 use borrow.Author.Tests.{lt-ltb, le-ltb}
+use Rattle.lists.specs.Padded.{pad}
+use Rattle.lists.proofs.Padded.{pad-at}
+use Rattle.lists.proofs.Truth.{side, each}
 use Rattle.evalset.specs.declared.EvalSet.{EvalSet}
-use Rattle.evalset.specs.Search.{keep, below, elem}
+use Rattle.lists.specs.Search.{keep, below, elem}
 use Rattle.evalset.specs.Sets.{most, room, mem, memAt, noneOf, addOf}
-use Rattle.evalset.proofs.Bounded.{side, each, keep-length}
-use Rattle.evalset.proofs.Arrays.{pad-at, positions-none, positions-more}
+use Rattle.evalset.proofs.Bounded.{keep-length}
+use Rattle.evalset.proofs.Arrays.{positions-none, positions-more}
 use Rattle.evalset.proofs.Members.{keep-names}
-use Rattle.evalset.proofs.Search.{placed, keep-elim, below-elim}
+use Rattle.lists.proofs.Search.{placed, keep-elim, below-elim}
 use Rattle.contact.specs.Plan.{Mark, separated, given, pointsFor}
 use Rattle.contact.proofs.Realise.{point-allowed}
 use Rattle.search.specs.declared.State.{State}
@@ -24,7 +27,7 @@ use Rattle.search.specs.declared.RowPlan.{RowPlan}
 use Rattle.search.specs.Tests.{pickOf, rowOf, rowsOf, Filled}
 use Rattle.search.specs.Compiled.{Fit}
 use Rattle.search.specs.Planned.{Positions, PlanOf}
-use Rattle.evalset.specs.Arrays.{pad, positionsOf}
+use Rattle.evalset.specs.Arrays.{positionsOf}
 use Rattle.search.proofs.Fitting.{allowed-low}
 use Rattle.search.proofs.Giving.{given-low}
 

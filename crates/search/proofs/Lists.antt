@@ -4,8 +4,8 @@ use mathlib.Core.Path.{_≡_, ap, _∙_}
 use mathlib.Core.List.{List, [], _∷_, _++_}
 use Prim.Native.Nat.{ℕ}
 use lib.Dec.{eqb}
-use Rattle.evalset.specs.Search.{gather, elem}
-use Rattle.evalset.proofs.Search.{any-append, gather-last}
+use Rattle.lists.specs.Search.{gather, elem}
+use Rattle.lists.proofs.Search.{any-append, gather-last}
 
 pub elem-gather-last : {A : Type 0} (f : A → List ℕ) (xs : List A) (x : A) (e : ℕ)
     → elem e (gather f (xs ++ x ∷ [])) ≡ (elem e (gather f xs) || elem e (f x))

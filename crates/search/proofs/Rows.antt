@@ -9,10 +9,11 @@ use native.Mathlib.Numerals.{add-one}
 use native.Mathlib.Omega.{arith}
 use lib.Dec.{eqb}
 use lib.ListN.{length, getD, take}
-use lib.Seq.{take-suc, take-length, length-take-le}
+use lib.Seq.{take-length, length-take-le}
+use Rattle.lists.proofs.Lists.{take-next}
 use Rattle.formula.specs.Formula.{Atom}
 use Rattle.evalset.specs.Bit.{bit}
-use Rattle.evalset.specs.Search.{In, here, next}
+use Rattle.lists.specs.Search.{In, here, next}
 use Rattle.evalset.proofs.Bits.{bit-zero, bit-suc}
 use Rattle.contact.specs.Row.{Row}
 use Rattle.contact.specs.Plan.{Mark, mark, rowMarks}
@@ -105,7 +106,7 @@ pub marks-take : (atoms : List (Atom ℕ)) (row : Row) (i : ℕ) → i < length 
     → rowMarks atoms (take (i + 1) row) ≡ rowMarks atoms (take i row) ++ mark (atomAt atoms i) (getD row i false) ∷ []
 marks-take atoms row i l n =
     let z : length (take i row) ≡ i = length-take-le i row (omega arith) in
-    ap (λ (j : ℕ). rowMarks atoms (take j row)) (add-one i) ∙ ap (rowMarks atoms) (take-suc row i false l)
+    ap (rowMarks atoms) (take-next row i false l)
     ∙ marks-last atoms (take i row) (getD row i false) (omega arith)
     ∙ ap (λ (j : ℕ). rowMarks atoms (take i row) ++ mark (atomAt atoms j) (getD row i false) ∷ []) z
 

@@ -6,7 +6,7 @@ use mathlib.Core.List.{List, [], _∷_, _++_}
 use Prim.Native.Nat.{ℕ, _-_, _/_, _^_, _≤_, _<_}
 use lib.ListN.{length, getD}
 use Rattle.formula.specs.Formula.{Term, Atom}
-use Rattle.evalset.specs.Search.{all}
+use Rattle.lists.specs.Search.{all}
 use Rattle.evalset.specs.Sets.{room, most, mem, memAt, minusOf}
 use Rattle.contact.specs.Meaning.{partTerm}
 use Rattle.contact.specs.Plan.{at, Mark, mark, rowMarks, separated, allowed, witnessed, check}

@@ -5,11 +5,11 @@ use mathlib.Core.List.{List}
 use Prim.Native.Nat.{ℕ, _≤_, _<_}
 use lib.Dec.{ltb}
 use lib.ListN.{length, getD}
+use Rattle.lists.specs.Padded.{pad}
 use Rattle.formula.specs.Formula.{Atom}
 use Rattle.evalset.specs.declared.EvalSet.{EvalSet}
-use Rattle.evalset.specs.Search.{gather, elem}
+use Rattle.lists.specs.Search.{gather, elem}
 use Rattle.evalset.specs.Sets.{room, mem, memAt}
-use Rattle.evalset.specs.Arrays.{pad}
 use Rattle.contact.specs.Plan.{Mark, rowMarks, separated, gives, given, pointsFor}
 use Rattle.search.specs.declared.Sheet.{Sheet}
 use Rattle.search.specs.declared.State.{State}

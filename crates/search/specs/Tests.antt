@@ -5,7 +5,7 @@ use mathlib.Core.Path.{_≡_}
 use mathlib.Core.List.{List, [], _∷_}
 use Prim.Native.Nat.{ℕ, _≤_, _<_}
 use lib.ListN.{getD}
-use Rattle.evalset.specs.Search.{any, first, gather, below}
+use Rattle.lists.specs.Search.{any, first, gather, below}
 use Rattle.evalset.specs.Sets.{room, noneOf, meetOf, minusOf}
 use Rattle.evalset.specs.Arrays.{positionsOf}
 

@@ -2,11 +2,12 @@
 -- (Numbers.antt), and their code is kept (Coding.antt). Assumes nothing.
 use mathlib.Core.Path.{_≡_, refl, sym, ap, _∙_, subst}
 use mathlib.Core.List.{List, [], _∷_, _++_, map}
-use Prim.Native.Nat.{ℕ, suc, _+_, _*_, _-_, _≤_, _<_}
+use Prim.Native.Nat.{ℕ, suc, _+_, _*_, _≤_, _<_}
 use native.Mathlib.Omega.{arith}
 use native.Mathlib.Numerals.{add-one}
-use lib.ListN.{length, take, set, replicate, length-append, length-map}
-use lib.Seq.{sets, length-sets, take-at, take-suc-set}
+use lib.ListN.{length, take, set, length-append, length-map}
+use lib.Seq.{sets, length-sets, take-suc-set}
+use Rattle.lists.proofs.Padded.{pad-taken}
 use Rattle.formula.specs.Formula.{Atom, Form, Formula, Name}
 use Rattle.formula.specs.Atoms.{atomsOf}
 use Rattle.formula.specs.Names.{formulaNames}
@@ -15,8 +16,8 @@ use Rattle.syntax.specs.Reader.{codes}
 use Rattle.syntax.specs.Rule.{ruleOf}
 use Rattle.syntax.specs.declared.Rule.{Rule}
 use Rattle.syntax.proofs.Claims.{length-codes, text-read}
-use Rattle.evalset.specs.Search.{In}
-use Rattle.evalset.proofs.Search.{in-right}
+use Rattle.lists.specs.Search.{In}
+use Rattle.lists.proofs.Search.{in-right}
 use Rattle.contact.specs.Numbering.{numberOf, allAtoms, namesOf, mapAtom, mapForm, numberForm, numberFrom, numberedNames, numberedAtoms}
 use Rattle.contact.proofs.Numbered.{all-atoms-map, numbered-map, numbers-below}
 use Rattle.names.specs.declared.Gathered.{Gathered}
@@ -126,7 +127,7 @@ module _ (text : List ℕ) (c : Compiling) (code : List ℕ) (rules : List (Form
   numbers-are g used e u =
       let ns = map (numberOf every) (formulaNames f) in
       ap (λ (h : Gathered). take used (h .numbers)) (e ∙ gathered-is)
-      ∙ take-at ns (replicate (256 - length ns) 0) used (length-map (formulaNames f) (numberOf every) ∙ sym u)
+      ∙ pad-taken 256 ns used (length-map (formulaNames f) (numberOf every) ∙ sym u)
 
   fits-after : length (atomsAfter (numberOf every) f (allAtoms (numberedNames rules))) ≤ 16
   fits-after = omega (arith, ap length (atoms-after rules f), atoms-count every, m .room .atoms-fit)

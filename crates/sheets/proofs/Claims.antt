@@ -10,7 +10,7 @@ use lib.ListN.{length, take}
 use Rattle.formula.specs.Formula.{Formula, Name}
 use Rattle.syntax.specs.RuleText.{IsRule}
 use Rattle.syntax.specs.Rule.{meaningOf}
-use Rattle.evalset.proofs.Search.{in-either, uncons, none-in}
+use Rattle.lists.proofs.Search.{in-either, uncons, none-in}
 use Rattle.contact.specs.Numbering.{allAtoms, namesOf, numberedNames, numberedAtoms}
 use Rattle.contact.specs.Plan.{firstRow, firstRowOf}
 use Rattle.solver.specs.declared.RowAnswer.{RowAnswer}

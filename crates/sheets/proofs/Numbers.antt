@@ -8,7 +8,7 @@ use lib.ListN.{length, length-append}
 use Rattle.formula.specs.Formula.{Form, Formula, Name}
 use Rattle.formula.specs.Atoms.{atomsOf}
 use Rattle.formula.specs.Names.{atomNames}
-use Rattle.evalset.proofs.Search.{gather-intro, gather-append}
+use Rattle.lists.proofs.Search.{gather-intro, gather-append}
 use Rattle.contact.specs.Numbering.{allAtoms, mapAtom, mapForm, numberedNames, numberForm, numberFrom, numberedAtoms, numberOf}
 use Rattle.contact.proofs.Renaming.{atom-same, forms-same}
 use Rattle.names.proofs.Claims.{rules-number-stays}

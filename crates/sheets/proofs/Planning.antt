@@ -3,20 +3,18 @@
 use mathlib.Core.Bool.{Bool, not, _&&_, cond}
 use mathlib.Core.Path.{_≡_, refl, ap, ap₂, _∙_}
 use mathlib.Core.List.{List, [], _∷_}
-use Prim.Native.Nat.{ℕ, min, _+_, _*_, _-_, _≤_, _<_}
+use Prim.Native.Nat.{ℕ, min, _+_, _*_, _≤_, _<_}
 use native.Mathlib.Omega.{arith}
 use lib.Dec.{ltb}
-use lib.ListN.{length, getD, take, replicate}
-use lib.Seq.{take-at}
+use lib.ListN.{length, getD, take}
 use borrow.Author.Tests.{lt-ltb}
-use Rattle.evalset.specs.Search.{below}
+use Rattle.lists.proofs.Padded.{pad-at, pad-taken}
+use Rattle.lists.specs.Search.{below}
 use Rattle.evalset.specs.Sets.{room, memAt}
-use Rattle.evalset.proofs.Search.{below-elim, gather-same}
+use Rattle.lists.proofs.Search.{below-elim, gather-same}
 use Rattle.contact.specs.Plan.{Mark, separated, pointsFor}
 use Rattle.search.specs.declared.RowPlan.{RowPlan}
 use Rattle.search.specs.Planned.{PlanOf}
-use Rattle.evalset.specs.Arrays.{pad}
-use Rattle.evalset.proofs.Arrays.{pad-at}
 use Rattle.plan.specs.declared.PlanArrays.{PlanArrays}
 use Rattle.plan.specs.Arrays.{pairOf, rowTo, linksTo, planBy}
 use Rattle.plan.specs.Private.{planOf}
@@ -29,11 +27,6 @@ links-same n s t h =
     gather-same (λ i. rowTo n i (s i)) (λ i. rowTo n i (t i)) (below n)
     (λ i a. gather-same (λ j. pairOf i j (s i)) (λ j. pairOf i j (t i)) (below n)
     (λ j b. ap (λ (x : Bool). cond (ltb i j && x) ((i * 256 + j) ∷ []) []) (h i j (below-elim n i a) (below-elim n j b))))
-
--- a list in the array, read to its length
-pad-taken : (xs : List ℕ) → take (length xs) (pad room xs) ≡ xs
-unfolding pad
-pad-taken xs = take-at xs (replicate (room - length xs) 0) (length xs) refl
 
 -- the plan of a row beside its number of names
 abbrev pub rowArrays : ℕ → RowPlan → PlanArrays
@@ -58,4 +51,4 @@ module _ (names : ℕ) (ms : List Mark) (r : RowPlan) (p : PlanOf names ms r) wh
   plan-given few =
       let n : min (r .count) 64 ≡ length points = omega (arith, p .counted) in
       ap₂ (λ (m : ℕ) (xs : List ℕ). planOf names (take m xs) (linksTo m m (memAt (r .rows)))) n (p .listed)
-      ∙ ap₂ (planOf names) (pad-taken points) (links-same (length points) (memAt (r .rows)) _ touch-same)
+      ∙ ap₂ (planOf names) (pad-taken room points (length points) refl) (links-same (length points) (memAt (r .rows)) _ touch-same)

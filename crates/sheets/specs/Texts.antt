@@ -7,7 +7,7 @@ use lib.ListN.{length, take}
 use Rattle.formula.specs.Formula.{Formula, Name}
 use Rattle.syntax.specs.RuleText.{IsRule}
 use Rattle.syntax.specs.Rule.{meaningOf}
-use Rattle.evalset.specs.Search.{In}
+use Rattle.lists.specs.Search.{In}
 use Rattle.contact.specs.Numbering.{allAtoms, namesOf, numberedNames, numberedAtoms}
 use Rattle.names.specs.Gather.{arraysOf}
 use Rattle.contact.specs.Plan.{firstRowOf}

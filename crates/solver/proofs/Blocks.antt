@@ -11,13 +11,13 @@ use lib.Dec.{eqb, ltb}
 use lib.ListN.{length, getD, replicate, length-append, length-map, List·getD-append, List·getD-eq-default}
 use lib.Seq.{getD-append-add}
 use borrow.Author.Tests.{lt-ltb, le-ltb}
+use Rattle.lists.proofs.Lists.{every-at}
+use Rattle.lists.proofs.Truth.{side}
 use Rattle.formula.specs.Formula.{Form}
 use Rattle.evalset.specs.declared.EvalSet.{EvalSet}
 use Rattle.evalset.specs.Bit.{bit}
 use Rattle.evalset.specs.Sets.{most, mem, meetOf, minusOf, belowOf, shiftOf}
 use Rattle.evalset.proofs.Bits.{bit-none, bit-zero, bit-suc, bit-above}
-use Rattle.evalset.proofs.Bounded.{side}
-use Rattle.evalset.proofs.Arrays.{every-at}
 use Rattle.evalset.proofs.Members.{names-room, below-few}
 use Rattle.contact.specs.Row.{is, unknown}
 use Rattle.contact.specs.Tableau.{refutes}

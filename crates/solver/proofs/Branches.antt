@@ -1,9 +1,10 @@
 -- Each way out of the search gives the first good row under its place: where no row of the block is left, or the check fails, no row
 -- below is good; a whole row that is left and passes is good; and the rows with true next come before those with false.
 -- Assumes nothing.
-use mathlib.Core.Bool.{Bool, true, false, not, _||_, cond}
+use mathlib.Core.Bool.{Bool, true, false, not, _||_, cond, and-eq-true-iff}
 use mathlib.Core.Path.{_≡_, refl, sym, ap, ap₂, _∙_, subst}
 use mathlib.Core.List.{List, [], _∷_, _++_, map, append-assoc, append-nil, map-id}
+use mathlib.Mathlib.Data.Bool.Basic.{and-intro, eq-false-of-not-eq-true}
 use Prim.Native.Nat.{ℕ, suc, _+_, _-_, _*_, _/_, _^_, _≤_, _<_}
 use native.Mathlib.Nat.{pow-suc}
 use native.Mathlib.Numerals.{add-one}
@@ -15,11 +16,10 @@ use lib.Seq.{length-take-le}
 use borrow.Author.Tests.{lt-ltb, not-true}
 use Rattle.formula.specs.Formula.{Atom, Form}
 use Rattle.evalset.specs.declared.EvalSet.{EvalSet}
-use Rattle.evalset.specs.Search.{In, any, first, orElse, below}
+use Rattle.lists.specs.Search.{In, any, first, orElse, below}
 use Rattle.evalset.specs.Sets.{room, most, mem, meetOf, belowOf, shiftOf}
-use Rattle.evalset.proofs.Search.{map-elim, any-elim, none-elim, none-intro, below-intro, first-none, first-append}
-use Rattle.evalset.proofs.Truth.{clash, untrue, both, and-intro}
-use Rattle.evalset.proofs.Bounded.{each}
+use Rattle.lists.proofs.Search.{map-elim, any-elim, none-elim, none-intro, below-intro, first-none, first-append}
+use Rattle.lists.proofs.Truth.{clash, each}
 use Rattle.evalset.proofs.Members.{names-room}
 use Rattle.contact.specs.Numbering.{allAtoms}
 use Rattle.contact.specs.Row.{is, Extends, rulesTrue}
@@ -96,16 +96,16 @@ module _ (code ends : List ℕ) (sheet : Sheet) (s : State) (row k j : ℕ) (unr
   under-empty h = λ atoms rules g f p q.
       let b = rowBits k row in
       sym (none-good (good (sheet .names) atoms rules) b (sheet .atoms - k)
-      (λ ext l. untrue _ (λ t.
+      (λ ext l. eq-false-of-not-eq-true (λ t.
       let w = number j (take j ext) (length-take-le j ext (omega (arith, n .block-fits))) in
-      let true-there = both (rulesTrue rules (b ++ ext)) (check (sheet .names) (rowMarks atoms (b ++ ext))) t .0 in
+      let true-there = and-eq-true-iff (rulesTrue rules (b ++ ext)) (check (sheet .names) (rowMarks atoms (b ++ ext))) .0 t .0 in
       let split : (b ++ take j ext) ++ drop j ext ≡ b ++ ext =
       append-assoc b (take j ext) (drop j ext) ∙ ap (λ (x : List Bool). b ++ x) (take-append-drop j ext) in
       let left-open : refutes rules (map is (b ++ take j ext)) ≡ false =
-      untrue _ (λ r. clash true-there (refutes-sound rules (map is (b ++ take j ext)) r (b ++ ext)
+      eq-false-of-not-eq-true (λ r. clash true-there (refutes-sound rules (map is (b ++ take j ext)) r (b ++ ext)
       (subst (λ (x : List Bool). Extends x (map is (b ++ take j ext))) split (extends-prefix (b ++ take j ext) (drop j ext))))) in
       let is-left : mem unrefuted (w .0) ≡ true =
-      each q (w .0) ∙ and-intro (ltb (w .0) (2 ^ j)) _ (lt-ltb (w .0) (2 ^ j) (w .1))
+      each q (w .0) ∙ and-intro (lt-ltb (w .0) (2 ^ j) (w .1))
       (ap (λ (x : List Bool). not (refutes rules (map is (b ++ x)))) (w .2) ∙ ap not left-open) in
       clash is-left (none-elim (mem unrefuted) h (below-intro room (w .0) (omega (arith, w .1, names-room j (n .few))))))))
 
@@ -117,9 +117,9 @@ module _ (code ends : List ℕ) (sheet : Sheet) (s : State) (row k j : ℕ) (unr
       let fails : check (sheet .names) (rowMarks atoms b) ≡ false =
       sym (h atoms (g .compiled) (omega (arith, n .within, g .compiled .counted)) f p) in
       sym (none-good (good (sheet .names) atoms rules) b (sheet .atoms - k)
-      (λ ext l. untrue _
+      (λ ext l. eq-false-of-not-eq-true
       (λ t. clash
-      (check-prefix (sheet .names) atoms b ext (both (rulesTrue rules (b ++ ext)) (check (sheet .names) (rowMarks atoms (b ++ ext))) t .1))
+      (check-prefix (sheet .names) atoms b ext (and-eq-true-iff (rulesTrue rules (b ++ ext)) (check (sheet .names) (rowMarks atoms (b ++ ext))) .0 t .1))
       fails)))
 
   -- a whole row
@@ -134,7 +134,7 @@ module _ (code ends : List ℕ) (sheet : Sheet) (s : State) (row k j : ℕ) (unr
       let w = any-elim (mem unrefuted) (below room) some in
       let zero-levels : j ≡ 0 = omega (arith, n .block-fits) in
       let left-open : refutes rules (map is (b ++ rowBits j (w .0))) ≡ false =
-      not-true _ (both (ltb (w .0) (2 ^ j)) (not (refutes rules (map is (b ++ rowBits j (w .0))))) (sym (each q (w .0)) ∙ w .2) .1) in
+      not-true _ (and-eq-true-iff (ltb (w .0) (2 ^ j)) (not (refutes rules (map is (b ++ rowBits j (w .0))))) .0 (sym (each q (w .0)) ∙ w .2) .1) in
       let all-open : refutes rules (map is b) ≡ false =
       ap (λ (x : List Bool). refutes rules (map is x)) (sym (append-nil b))
       ∙ ap (λ (m : ℕ). refutes rules (map is (b ++ rowBits m (w .0)))) (sym zero-levels) ∙ left-open in

@@ -7,13 +7,13 @@ use mathlib.Core.List.{List, [], _∷_}
 use Prim.Native.Nat.{ℕ, _≤_, _<_}
 use native.Mathlib.Omega.{arith}
 use lib.ListN.{getD}
+use Rattle.lists.proofs.Truth.{each}
 use Rattle.formula.specs.Formula.{Form}
 use Rattle.formula.specs.Atoms.{atomsOf}
 use Rattle.evalset.specs.declared.EvalSet.{EvalSet}
-use Rattle.evalset.specs.Search.{In}
+use Rattle.lists.specs.Search.{In}
 use Rattle.evalset.specs.Sets.{room, mem, noneOf, joinOf}
-use Rattle.evalset.proofs.Search.{none-in, in-either}
-use Rattle.evalset.proofs.Bounded.{each}
+use Rattle.lists.proofs.Search.{none-in, in-either}
 use Rattle.contact.specs.Numbering.{allAtoms}
 use Rattle.contact.specs.Row.{unknown, PartialRow}
 use Rattle.contact.specs.Tableau.{kleeneValue, refuted, refutes}

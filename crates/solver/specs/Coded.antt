@@ -7,7 +7,7 @@ use lib.ListN.{length, getD, take, drop}
 use Rattle.formula.specs.Formula.{Form}
 use Rattle.formula.specs.Atoms.{atomsOf}
 use Rattle.evalset.specs.declared.EvalSet.{EvalSet}
-use Rattle.evalset.specs.Search.{In}
+use Rattle.lists.specs.Search.{In}
 use Rattle.evalset.specs.Sets.{room, mem}
 use Rattle.contact.specs.Row.{unknown, PartialRow}
 use Rattle.contact.specs.Tableau.{kleeneValue, refuted, refutes}

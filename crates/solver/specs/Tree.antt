@@ -7,7 +7,7 @@ use lib.Dec.{ltb}
 use lib.ListN.{length, getD}
 use Rattle.formula.specs.Formula.{Atom, Form}
 use Rattle.evalset.specs.declared.EvalSet.{EvalSet}
-use Rattle.evalset.specs.Search.{first}
+use Rattle.lists.specs.Search.{first}
 use Rattle.evalset.specs.Sets.{most, mem}
 use Rattle.contact.specs.Row.{is, unknown, PartialRow}
 use Rattle.contact.specs.Plan.{rowMarks, check, good, firstRow}

@@ -5,9 +5,10 @@ use mathlib.Core.Path.{_≡_}
 use mathlib.Core.List.{List}
 use Prim.Native.Nat.{ℕ, _≤_}
 use lib.ListN.{length}
+use Rattle.lists.specs.Padded.{pad}
 use Rattle.formula.specs.Formula.{Formula, Name}
 use Rattle.formula.specs.Names.{formulaNames}
-use Rattle.lexer.specs.Arrays.{pad, tokensOf}
+use Rattle.lexer.specs.Arrays.{tokensOf}
 use Rattle.syntax.specs.Grammar.{Derives}
 use Rattle.syntax.specs.Symbol.{Symbol}
 use Rattle.syntax.specs.Postfix.{postfix, formulaOf, namesIn}
@@ -74,7 +75,7 @@ text-answered-only = answered-only
 
 -- a rule is read with its tokens and the kinds of its formula's order
 pub text-read : (s : List ℕ) (f : Formula Name) (h : IsRule s f)
-    → ruleOf s ≡ record { answer = RuleAnswer.Formula; tokens = tokensOf (h .tokens-of); order = pad (codes (postfix f)); len = length (postfix f) }
+    → ruleOf s ≡ record { answer = RuleAnswer.Formula; tokens = tokensOf (h .tokens-of); order = pad 256 (codes (postfix f)); len = length (postfix f) }
 text-read = rule-read
 
 -- and means that formula

@@ -7,6 +7,7 @@ use native.Mathlib.Omega.{arith}
 use mathlib.Core.Path.{_≡_, refl, sym, ap, _∙_}
 use mathlib.Core.List.{List, [], _∷_, _++_}
 use mathlib.Core.Bool.{Bool, true, false, cond, Bool·beq}
+use mathlib.Mathlib.Data.Bool.Basic.{eq-false-of-not-eq-true}
 use lib.Dec.{eqb}
 use lib.ListN.{length, getD, drop, length-map}
 use Rattle.formula.specs.declared.Sign.{Sign}
@@ -238,10 +239,6 @@ rejected [] true m p K o g a k s c z e = refl
 rejected [] false m p K o g a k s c z e = ap (λ (q : Popped). done (q .stack) (q .order) p) (pop-keep 0 K o k) ∙ e refl refl
 rejected (x ∷ l) t m p K o g a k s c z e = ap (run l (p + 1)) (rejects t m p K o x g a k s c z) ∙ run-dead l (p + 1) p
 
-unlike : (b : Bool) → (b ≡ true → ⊥) → b ≡ false
-unlike true h = absurd (h refl)
-unlike false h = refl
-
 -- a symbol that begins no term, and a formula at most where none may stand
 abbrev pub NoTerm : ℕ → Bool → Type 0
 NoTerm c w = (c ≡ 6 → ⊥) × (c ≡ 8 → ⊥) × (16 ≤ c → 19 ≤ c) × (w ≡ true → (c ≡ 7 → ⊥) × (12 ≤ c → 16 ≤ c))
@@ -251,16 +248,16 @@ no-term-step p K o (leaf Leaf.zero) h = absurd (let y : 19 ≤ 16 = h .2 (omega 
 no-term-step p K o (leaf Leaf.one) h = absurd (let y : 19 ≤ 17 = h .2 (omega arith) in let z : ⊥ = omega arith in z)
 no-term-step p K o (leaf (Leaf.name b)) h = absurd (let y : 19 ≤ 18 = h .2 (omega arith) in let z : ⊥ = omega arith in z)
 no-term-step p K o minus h = absurd (h .0 refl)
-no-term-step p K o tilde h = ap (λ (b : Bool). guard b (want (afterTilde ∷ K) o) p) (unlike (allow K) (λ w. h .3 w .0 refl))
+no-term-step p K o tilde h = ap (λ (b : Bool). guard b (want (afterTilde ∷ K) o) p) (eq-false-of-not-eq-true (λ w. h .3 w .0 refl))
 no-term-step p K o opening h = absurd (h .1 refl)
 no-term-step p K o closing h = refl
 no-term-step p K o comma h = refl
 no-term-step p K o isZero h = refl
 no-term-step p K o (binary b) h = refl
-no-term-step p K o (constant true) h = ap (λ (b : Bool). guard b (have false K (o ++ constant true ∷ [])) p) (unlike (allow K) (λ w. let y : 16 ≤ 12 = h .3 w .1 (omega arith) in omega arith))
-no-term-step p K o (constant false) h = ap (λ (b : Bool). guard b (have false K (o ++ constant false ∷ [])) p) (unlike (allow K) (λ w. let y : 16 ≤ 13 = h .3 w .1 (omega arith) in omega arith))
-no-term-step p K o (relation contact) h = ap (λ (b : Bool). guard b (call contact K o) p) (unlike (allow K) (λ w. let y : 16 ≤ 14 = h .3 w .1 (omega arith) in omega arith))
-no-term-step p K o (relation part) h = ap (λ (b : Bool). guard b (call part K o) p) (unlike (allow K) (λ w. let y : 16 ≤ 15 = h .3 w .1 (omega arith) in omega arith))
+no-term-step p K o (constant true) h = ap (λ (b : Bool). guard b (have false K (o ++ constant true ∷ [])) p) (eq-false-of-not-eq-true (λ w. let y : 16 ≤ 12 = h .3 w .1 (omega arith) in omega arith))
+no-term-step p K o (constant false) h = ap (λ (b : Bool). guard b (have false K (o ++ constant false ∷ [])) p) (eq-false-of-not-eq-true (λ w. let y : 16 ≤ 13 = h .3 w .1 (omega arith) in omega arith))
+no-term-step p K o (relation contact) h = ap (λ (b : Bool). guard b (call contact K o) p) (eq-false-of-not-eq-true (λ w. let y : 16 ≤ 14 = h .3 w .1 (omega arith) in omega arith))
+no-term-step p K o (relation part) h = ap (λ (b : Bool). guard b (call part K o) p) (eq-false-of-not-eq-true (λ w. let y : 16 ≤ 15 = h .3 w .1 (omega arith) in omega arith))
 
 pub no-term : (l : List Sym) (p : ℕ) (K : List Frame) (o : List Sym) → NoTerm (kindOn l) (allow K) → run l p (want K o) ≡ refused p
 unfolding run

@@ -8,6 +8,7 @@ use mathlib.Core.Bool.{Bool, true, false, not, cond, true≢false, Bool·beq}
 use lib.Dec.{eqb, ltb}
 use lib.ListN.{length, drop, set, replicate, length-drop, drop-of-length-le, List·getD-eq-default}
 use borrow.Author.Tests.{eqb-true, eqb-false, ltb-true, ltb-false}
+use Rattle.lists.proofs.Padded.{pad-none}
 use Rattle.formula.specs.declared.Sign.{Sign}
 use Rattle.formula.specs.Sign.{joinsTerms}
 use Rattle.formula.specs.Formula.{Name}
@@ -465,7 +466,7 @@ module _ (ks : List ℕ) (a n : ℕ) (q : RelationAsked ks a n) where
 module _ (ks : List ℕ) (A : List ℕ) (x : Read) (B : List ℕ) (s : Said ks 0 0 true 0 A x B) where
   whole : (y : Read) → x ≡ y → (xs : List Sym) → codes xs ≡ ks → A ≡ replicate 256 0 → EndsAs xs (reading xs) [] y B
   unfolding reading codes
-  whole y v xs e h = subst (λ (z : Read). EndsAs xs (reading xs) [] z B) v (s .says xs e [] refl (omega arith) [] (h, refl))
+  whole y v xs e h = subst (λ (z : Read). EndsAs xs (reading xs) [] z B) v (s .says xs e [] refl (omega arith) [] (h ∙ pad-none 256, refl))
 
   stops-whole : (t : Bool) (p n : ℕ) → x ≡ Value t p n → goesAt t (kindAt ks p) ≤ 0
   stops-whole t p n v = subst (StopsBelow ks 0) v (s .stops)

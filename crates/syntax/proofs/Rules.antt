@@ -1,19 +1,19 @@
 -- From the reading of the tokens to the rule that is answered: the arrays hold the text's tokens, so the kinds that are read
 -- are those of its symbols, and a refused token's place is where it starts. Assumes nothing.
 use mathlib.Core.Path.{_≡_, refl, sym, ap, ap₂, subst, _∙_}
-use mathlib.Core.Bool.{Bool, true, false}
-use lib.Dec.{ltb}
-use borrow.Author.Tests.{ltb-true, ltb-false}
-use mathlib.Core.Logic.{_⊎_, inl, inr, ⊎-elim}
+use mathlib.Core.Bool.{Bool}
+use mathlib.Core.Logic.{⊎-elim}
 use mathlib.Core.List.{List, [], _∷_, map}
-use Prim.Native.Nat.{ℕ, _-_, _≤_, _<_}
+use Prim.Native.Nat.{ℕ, _≤_, _<_}
 use native.Mathlib.Omega.{arith}
 use lib.ListN.{length, getD, take, replicate, length-map, List·getD-map, List·getD-eq-default}
-use lib.Seq.{take-at}
+use Rattle.lists.proofs.Truth.{side}
+use Rattle.lists.proofs.Padded.{pad-taken}
+use Rattle.lists.specs.Padded.{pad}
 use Rattle.lexer.specs.Token.{Token, bytesOf}
 use Rattle.lexer.specs.Cutting.{Cutting, tokens, refused as refusedCut}
 use Rattle.lexer.specs.Cutter.{cutting}
-use Rattle.lexer.specs.Arrays.{codeOf, pad, tokensOf, lexedOf, lexed}
+use Rattle.lexer.specs.Arrays.{codeOf, tokensOf, lexedOf, lexed}
 use Rattle.lexer.specs.declared.LexAnswer.{LexAnswer}
 use Rattle.lexer.specs.declared.LexAnswer.the-variants as LexAnswer
 use Rattle.lexer.specs.declared.Lexed.{Lexed}
@@ -66,7 +66,7 @@ pub kinds-read : (s : List ℕ) (ts : List Token) (t : Tokens) → t ≡ tokensO
 unfolding tokensOf
 kinds-read s ts t e =
     codes-symbols s ts
-    ∙ sym (take-at (map (λ (x : Token). codeOf (x .kind)) ts) (replicate (256 - length (map (λ (x : Token). codeOf (x .kind)) ts)) 0) (length ts) (length-map ts (λ (x : Token). codeOf (x .kind))))
+    ∙ sym (pad-taken 256 (map (λ (x : Token). codeOf (x .kind)) ts) (length ts) (length-map ts (λ (x : Token). codeOf (x .kind))))
     ∙ ap (λ (x : Tokens). take (x .n) (x .kinds)) (sym e)
 
 -- ---- places
@@ -90,7 +90,7 @@ module _ (s : List ℕ) (ts : List Token) (t : Tokens) (e : t ≡ tokensOf ts) (
 
 pub empty-rule : (a : RuleAnswer) (k s l o : List ℕ) → k ≡ replicate 256 0 → s ≡ replicate 256 0 → l ≡ replicate 256 0 → o ≡ replicate 256 0
     → _≡_ {A = Rule} (record { answer = a; tokens = record { kinds = k; starts = s; lens = l; n = 0 }; order = o; len = 0 }) (refusalOf a)
-unfolding refusalOf tokensOf
+unfolding refusalOf tokensOf pad
 empty-rule a k s l o e f g h = cc
 
 module _ (s : List ℕ) (ts : List Token) (t : Tokens) (e : t ≡ tokensOf ts) (r : Read) (B : List ℕ) (parsed : Parsed (symbolsOf s ts) r B) where
@@ -100,7 +100,7 @@ module _ (s : List ℕ) (ts : List Token) (t : Tokens) (e : t ≡ tokensOf ts) (
       let h : Parsed (symbolsOf s ts) (Value u p n) B = subst (λ (x : Read). Parsed (symbolsOf s ts) x B) f parsed in
       let o : List Sym = h .0 in
       let m : n ≡ length o = sym (h .1 .1) in
-      let q : B ≡ pad (codes o) = h .1 .0 in
+      let q : B ≡ pad 256 (codes o) = h .1 .0 in
       (cc) ∙ sym (ap (readTokens s ts) (h .2))
 
   pub read-refused : (i p : ℕ) → r ≡ Refused i → p ≡ placeOf s ts i → refusalOf (RuleAnswer.GrammarAt p) ≡ readTokens s ts (reading (symbolsOf s ts))
@@ -119,13 +119,6 @@ unfolding tokensOf
 cut-few s h (tokens ts) e = omega (arith, at-most s ts e)
 cut-few s h (refusedCut a) e = omega arith
 
-pub short-or-long : (n : ℕ) → (n ≤ 256) ⊎ (256 < n)
-short-or-long n = go (ltb 256 n) refl
-  where
-    go : (b : Bool) → ltb 256 n ≡ b → (n ≤ 256) ⊎ (256 < n)
-    go true e = inr (ltb-true 256 n e)
-    go false e = inl (ltb-false 256 n e)
-
 module _ (s : List ℕ) (l : Lexed) (e : l ≡ lexed s) where
   pub rule-by : (a : LexAnswer) → l .answer ≡ a → ruleOf s ≡ byAnswer a s (tokensIn (cutting s))
   unfolding ruleOf
@@ -133,7 +126,7 @@ module _ (s : List ℕ) (l : Lexed) (e : l ≡ lexed s) where
 
   pub few-tokens : l .tokens .n ≤ 256
   unfolding tokensOf
-  few-tokens = subst (λ (x : Lexed). x .tokens .n ≤ 256) (sym e) (⊎-elim short long (short-or-long (length s)))
+  few-tokens = subst (λ (x : Lexed). x .tokens .n ≤ 256) (sym e) (⊎-elim long short (side 256 (length s)))
     where
       short : length s ≤ 256 → lexed s .tokens .n ≤ 256
       short h = rw (lexed-cutting s h) (cut-few s h (cutting s) refl)
@@ -142,7 +135,7 @@ module _ (s : List ℕ) (l : Lexed) (e : l ≡ lexed s) where
       long h = rw (lexed-too-long s h) (omega arith)
 
   pub arrays-of : l .answer ≡ LexAnswer.Tokens → l .tokens ≡ tokensOf (tokensIn (cutting s))
-  arrays-of h = ap (λ (x : Lexed). x .tokens) e ∙ ⊎-elim short long (short-or-long (length s))
+  arrays-of h = ap (λ (x : Lexed). x .tokens) e ∙ ⊎-elim long short (side 256 (length s))
     where
       short : length s ≤ 256 → lexed s .tokens ≡ tokensOf (tokensIn (cutting s))
       short k = ap (λ (x : Lexed). x .tokens) (lexed-cutting s k) ∙ cut-arrays (cutting s)

@@ -8,6 +8,7 @@ use mathlib.Core.List.{List, [], _∷_, _++_, append-assoc, append-nil}
 use mathlib.Core.Bool.{Bool, true, false, true≢false, Bool·beq}
 use lib.Dec.{ltb}
 use borrow.Author.Tests.{ltb-true, ltb-false}
+use Rattle.lists.proofs.Truth.{beq-same}
 use Rattle.formula.specs.declared.Sign.{Sign}
 use Rattle.formula.specs.declared.Sign.the-variants.{Implies, Iff, Or, And, Plus, Times}
 use Rattle.formula.specs.Sign.{joinsTerms}
@@ -359,15 +360,9 @@ rank-tightest And = omega arith
 rank-tightest Plus = omega arith
 rank-tightest Times = omega arith
 
-same-is : (s b : Bool) → Bool·beq s b ≡ true → s ≡ b
-same-is true true h = refl
-same-is true false h = sym h
-same-is false true h = h
-same-is false false h = refl
-
 binary-stands : (s : Bool) (b : Sign) (K : List Frame) (o : List Sym) (i : ℕ) (all : List Sym) → Holding s K o all → Stands (step (have s K o) (binary b) i) (all ++ binary b ∷ [])
 binary-stands s b K o i all v = guard-stands (Bool·beq s (joinsTerms b)) (join b (pop (rankOf b) K o)) i (all ++ binary b ∷ []) (λ e.
-    join-stands b (pop (rankOf b) K o) all (popped (joinsTerms b) (rankOf b) K o all (rank-loosest b) (rank-tightest b) (subst (λ (z : Bool). Holding z K o all) (same-is s (joinsTerms b) e) v)))
+    join-stands b (pop (rankOf b) K o) all (popped (joinsTerms b) (rankOf b) K o all (rank-loosest b) (rank-tightest b) (subst (λ (z : Bool). Holding z K o all) (beq-same s (joinsTerms b) e) v)))
 
 loosest-tightest : (s : Bool) → loosest s ≤ tightestRank s
 loosest-tightest true = omega arith

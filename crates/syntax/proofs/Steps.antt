@@ -9,9 +9,9 @@ use mathlib.Core.Bool.{Bool, true, false, not, cond, true≢false}
 use lib.Dec.{eqb}
 use lib.ListN.{length, drop, set, length-append}
 use borrow.Author.Tests.{eqb-true, eqb-false, ne-eqb}
+use Rattle.lists.proofs.Padded.{pad-set}
+use Rattle.lists.specs.Padded.{pad}
 use Rattle.formula.specs.declared.Sign.the-variants.{Implies, Iff, Or, And, Plus, Times}
-use Rattle.lexer.specs.Arrays.{pad}
-use Rattle.lexer.proofs.Filling.{pad-set}
 use Rattle.syntax.specs.Symbol.{Relation, isZero, relation}
 use Rattle.syntax.specs.Machine.{Sym, Frame, inParenthesis, afterMinus, afterTilde, afterBinary, firstOf, secondOf, need, signOf, allow, loosest, want, have, dead, Popped, guard, shut, close, zeroed, parted, Result, refused, run}
 use Rattle.syntax.specs.Reader.{code, codes, kindAt, top, goesOn, bindingOf, goesAt, Holds, EndsAs, StopsBelow, Sorted, Within, Inside, Room, expectedOf, endedOf, endedIn, relatedOf, relatedIn, zeroedOf, zeroedIn, startOf}
@@ -27,8 +27,8 @@ pub holds-one : (A : List ℕ) (n : ℕ) (o : List Sym) (x : Sym) → Holds A n 
 unfolding codes
 holds-one A n o x h l = (
   ap (λ (B : List ℕ). set B n (code x)) (h .0)
-      ∙ pad-set (codes o) n (code x) (length-codes o ∙ h .1) l
-      ∙ ap pad (sym (map-append code o (x ∷ []))),
+      ∙ pad-set 256 (codes o) n (code x) (length-codes o ∙ h .1) l
+      ∙ ap (pad 256) (sym (map-append code o (x ∷ []))),
   let e : length o ≡ n = h .1 in simp length-append (omega arith),
 )
 

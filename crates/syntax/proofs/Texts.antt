@@ -6,10 +6,12 @@ use mathlib.Core.List.{List, [], _∷_}
 use Prim.Native.Nat.{ℕ, _≤_, _<_}
 use native.Mathlib.Omega.{arith}
 use lib.ListN.{length}
+use Rattle.lists.proofs.Truth.{side}
+use Rattle.lists.specs.Padded.{pad}
 use Rattle.lexer.specs.Token.{Token}
 use Rattle.lexer.specs.Cutting.{Cutting, tokens, refused, first, Cut, end, blank, run, longName, sign, measuredSign, noSign, foreign}
 use Rattle.lexer.specs.Cutter.{cutting}
-use Rattle.lexer.specs.Arrays.{pad, tokensOf, lexedOf}
+use Rattle.lexer.specs.Arrays.{tokensOf, lexedOf}
 use Rattle.lexer.specs.declared.LexAnswer.{LexAnswer}
 use Rattle.lexer.specs.declared.LexAnswer.the-variants as LexAnswer
 use Rattle.lexer.specs.declared.Lexed.{Lexed}
@@ -27,7 +29,6 @@ use Rattle.syntax.specs.declared.Rule.{Rule}
 use Rattle.syntax.proofs.Sound.{sound}
 use Rattle.syntax.proofs.Complete.{complete}
 use Rattle.syntax.proofs.Exact.{exact, exact-only}
-use Rattle.syntax.proofs.Rules.{short-or-long}
 use Rattle.syntax.proofs.Unique.{formula-back}
 
 -- ---- the rule of a text, by its cut
@@ -97,7 +98,7 @@ of-cut s short (refused (LexAnswer.Measured i)) c h = measured short c
 
 pub answered : (s : List ℕ) → Answers s (ruleOf s .answer)
 unfolding refusalOf
-answered s = ⊎-elim short long (short-or-long (length s))
+answered s = ⊎-elim long short (side 256 (length s))
   where
     short : length s ≤ 256 → Answers s (ruleOf s .answer)
     short h =
@@ -115,7 +116,7 @@ by-cut s short r c = rule-cut s short r (sym (meant-is-computed s r c))
 
 -- a rule is read, with its tokens and its formula's order
 pub rule-read : (s : List ℕ) (f : Formula Name) (h : IsRule s f)
-    → ruleOf s ≡ record { answer = RuleAnswer.Formula; tokens = tokensOf (h .tokens-of); order = pad (codes (postfix f)); len = length (postfix f) }
+    → ruleOf s ≡ record { answer = RuleAnswer.Formula; tokens = tokensOf (h .tokens-of); order = pad 256 (codes (postfix f)); len = length (postfix f) }
 rule-read s f h =
     let e : ruleOf s ≡ byAnswer (lexedOf (tokens (h .tokens-of)) .answer) s (h .tokens-of) = by-cut s (h .short) (tokens (h .tokens-of)) (h .cut) in
     e ∙ some (h .tokens-of) (h .derived) ∙ ap (readTokens s (h .tokens-of)) (complete (symbolsOf s (h .tokens-of)) f (h .derived))

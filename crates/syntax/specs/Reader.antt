@@ -6,8 +6,9 @@ use mathlib.Core.Path.{_≡_}
 use Prim.Native.Nat.{ℕ, _+_, _≤_, _<_}
 use lib.Dec.{eqb, ltb}
 use lib.ListN.{length, getD, drop, set, replicate}
+use Rattle.lists.specs.Padded.{pad}
 use Rattle.formula.specs.declared.Sign.the-variants.{Implies, Iff, Or, And, Plus, Times}
-use Rattle.lexer.specs.Arrays.{codeOf, pad}
+use Rattle.lexer.specs.Arrays.{codeOf}
 use Rattle.syntax.specs.Symbol.{Relation, kindOf, leaf, minus, tilde, opening, closing, comma, isZero, binary, constant, relation}
 use Rattle.syntax.specs.Machine.{Sym, Frame, inParenthesis, need, allow, want, have, call, Result, accepted, refused, run, reading}
 use Rattle.syntax.specs.declared.Read.{Read}
@@ -79,7 +80,7 @@ goesAt t c = cond (eqb c 10) (cond t 4 0) (bindingOf t c)
 
 -- the array holds the kinds of the order o and zeros
 abbrev pub Holds : List ℕ → ℕ → List Sym → Type 0
-Holds A n o = (A ≡ pad (codes o)) × (length o ≡ n)
+Holds A n o = (A ≡ pad 256 (codes o)) × (length o ≡ n)
 
 -- the run ends as one from the place of the answer on, where the frames K wait
 abbrev pub EndsAs : List Sym → Result → List Frame → Read → List ℕ → Type 0

@@ -2,10 +2,11 @@
 use mathlib.Core.List.{List, []}
 use Prim.Native.Nat.{ℕ}
 use lib.ListN.{length, replicate}
+use Rattle.lists.specs.Padded.{pad}
 use Rattle.lexer.specs.Token.{Token}
 use Rattle.lexer.specs.Cutting.{Cutting, tokens, refused}
 use Rattle.lexer.specs.Cutter.{cutting}
-use Rattle.lexer.specs.Arrays.{pad, tokensOf, lexed}
+use Rattle.lexer.specs.Arrays.{tokensOf, lexed}
 use Rattle.lexer.specs.declared.LexAnswer.{LexAnswer}
 use Rattle.lexer.specs.declared.LexAnswer.the-variants as LexAnswer
 use Rattle.syntax.specs.Machine.{Result, accepted, refused as refusedAt, reading}
@@ -24,7 +25,7 @@ refusalOf a = record { answer = a; tokens = tokensOf []; order = replicate 256 0
 -- the formula's order in an array, what is past it 0; or refusal 6 at the token's place
 abbrev pub readTokens : List ℕ → List Token → Result → Rule
 readTokens s ts (accepted o) =
-    record { answer = RuleAnswer.Formula; tokens = tokensOf ts; order = pad (codes o); len = length o }
+    record { answer = RuleAnswer.Formula; tokens = tokensOf ts; order = pad 256 (codes o); len = length o }
 readTokens s ts (refusedAt i) = refusalOf (RuleAnswer.GrammarAt (placeOf s ts i))
 
 abbrev pub tokensIn : Cutting → List Token

@@ -1,15 +1,15 @@
 -- The atoms of a rule are found in its formula's postfix order: each C, <= and =0 stands in it once, and no other kind of token is an
 -- atom's sign. Assumes nothing.
-use Prim.Native.Nat.{ℕ, suc, _+_, _-_, _≤_}
-use mathlib.Core.Path.{_≡_, refl, sym, ap, ap₂, _∙_}
+use Prim.Native.Nat.{ℕ, suc, _+_, _≤_}
+use mathlib.Core.Path.{_≡_, refl, sym, ap, _∙_}
 use mathlib.Core.Bool.{Bool, true, false, cond}
 use mathlib.Core.List.{List, [], _∷_, _++_, map-append}
 use native.Mathlib.Omega.{arith}
-use lib.ListN.{length, take, replicate, length-append}
-use lib.Seq.{take-at}
+use lib.ListN.{length, take, length-append}
+use Rattle.lists.proofs.Padded.{pad-within}
+use Rattle.compile.proofs.Claims.{order-read}
 use Rattle.formula.specs.Formula.{Term, Atom, Form, Formula, Name}
 use Rattle.formula.specs.Atoms.{atomsOf}
-use Rattle.lexer.specs.Arrays.{pad}
 use Rattle.syntax.specs.Symbol.{relation, contact, part, isZero}
 use Rattle.syntax.specs.Postfix.{termAfter, formulaAfter, postfix}
 use Rattle.syntax.specs.Machine.{Sym}
@@ -95,25 +95,12 @@ order-count f = omega (arith, formula-count f [])
 
 -- ---- of a rule that was read
 
-rule-order : (s : Text) → ruleOf s .answer ≡ RuleAnswer.Formula
-    → (ruleOf s .order ≡ pad (codes (postfix (meaningOf s)))) × (ruleOf s .len ≡ length (postfix (meaningOf s)))
-rule-order s e =
-    let r = text-read s (meaningOf s) (is-rule s e) in
-    (ap (λ (x : Rule). x .order) r, ap (λ (x : Rule). x .len) r)
-
 pub rule-atoms : (s : Text) → ruleOf s .answer ≡ RuleAnswer.Formula → atomPlaces (take (ruleOf s .len) (ruleOf s .order)) ≡ length (atomsOf (meaningOf s))
-rule-atoms s e =
-    let r = rule-order s e in
-    let o = postfix (meaningOf s) in
-    ap₂ (λ (n : ℕ) (l : List ℕ). atomPlaces (take n l)) (r .1) (r .0)
-    ∙ ap atomPlaces (take-at (codes o) (replicate (256 - length (codes o)) 0) (length o) (length-codes o))
-    ∙ order-count (meaningOf s)
+rule-atoms s e = ap atomPlaces (order-read s (meaningOf s) (is-rule s e)) ∙ order-count (meaningOf s)
 
 -- its length is within the array
 pub read-within : (rule : Rule) → WasRead rule → rule .len ≤ length (rule .order)
 read-within rule w =
-    let r = rule-order (w .text) (w .formula) in
-    let o = postfix (meaningOf (w .text)) in
-    let a : rule .len ≡ length o = ap (λ (x : Rule). x .len) (w .read) ∙ r .1 in
-    let b : length (rule .order) ≡ length (codes o) + length (replicate {A = ℕ} (256 - length (codes o)) 0) = ap (λ (x : Rule). length (x .order)) (w .read) ∙ ap length (r .0) ∙ length-append (codes o) (replicate (256 - length (codes o)) 0) in
-    omega (arith, length-codes o)
+    let f = meaningOf (w .text) in
+    let e = w .read ∙ text-read (w .text) f (is-rule (w .text) (w .formula)) in
+    omega (arith, ap (λ (x : Rule). x .len) e, ap (λ (x : Rule). length (x .order)) e, length-codes (postfix f), pad-within 256 (codes (postfix f)))

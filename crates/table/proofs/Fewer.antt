@@ -1,18 +1,18 @@
 -- Rules that are all among others have no more different names and no more atoms: the different names of a list are each there
 -- once, and what is there once and among others is no longer than they are. Assumes nothing.
-use Prim.Native.Nat.{ℕ, zero, suc, _≤_}
+use Prim.Native.Nat.{suc, _≤_}
 use mathlib.Core.Bool.{Bool, true, false, not, cond}
 use mathlib.Core.Path.{_≡_, refl, ap, subst}
 use mathlib.Core.Logic.{⊎-elim}
 use mathlib.Core.List.{List, [], _∷_}
 use native.Mathlib.Omega.{arith}
-use lib.ListN.{length, take, drop}
+use lib.ListN.{length}
 use Rattle.formula.specs.Formula.{Formula, Name}
 use Rattle.formula.specs.Atoms.{atomsOf}
 use Rattle.formula.specs.Names.{atomNames}
-use Rattle.evalset.specs.Search.{In, here, next, keep, gather}
-use Rattle.evalset.proofs.Search.{none-in, uncons, at-head, keep-elim, gather-intro, gather-elim}
-use Rattle.evalset.proofs.Truth.{clash}
+use Rattle.lists.specs.Search.{In, here, next, keep, gather}
+use Rattle.lists.proofs.Search.{uncons, at-head, keep-elim, gather-intro, gather-elim}
+use Rattle.lists.proofs.Truth.{clash}
 use Rattle.contact.specs.Numbering.{allAtoms, distinct, sameName, namesOf}
 use Rattle.contact.proofs.Naming.{Decides, distinct-in, same-name}
 use Rattle.names.proofs.Distinct.{from-distinct}
@@ -51,17 +51,6 @@ module _ {A : Type 0} where
       go : (b : Bool) → Once (keep p xs) → Once (cond b (x ∷ keep p xs) (keep p xs))
       go true r = (λ i. d .0 (keep-elim p xs i .0), r)
       go false r = r
-
-  -- a part of a list
-  pub in-take : (n : ℕ) (xs : List A) {z : A} → In z (take n xs) → In z xs
-  in-take zero xs i = none-in i
-  in-take (suc n) [] i = i
-  in-take (suc n) (x ∷ xs) i = ⊎-elim (λ e. at-head e) (λ k. next (in-take n xs k)) (uncons i)
-
-  pub in-drop : (n : ℕ) (xs : List A) {z : A} → In z (drop n xs) → In z xs
-  in-drop zero xs i = i
-  in-drop (suc n) [] i = i
-  in-drop (suc n) (x ∷ xs) i = next (in-drop n xs i)
 
 module _ {N : Type 0} (same : N → N → Bool) (decides : Decides same) where
   distinct-once : (xs : List N) → Once (distinct same xs)

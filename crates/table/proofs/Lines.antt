@@ -1,11 +1,11 @@
 -- What a table from us holds, by its number of rules and by line, and a line put last: its lines are those of its texts, then empty ones. Assumes nothing.
-use Prim.Native.Nat.{ℕ, zero, suc, _+_, _-_, _<_}
-use mathlib.Core.Path.{_≡_, refl, sym, ap, _∙_}
+use Prim.Native.Nat.{ℕ, suc, _+_, _-_, _<_}
+use mathlib.Core.Path.{_≡_, sym, ap, _∙_}
 use mathlib.Core.List.{List, [], _∷_, _++_, map, map-append}
 use native.Mathlib.Omega.{arith}
-use lib.ListN.{length, take, drop, getD, set, replicate, length-map, List·getD-append, length-append}
+use lib.ListN.{length, getD, set, replicate, length-map, List·getD-append, length-append}
 use lib.Seq.{set-at, append-snoc}
-use Rattle.lexer.proofs.Lists.{map-at}
+use Rattle.lists.proofs.Lists.{map-at}
 use Rattle.table.specs.declared.Line.{Line}
 use Rattle.table.specs.declared.Table.{Table}
 use Rattle.table.specs.Store.{Text, tableOf, rulesOf, lineOf}
@@ -50,17 +50,6 @@ module _ {A : Type 0} where
       ap (λ (j : ℕ). set (p ++ replicate j z) n a) f
       ∙ set-at p z (replicate (k - 1) z) a n e
       ∙ sym (append-snoc p a (replicate (k - 1) z))
-
-module _ {A B : Type 0} (f : A → B) where
-  pub map-take : (n : ℕ) (l : List A) → map f (take n l) ≡ take n (map f l)
-  map-take zero l = refl
-  map-take (suc n) [] = refl
-  map-take (suc n) (x ∷ l) = ap {B = List B} (λ r. f x ∷ r) (map-take n l)
-
-  pub map-drop : (n : ℕ) (l : List A) → map f (drop n l) ≡ drop n (map f l)
-  map-drop zero l = refl
-  map-drop (suc n) [] = refl
-  map-drop (suc n) (x ∷ l) = map-drop n l
 
 -- a text put last
 abbrev pub tableWith : List Line → ℕ → Table

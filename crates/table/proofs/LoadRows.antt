@@ -9,8 +9,8 @@ use native.Mathlib.Omega.{arith}
 use lib.ListN.{length, length-append}
 use lib.Dec.{ltb}
 use borrow.Author.Tests.{ltb-true, ltb-false}
-use Rattle.evalset.proofs.Search.{keep-append}
-use Rattle.evalset.proofs.Truth.{cases}
+use Rattle.lists.proofs.Search.{keep-append}
+use Rattle.lists.proofs.Truth.{cases}
 use Rattle.table.specs.declared.AddAnswer.{AddAnswer}
 use Rattle.table.specs.declared.AddAnswer.the-variants as AddAnswer
 use Rattle.table.specs.declared.LoadAnswer.{LoadAnswer}

@@ -4,9 +4,9 @@ use Prim.Native.Nat.{ℕ, _+_, _-_, _≤_, _<_}
 use mathlib.Core.Path.{_≡_, refl, sym, ap, subst, _∙_}
 use mathlib.Core.List.{List, [], _∷_, _++_}
 use native.Mathlib.Omega.{arith}
-use native.Mathlib.Numerals.{add-one}
 use lib.ListN.{length, take, drop, getD, replicate, length-append, take-append-drop}
-use lib.Seq.{take-suc, take-all, length-take-le}
+use lib.Seq.{take-all, length-take-le}
+use Rattle.lists.proofs.Lists.{take-next}
 use Rattle.syntax.specs.Rule.{ruleOf}
 use Rattle.syntax.specs.declared.RuleAnswer.the-variants as RuleAnswer
 use Rattle.syntax.specs.declared.Rule.{Rule}
@@ -62,8 +62,7 @@ module _ (t : Table) (v : FromUs t) (i : ℕ) (d : Line) (h : i < t .count) wher
 
   pub first : take (i + 1) (rulesOf t) ≡ take i (rulesOf t) ++ text ∷ []
   first =
-      ap (λ (k : ℕ). take k (rulesOf t)) (add-one i)
-      ∙ take-suc (rulesOf t) i [] (omega (arith, count-is t v))
+      take-next (rulesOf t) i [] (omega (arith, count-is t v))
       ∙ ap (λ (s : Text). take i (rulesOf t) ++ s ∷ []) (sym text-is)
 
   pub stands : CanStand (take i (rulesOf t) ++ text ∷ [])

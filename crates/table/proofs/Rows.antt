@@ -16,8 +16,8 @@ use Rattle.syntax.specs.declared.RuleAnswer.{RuleAnswer}
 use Rattle.syntax.specs.declared.RuleAnswer.the-variants as RuleAnswer
 use Rattle.syntax.proofs.Claims.{text-answered, text-answered-only, is-rule}
 use Rattle.lexer.specs.Token.{Token}
-use Rattle.evalset.specs.Search.{gather}
-use Rattle.evalset.proofs.Truth.{cases}
+use Rattle.lists.specs.Search.{gather}
+use Rattle.lists.proofs.Truth.{cases}
 use Rattle.contact.specs.Numbering.{allAtoms}
 use Rattle.names.specs.Gather.{gathered, placesOf}
 use Rattle.names.specs.Seventh.{SeventhAt}

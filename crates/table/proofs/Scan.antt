@@ -8,7 +8,7 @@ use lib.ListN.{length, take, drop, getD, drop-of-length-le, length-drop}
 use lib.Seq.{getD-drop, take-suc}
 use lib.Dec.{eqb}
 use borrow.Author.Tests.{eq-eqb, ne-eqb, le-leb, lt-leb}
-use Rattle.lexer.proofs.Lists.{rest}
+use Rattle.lists.proofs.Lists.{rest}
 use Rattle.table.specs.Store.{Text}
 use Rattle.table.specs.Calls.{blankByte, blankLine, linesOf, linesFrom, onFirst}
 use Rattle.compile.specs.Kinds.{atomKind}

@@ -5,11 +5,12 @@ use mathlib.Core.List.{List, [], _∷_, _++_, map, map-append}
 use native.Mathlib.Omega.{arith}
 use lib.ListN.{length, take, drop, getD, set, replicate, length-map, length-append, length-take, length-drop, length-replicate}
 use lib.Seq.{paste, paste-zero, paste-suc, drop-paste, getD-drop, drop-cons, set-at, take-at, drop-at, take-append-le, drop-append-le}
+use Rattle.lists.proofs.Lists.{map-take, map-drop}
 use Rattle.table.specs.declared.Line.{Line}
 use Rattle.table.specs.declared.Table.{Table}
 use Rattle.table.specs.Store.{Text, tableOf, rulesOf, lineOf}
 use Rattle.table.specs.Calls.{without, FromUs}
-use Rattle.table.proofs.Lines.{count-is, lines-are, linesWith, tableWith, map-take, map-drop}
+use Rattle.table.proofs.Lines.{count-is, lines-are, linesWith, tableWith}
 
 -- the lines after those from k up to i have moved down
 abbrev pub moved : List Line → ℕ → ℕ → List Line

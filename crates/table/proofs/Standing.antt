@@ -15,8 +15,8 @@ use Rattle.syntax.specs.Rule.{ruleOf, meaningOf}
 use Rattle.syntax.specs.declared.RuleAnswer.{RuleAnswer}
 use Rattle.syntax.specs.declared.RuleAnswer.the-variants as RuleAnswer
 use Rattle.syntax.proofs.Claims.{is-rule}
-use Rattle.evalset.specs.Search.{In, here}
-use Rattle.evalset.proofs.Search.{none-in, uncons, in-left, in-right, in-either, map-intro, map-elim, gather-append}
+use Rattle.lists.specs.Search.{In, here}
+use Rattle.lists.proofs.Search.{none-in, uncons, in-left, in-right, in-either, map-intro, map-elim, gather-append, in-take, in-drop}
 use Rattle.contact.specs.Numbering.{allAtoms, namesOf}
 use Rattle.names.specs.Gather.{gathered}
 use Rattle.names.specs.declared.NamesAnswer.{NamesAnswer}
@@ -30,7 +30,7 @@ use Rattle.table.specs.declared.LoadAnswer.{LoadAnswer}
 use Rattle.table.specs.declared.LoadAnswer.the-variants as LoadAnswer
 use Rattle.table.specs.Store.{Text}
 use Rattle.table.specs.Calls.{formulasOf, namesIn, atomsIn, readAnswer, namesAnswer, ifAdded, firstRefusal, judgeNames, judgeAtoms, judgeRoom, judgeText, judgeAdd, addRules, judgeWithdraw, without, ifWithdrawn, withdrawRules, linesOf, blankLine, filled, judgeLines, isNone, judgeLoad, ifLoaded, loadRules, CanStand}
-use Rattle.table.proofs.Fewer.{in-take, in-drop, names-fewer}
+use Rattle.table.proofs.Fewer.{names-fewer}
 
 -- ---- answers
 

@@ -14,7 +14,7 @@ use Rattle.lexer.specs.declared.Class.the-variants as Class
 use Rattle.syntax.specs.Rule.{ruleOf, meaningOf}
 use Rattle.syntax.specs.declared.RuleAnswer.{RuleAnswer}
 use Rattle.syntax.specs.declared.RuleAnswer.the-variants as RuleAnswer
-use Rattle.evalset.specs.Search.{In, all, keep}
+use Rattle.lists.specs.Search.{In, all, keep}
 use Rattle.contact.specs.Numbering.{allAtoms, namesOf}
 use Rattle.names.specs.Gather.{gathered}
 use Rattle.names.specs.declared.NamesAnswer.{NamesAnswer}

@@ -10,7 +10,7 @@ use Rattle.formula.specs.Formula.{Formula, Name}
 use Rattle.formula.specs.Names.{atomNames}
 use Rattle.syntax.specs.RuleText.{IsRule, Answers}
 use Rattle.syntax.specs.declared.RuleAnswer.the-variants as RuleAnswer
-use Rattle.evalset.specs.Search.{gather}
+use Rattle.lists.specs.Search.{gather}
 use Rattle.contact.specs.Numbering.{allAtoms}
 use Rattle.contact.specs.Meaning.{Floor, meetsAll}
 use Rattle.plan.specs.Words.{Plan, IsPlan, wordsOf, Refusal}

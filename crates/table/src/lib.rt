@@ -5,8 +5,8 @@
 // answers mean in specs/Rows.antt, document 01's numbers are in specs/Numbers.antt, and what is proved of lists of calls
 // is in proofs/Claims.antt.
 ghost use mathlib.Core.Path.{_≡_};
-ghost use mathlib.Core.List.{List, [], _∷_, _++_};
-ghost use Prim.Native.Nat.{ℕ, _+_, _-_, _≤_, _<_};
+ghost use mathlib.Core.List.{[], _∷_, _++_};
+ghost use Prim.Native.Nat.{_+_, _-_, _≤_, _<_};
 ghost use lib.ListN.{length, take, drop};
 ghost use Rattle.syntax.specs.Rule.{ruleOf};
 ghost use Rattle.names.specs.Gather.{arraysOf};

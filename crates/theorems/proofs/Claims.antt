@@ -2,7 +2,7 @@
 -- it says is in specs/Demands.antt, and what a worked sheet says in specs/Worked.antt. Nothing is assumed.
 use mathlib.Core.List.{List}
 use Prim.Native.Nat.{ℕ}
-use Rattle.evalset.specs.Search.{In}
+use Rattle.lists.specs.Search.{In}
 use Rattle.table.specs.declared.Table.{Table}
 use Rattle.table.specs.declared.AskResult.{AskResult}
 use Rattle.table.specs.Asking.{Asks}

@@ -14,9 +14,9 @@ use Rattle.lexer.specs.Arrays.{lexed}
 use Rattle.syntax.specs.Machine.{run as runMachine, reading}
 use Rattle.syntax.specs.Postfix.{puts}
 use Rattle.syntax.specs.Rule.{ruleOf, meaningOf}
-use Rattle.evalset.specs.Search.{In, here, next}
+use Rattle.lists.specs.Search.{In, here, next}
 use Rattle.evalset.specs.Bit.{bit}
-use Rattle.evalset.proofs.Truth.{clash}
+use Rattle.lists.proofs.Truth.{clash}
 use Rattle.contact.specs.Row.{rulesTrue}
 use Rattle.contact.specs.Plan.{separated, allowed, fills, partners, leads, check, given, pointsFor, good, firstRow}
 use Rattle.names.specs.Gather.{placesOf, ruleTokens, withName, namesAfter, gatheredOf, gathered}

@@ -11,7 +11,7 @@ use lib.ListN.{length, take}
 use Rattle.formula.specs.Formula.{Formula, Name}
 use Rattle.syntax.specs.Rule.{meaningOf}
 use Rattle.syntax.specs.RuleText.{IsRule}
-use Rattle.evalset.specs.Search.{In}
+use Rattle.lists.specs.Search.{In}
 use Rattle.contact.specs.Meaning.{Floor, meetsAll}
 use Rattle.plan.specs.declared.PlanAnswer.the-variants as PlanAnswer
 use Rattle.plan.specs.declared.PlanRead.{PlanRead}

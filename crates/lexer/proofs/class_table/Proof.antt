@@ -7,7 +7,7 @@ use Rattle.lexer.proofs.class_table.Tie as tie
 
 returns : tie.Need-returns
 unfolding classOf isBlank isAlphanumeric isSign
-returns c = table-right _ refl tt
+returns c = table-right _ refl refl
 
 pub class-table-spec : {M : Type 1} → statement M
 class-table-spec = tie.close (tie.spec returns)

@@ -1,4 +1,5 @@
 -- Each array is 256 zeros, as in the arrays of no token. Assumes nothing.
+use Rattle.lists.specs.Padded.{pad}
 use Rattle.lexer.specs.Arrays.{tokensOf}
 use Rattle.lexer.specs.Steps.{refusal}
 use borrow.Author.Needs.{needs}
@@ -15,7 +16,7 @@ zeros-requires-3 : tie.Need-zeros-requires-3
 zeros-requires-3 c κs = search needs
 
 returns : tie.Need-returns
-unfolding refusal tokensOf
+unfolding refusal tokensOf pad
 returns c = let a = c .before .before .zeros .ensures in let b = c .before .zeros2 .ensures in let d = c .zeros3 .ensures in cc
 
 pub refused-spec : {M : Type 1} → statement M

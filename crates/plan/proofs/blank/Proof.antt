@@ -1,7 +1,7 @@
 -- `plan::blank` meets its contract: nothing is stored, and no row has a position.
 use mathlib.Core.Path.{refl}
 use borrow.Author.Needs.{needs}
-use Rattle.evalset.proofs.Arrays.{pad-none}
+use Rattle.lists.proofs.Padded.{pad-none}
 use Rattle.plan.proofs.Squares.{rows-none}
 use Rattle.plan.proofs.blank.Statement.{statement}
 use Rattle.plan.proofs.blank.Tie as tie

@@ -3,7 +3,7 @@ use native.Mathlib.Omega.{arith}
 use mathlib.Core.Path.{ap, _∙_}
 use mathlib.Core.Bool.{Bool, not}
 use Prim.Native.Nat.{ℕ}
-use Rattle.evalset.specs.Search.{any, below}
+use Rattle.lists.specs.Search.{any, below}
 use Rattle.evalset.specs.Sets.{room, mem}
 use Rattle.plan.proofs.Positions.{vacant-is}
 use borrow.Author.Needs.{needs}

@@ -3,7 +3,7 @@ use mathlib.Core.Path.{sym, ap, _∙_}
 use mathlib.Core.Bool.{Bool, not, _&&_, Bool·not-not}
 use Prim.Native.Nat.{ℕ}
 use borrow.Author.Needs.{needs}
-use Rattle.evalset.specs.Search.{any, below}
+use Rattle.lists.specs.Search.{any, below}
 use Rattle.evalset.specs.Sets.{mem, meetOf, room}
 use Rattle.plan.specs.Private.{reachesOf}
 use Rattle.plan.proofs.reaches.Statement.{statement}

@@ -1,11 +1,11 @@
 -- `plan::with_point` meets its contract: the first free place gets the evaluation, and the point's own bit is set.
 use native.Mathlib.Omega.{arith}
 use Prim.Native.Nat.{ℕ}
-use mathlib.Core.Path.{refl, sym, ap₂, _∙_}
+use mathlib.Core.Path.{refl, ap, _∙_}
 use mathlib.Core.List.{List}
 use lib.ListN.{set}
-use Rattle.evalset.proofs.Arrays.{pad-set}
 use borrow.Author.Needs.{needs}
+use Rattle.lists.proofs.Padded.{pad-set}
 use Rattle.plan.proofs.with_point.Statement.{statement}
 use Rattle.plan.proofs.with_point.Tie as tie
 
@@ -29,8 +29,7 @@ returns c =
     record {
       names = refl;
       count = refl;
-      points = λ pts n h. ap₂ (λ (l : List ℕ) (i : ℕ). set l i e) h (sym n)
-          ∙ pad-set 64 pts e (omega (arith, c .before .before .before .pre .0));
+      points = λ pts n h. ap (λ (l : List ℕ). set l (p .count) e) h ∙ pad-set 64 pts (p .count) e n (omega arith);
       rows = c .join .ensures;
     }
 

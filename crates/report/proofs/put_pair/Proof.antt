@@ -2,7 +2,7 @@
 use mathlib.Core.Path.{sym, ap, _∙_}
 use native.Mathlib.Omega.{arith}
 use lib.ListN.{length}
-use Rattle.evalset.specs.Search.{gather}
+use Rattle.lists.specs.Search.{gather}
 use Rattle.evalset.specs.Sets.{mem}
 use Rattle.plan.proofs.Contacts.{pair-early, pair-apart}
 use Rattle.report.specs.Output.{contactLine}

@@ -3,7 +3,7 @@ use mathlib.Core.Path.{_≡_, sym, ap}
 use mathlib.Core.List.{_++_}
 use native.Mathlib.Omega.{arith}
 use lib.ListN.{length, take}
-use Rattle.evalset.specs.Search.{gather}
+use Rattle.lists.specs.Search.{gather}
 use Rattle.evalset.specs.Sets.{memAt}
 use Rattle.names.specs.Gather.{knownOf}
 use Rattle.plan.specs.Arrays.{linksTo}

@@ -2,7 +2,7 @@
 use mathlib.Core.List.{[], _∷_, _++_}
 use lib.ListN.{length}
 use Rattle.lexer.specs.Text.{bytes}
-use Rattle.evalset.specs.Search.{gather}
+use Rattle.lists.specs.Search.{gather}
 use Rattle.names.specs.Gather.{knownOf}
 use Rattle.report.specs.Output.{labelled, namesOrNone, blanked, pointLine}
 use Rattle.report.proofs.Putting.{fits-first, fits-next, puts-more}

@@ -6,7 +6,7 @@ use native.Mathlib.Omega.{arith}
 use borrow.Author.Needs.{needs}
 use lib.ListN.{length, getD, take}
 use lib.Seq.{getD-take}
-use Rattle.evalset.specs.Search.{gather, below}
+use Rattle.lists.specs.Search.{gather, below}
 use Rattle.names.specs.Gather.{knownOf}
 use Rattle.evalset.proofs.Bounded.{gather-more}
 use Rattle.report.specs.Output.{pointLine}

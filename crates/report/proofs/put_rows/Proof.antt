@@ -4,7 +4,7 @@ use mathlib.Core.List.{List}
 use Prim.Native.Nat.{ℕ, _-_, _≤_}
 use native.Mathlib.Omega.{arith}
 use lib.ListN.{length}
-use Rattle.evalset.specs.Search.{gather, below}
+use Rattle.lists.specs.Search.{gather, below}
 use Rattle.evalset.specs.Sets.{memAt}
 use Rattle.plan.specs.Arrays.{rowTo}
 use Rattle.evalset.proofs.Bounded.{gather-more}

@@ -1,11 +1,11 @@
 -- `put_text` meets its contract: so far the first i bytes are put. Assumes nothing.
-use mathlib.Core.Path.{_≡_, sym, ap, _∙_, subst}
+use mathlib.Core.Path.{_≡_, sym, ap, subst}
 use mathlib.Core.List.{[], _∷_, _++_}
 use Prim.Native.Nat.{ℕ, _+_, _-_, _≤_}
 use native.Mathlib.Omega.{arith}
-use native.Mathlib.Numerals.{add-one}
 use lib.ListN.{length, take, getD, set}
-use lib.Seq.{take-suc, length-take-le, take-all}
+use lib.Seq.{length-take-le, take-all}
+use Rattle.lists.proofs.Lists.{take-next}
 use Rattle.report.specs.Putting.{Puts}
 use Rattle.report.proofs.Putting.{puts-none, puts-text, puts-length, puts-byte}
 use Rattle.report.proofs.put_text.Statement.{statement}
@@ -44,7 +44,7 @@ loop-again c =
     let k = c .before .before .loop in
     let text = a .text .now in
     let e : take (k .i) text ++ getD text (k .i) 0 ∷ [] ≡ take (k .i + 1) text =
-    sym (take-suc text (k .i) 0 (omega arith)) ∙ ap (λ (x : ℕ). take x text) (sym (add-one (k .i))) in
+    sym (take-next text (k .i) 0 (omega arith)) in
     let end : a .at + k .i + 1 ≡ a .at + (k .i + 1) = omega arith in (
       omega arith,
       subst (λ (x : ℕ). Puts (a .at) (take (k .i + 1) text) (a .out .now) (set (k .out) (a .at + k .i) (getD text (k .i) 0)) x) end

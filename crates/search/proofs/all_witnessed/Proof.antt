@@ -3,16 +3,17 @@
 use mathlib.Core.Bool.{Bool, true, false, _&&_}
 use mathlib.Core.Path.{_≡_, sym, ap, ap₂, _∙_}
 use mathlib.Core.List.{List}
+use mathlib.Mathlib.Data.Bool.Basic.{eq-false-of-not-eq-true}
 use Prim.Native.Nat.{ℕ, _-_, _≤_, _<_}
 use native.Mathlib.Omega.{arith}
 use lib.ListN.{length, getD, take}
 use borrow.Author.Needs.{needs}
 use borrow.Author.Tests.{not-true, not-false}
 use Rattle.formula.specs.Formula.{Atom}
-use Rattle.evalset.specs.Search.{all}
+use Rattle.lists.specs.Search.{all}
 use Rattle.evalset.specs.Sets.{memAt}
-use Rattle.evalset.proofs.Search.{all-elim, all-last}
-use Rattle.evalset.proofs.Truth.{clash, untrue}
+use Rattle.lists.proofs.Search.{all-elim, all-last}
+use Rattle.lists.proofs.Truth.{clash}
 use Rattle.contact.specs.Plan.{Mark, mark, rowMarks, witnessed}
 use Rattle.search.specs.Rows.{rowBits}
 use Rattle.search.specs.Compiled.{atomAt, Compiled, Fit, WitnessedSays}
@@ -74,7 +75,7 @@ returns c = λ atoms h l ms f.
     let a = c .before .before .before .before .before .before .before .before .args in
     let i = c .before .before .before .before .before .before .before .loop .i in
     let n : length (rowBits (a .k) (a .row)) ≡ a .k = row-length _ _ in
-    sym (untrue _
+    sym (eq-false-of-not-eq-true
     (λ t. clash (all-elim (witnessed _ ms) (mark-in atoms (rowBits (a .k) (a .row)) i (omega arith) (omega arith)) t)
     (sym (tried (c .before) atoms h l ms f) ∙ not-true _ (c .if1 .taken))))
 

@@ -6,12 +6,12 @@ use Prim.Native.Nat.{ℕ, _+_, _-_, _≤_, _<_}
 use native.Mathlib.Omega.{arith}
 use lib.ListN.{length, set}
 use borrow.Author.Needs.{needs}
-use Rattle.evalset.specs.Search.{keep, below}
+use Rattle.lists.proofs.Padded.{pad-set}
+use Rattle.lists.specs.Padded.{pad}
+use Rattle.lists.specs.Search.{keep, below}
 use Rattle.evalset.specs.Sets.{room, mem, fromOf}
 use Rattle.evalset.proofs.Bounded.{keep-length, keep-cut}
 use Rattle.evalset.proofs.Walk.{from-zero, Step, step, stop, keep-step, count-step}
-use Rattle.evalset.specs.Arrays.{pad}
-use Rattle.evalset.proofs.Arrays.{pad-set}
 use Rattle.search.proofs.ascending.Statement.{statement}
 use Rattle.search.proofs.ascending.Tie as tie
 
@@ -91,7 +91,7 @@ loop-again c =
       c .without .ensures ∙ t .rest,
       ap (λ (x : ℕ). x + 1) (k .inv .2) ∙ sym (count-step _ _ _ (t .low) (t .passes) (t .between)),
       ap₂ (λ (x : List ℕ) (y : ℕ). set x y e) (k .inv .3) (k .inv .2)
-          ∙ pad-set room so-far e (omega (arith, fits (c .before), k .inv .2))
+          ∙ pad-set room so-far (length so-far) e refl (omega (arith, fits (c .before), k .inv .2))
           ∙ ap (pad room) (sym (keep-step _ _ _ (t .low) (t .passes) (t .between))),
     )
 

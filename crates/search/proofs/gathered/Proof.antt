@@ -6,10 +6,10 @@ use Prim.Native.Nat.{ℕ, _-_, _≤_, _<_}
 use native.Mathlib.Omega.{arith}
 use lib.ListN.{length, take}
 use borrow.Author.Needs.{needs}
+use Rattle.lists.proofs.Truth.{each}
 use Rattle.formula.specs.Formula.{Atom}
-use Rattle.evalset.specs.Search.{gather, elem}
+use Rattle.lists.specs.Search.{gather, elem}
 use Rattle.evalset.specs.Sets.{mem, memAt}
-use Rattle.evalset.proofs.Bounded.{each}
 use Rattle.contact.specs.Plan.{Mark, mark, rowMarks, gives}
 use Rattle.search.specs.Rows.{rowBits}
 use Rattle.search.specs.Compiled.{atomAt, Compiled, Fit}

@@ -4,7 +4,7 @@ use mathlib.Core.Path.{_≡_, sym, ap, _∙_}
 use native.Mathlib.Omega.{arith}
 use borrow.Author.Needs.{needs}
 use borrow.Author.Tests.{not-true, not-false}
-use Rattle.evalset.specs.Search.{any, first, gather, below, elem}
+use Rattle.lists.specs.Search.{any, first, gather, below, elem}
 use Rattle.evalset.specs.Sets.{room, mem}
 use Rattle.evalset.proofs.Members.{mem-below}
 use Rattle.contact.specs.Plan.{gives, given, allowed, evaluations}

@@ -3,9 +3,9 @@ use mathlib.Core.Bool.{Bool}
 use mathlib.Core.Path.{ap, ap₂, _∙_}
 use Prim.Native.Nat.{ℕ}
 use borrow.Author.Needs.{needs}
-use Rattle.evalset.specs.Search.{first, below, elem}
+use Rattle.lists.proofs.Truth.{each}
+use Rattle.lists.specs.Search.{first, below, elem}
 use Rattle.evalset.specs.Sets.{room, memAt}
-use Rattle.evalset.proofs.Bounded.{each}
 use Rattle.search.specs.Tests.{pairOf}
 use Rattle.search.proofs.gives.Statement.{statement}
 use Rattle.search.proofs.gives.Tie as tie

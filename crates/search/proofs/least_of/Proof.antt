@@ -3,8 +3,9 @@ use mathlib.Core.Bool.{Bool}
 use mathlib.Core.Path.{sym, ap, _∙_}
 use Prim.Native.Nat.{ℕ}
 use borrow.Author.Needs.{needs}
+use Rattle.lists.proofs.Truth.{each}
 use Rattle.evalset.specs.Sets.{room, addOf}
-use Rattle.evalset.proofs.Bounded.{each, found-least, found-nothing}
+use Rattle.evalset.proofs.Bounded.{found-least, found-nothing}
 use Rattle.search.proofs.Walks.{one-found, none-found}
 use Rattle.search.proofs.least_of.Statement.{statement}
 use Rattle.search.proofs.least_of.Tie as tie

@@ -5,9 +5,10 @@ use mathlib.Core.Path.{_≡_, sym, ap, _∙_}
 use Prim.Native.Nat.{ℕ, _-_, _≤_}
 use native.Mathlib.Omega.{arith}
 use borrow.Author.Needs.{needs}
-use Rattle.evalset.specs.Search.{first, below}
+use Rattle.lists.proofs.Truth.{each}
+use Rattle.lists.specs.Search.{first, below}
 use Rattle.evalset.specs.Sets.{room, mem, memAt, minusOf, addOf, fromOf, foundOf}
-use Rattle.evalset.proofs.Bounded.{each, found-least, found-nothing, any-at, any-none}
+use Rattle.evalset.proofs.Bounded.{found-least, found-nothing, any-at, any-none}
 use Rattle.evalset.proofs.Walk.{from-zero, Step, step, stop}
 use Rattle.search.proofs.Walks.{Passed, starts-alone, starts-yes, walk-on, walk-found, walk-ends, pair-found, pair-none}
 use Rattle.search.proofs.pair_of.Statement.{statement}

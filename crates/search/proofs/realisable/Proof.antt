@@ -3,7 +3,7 @@ use mathlib.Core.Bool.{Bool, _&&_}
 use mathlib.Core.Path.{sym, ap, _∙_}
 use borrow.Author.Needs.{needs}
 use borrow.Author.Tests.{not-true, not-false}
-use Rattle.evalset.specs.Search.{all}
+use Rattle.lists.specs.Search.{all}
 use Rattle.contact.specs.Plan.{rowMarks, witnessed, check}
 use Rattle.search.specs.Rows.{rowBits}
 use Rattle.search.specs.Compiled.{WitnessedSays, RealisableSays}

@@ -8,7 +8,7 @@ use native.Mathlib.Omega.{arith}
 use lib.ListN.{length}
 use borrow.Author.Needs.{needs}
 use Rattle.evalset.specs.Sets.{memAt}
-use Rattle.evalset.proofs.Truth.{beq-same}
+use Rattle.lists.proofs.Truth.{beq-same}
 use Rattle.contact.specs.Plan.{Mark, mark, rowMarks}
 use Rattle.search.specs.Rows.{rowBits}
 use Rattle.search.specs.Compiled.{atomAt, RealisableSays, NextSays}

@@ -5,8 +5,8 @@ use Prim.Native.Nat.{_-_, _≤_, _<_}
 use native.Mathlib.Omega.{arith}
 use lib.ListN.{length, length-set}
 use borrow.Author.Needs.{needs}
+use Rattle.lists.proofs.Truth.{each}
 use Rattle.evalset.specs.Sets.{room, mem, memAt, fromOf}
-use Rattle.evalset.proofs.Bounded.{each}
 use Rattle.evalset.proofs.Arrays.{mem-at-same, mem-at-other}
 use Rattle.evalset.proofs.Walk.{from-zero, Step, step, stop}
 use Rattle.search.proofs.Walks.{SeparatedTo, separate-none, separate-on, separate-ends}

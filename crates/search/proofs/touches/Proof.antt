@@ -6,7 +6,7 @@ use Prim.Native.Nat.{ℕ, _-_, _≤_}
 use native.Mathlib.Omega.{arith}
 use borrow.Author.Needs.{needs}
 use borrow.Author.Tests.{not-true, not-false}
-use Rattle.evalset.specs.Search.{any, below}
+use Rattle.lists.specs.Search.{any, below}
 use Rattle.evalset.specs.Sets.{room, mem, memAt, minusOf, fromOf}
 use Rattle.evalset.proofs.Bounded.{any-at, any-none}
 use Rattle.evalset.proofs.Walk.{from-zero, Step, step, stop}

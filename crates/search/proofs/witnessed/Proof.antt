@@ -3,7 +3,7 @@ use mathlib.Core.Bool.{Bool, not, Bool·not-not}
 use mathlib.Core.Path.{ap, _∙_}
 use Prim.Native.Nat.{ℕ}
 use borrow.Author.Needs.{needs}
-use Rattle.evalset.specs.Search.{any, below}
+use Rattle.lists.specs.Search.{any, below}
 use Rattle.evalset.specs.Sets.{room}
 use Rattle.search.proofs.witnessed.Statement.{statement}
 use Rattle.search.proofs.witnessed.Tie as tie

@@ -5,9 +5,9 @@ use mathlib.Core.Path.{_≡_, sym, ap, ap₂, _∙_}
 use Prim.Native.Nat.{_+_, _-_, _<_}
 use native.Mathlib.Omega.{arith}
 use borrow.Author.Tests.{lt-ltb}
+use Rattle.lists.proofs.Truth.{each}
 use Rattle.evalset.specs.Bit.{bit}
 use Rattle.evalset.specs.Sets.{room, mem}
-use Rattle.evalset.proofs.Bounded.{each}
 use Rattle.evalset.proofs.Members.{names-room}
 use Rattle.kleene.specs.Rails.{duo, sure}
 use Rattle.kleene.proofs.Turns.{rails-at}

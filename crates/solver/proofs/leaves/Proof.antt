@@ -6,7 +6,7 @@ use Prim.Native.Nat.{ℕ, _+_, _-_, _^_, _≤_, _<_}
 use mathlib.Core.Bool.{false}
 use native.Mathlib.Omega.{arith}
 use lib.ListN.{length, set, length-set}
-use Rattle.evalset.proofs.Bounded.{side}
+use Rattle.lists.proofs.Truth.{side}
 use Rattle.kleene.specs.Rails.{duo, twoAt}
 use Rattle.kleene.proofs.Turns.{rails-at, two-same, two-other}
 use Rattle.solver.specs.Tree.{decidedAt}

@@ -1,7 +1,7 @@
 -- Inside the slice the default of `getD` does not matter; past its end the default is 19. Assumes nothing.
 use mathlib.Core.Path.{sym}
 use lib.ListN.{List·getD-eq-default}
-use Rattle.lexer.proofs.Lists.{default-unread}
+use Rattle.lists.proofs.Lists.{default-unread}
 use borrow.Author.Needs.{needs}
 use Rattle.syntax.proofs.kind_at.Statement.{statement}
 use Rattle.syntax.proofs.kind_at.Tie as tie

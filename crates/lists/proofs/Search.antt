@@ -1,16 +1,17 @@
 -- The laws of search in a list, all by recursion on the list: what passes a test is found, what is found passes it, and a search
 -- in two lists, one after the other, goes list by list. Assumes nothing.
-use mathlib.Core.Bool.{Bool, true, false, _&&_, _||_, cond, or-assoc, or-false, and-true, and-assoc, true≢false}
+use mathlib.Core.Bool.{Bool, true, false, _&&_, _||_, cond, or-assoc, or-false, and-true, and-assoc, true≢false, and-eq-true-iff}
 use mathlib.Core.Path.{_≡_, refl, sym, ap, ap₂, _∙_, subst}
 use mathlib.Core.Logic.{_⊎_, inl, inr, ⊎-elim}
 use mathlib.Core.List.{List, [], _∷_, _++_, map, append-nil, append-assoc, nil≢cons, head-eq-of-cons-eq}
+use mathlib.Mathlib.Data.Bool.Basic.{and-intro, eq-false-of-not-eq-true, or-inl, or-inr}
 use Prim.Native.Nat.{ℕ, zero, suc, _+_, _*_, _≤_, _<_}
 use native.Mathlib.Omega.{arith}
-use lib.ListN.{length, getD, length-append}
+use lib.ListN.{length, getD, take, drop, length-append}
 use lib.Dec.{eqb}
 use borrow.Author.Tests.{eqb-true, eqb-false, eq-eqb}
-use Rattle.evalset.specs.Search.{In, here, next, any, all, first, keep, orElse, gather, from, below, elem}
-use Rattle.evalset.proofs.Truth.{clash, cases, untrue, and-intro, both, or-left, or-right, or-cases}
+use Rattle.lists.specs.Search.{In, here, next, any, all, first, keep, orElse, gather, from, below, elem}
+use Rattle.lists.proofs.Truth.{clash, cases, or-cases}
 
 -- ---- membership
 
@@ -27,6 +28,17 @@ module _ {A : Type 0} where
 
   pub at-head : {x y : A} {xs : List A} → x ≡ y → In x (y ∷ xs)
   at-head {y} {xs} q = subst (λ w. In w (y ∷ xs)) (sym q) here
+
+  -- a part of a list
+  pub in-take : (n : ℕ) (xs : List A) {z : A} → In z (take n xs) → In z xs
+  in-take zero xs i = none-in i
+  in-take (suc n) [] i = i
+  in-take (suc n) (x ∷ xs) i = ⊎-elim (λ e. at-head e) (λ k. next (in-take n xs k)) (uncons i)
+
+  pub in-drop : (n : ℕ) (xs : List A) {z : A} → In z (drop n xs) → In z xs
+  in-drop zero xs i = i
+  in-drop (suc n) [] i = i
+  in-drop (suc n) (x ∷ xs) i = next (in-drop n xs i)
 
   pub in-left : {x : A} {xs : List A} (ys : List A) → In x xs → In x (xs ++ ys)
   in-left ys here = here
@@ -64,8 +76,8 @@ module _ {A B : Type 0} (f : A → B) where
 
 module _ {A : Type 0} where
   pub any-intro : (p : A → Bool) {xs : List A} {x : A} → In x xs → p x ≡ true → any p xs ≡ true
-  any-intro p {x} (here {xs}) h = or-left (p x) (any p xs) h
-  any-intro p (next {x} {xs} i) h = or-right (p x) (any p xs) (any-intro p i h)
+  any-intro p {x} (here {xs}) h = or-inl (p x) (any p xs) h
+  any-intro p (next {x} {xs} i) h = or-inr (p x) (any p xs) (any-intro p i h)
 
   pub any-elim : (p : A → Bool) (xs : List A) → any p xs ≡ true → (x : A) × In x xs × (p x ≡ true)
   any-elim p [] h = absurd (true≢false (sym h))
@@ -74,18 +86,18 @@ module _ {A : Type 0} where
 
   -- no element passes
   pub none-elim : (p : A → Bool) {xs : List A} {x : A} → any p xs ≡ false → In x xs → p x ≡ false
-  none-elim p {x} h i = untrue (p x) (λ k. clash (any-intro p i k) h)
+  none-elim p {x} h i = eq-false-of-not-eq-true (λ k. clash (any-intro p i k) h)
 
   pub none-intro : (p : A → Bool) (xs : List A) → ((x : A) → In x xs → p x ≡ true → ⊥) → any p xs ≡ false
-  none-intro p xs h = untrue (any p xs) (λ k. let r = any-elim p xs k in h (r .0) (r .1) (r .2))
+  none-intro p xs h = eq-false-of-not-eq-true (λ k. let r = any-elim p xs k in h (r .0) (r .1) (r .2))
 
   pub all-intro : (p : A → Bool) (xs : List A) → ((x : A) → In x xs → p x ≡ true) → all p xs ≡ true
   all-intro p [] h = refl
-  all-intro p (y ∷ ys) h = and-intro (p y) (all p ys) (h y here) (all-intro p ys (λ x i. h x (next i)))
+  all-intro p (y ∷ ys) h = and-intro (h y here) (all-intro p ys (λ x i. h x (next i)))
 
   pub all-elim : (p : A → Bool) {xs : List A} {x : A} → In x xs → all p xs ≡ true → p x ≡ true
-  all-elim p {x} (here {xs}) h = both (p x) (all p xs) h .0
-  all-elim p (next {x} {xs} i) h = all-elim p i (both (p x) (all p xs) h .1)
+  all-elim p {x} (here {xs}) h = and-eq-true-iff (p x) (all p xs) .0 h .0
+  all-elim p (next {x} {xs} i) h = all-elim p i (and-eq-true-iff (p x) (all p xs) .0 h .1)
 
   -- the test may be changed for one that is the same at the elements
   pub any-same : (p q : A → Bool) (xs : List A) → ((x : A) → In x xs → p x ≡ q x) → any p xs ≡ any q xs
@@ -125,7 +137,7 @@ module _ {A : Type 0} where
   first-none p [] h = refl
   first-none p (y ∷ ys) h =
       let e : p y ≡ false = none-elim p {xs = y ∷ ys} h here in
-      rw e (first-none p ys (untrue (any p ys) (λ k. clash (or-right (p y) (any p ys) k) h)))
+      rw e (first-none p ys (eq-false-of-not-eq-true (λ k. clash (or-inr (p y) (any p ys) k) h)))
 
   -- what is found is in the list and passes
   pub first-found : (p : A → Bool) (xs : List A) {x : A} → first p xs ≡ x ∷ [] → In x xs × (p x ≡ true)

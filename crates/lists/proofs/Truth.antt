@@ -1,7 +1,10 @@
--- The laws of truth values, each by its cases. Assumes nothing.
-use mathlib.Core.Bool.{Bool, true, false, _&&_, _||_, Bool·beq, true≢false}
-use mathlib.Core.Path.{_≡_, refl, sym, _∙_}
+-- Truth values by their cases, a number on one side of another, and functions that are equal. Assumes nothing.
+use mathlib.Core.Bool.{Bool, true, false, _||_, Bool·beq, true≢false}
+use mathlib.Core.Path.{_≡_, refl, sym, ap, _∙_}
 use mathlib.Core.Logic.{_⊎_, inl, inr}
+use Prim.Native.Nat.{ℕ, _≤_, _<_}
+use native.Mathlib.Decide.{decLt}
+use native.Mathlib.Omega.{arith}
 
 pub clash : {P : Type 0} {b : Bool} → b ≡ true → b ≡ false → P
 clash p q = absurd (true≢false (sym p ∙ q))
@@ -11,30 +14,10 @@ pub cases : {P : Type 0} (b : Bool) → (b ≡ true → P) → (b ≡ false → 
 cases true f g = f refl
 cases false f g = g refl
 
-pub untrue : (b : Bool) → (b ≡ true → ⊥) → b ≡ false
-untrue true h = absurd (h refl)
-untrue false h = refl
-
 pub bool-ext : (a b : Bool) → (a ≡ true → b ≡ true) → (b ≡ true → a ≡ true) → a ≡ b
 bool-ext true b f g = sym (f refl)
 bool-ext false true f g = g refl
 bool-ext false false f g = refl
-
-pub and-intro : (a b : Bool) → a ≡ true → b ≡ true → (a && b) ≡ true
-and-intro true b p q = q
-and-intro false b p q = p
-
-pub both : (a b : Bool) → (a && b) ≡ true → (a ≡ true) × (b ≡ true)
-both true b p = (refl, p)
-both false b p = absurd (true≢false (sym p))
-
-pub or-left : (a b : Bool) → a ≡ true → (a || b) ≡ true
-or-left true b p = refl
-or-left false b p = absurd (true≢false (sym p))
-
-pub or-right : (a b : Bool) → b ≡ true → (a || b) ≡ true
-or-right true b p = refl
-or-right false b p = p
 
 pub or-cases : (a b : Bool) → (a || b) ≡ true → (a ≡ true) ⊎ (b ≡ true)
 or-cases true b p = inl refl
@@ -46,3 +29,15 @@ beq-same true true h = refl
 beq-same true false h = sym h
 beq-same false true h = h
 beq-same false false h = refl
+
+-- below or not
+pub side : (a b : ℕ) → (a < b) ⊎ (b ≤ a)
+side a b = go (decLt a b)
+  where
+    go : Dec (a < b) → (a < b) ⊎ (b ≤ a)
+    go (yes l) = inl l
+    go (no n) = inr (omega arith)
+
+-- equal functions agree everywhere
+pub each : {A B : Type 0} {p q : A → B} → p ≡ q → (e : A) → p e ≡ q e
+each {A} {B} h e = ap (λ (r : A → B). r e) h

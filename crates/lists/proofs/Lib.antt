@@ -1,0 +1,5 @@
+pub mod Truth
+pub mod Search
+pub mod Lists
+pub mod Padded
+pub mod Entries

@@ -1,0 +1,33 @@
+-- A list in an array: an element stored behind the last one makes the list longer, and its own elements are read back.
+-- Assumes nothing.
+use mathlib.Core.Path.{_≡_, sym, ap, _∙_}
+use mathlib.Core.List.{List, [], _∷_, _++_, append-assoc}
+use Prim.Native.Nat.{ℕ, suc, _-_, _≤_, _<_}
+use native.Mathlib.Omega.{arith}
+use lib.ListN.{length, take, getD, set, replicate, length-append, List·getD-append}
+use lib.Seq.{set-at, take-at}
+use Rattle.lists.specs.Padded.{pad}
+
+pub pad-none : (n : ℕ) → replicate n 0 ≡ pad n []
+unfolding pad
+pad-none n = let e : n ≡ n - 0 = omega arith in ap (λ (k : ℕ). replicate k 0) e
+
+pub pad-set : (n : ℕ) (xs : List ℕ) (i x : ℕ) → length xs ≡ i → i < n → set (pad n xs) i x ≡ pad n (xs ++ x ∷ [])
+unfolding pad
+pad-set n xs i x e h =
+    let m : n - length xs ≡ suc (n - length (xs ++ x ∷ [])) = omega (arith, length-append xs (x ∷ [])) in
+    ap (λ (k : ℕ). set (xs ++ replicate k 0) i x) m
+    ∙ set-at xs 0 (replicate (n - length (xs ++ x ∷ [])) 0) x i e
+    ∙ sym (append-assoc xs (x ∷ []) (replicate (n - length (xs ++ x ∷ [])) 0))
+
+pub pad-at : (n : ℕ) (xs : List ℕ) (i : ℕ) → i < length xs → getD (pad n xs) i 0 ≡ getD xs i 0
+unfolding pad
+pad-at n xs i l = List·getD-append xs (replicate (n - length xs) 0) 0 i l
+
+pub pad-taken : (n : ℕ) (xs : List ℕ) (i : ℕ) → length xs ≡ i → take i (pad n xs) ≡ xs
+unfolding pad
+pad-taken n xs i e = take-at xs (replicate (n - length xs) 0) i e
+
+pub pad-within : (n : ℕ) (xs : List ℕ) → length xs ≤ length (pad n xs)
+unfolding pad
+pad-within n xs = omega (arith, length-append xs (replicate (n - length xs) 0))
