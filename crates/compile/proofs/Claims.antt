@@ -3,11 +3,11 @@
 use mathlib.Core.Bool.{Bool, _&&_}
 use mathlib.Core.Path.{_≡_, sym, ap, _∙_}
 use mathlib.Core.List.{List, [], _++_}
+use mathlib.Mathlib.Logic.Function.Defs.{congr-fun}
 use Prim.Native.Nat.{ℕ, _≤_, _<_}
 use native.Mathlib.Omega.{arith}
 use lib.ListN.{length, take}
 use borrow.Author.Tests.{lt-ltb}
-use Rattle.lists.proofs.Truth.{each}
 use Rattle.lists.specs.Padded.{pad}
 use Rattle.lists.proofs.Padded.{pad-taken, pad-within}
 use Rattle.formula.specs.Formula.{Term, Atom, Formula, Name}
@@ -46,11 +46,11 @@ set-members t e l = ap (λ (b : Bool). b && at t e) (lt-ltb e room l)
 module _ {sheet : Sheet} {atoms : List (Atom ℕ)} (c : CompiledFrom sheet atoms) (i e : ℕ) (l : e < room) where
   -- the first set of an atom, the zero term's of a zero atom
   pub first-members : memAt (sheet .xs) i e ≡ at (firstTerm (atomAt atoms i)) e
-  first-members = each (c .firsts i) e ∙ set-members (firstTerm (atomAt atoms i)) e l
+  first-members = congr-fun (c .firsts i) e ∙ set-members (firstTerm (atomAt atoms i)) e l
 
   -- the second set of a contact
   pub second-members : (x y : Term ℕ) → atomAt atoms i ≡ Atom.contact x y → memAt (sheet .ys) i e ≡ at y e
-  second-members x y h = each (c .seconds i ∙ ap secondSet h) e ∙ set-members y e l
+  second-members x y h = congr-fun (c .seconds i ∙ ap secondSet h) e ∙ set-members y e l
 
 -- ---- what was read
 

@@ -4,6 +4,7 @@ use mathlib.Core.Path.{_≡_, refl, sym, ap, ap₂, _∙_, fun-ext}
 use mathlib.Core.Bool.{Bool, true, false, _&&_, _||_, cond, or-false}
 use mathlib.Core.List.{List}
 use mathlib.Core.Logic.{⊎-elim}
+use mathlib.Mathlib.Logic.Function.Defs.{congr-fun}
 use Prim.Native.Nat.{ℕ, _+_, _≤_, _<_}
 use native.Mathlib.Omega.{arith}
 use native.Mathlib.Decide.{ℕ-discrete as decEq}
@@ -11,7 +12,7 @@ use lib.Dec.{ltb, eqb}
 use lib.ListN.{length, getD, set, replicate}
 use lib.Seq.{getD-set-same, getD-set-other}
 use borrow.Author.Tests.{lt-ltb, le-ltb, eq-eqb, ne-eqb}
-use Rattle.lists.proofs.Truth.{side, each}
+use Rattle.lists.proofs.Truth.{side}
 use Rattle.evalset.specs.declared.EvalSet.{EvalSet}
 use Rattle.evalset.specs.Sets.{room, mem, memAt, noneOf, addOf}
 use Rattle.evalset.specs.Arrays.{positionsOf}
@@ -22,7 +23,7 @@ use Rattle.evalset.proofs.Members.{add-in}
 -- an array of empty sets
 pub empty-rows : (n i e : ℕ) (x : EvalSet) → mem x ≡ noneOf → memAt (replicate n x) i e ≡ false
 unfolding memAt mem
-empty-rows n i e x h = every-at (λ (s : EvalSet). mem s e ≡ false) (each h e) (bit-none e) n i
+empty-rows n i e x h = every-at (λ (s : EvalSet). mem s e ≡ false) (congr-fun h e) (bit-none e) n i
 
 -- ---- a set stored
 pub mem-at-same : (xs : List EvalSet) (i : ℕ) (s : EvalSet) → i < length xs → memAt (set xs i s) i ≡ mem s

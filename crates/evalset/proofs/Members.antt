@@ -3,6 +3,7 @@
 use mathlib.Core.Path.{_≡_, refl, sym, ap, _∙_, fun-ext}
 use mathlib.Core.Bool.{Bool, true, false, not, _&&_, _||_, and-true, and-false, or-false}
 use mathlib.Core.Logic.{⊎-elim}
+use mathlib.Mathlib.Logic.Function.Defs.{congr-fun}
 use Prim.Native.Nat.{ℕ, _+_, _^_, _≤_, _<_}
 use native.Mathlib.Omega.{arith}
 use lib.Dec.{ltb, eqb}
@@ -13,7 +14,7 @@ use Rattle.evalset.specs.Bit.{bit}
 use Rattle.lists.specs.Search.{any, first, keep, below}
 use Rattle.evalset.specs.Sets.{most, room, mem, noneOf, fullOf, nameSet, belowOf, dropOf, addOf, shiftOf}
 use Rattle.evalset.proofs.Bounded.{any-cut, first-cut, keep-cut}
-use Rattle.lists.proofs.Truth.{clash, side, each}
+use Rattle.lists.proofs.Truth.{clash, side}
 use Rattle.evalset.proofs.Bits.{bit-above, same-bits}
 
 -- ---- room is 2 ^ most
@@ -42,7 +43,7 @@ module _ (s : EvalSet) (w : s .bits < 2 ^ room) where
 pub same-members : (s t : EvalSet) → s .bits < 2 ^ room → t .bits < 2 ^ room → mem s ≡ mem t → s ≡ t
 unfolding mem
 same-members s t v w h =
-    ap (λ (x : ℕ). record { bits = x }) (same-bits room (s .bits) (t .bits) v w (λ e l. each h e))
+    ap (λ (x : ℕ). record { bits = x }) (same-bits room (s .bits) (t .bits) v w (λ e l. congr-fun h e))
 
 -- ---- what is in range, and what is not
 module _ (n : ℕ) where

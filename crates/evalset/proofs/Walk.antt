@@ -4,6 +4,7 @@ use mathlib.Core.Path.{_≡_, sym, ap, ap₂, _∙_, fun-ext}
 use mathlib.Core.Bool.{Bool, true, false, not, _&&_, cond, and-true, and-false}
 use mathlib.Core.List.{List, [], _∷_, _++_}
 use mathlib.Core.Logic.{⊎-elim}
+use mathlib.Mathlib.Logic.Function.Defs.{congr-fun}
 use Prim.Native.Nat.{ℕ, _+_, _≤_, _<_}
 use native.Mathlib.Omega.{arith}
 use lib.Dec.{eqb, leb·zero}
@@ -13,7 +14,7 @@ use Rattle.evalset.specs.declared.Found.the-variants.{At, Nothing}
 use Rattle.lists.specs.Search.{first, keep, below}
 use Rattle.evalset.specs.Sets.{fromOf, dropOf, foundOf}
 use Rattle.evalset.proofs.Bounded.{Least, found-least, found-nothing, keep-more, keep-cut}
-use Rattle.lists.proofs.Truth.{clash, side, each}
+use Rattle.lists.proofs.Truth.{clash, side}
 
 pub from-zero : (p : ℕ → Bool) → p ≡ fromOf 0 p
 from-zero p = fun-ext (λ e. sym (ap (λ (b : Bool). b && p e) (leb·zero e)))
@@ -36,13 +37,13 @@ module _ (n i : ℕ) (p q : ℕ → Bool) (h : q ≡ fromOf i p) where
   pub step : (e : ℕ) → foundOf (first q (below n)) ≡ At e → Step n i e p q
   step e f =
       let s : Least n e q = found-least q n e f in
-      let here : fromOf i p e ≡ true = each (sym h) e ∙ s .passes in
+      let here : fromOf i p e ≡ true = congr-fun (sym h) e ∙ s .passes in
       let l : i ≤ e = ⊎-elim (λ k. absurd (clash here (from-out i e p k))) (λ k. k) (side e i) in
       record {
         low = l;
         within = s .within;
         passes = sym (from-in i e p l) ∙ here;
-        between = λ d a b. sym (from-in i d p a) ∙ each (sym h) d ∙ s .before d b;
+        between = λ d a b. sym (from-in i d p a) ∙ congr-fun (sym h) d ∙ s .before d b;
         rest = ap (λ (r : ℕ → Bool). dropOf r e) h ∙ fun-ext (shape l (s .before));
       }
     where
@@ -51,7 +52,7 @@ module _ (n i : ℕ) (p q : ℕ → Bool) (h : q ≡ fromOf i p) where
         where
           under : d < e → dropOf (fromOf i p) e d ≡ fromOf (e + 1) p d
           under k =
-              ap (λ (b : Bool). b && not (eqb d e)) (each (sym h) d ∙ before d k) ∙ sym (from-out (e + 1) d p (omega arith))
+              ap (λ (b : Bool). b && not (eqb d e)) (congr-fun (sym h) d ∙ before d k) ∙ sym (from-out (e + 1) d p (omega arith))
 
           over : e ≤ d → e < d → dropOf (fromOf i p) e d ≡ fromOf (e + 1) p d
           over g k =
@@ -66,7 +67,7 @@ module _ (n i : ℕ) (p q : ℕ → Bool) (h : q ≡ fromOf i p) where
 
   -- nothing is left
   pub stop : foundOf (first q (below n)) ≡ Nothing → (d : ℕ) → i ≤ d → d < n → p d ≡ false
-  stop f d a b = sym (from-in i d p a) ∙ each (sym h) d ∙ found-nothing q n f d b
+  stop f d a b = sym (from-in i d p a) ∙ congr-fun (sym h) d ∙ found-nothing q n f d b
 
 -- ---- what the members met so far, and their number, grow by
 module _ (i e : ℕ) (p : ℕ → Bool) (l : i ≤ e) (passes : p e ≡ true) (between : (d : ℕ) → i ≤ d → d < e → p d ≡ false) where

@@ -3,12 +3,12 @@
 use mathlib.Core.Path.{_≡_, refl, sym, ap, ap₂, _∙_, subst}
 use mathlib.Core.Bool.{Bool}
 use mathlib.Core.List.{List, [], _∷_}
+use mathlib.Mathlib.Logic.Function.Defs.{congr-fun}
 use Prim.Native.Nat.{ℕ, zero, suc, _+_, _-_, _≤_, _<_}
 use native.Mathlib.Omega.{arith}
 use native.Mathlib.Numerals.{add-one}
 use lib.ListN.{length, getD, set, drop, length-set, drop-of-length-le}
 use lib.Seq.{drop-cons, getD-set-same, getD-set-other}
-use Rattle.lists.proofs.Truth.{each}
 use Rattle.evalset.specs.declared.EvalSet.{EvalSet}
 use Rattle.evalset.specs.Sets.{room, mem}
 use Rattle.kleene.specs.declared.Two.{Two}
@@ -48,7 +48,7 @@ push-atom v c l =
 pub rails-at : {r : Two} {yes no : EvalSet} → (r .yes ≡ yes) × (r .no ≡ no) → {p q : ℕ → Bool} → mem yes ≡ p → mem no ≡ q → (e : ℕ)
     → duoAt r e ≡ duo (p e) (q e)
 unfolding duoAt
-rails-at h y n e = ap₂ duo (each (ap mem (h .0) ∙ y) e) (each (ap mem (h .1) ∙ n) e)
+rails-at h y n e = ap₂ duo (congr-fun (ap mem (h .0) ∙ y) e) (congr-fun (ap mem (h .1) ∙ n) e)
 
 -- ---- an array of rails
 

@@ -1,6 +1,6 @@
--- Truth values by their cases, a number on one side of another, and functions that are equal. Assumes nothing.
+-- Truth values by their cases, and a number on one side of another. Assumes nothing.
 use mathlib.Core.Bool.{Bool, true, false, _||_, Bool·beq, true≢false}
-use mathlib.Core.Path.{_≡_, refl, sym, ap, _∙_}
+use mathlib.Core.Path.{_≡_, refl, sym, _∙_}
 use mathlib.Core.Logic.{_⊎_, inl, inr}
 use Prim.Native.Nat.{ℕ, _≤_, _<_}
 use native.Mathlib.Decide.{decLt}
@@ -37,7 +37,3 @@ side a b = go (decLt a b)
     go : Dec (a < b) → (a < b) ⊎ (b ≤ a)
     go (yes l) = inl l
     go (no n) = inr (omega arith)
-
--- equal functions agree everywhere
-pub each : {A B : Type 0} {p q : A → B} → p ≡ q → (e : A) → p e ≡ q e
-each {A} {B} h e = ap (λ (r : A → B). r e) h

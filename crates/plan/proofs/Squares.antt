@@ -4,6 +4,7 @@ use mathlib.Core.Bool.{Bool, true, _&&_, _||_, or-false, and-eq-true-iff}
 use mathlib.Core.List.{List, [], _∷_, _++_}
 use mathlib.Core.Logic.{_⊎_, inl, inr, ⊎-elim}
 use mathlib.Mathlib.Data.Bool.Basic.{and-intro, eq-false-of-not-eq-true, or-inl, or-inr}
+use mathlib.Mathlib.Logic.Function.Defs.{congr-fun}
 use Prim.Native.Nat.{ℕ, _+_, _*_, _≤_, _<_}
 use native.Mathlib.Omega.{arith}
 use native.Mathlib.Decide.{ℕ-discrete as decEq}
@@ -20,7 +21,7 @@ use Rattle.plan.specs.Floor.{between, touching}
 use Rattle.plan.specs.Arrays.{square}
 use Rattle.plan.specs.Private.{planOf, addAt, joinedOf}
 use Rattle.lists.proofs.Search.{any-last}
-use Rattle.lists.proofs.Truth.{or-cases, bool-ext, each}
+use Rattle.lists.proofs.Truth.{or-cases, bool-ext}
 
 -- ---- what a square says
 pub record Related (p : Plan) (a b : ℕ) : Type 0 where
@@ -92,11 +93,11 @@ row-set rows i j v h l e = fun-ext (λ a. fun-ext (λ b. go a b (decEq a i)))
     go : (a b : ℕ) → Dec (a ≡ i) → memAt (set rows i v) a b ≡ addAt (memAt rows) i j a b
     go a b (yes q) =
         ap (λ (x : ℕ). memAt (set rows i v) x b) q
-        ∙ each (mem-at-same rows i v h ∙ e) b
+        ∙ congr-fun (mem-at-same rows i v h ∙ e) b
         ∙ add-in (memAt rows i) j l b
         ∙ ap₂ (λ (x : ℕ) (t : Bool). memAt rows x b || (t && eqb b j)) (sym q) (sym (eq-eqb a i q))
     go a b (no q) =
-        each (mem-at-other rows i a v q) b ∙ sym (or-false (memAt rows a b))
+        congr-fun (mem-at-other rows i a v q) b ∙ sym (or-false (memAt rows a b))
         ∙ ap (λ (t : Bool). memAt rows a b || (t && eqb b j)) (sym (ne-eqb a i q))
 
 -- ---- one point more

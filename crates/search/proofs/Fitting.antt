@@ -5,10 +5,11 @@ use mathlib.Core.Path.{_≡_, refl, sym, ap, ap₂, _∙_, subst, fun-ext}
 use mathlib.Core.Logic.{⊎-elim}
 use mathlib.Core.List.{List, [], _∷_, _++_}
 use mathlib.Mathlib.Data.Bool.Basic.{eq-false-of-not-eq-true}
+use mathlib.Mathlib.Logic.Function.Defs.{congr-fun}
 use Prim.Native.Nat.{ℕ, _^_, _≤_, _<_}
 use native.Mathlib.Omega.{arith}
 use lib.Dec.{ltb}
-use Rattle.lists.proofs.Truth.{side, each}
+use Rattle.lists.proofs.Truth.{side}
 use Rattle.formula.specs.Formula.{Term, Atom}
 use Rattle.lists.specs.Search.{any, all, below}
 use Rattle.evalset.specs.Sets.{most, room, mem, memAt, belowOf, meetOf, minusOf}
@@ -132,7 +133,7 @@ module _ (n : ℕ) (few : n ≤ most) (s : State) (ms : List Mark) (f : Fit n s 
   unfolding fills
   fills-is x t h =
       fun-ext
-      (λ e. ap (λ (b : Bool). b && x e) (each (f .allowed-is) e)
+      (λ e. ap (λ (b : Bool). b && x e) (congr-fun (f .allowed-is) e)
       ∙ ⊎-elim (λ l. ap (λ (b : Bool). allowed n ms e && b) (h e l))
       (λ l. ap (λ (b : Bool). b && x e) (allowed-out n ms e l) ∙ sym (ap (λ (b : Bool). b && at t e) (allowed-out n ms e l)))
       (side e (2 ^ n)))
@@ -141,7 +142,7 @@ module _ (n : ℕ) (few : n ≤ most) (s : State) (ms : List Mark) (f : Fit n s 
   unfolding partners
   partners-is y t h p lp =
       fun-ext
-      (λ q. ap (λ (b : Bool). b && not (sep p q)) (each (fills-is y t h) q)
+      (λ q. ap (λ (b : Bool). b && not (sep p q)) (congr-fun (fills-is y t h) q)
       ∙ ⊎-elim (λ l. ap (λ (b : Bool). fills n ms t q && not b) (f .rows-are p q lp l))
       (λ l. ap (λ (b : Bool). b && not (sep p q)) (fills-out n ms t q l)
       ∙ sym (ap (λ (b : Bool). b && not (separated ms p q)) (fills-out n ms t q l)))
@@ -152,7 +153,7 @@ module _ (n : ℕ) (few : n ≤ most) (s : State) (ms : List Mark) (f : Fit n s 
   unfolding startsOf leads
   leads-is x y u t hx hy =
       fun-ext
-      (λ p. ap (λ (b : Bool). b && any (minusOf (meetOf al y) (sep p)) (below room)) (each (fills-is x u hx) p)
+      (λ p. ap (λ (b : Bool). b && any (minusOf (meetOf al y) (sep p)) (below room)) (congr-fun (fills-is x u hx) p)
       ∙ ⊎-elim (λ l. ap (λ (b : Bool). fills n ms u p && b) (partnered p l))
       (λ l. ap (λ (b : Bool). b && any (minusOf (meetOf al y) (sep p)) (below room)) (fills-out n ms u p l)
       ∙ sym (ap (λ (b : Bool). b && any (partners n ms t p) (evaluations n)) (fills-out n ms u p l)))
@@ -215,7 +216,7 @@ module _ (n : ℕ) (ms : List Mark) (m : Mark) (h : Unchanging m) where
   same-allowed =
       fun-ext
       (λ e. ap₂ (λ (b c : Bool). ltb e (2 ^ n) && (not b && not c)) (same-any (empties e) (h .forbids-none e))
-      (each (each same-separated e) e))
+      (congr-fun (congr-fun same-separated e) e))
 
   same-witnessed : (o : Mark) → witnessed n ms o ≡ witnessed n more o
   unfolding leads partners fills

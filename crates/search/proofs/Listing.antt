@@ -4,6 +4,7 @@ use mathlib.Core.Bool.{Bool, true, false, not, _&&_, cond}
 use mathlib.Core.Path.{_≡_, refl, sym, ap, ap₂, _∙_, subst, fun-ext}
 use mathlib.Core.Logic.{⊎-elim}
 use mathlib.Core.List.{List}
+use mathlib.Mathlib.Logic.Function.Defs.{congr-fun}
 use Prim.Native.Nat.{ℕ, _+_, _^_, _≤_, _<_}
 use native.Mathlib.Omega.{arith}
 use lib.Dec.{ltb}
@@ -12,7 +13,7 @@ use borrow.Author.Count.{below-none, below-more}
 use borrow.Author.Tests.{lt-ltb, le-ltb}
 use Rattle.lists.specs.Padded.{pad}
 use Rattle.lists.proofs.Padded.{pad-at}
-use Rattle.lists.proofs.Truth.{side, each}
+use Rattle.lists.proofs.Truth.{side}
 use Rattle.evalset.specs.declared.EvalSet.{EvalSet}
 use Rattle.lists.specs.Search.{keep, below, elem}
 use Rattle.evalset.specs.Sets.{most, room, mem, memAt, noneOf, addOf}
@@ -68,7 +69,7 @@ module _ (f : ℕ → ℕ → Bool) where
   filled-more n r m h here other =
       record {
         done = below-more (λ i. m i ≡ f i) n (λ i k. other i (λ z. omega arith) ∙ h .done i k) here;
-        past = λ i e l. each (other i (λ z. omega arith)) e ∙ h .past i e (omega arith);
+        past = λ i e l. congr-fun (other i (λ z. omega arith)) e ∙ h .past i e (omega arith);
       }
 
 -- ---- the plan
@@ -97,7 +98,7 @@ module _ (n : ℕ) (few : n ≤ most) (ms : List Mark) (g : EvalSet) (h : (e : �
     contact-is : (i j : ℕ) → memAt (r .rows) i j
         ≡ ((ltb i (r .count) && ltb j (r .count)) && not (separated ms (getD (r .points) i 0) (getD (r .points) j 0)))
     unfolding positionsOf
-    contact-is i j = ⊎-elim (λ l. each (filled .done i l) j ∙ ⊎-elim (near l) (far l) (side j (r .count))) none (side i (r .count))
+    contact-is i j = ⊎-elim (λ l. congr-fun (filled .done i l) j ∙ ⊎-elim (near l) (far l) (side j (r .count))) none (side i (r .count))
       where
         p : ℕ
         p = getD (r .points) i 0

@@ -5,6 +5,7 @@ use mathlib.Core.Bool.{Bool, true, false, not, _||_, cond, and-eq-true-iff}
 use mathlib.Core.Path.{_≡_, refl, sym, ap, ap₂, _∙_, subst}
 use mathlib.Core.List.{List, [], _∷_, _++_, map, append-assoc, append-nil, map-id}
 use mathlib.Mathlib.Data.Bool.Basic.{and-intro, eq-false-of-not-eq-true}
+use mathlib.Mathlib.Logic.Function.Defs.{congr-fun}
 use Prim.Native.Nat.{ℕ, suc, _+_, _-_, _*_, _/_, _^_, _≤_, _<_}
 use native.Mathlib.Nat.{pow-suc}
 use native.Mathlib.Numerals.{add-one}
@@ -19,7 +20,7 @@ use Rattle.evalset.specs.declared.EvalSet.{EvalSet}
 use Rattle.lists.specs.Search.{In, any, first, orElse, below}
 use Rattle.evalset.specs.Sets.{room, most, mem, meetOf, belowOf, shiftOf}
 use Rattle.lists.proofs.Search.{map-elim, any-elim, none-elim, none-intro, below-intro, first-none, first-append}
-use Rattle.lists.proofs.Truth.{clash, each}
+use Rattle.lists.proofs.Truth.{clash}
 use Rattle.evalset.proofs.Members.{names-room}
 use Rattle.contact.specs.Numbering.{allAtoms}
 use Rattle.contact.specs.Row.{is, Extends, rulesTrue}
@@ -105,7 +106,7 @@ module _ (code ends : List ℕ) (sheet : Sheet) (s : State) (row k j : ℕ) (unr
       eq-false-of-not-eq-true (λ r. clash true-there (refutes-sound rules (map is (b ++ take j ext)) r (b ++ ext)
       (subst (λ (x : List Bool). Extends x (map is (b ++ take j ext))) split (extends-prefix (b ++ take j ext) (drop j ext))))) in
       let is-left : mem unrefuted (w .0) ≡ true =
-      each q (w .0) ∙ and-intro (lt-ltb (w .0) (2 ^ j) (w .1))
+      congr-fun q (w .0) ∙ and-intro (lt-ltb (w .0) (2 ^ j) (w .1))
       (ap (λ (x : List Bool). not (refutes rules (map is (b ++ x)))) (w .2) ∙ ap not left-open) in
       clash is-left (none-elim (mem unrefuted) h (below-intro room (w .0) (omega (arith, w .1, names-room j (n .few))))))))
 
@@ -134,7 +135,7 @@ module _ (code ends : List ℕ) (sheet : Sheet) (s : State) (row k j : ℕ) (unr
       let w = any-elim (mem unrefuted) (below room) some in
       let zero-levels : j ≡ 0 = omega (arith, n .block-fits) in
       let left-open : refutes rules (map is (b ++ rowBits j (w .0))) ≡ false =
-      not-true _ (and-eq-true-iff (ltb (w .0) (2 ^ j)) (not (refutes rules (map is (b ++ rowBits j (w .0))))) .0 (sym (each q (w .0)) ∙ w .2) .1) in
+      not-true _ (and-eq-true-iff (ltb (w .0) (2 ^ j)) (not (refutes rules (map is (b ++ rowBits j (w .0))))) .0 (sym (congr-fun q (w .0)) ∙ w .2) .1) in
       let all-open : refutes rules (map is b) ≡ false =
       ap (λ (x : List Bool). refutes rules (map is x)) (sym (append-nil b))
       ∙ ap (λ (m : ℕ). refutes rules (map is (b ++ rowBits m (w .0)))) (sym zero-levels) ∙ left-open in

@@ -4,10 +4,10 @@ use mathlib.Core.Bool.{Bool, _||_, or-assoc, or-false}
 use mathlib.Core.Path.{_≡_, sym, ap, _∙_, subst}
 use mathlib.Core.Logic.{⊎-elim}
 use mathlib.Core.List.{List, [], _∷_}
+use mathlib.Mathlib.Logic.Function.Defs.{congr-fun}
 use Prim.Native.Nat.{ℕ, _≤_, _<_}
 use native.Mathlib.Omega.{arith}
 use lib.ListN.{getD}
-use Rattle.lists.proofs.Truth.{each}
 use Rattle.formula.specs.Formula.{Form}
 use Rattle.formula.specs.Atoms.{atomsOf}
 use Rattle.evalset.specs.declared.EvalSet.{EvalSet}
@@ -57,7 +57,7 @@ module _ (many : ℕ) (code : List ℕ) (leaves : List Two) (rules : List (Form 
   joined-none ends acc q h = record {
     rest = rules;
     to-come = h;
-    so-far = λ e l row v. ap (λ (b : Bool). b || refutes rules row) (sym (each q e));
+    so-far = λ e l row v. ap (λ (b : Bool). b || refutes rules row) (sym (congr-fun q e));
   }
 
   module _ (from end : ℕ) (ends : List ℕ) (acc : ℕ → Bool) (no : EvalSet) (says : RuleRefuted (part code from end) leaves no) where

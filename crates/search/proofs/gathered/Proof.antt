@@ -2,11 +2,11 @@
 use mathlib.Core.Bool.{Bool, _||_}
 use mathlib.Core.Path.{_≡_, refl, sym, ap, ap₂, _∙_}
 use mathlib.Core.List.{List}
+use mathlib.Mathlib.Logic.Function.Defs.{congr-fun}
 use Prim.Native.Nat.{ℕ, _-_, _≤_, _<_}
 use native.Mathlib.Omega.{arith}
 use lib.ListN.{length, take}
 use borrow.Author.Needs.{needs}
-use Rattle.lists.proofs.Truth.{each}
 use Rattle.formula.specs.Formula.{Atom}
 use Rattle.lists.specs.Search.{gather, elem}
 use Rattle.evalset.specs.Sets.{mem, memAt}
@@ -37,7 +37,7 @@ loop-holds c = (
   omega arith,
   refl,
   λ atoms h ms f e.
-      each (c .empty .ensures) e ∙ sym (ap (λ (l : List Mark). elem e (gather (gives (c .before .args .t1 .names) ms) l)) (no-marks atoms)),
+      congr-fun (c .empty .ensures) e ∙ sym (ap (λ (l : List Mark). elem e (gather (gives (c .before .args .t1 .names) ms) l)) (no-marks atoms)),
 )
 
 element-copy-out-contact : tie.Need-element-copy-out-contact Inv-loop μ-loop
@@ -81,7 +81,7 @@ loop-again c =
       refl,
       λ atoms h ms f e.
           let l : k .i < length atoms = omega (arith, h .counted) in
-          each (c .join .ensures) e
+          congr-fun (c .join .ensures) e
           ∙ ap₂ _||_ (k .inv .2 atoms h ms f e)
           (c .before .gives .ensures e
           ∙ ap (elem e) (gives-is _ (h .few) _ ms f _ _ _ _ (atomAt atoms (k .i)) (h .atom-is (k .i) l)

@@ -1,9 +1,9 @@
 -- `search::gives` meets its contract, case by case. Assumes nothing.
 use mathlib.Core.Bool.{Bool}
 use mathlib.Core.Path.{ap, ap₂, _∙_}
+use mathlib.Mathlib.Logic.Function.Defs.{congr-fun}
 use Prim.Native.Nat.{ℕ}
 use borrow.Author.Needs.{needs}
-use Rattle.lists.proofs.Truth.{each}
 use Rattle.lists.specs.Search.{first, below, elem}
 use Rattle.evalset.specs.Sets.{room, memAt}
 use Rattle.search.specs.Tests.{pairOf}
@@ -39,10 +39,10 @@ returns c = λ e.
     ∙ ap₂ (λ (f g : ℕ → Bool). elem e (pairOf f g (memAt (a .s .rows)))) (c .before .before .meet .ensures) (c .before .meet2 .ensures))
 
 returns-2 : tie.Need-returns-2
-returns-2 c = λ e. rw (c .before .before .if1 .taken, c .before .if2 .left) (each (c .empty .ensures) e)
+returns-2 c = λ e. rw (c .before .before .if1 .taken, c .before .if2 .left) (congr-fun (c .empty .ensures) e)
 
 returns-3 : tie.Need-returns-3
-returns-3 c = λ e. rw (c .before .before .if1 .left, c .before .if3 .taken) (each (c .empty2 .ensures) e)
+returns-3 c = λ e. rw (c .before .before .if1 .left, c .before .if3 .taken) (congr-fun (c .empty2 .ensures) e)
 
 returns-4 : tie.Need-returns-4
 returns-4 c = λ e.

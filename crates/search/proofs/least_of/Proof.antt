@@ -1,9 +1,9 @@
 -- `search::least_of` meets its contract: the set of the one evaluation found, or the empty set. Assumes nothing.
 use mathlib.Core.Bool.{Bool}
 use mathlib.Core.Path.{sym, ap, _∙_}
+use mathlib.Mathlib.Logic.Function.Defs.{congr-fun}
 use Prim.Native.Nat.{ℕ}
 use borrow.Author.Needs.{needs}
-use Rattle.lists.proofs.Truth.{each}
 use Rattle.evalset.specs.Sets.{room, addOf}
 use Rattle.evalset.proofs.Bounded.{found-least, found-nothing}
 use Rattle.search.proofs.Walks.{one-found, none-found}
@@ -24,7 +24,7 @@ empty-requires c κs = search needs
 
 returns : tie.Need-returns
 returns c = λ e.
-    each (c .empty .ensures) e
+    congr-fun (c .empty .ensures) e
     ∙ none-found _ (found-nothing _ room (sym (c .before .before .before .least .ensures) ∙ c .before .enum-told .given .1)) e
 
 empty-requires-2 : tie.Need-empty-requires-2
@@ -36,7 +36,7 @@ insert-requires c κs = search needs
 returns-2 : tie.Need-returns-2
 returns-2 c = λ e.
     let p = c .before .before .before .e .given .0 .0 in
-    each (c .insert .ensures ∙ ap (λ (s : ℕ → Bool). addOf s p) (c .before .empty2 .ensures)) e
+    congr-fun (c .insert .ensures ∙ ap (λ (s : ℕ → Bool). addOf s p) (c .before .empty2 .ensures)) e
     ∙ one-found _ p (found-least _ room p (sym (c .before .before .before .before .before .least .ensures) ∙ c .before .before .before .e .given .1)) e
 
 pub least-of-spec : {M : Type 1} → statement M

@@ -2,10 +2,10 @@
 -- Assumes nothing.
 use mathlib.Core.Bool.{Bool}
 use mathlib.Core.Path.{_≡_, sym, ap, _∙_}
+use mathlib.Mathlib.Logic.Function.Defs.{congr-fun}
 use Prim.Native.Nat.{ℕ, _-_, _≤_}
 use native.Mathlib.Omega.{arith}
 use borrow.Author.Needs.{needs}
-use Rattle.lists.proofs.Truth.{each}
 use Rattle.lists.specs.Search.{first, below}
 use Rattle.evalset.specs.Sets.{room, mem, memAt, minusOf, addOf, fromOf, foundOf}
 use Rattle.evalset.proofs.Bounded.{found-least, found-nothing, any-at, any-none}
@@ -55,7 +55,7 @@ partner c = c .least2 .ensures ∙ ap (λ (p : ℕ → Bool). foundOf (first p (
 returns : tie.Need-returns Inv-loop μ-loop
 returns c = λ e.
     let k = c .before .before .before .before .loop in
-    each (c .before .before .before .before .before .empty .ensures) e
+    congr-fun (c .before .before .before .before .before .empty .ensures) e
     ∙ pair-none _ _ _ (walk-ends _ _ _ (k .from) (k .inv .2)
     (stop room (k .from) _ _ (k .inv .1) (sym (c .before .before .least .ensures) ∙ c .enum-told .given .1))) e
 
@@ -89,7 +89,7 @@ returns-2 c = λ e.
     let p = x .before .p .given .0 .0 in
     let q = c .before .before .before .q .given .0 .0 in
     let least = found-least _ room q (sym (partner (c .before .before .before .before .before)) ∙ c .before .before .before .q .given .1) in
-    each (c .insert2 .ensures
+    congr-fun (c .insert2 .ensures
     ∙ ap (λ (s : ℕ → Bool). addOf s p)
     (c .before .insert .ensures ∙ ap (λ (s : ℕ → Bool). addOf s q) (x .before .before .before .before .before .before .empty .ensures))) e
     ∙ pair-found _ _ _ p q
@@ -124,7 +124,7 @@ returns-3 : tie.Need-returns-3 Inv-loop μ-loop
 unfolding room
 returns-3 c = λ e.
     let k = c .before .loop in
-    each (c .before .before .empty .ensures) e
+    congr-fun (c .before .before .empty .ensures) e
     ∙ pair-none _ _ _ (walk-ends _ _ _ (k .from) (k .inv .2) (λ d a b. absurd (omega arith))) e
 
 pub pair-of-spec : {M : Type 1} → statement M

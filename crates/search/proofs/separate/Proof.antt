@@ -1,11 +1,11 @@
 -- `search::separate` meets its contract: each evaluation of the first set is met once, least first, and its row is joined with the
 -- second set. Assumes nothing.
 use mathlib.Core.Path.{_≡_, refl, sym, _∙_}
+use mathlib.Mathlib.Logic.Function.Defs.{congr-fun}
 use Prim.Native.Nat.{_-_, _≤_, _<_}
 use native.Mathlib.Omega.{arith}
 use lib.ListN.{length, length-set}
 use borrow.Author.Needs.{needs}
-use Rattle.lists.proofs.Truth.{each}
 use Rattle.evalset.specs.Sets.{room, mem, memAt, fromOf}
 use Rattle.evalset.proofs.Arrays.{mem-at-same, mem-at-other}
 use Rattle.evalset.proofs.Walk.{from-zero, Step, step, stop}
@@ -88,8 +88,8 @@ loop-again c =
       length-set (k .out) _ _ ∙ k .inv .1,
       c .without .ensures ∙ t .rest,
       separate-on _ _ _ (k .from) p _ t (memAt (k .out)) _ (k .inv .3)
-          (λ q. each (mem-at-same (k .out) p _ l) q ∙ each (c .before .join .ensures) q)
-          (λ d q ne. each (mem-at-other (k .out) p d _ ne) q),
+          (λ q. congr-fun (mem-at-same (k .out) p _ l) q ∙ congr-fun (c .before .join .ensures) q)
+          (λ d q ne. congr-fun (mem-at-other (k .out) p d _ ne) q),
     )
 
 returns-2 : tie.Need-returns-2 Inv-loop μ-loop
