@@ -550,12 +550,7 @@ fn joined(floor: Floor, e: usize, f: usize) -> Floor {
 
 // Whether e and f are two points, e the smaller.
 fn is_pair(points: u8, e: usize, f: usize) -> bool {
-    if e < f {
-        if has(points, e) {
-            return has(points, f);
-        }
-    }
-    false
+    e < f && has(points, e) && has(points, f)
 }
 
 // The floor of these points whose pairs, in order, are in contact where the bits of a number are set.
@@ -912,15 +907,7 @@ fn atoms_of(code: &[u8], names: usize, row: u32) -> Atoms {
 
 // Whether e is in x and f in y, or the other way round.
 fn crossing(x: u8, y: u8, e: usize, f: usize) -> bool {
-    if has(x, e) {
-        if has(y, f) {
-            return true;
-        }
-    }
-    if has(x, f) {
-        return has(y, e);
-    }
-    false
+    has(x, e) && has(y, f) || has(x, f) && has(y, e)
 }
 
 // "Two evaluations are separated if a false contact has one in its first term and the other in its second, either way round."
@@ -942,13 +929,7 @@ fn separated(atoms: Atoms, e: usize, f: usize) -> bool {
 
 // "An evaluation is allowed if it is below 2^names, in no true zero term and not separated from itself."
 fn allowed(atoms: Atoms, e: usize) -> bool {
-    if !has(evaluations(atoms.names), e) {
-        return false;
-    }
-    if has(atoms.vacant, e) {
-        return false;
-    }
-    !separated(atoms, e, e)
+    has(evaluations(atoms.names), e) && !has(atoms.vacant, e) && !separated(atoms, e, e)
 }
 
 // Whether an evaluation is in a set, and allowed.
@@ -1147,22 +1128,16 @@ fn floor_in(words: &[u32; 530], n: usize) -> Floor {
     r.floor
 }
 
-fn word_at(list: [u32; 64], count: usize, i: usize) -> u32 {
-    if i < count {
-        if i < 64 {
-            return list[i];
-        }
-    }
-    UNWRITTEN
+fn word_at(list: [u32; 64], i: usize) -> u32 {
+    if i < 64 { list[i] } else { UNWRITTEN }
 }
 
 // Whether a buffer holds these words, and past them what it held before.
 fn same_words(words: &[u32; 530], expected: Words) -> bool {
     let list = expected.words;
-    let count = expected.count;
     let mut i: usize = 0;
     while i < 530 {
-        if words[i] != word_at(list, count, i) {
+        if words[i] != word_at(list, i) {
             return false;
         }
         i += 1;

@@ -1,4 +1,4 @@
--- `atoms_of` is safe and ends: each index is below the length, and the number of turns left falls. Assumes nothing.
+-- `small_floors::atoms_of` is safe and ends: each sign read is one of the form's, and the signs left fall. Assumes nothing.
 use borrow.Author.Needs.{needs}
 use Prim.Native.Nat.{_-_}
 use lib.ListN.{length}

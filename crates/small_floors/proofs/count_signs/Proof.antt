@@ -1,4 +1,4 @@
--- `count_signs` is safe and ends: the number of turns left falls, and nothing has to hold from turn to turn. Assumes nothing.
+-- `small_floors::count_signs` is safe and ends: a sign's number fits a byte, and the signs left fall. Assumes nothing.
 use borrow.Author.Needs.{needs}
 use Prim.Native.Nat.{_-_}
 use Rattle.small_floors.proofs.count_signs.Statement.{statement}

@@ -1,4 +1,4 @@
--- `position` is safe and ends: the number of turns left falls, and nothing has to hold from turn to turn. Assumes nothing.
+-- `small_floors::position` is safe and ends: the count is cut to 7 before it grows, and the evaluations left fall. Assumes nothing.
 use borrow.Author.Needs.{needs}
 use Prim.Native.Nat.{_-_}
 use Rattle.small_floors.proofs.position.Statement.{statement}

@@ -1,4 +1,4 @@
--- `put_name` is safe and ends: the number of turns left falls, and nothing has to hold from turn to turn. Assumes nothing.
+-- `small_floors::put_name` is safe and ends: a name's number is below 12, and the letters left fall. Assumes nothing.
 use borrow.Author.Needs.{needs}
 use Prim.Native.Nat.{_-_}
 use Rattle.small_floors.proofs.put_name.Statement.{statement}

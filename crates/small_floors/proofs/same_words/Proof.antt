@@ -1,14 +1,14 @@
--- `same_words` is safe and ends: each index is below the length, and the number of turns left falls. Assumes nothing.
+-- `small_floors::same_words` is safe and ends: each word read is one of the buffer's 530, and the words left fall. Assumes nothing.
 use borrow.Author.Needs.{needs}
 use Prim.Native.Nat.{_-_}
 use Rattle.small_floors.proofs.same_words.Statement.{statement}
 use Rattle.small_floors.proofs.same_words.Tie as tie
 
 abbrev Inv-loop : tie.InvT-loop
-Inv-loop words list count i₀ i = Unit {0}
+Inv-loop words list i₀ i = Unit {0}
 
 abbrev μ-loop : tie.MeasureT-loop
-μ-loop words list count i₀ i = 530 - i
+μ-loop words list i₀ i = 530 - i
 
 loop-holds : tie.Need-loop-holds Inv-loop μ-loop
 loop-holds c = search needs

@@ -1,4 +1,4 @@
--- `search` is safe and ends: the number of turns left falls, and nothing has to hold from turn to turn. Assumes nothing.
+-- `small_floors::search` is safe and ends: below 255 one more fits a byte, and the sets of points left fall. Assumes nothing.
 use borrow.Author.Needs.{needs}
 use Prim.Native.Nat.{_-_}
 use Rattle.small_floors.proofs.search.Statement.{statement}

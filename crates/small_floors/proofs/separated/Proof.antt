@@ -1,4 +1,4 @@
--- `separated` is safe and ends: each index is below the length, and the number of turns left falls. Assumes nothing.
+-- `small_floors::separated` is safe and ends: each atom read is one of the 16, and the atoms left fall. Assumes nothing.
 use borrow.Author.Needs.{needs}
 use Prim.Native.Nat.{_-_}
 use Rattle.small_floors.proofs.separated.Statement.{statement}

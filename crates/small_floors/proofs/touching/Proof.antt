@@ -1,4 +1,4 @@
--- `touching` is safe and ends: each index is below the length, and the number of turns left falls. Assumes nothing.
+-- `small_floors::touching` is safe and ends: each evaluation is below 8, and those left fall. Assumes nothing.
 use borrow.Author.Needs.{needs}
 use Prim.Native.Nat.{_-_}
 use Rattle.small_floors.proofs.touching.Statement.{statement}

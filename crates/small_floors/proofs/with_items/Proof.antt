@@ -1,4 +1,4 @@
--- `with_items` is safe and ends: the number of turns left falls, and nothing has to hold from turn to turn. Assumes nothing.
+-- `small_floors::with_items` is safe and ends: the turns left fall. Assumes nothing.
 use borrow.Author.Needs.{needs}
 use Prim.Native.Nat.{_-_}
 use Rattle.small_floors.proofs.with_items.Statement.{statement}

@@ -1,4 +1,4 @@
--- `write_counts` is safe and ends: each index is below the length, and the number of turns left falls. Assumes nothing.
+-- `small_floors::write_counts` is safe and ends: each count read is one of the 27, and the counts left fall. Assumes nothing.
 use borrow.Author.Needs.{needs}
 use Prim.Native.Nat.{_-_}
 use Rattle.small_floors.proofs.write_counts.Statement.{statement}

@@ -1,4 +1,4 @@
--- `drawn` is below n: it is a remainder by n, which is not 0. Assumes nothing.
+-- `small_floors::Maker::drawn` meets its contract: a remainder by n, which is not 0, is below n. Assumes nothing.
 use borrow.Author.Needs.{needs}
 use native.Mathlib.Nat.{mod-lt}
 use Rattle.small_floors.proofs.Maker.drawn.Statement.{statement}
