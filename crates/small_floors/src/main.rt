@@ -6,7 +6,7 @@
 // there are more floors: where one of these meets the rules ask must give a plan, and its row may not be later than theirs. Every plan
 // must meet the rules on the floor that its words have, and all its words must be those of document 01, 'The plan that is given',
 // for its row. A sheet that disagrees is written, and why. The file `stdout` has document 01's answers to P1 to P12 and the counts
-// that a separate computation gave; the comma is counted with C and <=.
+// that a separate computation gave.
 ghost use Prim.Native.Nat.{_<_};
 ghost use Rattle.table.specs.Calls.{FromUs};
 use table::AddAnswer;
@@ -1310,7 +1310,8 @@ fn check(code: &[u8], names: usize, answer: Answer, words: &[u32; 530]) -> Findi
 
 // ---- the checks: counts
 
-// What is counted, after the sheets: sheets of 0 to 3 names, answers, words, and sheets with a sign, by the signs' numbers.
+// What is counted, after the sheets: sheets of 0 to 3 names, answers, words, and sheets with a sign, by the signs' numbers, with
+// parentheses that group, with a comma.
 const NAMES: usize = 1;
 
 const PLANS: usize = 5;
@@ -1324,6 +1325,8 @@ const DISAGREEMENTS: usize = 8;
 const SIGNS: usize = 9;
 
 const GROUPS: usize = 26;
+
+const COMMAS: usize = 27;
 
 // Byte j of what count i is called.
 fn label_byte(i: usize, j: usize) -> u8 {
@@ -1353,8 +1356,9 @@ fn label_byte(i: usize, j: usize) -> u8 {
         with ->       \
         with <->      \
         with a name   \
-        with ()       ";
-    labels[i % 27 * 14 + j % 14]
+        with ()       \
+        with ,        ";
+    labels[i % 28 * 14 + j % 14]
 }
 
 fn write_label(i: usize) {
@@ -1366,9 +1370,9 @@ fn write_label(i: usize) {
     }
 }
 
-fn write_counts(counts: [u64; 27]) {
+fn write_counts(counts: [u64; 28]) {
     let mut i: usize = 0;
-    while i < 27 {
+    while i < 28 {
         write_label(i);
         io::print_decimal(libc::STDOUT_FILENO, counts[i]);
         write_bytes(b"\n");
@@ -1377,11 +1381,11 @@ fn write_counts(counts: [u64; 27]) {
 }
 
 // Raises count i by n; no count comes near the bound.
-fn raise(counts: &mut [u64; 27], i: usize, n: usize) {
-    counts[i % 27] = counts[i % 27] % 0x1_0000_0000 + (n % 0x1_0000) as u64;
+fn raise(counts: &mut [u64; 28], i: usize, n: usize) {
+    counts[i % 28] = counts[i % 28] % 0x1_0000_0000 + (n % 0x1_0000) as u64;
 }
 
-fn raise_if(counts: &mut [u64; 27], i: usize, b: bool) {
+fn raise_if(counts: &mut [u64; 28], i: usize, b: bool) {
     if b {
         raise(counts, i, 1);
     }
@@ -1423,7 +1427,7 @@ fn is_grouped(file: &[u8]) -> bool {
 }
 
 // One more for each sign that a sheet has; a sheet with a name has the first.
-fn count_signs(counts: &mut [u64; 27], code: &[u8]) {
+fn count_signs(counts: &mut [u64; 28], code: &[u8]) {
     let mut sign: usize = 0;
     while sign < 17 {
         raise_if(counts, SIGNS + sign, occurs(code, sign as u8));
@@ -1431,15 +1435,16 @@ fn count_signs(counts: &mut [u64; 27], code: &[u8]) {
     }
 }
 
-fn count_sheet(counts: &mut [u64; 27], file: &[u8], code: &[u8], names: usize) {
+fn count_sheet(counts: &mut [u64; 28], file: &[u8], code: &[u8], names: usize) {
     raise(counts, 0, 1);
     raise(counts, NAMES + names % 4, 1);
     count_signs(counts, code);
     raise_if(counts, GROUPS, is_grouped(file));
+    raise_if(counts, COMMAS, occurs(file, b','));
 }
 
 // A sheet that disagrees is written with its rules.
-fn count_finding(counts: &mut [u64; 27], f: Finding, file: &[u8]) {
+fn count_finding(counts: &mut [u64; 28], f: Finding, file: &[u8]) {
     match f {
         Finding::Plan(n) => {
             raise(counts, PLANS, 1);
@@ -1487,7 +1492,7 @@ fn write_answer(label: &[u8], f: Finding, words: &[u32; 530]) {
 }
 
 // Tests a sheet: its lines, the number of the one that is withdrawn or 0, its form without that one, and how many names.
-fn test(counts: &mut [u64; 27], label: &[u8], file: &[u8], k: usize, code: &[u8], names: usize) {
+fn test(counts: &mut [u64; 28], label: &[u8], file: &[u8], k: usize, code: &[u8], names: usize) {
     let mut words = [UNWRITTEN; 530];
     let answer = asked(file, k, &mut words);
     let f = check(code, names, answer, &words);
@@ -1497,7 +1502,7 @@ fn test(counts: &mut [u64; 27], label: &[u8], file: &[u8], k: usize, code: &[u8]
 }
 
 // Document 01, 'Worked sheets': P1 and P2.
-fn first_sheets(counts: &mut [u64; 27]) {
+fn first_sheets(counts: &mut [u64; 28]) {
     test(counts, b"P1:", b"T\n", 0, &[RULE, TRUE], 0);
     test(
         counts,
@@ -1510,7 +1515,7 @@ fn first_sheets(counts: &mut [u64; 27]) {
 }
 
 // P3 to P5.
-fn withdrawn_sheets(counts: &mut [u64; 27]) {
+fn withdrawn_sheets(counts: &mut [u64; 28]) {
     let code = [
         RULE,
         NOT,
@@ -1538,7 +1543,7 @@ fn withdrawn_sheets(counts: &mut [u64; 27]) {
 }
 
 // P6 to P9.
-fn plain_sheets(counts: &mut [u64; 27]) {
+fn plain_sheets(counts: &mut [u64; 28]) {
     test(
         counts,
         b"P6:",
@@ -1567,7 +1572,7 @@ fn plain_sheets(counts: &mut [u64; 27]) {
 }
 
 // P10 to P12.
-fn grouped_sheets(counts: &mut [u64; 27]) {
+fn grouped_sheets(counts: &mut [u64; 28]) {
     let code = [
         RULE,
         NOT,
@@ -1599,7 +1604,7 @@ fn grouped_sheets(counts: &mut [u64; 27]) {
 }
 
 // Tests a sheet that was made: the first bytes of a text and of a form.
-fn test_made(counts: &mut [u64; 27], text: &[u8; 1100], form: &[u8; 512], m: Maker) {
+fn test_made(counts: &mut [u64; 28], text: &[u8; 1100], form: &[u8; 512], m: Maker) {
     let text = &text[..];
     let form = &form[..];
     let end = m.text;
@@ -1616,7 +1621,7 @@ fn test_made(counts: &mut [u64; 27], text: &[u8; 1100], form: &[u8; 512], m: Mak
     count_finding(counts, disagree(b"a sheet is not made"), b"");
 }
 
-fn test_generated(counts: &mut [u64; 27], k: u64) {
+fn test_generated(counts: &mut [u64; 28], k: u64) {
     let mut text = [0u8; 1100];
     let mut form = [0u8; 512];
     let m = with_rules(sheet_maker(k), &mut text, &mut form);
@@ -1626,7 +1631,7 @@ fn test_generated(counts: &mut [u64; 27], k: u64) {
 // How many sheets are generated.
 const SHEETS: u64 = 3000;
 
-fn generated_sheets(counts: &mut [u64; 27]) {
+fn generated_sheets(counts: &mut [u64; 28]) {
     let mut k: u64 = 0;
     while k < SHEETS {
         test_generated(counts, k);
@@ -1635,7 +1640,7 @@ fn generated_sheets(counts: &mut [u64; 27]) {
 }
 
 fn main() {
-    let mut counts = [0u64; 27];
+    let mut counts = [0u64; 28];
     first_sheets(&mut counts);
     withdrawn_sheets(&mut counts);
     plain_sheets(&mut counts);
