@@ -1,4 +1,4 @@
--- `count_signs` is safe and ends: the number of turns left falls, and nothing has to hold from turn to turn. Assumes nothing.
+-- `small_floors::count_signs` is safe and ends: a sign's number fits a byte, and the signs left fall. Assumes nothing.
 use borrow.Author.Needs.{needs}
 use Prim.Native.Nat.{_-_}
 use Rattle.small_floors.proofs.count_signs.Statement.{statement}
@@ -8,13 +8,13 @@ abbrev Inv-loop : tie.InvT-loop
 Inv-loop counts₀ code sign₀ counts sign = Unit {0}
 
 abbrev μ-loop : tie.MeasureT-loop
-μ-loop counts₀ code sign₀ counts sign = 16 - sign
+μ-loop counts₀ code sign₀ counts sign = 17 - sign
 
 loop-holds : tie.Need-loop-holds Inv-loop μ-loop
 loop-holds c = search needs
 
-add-raise : tie.Need-add-raise Inv-loop μ-loop
-add-raise c = search needs
+add-raise-if : tie.Need-add-raise-if Inv-loop μ-loop
+add-raise-if c = search needs
 
 cast-occurs : tie.Need-cast-occurs Inv-loop μ-loop
 cast-occurs c = search needs
@@ -22,11 +22,8 @@ cast-occurs c = search needs
 occurs-requires : tie.Need-occurs-requires Inv-loop μ-loop
 occurs-requires c κs = search needs
 
-one-if-requires : tie.Need-one-if-requires Inv-loop μ-loop
-one-if-requires c κs = search needs
-
-raise-requires : tie.Need-raise-requires Inv-loop μ-loop
-raise-requires c κs = search needs
+raise-if-requires : tie.Need-raise-if-requires Inv-loop μ-loop
+raise-if-requires c κs = search needs
 
 add-sign : tie.Need-add-sign Inv-loop μ-loop
 add-sign c = search needs
@@ -47,11 +44,10 @@ count-signs-spec =
     Inv-loop
     μ-loop
     loop-holds
-    add-raise
+    add-raise-if
     cast-occurs
     occurs-requires
-    one-if-requires
-    raise-requires
+    raise-if-requires
     add-sign
     loop-less
     loop-again

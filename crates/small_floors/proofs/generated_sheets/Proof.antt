@@ -1,4 +1,4 @@
--- `generated_sheets` is safe and ends: the number of turns left falls, and nothing has to hold from turn to turn. Assumes nothing.
+-- `small_floors::generated_sheets` is safe and ends: the sheets left fall. Assumes nothing.
 use borrow.Author.Needs.{needs}
 use Prim.Native.Nat.{_-_}
 use Rattle.small_floors.proofs.generated_sheets.Statement.{statement}

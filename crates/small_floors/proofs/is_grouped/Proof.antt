@@ -1,4 +1,4 @@
--- `is_grouped` is safe and ends: each index is below the length, and the number of turns left falls. Assumes nothing.
+-- `small_floors::is_grouped` is safe and ends: each byte read is one of the file's, and the bytes left fall. Assumes nothing.
 use borrow.Author.Needs.{needs}
 use Prim.Native.Nat.{_-_}
 use lib.ListN.{length}

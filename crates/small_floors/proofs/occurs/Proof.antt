@@ -1,4 +1,4 @@
--- `occurs` is safe and ends: each index is below the length, and the number of turns left falls. Assumes nothing.
+-- `small_floors::occurs` is safe and ends: each byte read is one of those given, and the bytes left fall. Assumes nothing.
 use borrow.Author.Needs.{needs}
 use Prim.Native.Nat.{_-_}
 use lib.ListN.{length}

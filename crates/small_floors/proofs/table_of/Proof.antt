@@ -1,4 +1,4 @@
--- `table_of` gives a table from us: the empty one is, and each turn keeps it or takes the one that add gave back. The bytes left fall.
+-- `small_floors::table_of` meets its contract: the empty table is from us, as is each that add gives back, and the bytes left fall.
 -- Assumes nothing.
 use borrow.Author.Needs.{needs}
 use mathlib.Core.Logic.{⊎-elim}

@@ -1,4 +1,4 @@
--- `write_label` is safe and ends: the number of turns left falls, and nothing has to hold from turn to turn. Assumes nothing.
+-- `small_floors::write_label` is safe and ends: the bytes of the label left fall. Assumes nothing.
 use borrow.Author.Needs.{needs}
 use Prim.Native.Nat.{_-_}
 use Rattle.small_floors.proofs.write_label.Statement.{statement}

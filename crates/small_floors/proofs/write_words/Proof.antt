@@ -1,4 +1,4 @@
--- `write_words` is safe and ends: each index is below the length, and the number of turns left falls. Assumes nothing.
+-- `small_floors::write_words` is safe and ends: each word read is one of the buffer's 530, and the words left fall. Assumes nothing.
 use borrow.Author.Needs.{needs}
 use Prim.Native.Nat.{_-_}
 use Rattle.small_floors.proofs.write_words.Statement.{statement}
