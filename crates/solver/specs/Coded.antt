@@ -55,13 +55,13 @@ Coded many code ends rules = CodedFrom many code 0 ends rules
 abbrev pub Values : List Two → ℕ → PartialRow → Type 0
 Values leaves e row = (i : ℕ) → leafAt leaves e i ≡ duoOf (getD row i unknown)
 
--- the set has the rows that refute the rule of this code
+-- the set has the rows that the rule of this code refutes
 unfoldable pub RuleRefuted : List ℕ → List Two → EvalSet → Type 0
 RuleRefuted code leaves r =
     (rule : Form ℕ) → code ≡ postfix rule → (e : ℕ) → e < room → (row : PartialRow) → Values leaves e row
     → mem r e ≡ refuted (kleeneValue (λ i. getD row i unknown) rule)
 
--- and here of all rules
+-- and here those that some rule refutes
 unfoldable pub RefutedSays : List ℕ → List ℕ → List Two → EvalSet → Type 0
 RefutedSays code ends leaves r =
     (many : ℕ) (rules : List (Form ℕ)) → Coded many code ends rules → (e : ℕ) → e < room → (row : PartialRow) → Values leaves e row
