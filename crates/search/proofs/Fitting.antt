@@ -21,6 +21,12 @@ use Rattle.search.specs.Tests.{crossed, lessOf, partOf, startsOf, witnes
 use Rattle.search.specs.Compiled.{Stands, AtomIs, Fit, Follows}
 use Rattle.evalset.proofs.Search.{any-last, all-last}
 
+-- where one side of an `and` is false from the bound on, the other counts below it alone
+pub guarded : (e bound : ℕ) (guard x y : Bool) → (bound ≤ e → guard ≡ false) → (e < bound → x ≡ y) → (guard && x) ≡ (guard && y)
+guarded e bound guard x y out same =
+    ⊎-elim (λ l. ap (λ (b : Bool). guard && b) (same l))
+    (λ l. ap (λ (b : Bool). b && x) (out l) ∙ sym (ap (λ (b : Bool). b && y) (out l))) (side e bound)
+
 -- ---- what is allowed, and all that is taken from it, is below 2 ^ n
 
 module _ (n : ℕ) (ms : List Mark) where
@@ -44,13 +50,17 @@ module _ (n : ℕ) (ms : List Mark) where
 
 -- ---- no marks
 
-pub fit-start : (n : ℕ) (s : State) → n ≤ most → mem (s .allowed) ≡ belowOf n → ((p q : ℕ) → memAt (s .rows) p q ≡ false) → Fit n s []
+pub fit-start : (n : ℕ) (s : State) → mem (s .allowed) ≡ belowOf n → ((p q : ℕ) → memAt (s .rows) p q ≡ false)
+    → (mem (s .allowed) ≡ belowOf n) × ((p q : ℕ) → memAt (s .rows) p q ≡ false) × (n ≤ most → Fit n s [])
 unfolding allowed separated
-fit-start n s l h g =
-    record {
-      allowed-is = h ∙ fun-ext (λ e. below-few n l e ∙ sym (and-true (ltb e (2 ^ n))));
-      rows-are = λ p q lp lq. g p q;
-    }
+fit-start n s h g = (
+  h,
+  g,
+  λ l. record {
+    allowed-is = h ∙ fun-ext (λ e. below-few n l e ∙ sym (and-true (ltb e (2 ^ n))));
+    rows-are = λ p q lp lq. g p q;
+  },
+)
 
 -- ---- one mark more
 
@@ -133,19 +143,14 @@ module _ (n : ℕ) (few : n ≤ most) (s : State) (ms : List Mark) (f : Fit n s 
   fills-is x t h =
       fun-ext
       (λ e. ap (λ (b : Bool). b && x e) (each (f .allowed-is) e)
-      ∙ ⊎-elim (λ l. ap (λ (b : Bool). allowed n ms e && b) (h e l))
-      (λ l. ap (λ (b : Bool). b && x e) (allowed-out n ms e l) ∙ sym (ap (λ (b : Bool). b && at t e) (allowed-out n ms e l)))
-      (side e (2 ^ n)))
+      ∙ guarded e (2 ^ n) (allowed n ms e) (x e) (at t e) (allowed-out n ms e) (h e))
 
   pub partners-is : (y : ℕ → Bool) (t : Term ℕ) → Stands n y t → (p : ℕ) → p < 2 ^ n → minusOf (meetOf al y) (sep p) ≡ partners n ms t p
   unfolding partners
   partners-is y t h p lp =
       fun-ext
       (λ q. ap (λ (b : Bool). b && not (sep p q)) (each (fills-is y t h) q)
-      ∙ ⊎-elim (λ l. ap (λ (b : Bool). fills n ms t q && not b) (f .rows-are p q lp l))
-      (λ l. ap (λ (b : Bool). b && not (sep p q)) (fills-out n ms t q l)
-      ∙ sym (ap (λ (b : Bool). b && not (separated ms p q)) (fills-out n ms t q l)))
-      (side q (2 ^ n)))
+      ∙ guarded q (2 ^ n) (fills n ms t q) _ _ (fills-out n ms t q) (λ l. ap not (f .rows-are p q lp l)))
 
   pub leads-is : (x y : ℕ → Bool) (u t : Term ℕ) → Stands n x u → Stands n y t
       → startsOf (meetOf al x) (meetOf al y) sep ≡ leads n ms u t
@@ -153,15 +158,9 @@ module _ (n : ℕ) (few : n ≤ most) (s : State) (ms : List Mark) (f : Fit n s 
   leads-is x y u t hx hy =
       fun-ext
       (λ p. ap (λ (b : Bool). b && any (minusOf (meetOf al y) (sep p)) (below room)) (each (fills-is x u hx) p)
-      ∙ ⊎-elim (λ l. ap (λ (b : Bool). fills n ms u p && b) (partnered p l))
-      (λ l. ap (λ (b : Bool). b && any (minusOf (meetOf al y) (sep p)) (below room)) (fills-out n ms u p l)
-      ∙ sym (ap (λ (b : Bool). b && any (partners n ms t p) (evaluations n)) (fills-out n ms u p l)))
-      (side p (2 ^ n)))
-    where
-      partnered : (p : ℕ) → p < 2 ^ n → any (minusOf (meetOf al y) (sep p)) (below room) ≡ any (partners n ms t p) (evaluations n)
-      partnered p l =
-          ap (λ (r : ℕ → Bool). any r (below room)) (partners-is y t hy p l)
-          ∙ any-names (partners n ms t p) n few (partners-low n ms t p)
+      ∙ guarded p (2 ^ n) (fills n ms u p) _ _ (fills-out n ms u p)
+      (λ l. ap (λ (r : ℕ → Bool). any r (below room)) (partners-is y t hy p l)
+      ∙ any-names (partners n ms t p) n few (partners-low n ms t p)))
 
   zero-witnessed : (k v : Bool) (x y : ℕ → Bool) (t : Term ℕ) → k ≡ false → Stands n x t
       → witnessedOf k v al sep x y ≡ witnessed n ms (zeroMark v t)

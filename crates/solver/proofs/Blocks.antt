@@ -26,6 +26,7 @@ use Rattle.kleene.specs.declared.Two.{Two}
 use Rattle.kleene.specs.Rails.{duo, sure, duoOf, duoAt, twoAt}
 use Rattle.search.specs.Rows.{rowBits}
 use Rattle.search.proofs.Rows.{row-length, row-at}
+use Rattle.search.proofs.Fitting.{guarded}
 use Rattle.solver.specs.Coded.{Coded, RefutedSays}
 use Rattle.solver.specs.Tree.{extended, decidedAt, candidatesOf}
 
@@ -110,12 +111,6 @@ number (suc d) (false ∷ row) l =
     let w = number d row (omega arith) in
     (2 ^ d + w .0, omega (arith, w .1, pow-suc 2 d), row-upper d (w .0) (w .1) ∙ ap (λ (r : List Bool). false ∷ r) (w .2))
 
--- only what stands below the bound counts
-guarded : (e bound : ℕ) (x y : Bool) → (e < bound → x ≡ y) → (ltb e bound && x) ≡ (ltb e bound && y)
-guarded e bound x y same =
-    ⊎-elim (λ l. ap (λ (b : Bool). ltb e bound && b) (same l))
-    (λ l. ap (λ (b : Bool). b && x) (le-ltb e bound l) ∙ sym (ap (λ (b : Bool). b && y) (le-ltb e bound l))) (side e bound)
-
 module _ (rules : List (Form ℕ)) (row : List Bool) (j : ℕ) where
   -- not refuted
   abbrev open-at : List Bool → Bool
@@ -130,13 +125,13 @@ module _ (rules : List (Form ℕ)) (row : List Bool) (j : ℕ) where
   unfolding candidatesOf
   lower-half few = fun-ext (λ e. and-comm _ (belowOf j e)
       ∙ ap (λ (b : Bool). b && (ltb e (2 ^ suc j) && open-at (row ++ rowBits (suc j) e))) (below-few j few e)
-      ∙ guarded e (2 ^ j) _ _ (λ l. ap (λ (b : Bool). b && open-at (row ++ rowBits (suc j) e)) (lt-ltb e (2 ^ suc j) (omega (arith, pow-suc 2 j)))
+      ∙ guarded e (2 ^ j) (ltb e (2 ^ j)) _ _ (le-ltb e (2 ^ j)) (λ l. ap (λ (b : Bool). b && open-at (row ++ rowBits (suc j) e)) (lt-ltb e (2 ^ suc j) (omega (arith, pow-suc 2 j)))
       ∙ open-next true e e (row-lower j e l)))
 
   pub upper-half : shiftOf (candidatesOf rules row (suc j)) j ≡ candidatesOf rules (row ++ false ∷ []) j
   unfolding candidatesOf
   upper-half = fun-ext (λ e. ap (λ (b : Bool). b && open-at (row ++ rowBits (suc j) (2 ^ j + e))) (bound e)
-      ∙ guarded e (2 ^ j) _ _ (λ l. open-next false e (2 ^ j + e) (row-upper j e l)))
+      ∙ guarded e (2 ^ j) (ltb e (2 ^ j)) _ _ (le-ltb e (2 ^ j)) (λ l. open-next false e (2 ^ j + e) (row-upper j e l)))
     where
       bound : (e : ℕ) → ltb (2 ^ j + e) (2 ^ suc j) ≡ ltb e (2 ^ j)
       bound e =
@@ -151,5 +146,5 @@ module _ (many : ℕ) (code ends : List ℕ) (rules : List (Form ℕ)) (leaves :
   pub open-rows : minusOf (belowOf d) (mem no) ≡ candidatesOf rules (rowBits k row) d
   unfolding candidatesOf RefutedSays
   open-rows = fun-ext (λ e. ap (λ (b : Bool). b && not (mem no e)) (below-few d few e)
-      ∙ guarded e (2 ^ d) _ _ (λ l. ap not
+      ∙ guarded e (2 ^ d) (ltb e (2 ^ d)) _ _ (le-ltb e (2 ^ d)) (λ l. ap not
       (says many rules coded e (omega (arith, names-room d few)) (extended (rowBits k row) d e) (λ i. are i e l))))
