@@ -12,7 +12,7 @@ use Rattle.evalset.specs.Bit.{bit}
 use Rattle.contact.specs.Meaning.{Floor, atomOn, meetsAll}
 use Rattle.formula.specs.Names.{atomNames}
 use Rattle.contact.specs.Numbering.{allAtoms, sameName, namesOf, numberOf, nameOf, numberedNames, numberedAtoms, AtomBelow, RulesBelow}
-use Rattle.contact.specs.Row.{IsFirstRow, Row, Realises, Realisable, PartialRow, RealisesPart, rulesTrue}
+use Rattle.contact.specs.Row.{IsFirstRow, Row, Realises, Realisable, PartialRow, RealisesPart, rulesTrue, Sound, Exact}
 use Rattle.contact.specs.Plan.{Mark, marksOf, rowMarks, separated, check, pointsFor, rows, good, firstRowOf, trueContacts, falseZeros}
 use Rattle.contact.specs.Tableau.{refutes, closes, search}
 use Rattle.contact.proofs.Bits
@@ -23,7 +23,6 @@ use Rattle.contact.proofs.Naming
 use Rattle.contact.proofs.SameFloor
 use Rattle.contact.proofs.Searching
 use Rattle.contact.proofs.Count
-use Rattle.contact.specs.Row.{Sound, Exact}
 
 -- ---- evaluations (Bits)
 

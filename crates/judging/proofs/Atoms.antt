@@ -27,12 +27,12 @@ module _ (p : Plan) (h : IsPlan p) (r : PlanArrays) (s : Stored r p) (n : ℕ) (
   means : (x : ℕ → Bool) (t : Term ℕ) → Stands n x t → Means (p .names) x t
   means x t g e l = g e (subst (λ (m : ℕ). e < 2 ^ m) named l)
 
-  atom-is : (k : Bool) (x y : ℕ → Bool) (a : Atom ℕ) → AtomIs n k x y a → atomOf r k x y ≡ atomOn (planFloor p h) a
-  atom-is k x y (Atom.contact u t) m =
+  atom-is : (contact : Bool) (x y : ℕ → Bool) (a : Atom ℕ) → AtomIs n contact x y a → atomOf r contact x y ≡ atomOn (planFloor p h) a
+  atom-is contact x y (Atom.contact u t) m =
       ap (λ (b : Bool). atomOf r b x y) (m .0) ∙ touches-meant p h r s x y u t (means x u (m .1)) (means y t (m .2))
-  atom-is k x y (Atom.part u t) m =
+  atom-is contact x y (Atom.part u t) m =
       ap (λ (b : Bool). atomOf r b x y) (m .0) ∙ vacant-meant p h r s x (partTerm u t) (means x (partTerm u t) (m .1))
-  atom-is k x y (Atom.empty t) m =
+  atom-is contact x y (Atom.empty t) m =
       ap (λ (b : Bool). atomOf r b x y) (m .0) ∙ vacant-meant p h r s x t (means x t (m .1))
 
 pub value-is : (p : Plan) (h : IsPlan p) (r : PlanArrays) → Stored r p → (sheet : Sheet) (atoms : List (Atom ℕ)) → Compiled sheet atoms

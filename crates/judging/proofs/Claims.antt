@@ -5,7 +5,6 @@ use mathlib.Core.Path.{_≡_, sym, ap, _∙_}
 use mathlib.Core.Logic.{_↔_}
 use mathlib.Core.List.{List}
 use Prim.Native.Nat.{ℕ}
-use native.Mathlib.Omega.{arith}
 use Rattle.formula.specs.Formula.{Formula, Name}
 use Rattle.contact.specs.Meaning.{meetsAll}
 use Rattle.contact.specs.Numbering.{allAtoms, numberedNames, numberedAtoms, numberOf}
@@ -28,11 +27,11 @@ use Rattle.plan.specs.Meant.{FirstUnmet}
 
 judged-yes : (j : Judgement) → judgedOf j ≡ Yes → j ≡ yes
 judged-yes yes e = cc
-judged-yes (unmet k) e = absurd (let z : _≡_ {A = ℕ} 0 1 = cc in omega arith)
+judged-yes (unmet k) e = cc
 
 judged-unmet : (j : Judgement) (k : ℕ) → judgedOf j ≡ Unmet k → j ≡ unmet k
-judged-unmet yes k e = absurd (let z : _≡_ {A = ℕ} 0 1 = cc in omega arith)
-judged-unmet (unmet n) k e = let z : n ≡ k = cc in ap unmet z
+judged-unmet yes k e = cc
+judged-unmet (unmet n) k e = cc
 
 module _ (plan : PlanArrays) (sheet : Sheet) (code ends : List ℕ) (r : Judged) (says : JudgesSay plan sheet code ends r)
     (rules : List (Formula ℕ)) (from : ComesFrom code ends sheet (allAtoms rules) (numberedAtoms rules)) (p : Plan) (is : IsPlan p) (named : p .names ≡ sheet .names)

@@ -8,9 +8,8 @@ use native.Mathlib.Omega.{arith}
 use lib.ListN.{length, take, drop, getD, set, replicate, drop-of-length-le, length-take}
 use lib.Seq.{set-at, append-snoc, length-take-le, getD-take}
 use borrow.Author.Tests.{eq-eqb, ne-eqb, lt-ltb, le-ltb}
-use Rattle.lists.proofs.Lists.{take-next}
+use Rattle.lists.proofs.Lists.{take-next, rest}
 use Rattle.formula.specs.Formula.{Name}
-use Rattle.lists.proofs.Lists.{rest}
 use Rattle.contact.specs.Numbering.{sameName}
 use Rattle.names.specs.declared.KeptName.{KeptName}
 use Rattle.names.specs.declared.Names.{Names}

@@ -72,10 +72,9 @@ module _ (sheet : Sheet) (atoms : List (Atom ℕ)) (compiled : Compiled sheet at
       → ((a : Atom ℕ) → In a atoms → AtomBelow (sheet .names) a) → Fit (sheet .names) s (rowMarks atoms (rowBits k row))
       → (r ≡ true) ↔ ∥ ((F : Floor ℕ) × RealisesPart F atoms (map is (rowBits k row))) ∥₁
   realisable-exactly row k says l below f =
-      let n : length (map is (rowBits k row)) ≡ k = length-map (rowBits k row) is ∙ row-length k row in
       subst (λ (b : Bool). (b ≡ true) ↔ ∥ ((F : Floor ℕ) × RealisesPart F atoms (map is (rowBits k row))) ∥₁)
       (sym (realisable-is row k says l f))
-      (contact.check-exactly (sheet .names) atoms (map is (rowBits k row)) below (omega arith))
+      (contact.check-exactly (sheet .names) atoms (map is (rowBits k row)) below (omega (arith, length-map (rowBits k row) is, row-length k row)))
 
   -- ---- the plan (Giving, Listing)
 
@@ -87,9 +86,7 @@ module _ (sheet : Sheet) (atoms : List (Atom ℕ)) (compiled : Compiled sheet at
   -- at most 32 points for as many atoms as a sheet may have
   pub planned-few : (r : RowPlan) (row : ℕ) → PlanSays sheet row r → length atoms ≤ limit → r .count ≤ 32
   planned-few r row says l =
-      let p = planned-is row says in
-      let b = contact.points-at-most (sheet .names) atoms (map is (rowBits (sheet .atoms) row)) l in
-      omega (arith, p .counted)
+      omega (arith, planned-is row says .counted, contact.points-at-most (sheet .names) atoms (map is (rowBits (sheet .atoms) row)) l)
 
   -- of a row that passes the check, the contact rows are the contacts of the plan's floor
   pub planned-touch : (r : RowPlan) (row : ℕ) → PlanSays sheet row r → (h : check (sheet .names) (marksIn sheet atoms row) ≡ true)

@@ -22,6 +22,12 @@ use Rattle.search.specs.Tests.{crossed, lessOf, partOf, startsOf, witnes
 use Rattle.search.specs.Compiled.{Stands, AtomIs, Fit, Follows}
 use Rattle.lists.proofs.Search.{any-last, all-last}
 
+-- where one side of an `and` is false from the bound on, the other counts below it alone
+pub guarded : (e bound : ℕ) (guard x y : Bool) → (bound ≤ e → guard ≡ false) → (e < bound → x ≡ y) → (guard && x) ≡ (guard && y)
+guarded e bound guard x y out same =
+    ⊎-elim (λ l. ap (λ (b : Bool). guard && b) (same l))
+    (λ l. ap (λ (b : Bool). b && x) (out l) ∙ sym (ap (λ (b : Bool). b && y) (out l))) (side e bound)
+
 -- ---- what is allowed, and all that is taken from it, is below 2 ^ n
 
 module _ (n : ℕ) (ms : List Mark) where
@@ -45,44 +51,48 @@ module _ (n : ℕ) (ms : List Mark) where
 
 -- ---- no marks
 
-pub fit-start : (n : ℕ) (s : State) → n ≤ most → mem (s .allowed) ≡ belowOf n → ((p q : ℕ) → memAt (s .rows) p q ≡ false) → Fit n s []
+pub fit-start : (n : ℕ) (s : State) → mem (s .allowed) ≡ belowOf n → ((p q : ℕ) → memAt (s .rows) p q ≡ false)
+    → (mem (s .allowed) ≡ belowOf n) × ((p q : ℕ) → memAt (s .rows) p q ≡ false) × (n ≤ most → Fit n s [])
 unfolding allowed separated
-fit-start n s l h g =
-    record {
-      allowed-is = h ∙ fun-ext (λ e. below-few n l e ∙ sym (and-true (ltb e (2 ^ n))));
-      rows-are = λ p q lp lq. g p q;
-    }
+fit-start n s h g = (
+  h,
+  g,
+  λ l. record {
+    allowed-is = h ∙ fun-ext (λ e. below-few n l e ∙ sym (and-true (ltb e (2 ^ n))));
+    rows-are = λ p q lp lq. g p q;
+  },
+)
 
 -- ---- one mark more
 
 -- what an atom with its value forbids and separates is what its mark does
-module _ (n : ℕ) (k : Bool) (x y : ℕ → Bool) where
-  zero-less : (v : Bool) (t : Term ℕ) → k ≡ false → Stands n x t → (e : ℕ) → e < 2 ^ n
-      → lessOf k v x y e ≡ (empties e (zeroMark v t) || parts e e (zeroMark v t))
+module _ (n : ℕ) (contact : Bool) (x y : ℕ → Bool) where
+  zero-less : (value : Bool) (t : Term ℕ) → contact ≡ false → Stands n x t → (e : ℕ) → e < 2 ^ n
+      → lessOf contact value x y e ≡ (empties e (zeroMark value t) || parts e e (zeroMark value t))
   zero-less true t h g e l = ap (λ (b : Bool). lessOf b true x y e) h ∙ g e l ∙ sym (or-false (at t e))
   zero-less false t h g e l = ap (λ (b : Bool). lessOf b false x y e) h
 
-  less-is : (v : Bool) (a : Atom ℕ) → AtomIs n k x y a → (e : ℕ) → e < 2 ^ n
-      → lessOf k v x y e ≡ (empties e (mark a v) || parts e e (mark a v))
+  less-is : (value : Bool) (a : Atom ℕ) → AtomIs n contact x y a → (e : ℕ) → e < 2 ^ n
+      → lessOf contact value x y e ≡ (empties e (mark a value) || parts e e (mark a value))
   less-is true (Atom.contact s t) h e l = ap (λ (b : Bool). lessOf b true x y e) (h .0)
   less-is false (Atom.contact s t) h e l =
       ap (λ (b : Bool). lessOf b false x y e) (h .0) ∙ ap₂ _&&_ (h .1 e l) (h .2 e l) ∙ sym (or-self (at s e && at t e))
-  less-is v (Atom.part s t) h e l = zero-less v (partTerm s t) (h .0) (h .1) e l
-  less-is v (Atom.empty t) h e l = zero-less v t (h .0) (h .1) e l
+  less-is value (Atom.part s t) h e l = zero-less value (partTerm s t) (h .0) (h .1) e l
+  less-is value (Atom.empty t) h e l = zero-less value t (h .0) (h .1) e l
 
-  zero-part : (v : Bool) (t : Term ℕ) → k ≡ false → (p q : ℕ) → partOf k v x y p q ≡ parts p q (zeroMark v t)
+  zero-part : (value : Bool) (t : Term ℕ) → contact ≡ false → (p q : ℕ) → partOf contact value x y p q ≡ parts p q (zeroMark value t)
   zero-part true t h p q = ap (λ (b : Bool). partOf b true x y p q) h
   zero-part false t h p q = ap (λ (b : Bool). partOf b false x y p q) h
 
-  part-is : (v : Bool) (a : Atom ℕ) → AtomIs n k x y a → (p q : ℕ) → p < 2 ^ n → q < 2 ^ n
-      → partOf k v x y p q ≡ parts p q (mark a v)
+  part-is : (value : Bool) (a : Atom ℕ) → AtomIs n contact x y a → (p q : ℕ) → p < 2 ^ n → q < 2 ^ n
+      → partOf contact value x y p q ≡ parts p q (mark a value)
   unfolding crossed
   part-is true (Atom.contact s t) h p q lp lq = ap (λ (b : Bool). partOf b true x y p q) (h .0)
   part-is false (Atom.contact s t) h p q lp lq =
       ap (λ (b : Bool). partOf b false x y p q) (h .0)
       ∙ ap₂ _||_ (ap₂ _&&_ (h .1 p lp) (h .2 q lq)) (ap₂ _&&_ (h .2 p lp) (h .1 q lq) ∙ and-comm (at t p) (at s q))
-  part-is v (Atom.part s t) h p q lp lq = zero-part v (partTerm s t) (h .0) p q
-  part-is v (Atom.empty t) h p q lp lq = zero-part v t (h .0) p q
+  part-is value (Atom.part s t) h p q lp lq = zero-part value (partTerm s t) (h .0) p q
+  part-is value (Atom.empty t) h p q lp lq = zero-part value t (h .0) p q
 
 regroup : (l e s f r : Bool) → ((l && (not e && not s)) && not (f || r)) ≡ (l && (not (e || f) && not (s || r)))
 regroup false e s f r = refl
@@ -91,30 +101,30 @@ regroup true false true f r = sym (and-false (not f))
 regroup true false false true r = refl
 regroup true false false false r = refl
 
-module _ (n : ℕ) (l : n ≤ most) (k v : Bool) (x y : ℕ → Bool) (a : Atom ℕ) (h : AtomIs n k x y a) (ms : List Mark) where
-  forbids : (e : ℕ) → minusOf (allowed n ms) (lessOf k v x y) e ≡ allowed n (ms ++ mark a v ∷ []) e
+module _ (n : ℕ) (l : n ≤ most) (contact value : Bool) (x y : ℕ → Bool) (a : Atom ℕ) (h : AtomIs n contact x y a) (ms : List Mark) where
+  forbids : (e : ℕ) → minusOf (allowed n ms) (lessOf contact value x y) e ≡ allowed n (ms ++ mark a value ∷ []) e
   unfolding allowed separated
   forbids e = ⊎-elim low high (side e (2 ^ n))
     where
-      low : e < 2 ^ n → minusOf (allowed n ms) (lessOf k v x y) e ≡ allowed n (ms ++ mark a v ∷ []) e
+      low : e < 2 ^ n → minusOf (allowed n ms) (lessOf contact value x y) e ≡ allowed n (ms ++ mark a value ∷ []) e
       low b =
-          ap (λ (c : Bool). allowed n ms e && not c) (less-is n k x y v a h e b)
-          ∙ regroup (ltb e (2 ^ n)) (any (empties e) ms) (any (parts e e) ms) (empties e (mark a v)) (parts e e (mark a v))
-          ∙ sym (ap₂ (λ (c d : Bool). ltb e (2 ^ n) && (not c && not d)) (any-last (empties e) ms (mark a v))
-          (any-last (parts e e) ms (mark a v)))
+          ap (λ (c : Bool). allowed n ms e && not c) (less-is n contact x y value a h e b)
+          ∙ regroup (ltb e (2 ^ n)) (any (empties e) ms) (any (parts e e) ms) (empties e (mark a value)) (parts e e (mark a value))
+          ∙ sym (ap₂ (λ (c d : Bool). ltb e (2 ^ n) && (not c && not d)) (any-last (empties e) ms (mark a value))
+          (any-last (parts e e) ms (mark a value)))
 
-      high : 2 ^ n ≤ e → minusOf (allowed n ms) (lessOf k v x y) e ≡ allowed n (ms ++ mark a v ∷ []) e
+      high : 2 ^ n ≤ e → minusOf (allowed n ms) (lessOf contact value x y) e ≡ allowed n (ms ++ mark a value ∷ []) e
       high b =
-          ap (λ (c : Bool). c && not (lessOf k v x y e)) (allowed-out n ms e b) ∙ sym (allowed-out n (ms ++ mark a v ∷ []) e b)
+          ap (λ (c : Bool). c && not (lessOf contact value x y e)) (allowed-out n ms e b) ∙ sym (allowed-out n (ms ++ mark a value ∷ []) e b)
 
-  pub fit-step : (s r : State) → Fit n s ms → Follows k v x y s r → Fit n r (ms ++ mark a v ∷ [])
+  pub fit-step : (s r : State) → Fit n s ms → Follows contact value x y s r → Fit n r (ms ++ mark a value ∷ [])
   unfolding separated
   fit-step s r f g =
       record {
-        allowed-is = g .less ∙ ap (λ (z : ℕ → Bool). minusOf z (lessOf k v x y)) (f .allowed-is) ∙ fun-ext forbids;
+        allowed-is = g .less ∙ ap (λ (z : ℕ → Bool). minusOf z (lessOf contact value x y)) (f .allowed-is) ∙ fun-ext forbids;
         rows-are = λ p q lp lq.
             g .more p q (omega (arith, names-room n l))
-            ∙ ap₂ _||_ (f .rows-are p q lp lq) (part-is n k x y v a h p q lp lq) ∙ sym (any-last (parts p q) ms (mark a v));
+            ∙ ap₂ _||_ (f .rows-are p q lp lq) (part-is n contact x y value a h p q lp lq) ∙ sym (any-last (parts p q) ms (mark a value));
       }
 
 -- ---- the tests on the state
@@ -134,19 +144,14 @@ module _ (n : ℕ) (few : n ≤ most) (s : State) (ms : List Mark) (f : Fit n s 
   fills-is x t h =
       fun-ext
       (λ e. ap (λ (b : Bool). b && x e) (congr-fun (f .allowed-is) e)
-      ∙ ⊎-elim (λ l. ap (λ (b : Bool). allowed n ms e && b) (h e l))
-      (λ l. ap (λ (b : Bool). b && x e) (allowed-out n ms e l) ∙ sym (ap (λ (b : Bool). b && at t e) (allowed-out n ms e l)))
-      (side e (2 ^ n)))
+      ∙ guarded e (2 ^ n) (allowed n ms e) (x e) (at t e) (allowed-out n ms e) (h e))
 
   pub partners-is : (y : ℕ → Bool) (t : Term ℕ) → Stands n y t → (p : ℕ) → p < 2 ^ n → minusOf (meetOf al y) (sep p) ≡ partners n ms t p
   unfolding partners
   partners-is y t h p lp =
       fun-ext
       (λ q. ap (λ (b : Bool). b && not (sep p q)) (congr-fun (fills-is y t h) q)
-      ∙ ⊎-elim (λ l. ap (λ (b : Bool). fills n ms t q && not b) (f .rows-are p q lp l))
-      (λ l. ap (λ (b : Bool). b && not (sep p q)) (fills-out n ms t q l)
-      ∙ sym (ap (λ (b : Bool). b && not (separated ms p q)) (fills-out n ms t q l)))
-      (side q (2 ^ n)))
+      ∙ guarded q (2 ^ n) (fills n ms t q) _ _ (fills-out n ms t q) (λ l. ap not (f .rows-are p q lp l)))
 
   pub leads-is : (x y : ℕ → Bool) (u t : Term ℕ) → Stands n x u → Stands n y t
       → startsOf (meetOf al x) (meetOf al y) sep ≡ leads n ms u t
@@ -154,31 +159,26 @@ module _ (n : ℕ) (few : n ≤ most) (s : State) (ms : List Mark) (f : Fit n s 
   leads-is x y u t hx hy =
       fun-ext
       (λ p. ap (λ (b : Bool). b && any (minusOf (meetOf al y) (sep p)) (below room)) (congr-fun (fills-is x u hx) p)
-      ∙ ⊎-elim (λ l. ap (λ (b : Bool). fills n ms u p && b) (partnered p l))
-      (λ l. ap (λ (b : Bool). b && any (minusOf (meetOf al y) (sep p)) (below room)) (fills-out n ms u p l)
-      ∙ sym (ap (λ (b : Bool). b && any (partners n ms t p) (evaluations n)) (fills-out n ms u p l)))
-      (side p (2 ^ n)))
-    where
-      partnered : (p : ℕ) → p < 2 ^ n → any (minusOf (meetOf al y) (sep p)) (below room) ≡ any (partners n ms t p) (evaluations n)
-      partnered p l =
-          ap (λ (r : ℕ → Bool). any r (below room)) (partners-is y t hy p l)
-          ∙ any-names (partners n ms t p) n few (partners-low n ms t p)
+      ∙ guarded p (2 ^ n) (fills n ms u p) _ _ (fills-out n ms u p)
+      (λ l. ap (λ (r : ℕ → Bool). any r (below room)) (partners-is y t hy p l)
+      ∙ any-names (partners n ms t p) n few (partners-low n ms t p)))
 
-  zero-witnessed : (k v : Bool) (x y : ℕ → Bool) (t : Term ℕ) → k ≡ false → Stands n x t
-      → witnessedOf k v al sep x y ≡ witnessed n ms (zeroMark v t)
-  zero-witnessed k true x y t h g = ap (λ (b : Bool). witnessedOf b true al sep x y) h
-  zero-witnessed k false x y t h g =
+  zero-witnessed : (contact value : Bool) (x y : ℕ → Bool) (t : Term ℕ) → contact ≡ false → Stands n x t
+      → witnessedOf contact value al sep x y ≡ witnessed n ms (zeroMark value t)
+  zero-witnessed contact true x y t h g = ap (λ (b : Bool). witnessedOf b true al sep x y) h
+  zero-witnessed contact false x y t h g =
       ap (λ (b : Bool). witnessedOf b false al sep x y) h ∙ ap (λ (p : ℕ → Bool). any p (below room)) (fills-is x t g)
       ∙ any-names (fills n ms t) n few (fills-low n ms t)
 
-  pub witnessed-is : (k v : Bool) (x y : ℕ → Bool) (a : Atom ℕ) → AtomIs n k x y a → witnessedOf k v al sep x y ≡ witnessed n ms (mark a v)
-  witnessed-is k true x y (Atom.contact u t) h =
+  pub witnessed-is : (contact value : Bool) (x y : ℕ → Bool) (a : Atom ℕ) → AtomIs n contact x y a
+      → witnessedOf contact value al sep x y ≡ witnessed n ms (mark a value)
+  witnessed-is contact true x y (Atom.contact u t) h =
       ap (λ (b : Bool). witnessedOf b true al sep x y) (h .0)
       ∙ ap (λ (p : ℕ → Bool). any p (below room)) (leads-is x y u t (h .1) (h .2))
       ∙ any-names (leads n ms u t) n few (leads-low n ms u t)
-  witnessed-is k false x y (Atom.contact u t) h = ap (λ (b : Bool). witnessedOf b false al sep x y) (h .0)
-  witnessed-is k v x y (Atom.part u t) h = zero-witnessed k v x y (partTerm u t) (h .0) (h .1)
-  witnessed-is k v x y (Atom.empty t) h = zero-witnessed k v x y t (h .0) (h .1)
+  witnessed-is contact false x y (Atom.contact u t) h = ap (λ (b : Bool). witnessedOf b false al sep x y) (h .0)
+  witnessed-is contact value x y (Atom.part u t) h = zero-witnessed contact value x y (partTerm u t) (h .0) (h .1)
+  witnessed-is contact value x y (Atom.empty t) h = zero-witnessed contact value x y t (h .0) (h .1)
 
 -- ---- a mark that leaves the state as it was: its own witness decides
 
@@ -194,11 +194,13 @@ inhabited-unchanging : (t : Term ℕ) → Unchanging (inhabited t)
 inhabited-unchanging t = record { forbids-none = λ e. refl; separates-none = λ p q. refl }
 
 -- so does an atom whose value is true exactly if it is a contact
-pub unchanging : (n : ℕ) (k v : Bool) (x y : ℕ → Bool) (a : Atom ℕ) → AtomIs n k x y a → k ≡ v → Unchanging (mark a v)
-unchanging n k v x y (Atom.contact u t) h e = subst (λ (b : Bool). Unchanging (mark (Atom.contact u t) b)) (sym (h .0) ∙ e) (touching-unchanging u t)
-unchanging n k v x y (Atom.part u t) h e =
+pub unchanging : (n : ℕ) (contact value : Bool) (x y : ℕ → Bool) (a : Atom ℕ) → AtomIs n contact x y a → contact ≡ value
+    → Unchanging (mark a value)
+unchanging n contact value x y (Atom.contact u t) h e =
+    subst (λ (b : Bool). Unchanging (mark (Atom.contact u t) b)) (sym (h .0) ∙ e) (touching-unchanging u t)
+unchanging n contact value x y (Atom.part u t) h e =
     subst (λ (b : Bool). Unchanging (zeroMark b (partTerm u t))) (sym (h .0) ∙ e) (inhabited-unchanging (partTerm u t))
-unchanging n k v x y (Atom.empty t) h e = subst (λ (b : Bool). Unchanging (zeroMark b t)) (sym (h .0) ∙ e) (inhabited-unchanging t)
+unchanging n contact value x y (Atom.empty t) h e = subst (λ (b : Bool). Unchanging (zeroMark b t)) (sym (h .0) ∙ e) (inhabited-unchanging t)
 
 module _ (n : ℕ) (ms : List Mark) (m : Mark) (h : Unchanging m) where
   abbrev more : List Mark

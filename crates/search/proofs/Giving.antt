@@ -48,17 +48,19 @@ module _ (n : ℕ) (few : n ≤ most) (s : State) (ms : List Mark) (f : Fit n s 
       ∙ gather-same (pairFrom (meetOf al y) sep) (withPartner n ms t) (first (leads n ms u t) (evaluations n))
       (λ p i. partner-is y t hy p (leads-low n ms u t p (first-in (leads n ms u t) (evaluations n) i .1)))
 
-  zero-gives : (k v : Bool) (x y : ℕ → Bool) (t : Term ℕ) → k ≡ false → Stands n x t → givesOf k v al sep x y ≡ gives n ms (zeroMark v t)
-  zero-gives k true x y t h g = ap (λ (b : Bool). givesOf b true al sep x y) h
-  zero-gives k false x y t h g =
+  zero-gives : (contact value : Bool) (x y : ℕ → Bool) (t : Term ℕ) → contact ≡ false → Stands n x t
+      → givesOf contact value al sep x y ≡ gives n ms (zeroMark value t)
+  zero-gives contact true x y t h g = ap (λ (b : Bool). givesOf b true al sep x y) h
+  zero-gives contact false x y t h g =
       ap (λ (b : Bool). givesOf b false al sep x y) h ∙ ap (λ (p : ℕ → Bool). first p (below room)) (fills-is n few s ms f x t g)
       ∙ first-names (fills n ms t) n few (fills-low n ms t)
 
-  pub gives-is : (k v : Bool) (x y : ℕ → Bool) (a : Atom ℕ) → AtomIs n k x y a → givesOf k v al sep x y ≡ gives n ms (mark a v)
-  gives-is k true x y (Atom.contact u t) h = ap (λ (b : Bool). givesOf b true al sep x y) (h .0) ∙ pair-is x y u t (h .1) (h .2)
-  gives-is k false x y (Atom.contact u t) h = ap (λ (b : Bool). givesOf b false al sep x y) (h .0)
-  gives-is k v x y (Atom.part u t) h = zero-gives k v x y (partTerm u t) (h .0) (h .1)
-  gives-is k v x y (Atom.empty t) h = zero-gives k v x y t (h .0) (h .1)
+  pub gives-is : (contact value : Bool) (x y : ℕ → Bool) (a : Atom ℕ) → AtomIs n contact x y a
+      → givesOf contact value al sep x y ≡ gives n ms (mark a value)
+  gives-is contact true x y (Atom.contact u t) h = ap (λ (b : Bool). givesOf b true al sep x y) (h .0) ∙ pair-is x y u t (h .1) (h .2)
+  gives-is contact false x y (Atom.contact u t) h = ap (λ (b : Bool). givesOf b false al sep x y) (h .0)
+  gives-is contact value x y (Atom.part u t) h = zero-gives contact value x y (partTerm u t) (h .0) (h .1)
+  gives-is contact value x y (Atom.empty t) h = zero-gives contact value x y t (h .0) (h .1)
 
 -- ---- the first set, or the second where it is empty
 

@@ -1,7 +1,7 @@
 -- The points in the array are the plan's: the members of the set in rising order, with zeros after them; and the contact rows are
 -- filled position by position. Assumes nothing.
 use mathlib.Core.Bool.{Bool, true, false, not, _&&_, cond}
-use mathlib.Core.Path.{_≡_, refl, sym, ap, ap₂, _∙_, subst, fun-ext}
+use mathlib.Core.Path.{_≡_, refl, sym, ap, _∙_, subst, fun-ext}
 use mathlib.Core.Logic.{⊎-elim}
 use mathlib.Core.List.{List}
 use mathlib.Mathlib.Logic.Function.Defs.{congr-fun}
@@ -29,7 +29,7 @@ use Rattle.search.specs.Tests.{pickOf, rowOf, rowsOf, Filled}
 use Rattle.search.specs.Compiled.{Fit}
 use Rattle.search.specs.Planned.{Positions, PlanOf}
 use Rattle.evalset.specs.Arrays.{positionsOf}
-use Rattle.search.proofs.Fitting.{allowed-low}
+use Rattle.search.proofs.Fitting.{guarded, allowed-low}
 use Rattle.search.proofs.Giving.{given-low}
 
 -- the members of a set in an array
@@ -98,29 +98,15 @@ module _ (n : ℕ) (few : n ≤ most) (ms : List Mark) (g : EvalSet) (h : (e : �
     contact-is : (i j : ℕ) → memAt (r .rows) i j
         ≡ ((ltb i (r .count) && ltb j (r .count)) && not (separated ms (getD (r .points) i 0) (getD (r .points) j 0)))
     unfolding positionsOf
-    contact-is i j = ⊎-elim (λ l. congr-fun (filled .done i l) j ∙ ⊎-elim (near l) (far l) (side j (r .count))) none (side i (r .count))
+    contact-is i j =
+        ⊎-elim
+        (λ l. congr-fun (filled .done i l) j
+        ∙ guarded j (r .count) (ltb j (r .count)) _ _ (le-ltb j (r .count)) (λ m. ap not (f .rows-are _ _ (point-low i l) (point-low j m)))
+        ∙ sym (ap beside (lt-ltb i (r .count) l)))
+        (λ l. filled .past i j l ∙ sym (ap beside (le-ltb i (r .count) l))) (side i (r .count))
       where
-        p : ℕ
-        p = getD (r .points) i 0
-
-        q : ℕ
-        q = getD (r .points) j 0
-
-        near : i < r .count → j < r .count → (ltb j (r .count) && not (memAt (s .rows) p q))
-            ≡ ((ltb i (r .count) && ltb j (r .count)) && not (separated ms p q))
-        near l m =
-            ap₂ (λ (a b : Bool). a && not b) (lt-ltb j (r .count) m) (f .rows-are p q (point-low i l) (point-low j m))
-            ∙ sym (ap₂ (λ (a b : Bool). (a && b) && not (separated ms p q)) (lt-ltb i (r .count) l) (lt-ltb j (r .count) m))
-
-        far : i < r .count → r .count ≤ j → (ltb j (r .count) && not (memAt (s .rows) p q))
-            ≡ ((ltb i (r .count) && ltb j (r .count)) && not (separated ms p q))
-        far l m =
-            ap (λ (a : Bool). a && not (memAt (s .rows) p q)) (le-ltb j (r .count) m)
-            ∙ sym (ap₂ (λ (a b : Bool). (a && b) && not (separated ms p q)) (lt-ltb i (r .count) l) (le-ltb j (r .count) m))
-
-        none : r .count ≤ i → memAt (r .rows) i j ≡ ((ltb i (r .count) && ltb j (r .count)) && not (separated ms p q))
-        none l =
-            filled .past i j l ∙ sym (ap (λ (a : Bool). (a && ltb j (r .count)) && not (separated ms p q)) (le-ltb i (r .count) l))
+        beside : Bool → Bool
+        beside b = (b && ltb j (r .count)) && not (separated ms (getD (r .points) i 0) (getD (r .points) j 0))
 
     pub plan-is : PlanOf n ms r
     plan-is = record { counted = count-is; listed = points-is; contacts = contact-is }

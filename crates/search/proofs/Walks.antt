@@ -82,18 +82,15 @@ module _ (f g : ℕ → Bool) (sep : ℕ → ℕ → Bool) where
   abbrev pub Passed : ℕ → Type 0
   Passed i = (d : ℕ) → d < i → startsOf f g sep d ≡ false
 
-  under : (i e : ℕ) (q : ℕ → Bool) → Step room i e f q → Passed i → Passed e
-  under i e q t passed d l = ⊎-elim (λ k. passed d k) (λ k. starts-out d (t .between d k l)) (side d i)
+  pub walk-ends : (i : ℕ) {e : ℕ} → Passed i → ((d : ℕ) → i ≤ d → d < e → f d ≡ false) → Passed e
+  walk-ends i passed rest d l = ⊎-elim (λ k. passed d k) (λ k. starts-out d (rest d k l)) (side d i)
 
   pub walk-on : (i e : ℕ) (q : ℕ → Bool) → Step room i e f q → Passed i → startsOf f g sep e ≡ false → Passed (e + 1)
-  walk-on i e q t passed h = below-more (λ d. startsOf f g sep d ≡ false) e (under i e q t passed) h
+  walk-on i e q t passed h = below-more (λ d. startsOf f g sep d ≡ false) e (walk-ends i passed (t .between)) h
 
   pub walk-found : (i e : ℕ) (q : ℕ → Bool) → Step room i e f q → Passed i → startsOf f g sep e ≡ true
       → Least room e (startsOf f g sep)
-  walk-found i e q t passed h = record { within = t .within; passes = h; before = under i e q t passed }
-
-  pub walk-ends : (i : ℕ) → Passed i → ((d : ℕ) → i ≤ d → d < room → f d ≡ false) → Passed room
-  walk-ends i passed rest d l = ⊎-elim (λ k. passed d k) (λ k. starts-out d (rest d k l)) (side d i)
+  walk-found i e q t passed h = record { within = t .within; passes = h; before = walk-ends i passed (t .between) }
 
   -- the pair that is found, as a set
   pub pair-found : (p q : ℕ) → Least room p (startsOf f g sep) → Least room q (minusOf g (sep p)) → (e : ℕ)

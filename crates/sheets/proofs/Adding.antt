@@ -149,48 +149,47 @@ module _ (text : List ℕ) (c : Compiling) (code : List ℕ) (rules : List (Form
     order-few : length (postfix f) ≤ 256
     order-few = omega (arith, length-codes (postfix f), order-short text f (m .is-rule) (ap (λ (r : Rule). length (r .order)) (sym read) ∙ whole))
 
-    pub len-is : rule .len ≤ 256
-    len-is = omega (arith, ap (λ (r : Rule). r .len) (read ∙ text-read text f (m .is-rule)), order-few)
+    pub rule-few : rule .len ≤ 256
+    rule-few = omega (arith, ap (λ (r : Rule). r .len) (read ∙ text-read text f (m .is-rule)), order-few)
+
+    tokens-few : length (take (rule .len) (rule .order)) ≤ 256
+    tokens-few = omega (arith, ap length (order-is rule read), length-codes (postfix f), order-few)
 
     pub used-few : nameCount (take (rule .len) (rule .order)) ≤ 256
-    used-few =
-        omega (
-          arith,
-          count-few (take (rule .len) (rule .order)),
-          ap length (order-is rule read),
-          length-codes (postfix f),
-          order-few,
-        )
+    used-few = omega (arith, count-few (take (rule .len) (rule .order)), tokens-few)
 
-    module _ (g : Gathered) (gather-is : g ≡ gathered text (knownOf (c .names))) where
+    -- so many numbers are used, and the code is written from there on
+    module _ (g : Gathered) (gather-is : g ≡ gathered text (knownOf (c .names))) (used : ℕ) (counted : used ≡ nameCount (take (rule .len) (rule .order)))
+        (start : ℕ) (starts : start ≡ from) where
       abbrev order : List ℕ
       order = take (rule .len) (rule .order)
 
       abbrev numbers : List ℕ
-      numbers = take (nameCount order) (g .numbers)
+      numbers = take used (g .numbers)
 
       given-is : Given order numbers (c .sheet) f (numberOf every) (allAtoms (numberedNames rules))
-      given-is = given-for order numbers (order-is rule read) (numbers-are g (nameCount order) gather-is (used-is rule read))
+      given-is = given-for order numbers (order-is rule read) (numbers-are g used gather-is (counted ∙ used-is rule read))
 
-      pub compile-asked : Asked order numbers (c .sheet) from
+      pub compile-asked : Asked order numbers (c .sheet) start
       compile-asked =
-          let l : length order ≤ 256 = omega (arith, ap length (order-is rule read), length-codes (postfix f), order-few) in
           record {
             formula = f;
             numbering = numberOf every;
             atoms = allAtoms (numberedNames rules);
             given = given-is;
-            short = l;
-            fits = omega (arith, from-few);
+            short = tokens-few;
+            fits = omega (arith, tokens-few, starts, from-few);
           }
 
-      module _ (r : CompiledRule) (out : List ℕ) (says : Compiles order numbers (c .sheet) code from r out) (ends-long : length (c .ends) ≡ 16) where
+      module _ (r : CompiledRule) (out : List ℕ) (says : Compiles order numbers (c .sheet) code start r out) (ends-long : length (c .ends) ≡ 16) where
         abbrev ws : List ℕ
         ws = codeAfter f (allAtoms (numberedNames rules))
 
         result : Result f (numberOf every) (allAtoms (numberedNames rules)) (c .sheet) code from r out
         unfolding Compiles
-        result = says f (numberOf every) (allAtoms (numberedNames rules)) given-is
+        result =
+            subst (λ (k : ℕ). Result f (numberOf every) (allAtoms (numberedNames rules)) (c .sheet) code k r out) starts
+            (says f (numberOf every) (allAtoms (numberedNames rules)) given-is)
 
         ws-few : length ws ≤ 256
         ws-few = omega (arith, code-short (numberOf every) f (allAtoms (numberedNames rules)), order-few)

@@ -79,6 +79,10 @@ module _ (rules : List (Formula Name)) (c : Compiling) (code : List ℕ) (h : Co
   pub may-run : Runnable code (take (c .count) (c .ends)) (c .sheet)
   may-run = runnable comes-from (omega (arith, h .compiled .counted, h .compiled .few))
 
+  -- and the ends of the rules have their places in the array
+  pub ends-fit : length (c .ends) ≡ 16 → c .count ≤ length (c .ends)
+  ends-fit long = omega (arith, h .counted, h .fits .rules-fit)
+
   -- the answer of `first_row` is the first row of the numbered rules
   pub answer-first-row : (r : RowAnswer) → FirstRowSays code (take (c .count) (c .ends)) (c .sheet) r
       → rowsOf (c .sheet .atoms) r ≡ firstRowOf (length (namesOf rules)) (numberedNames rules)

@@ -1,6 +1,6 @@
 -- The rows under a row by number: the values of their atoms are the row's and the bits of the number, the lower half has the next atom
 -- true and the upper half false, and each row has a number. Assumes nothing.
-use mathlib.Core.Bool.{Bool, true, false, not, _&&_, and-true, and-false, Bool·not-not}
+use mathlib.Core.Bool.{Bool, true, false, not, _&&_, and-comm, Bool·not-not}
 use mathlib.Core.Path.{_≡_, refl, sym, ap, ap₂, _∙_, fun-ext}
 use mathlib.Core.Logic.{⊎-elim}
 use mathlib.Core.List.{List, [], _∷_, _++_, map, append-assoc}
@@ -26,6 +26,7 @@ use Rattle.kleene.specs.declared.Two.{Two}
 use Rattle.kleene.specs.Rails.{duo, sure, duoOf, duoAt, twoAt}
 use Rattle.search.specs.Rows.{rowBits}
 use Rattle.search.proofs.Rows.{row-length, row-at}
+use Rattle.search.proofs.Fitting.{guarded}
 use Rattle.solver.specs.Coded.{Coded, RefutedSays}
 use Rattle.solver.specs.Tree.{extended, decidedAt, candidatesOf}
 
@@ -115,43 +116,27 @@ module _ (rules : List (Form ℕ)) (row : List Bool) (j : ℕ) where
   abbrev open-at : List Bool → Bool
   open-at r = not (refutes rules (map is r))
 
+  -- a row of the block with its first atom's value
+  open-next : (value : Bool) (e f : ℕ) → rowBits (suc j) f ≡ value ∷ rowBits j e
+      → open-at (row ++ rowBits (suc j) f) ≡ open-at ((row ++ value ∷ []) ++ rowBits j e)
+  open-next value e f q = ap open-at (ap (λ (r : List Bool). row ++ r) q ∙ sym (append-assoc row (value ∷ []) (rowBits j e)))
+
   pub lower-half : j ≤ most → meetOf (candidatesOf rules row (suc j)) (belowOf j) ≡ candidatesOf rules (row ++ true ∷ []) j
   unfolding candidatesOf
-  lower-half few = fun-ext (λ e. ap (λ (b : Bool). (ltb e (2 ^ suc j) && open-at (row ++ rowBits (suc j) e)) && b) (below-few j few e)
-      ∙ ⊎-elim (low e) (high e) (side e (2 ^ j)))
-    where
-      low : (e : ℕ) → e < 2 ^ j → ((ltb e (2 ^ suc j) && open-at (row ++ rowBits (suc j) e)) && ltb e (2 ^ j))
-          ≡ (ltb e (2 ^ j) && open-at ((row ++ true ∷ []) ++ rowBits j e))
-      low e l =
-          ap₂ (λ (a b : Bool). (a && open-at (row ++ rowBits (suc j) e)) && b) (lt-ltb e (2 ^ suc j) (omega (arith, pow-suc 2 j)))
-          (lt-ltb e (2 ^ j) l)
-          ∙ and-true (open-at (row ++ rowBits (suc j) e))
-          ∙ ap open-at (ap (λ (r : List Bool). row ++ r) (row-lower j e l) ∙ sym (append-assoc row (true ∷ []) (rowBits j e)))
-          ∙ sym (ap (λ (a : Bool). a && open-at ((row ++ true ∷ []) ++ rowBits j e)) (lt-ltb e (2 ^ j) l))
-
-      high : (e : ℕ) → 2 ^ j ≤ e → ((ltb e (2 ^ suc j) && open-at (row ++ rowBits (suc j) e)) && ltb e (2 ^ j))
-          ≡ (ltb e (2 ^ j) && open-at ((row ++ true ∷ []) ++ rowBits j e))
-      high e l =
-          ap (λ (b : Bool). (ltb e (2 ^ suc j) && open-at (row ++ rowBits (suc j) e)) && b) (le-ltb e (2 ^ j) l)
-          ∙ and-false (ltb e (2 ^ suc j) && open-at (row ++ rowBits (suc j) e))
-          ∙ sym (ap (λ (a : Bool). a && open-at ((row ++ true ∷ []) ++ rowBits j e)) (le-ltb e (2 ^ j) l))
+  lower-half few = fun-ext (λ e. and-comm _ (belowOf j e)
+      ∙ ap (λ (b : Bool). b && (ltb e (2 ^ suc j) && open-at (row ++ rowBits (suc j) e))) (below-few j few e)
+      ∙ guarded e (2 ^ j) (ltb e (2 ^ j)) _ _ (le-ltb e (2 ^ j)) (λ l. ap (λ (b : Bool). b && open-at (row ++ rowBits (suc j) e)) (lt-ltb e (2 ^ suc j) (omega (arith, pow-suc 2 j)))
+      ∙ open-next true e e (row-lower j e l)))
 
   pub upper-half : shiftOf (candidatesOf rules row (suc j)) j ≡ candidatesOf rules (row ++ false ∷ []) j
   unfolding candidatesOf
-  upper-half = fun-ext (λ e. ⊎-elim (low e) (high e) (side e (2 ^ j)))
+  upper-half = fun-ext (λ e. ap (λ (b : Bool). b && open-at (row ++ rowBits (suc j) (2 ^ j + e))) (bound e)
+      ∙ guarded e (2 ^ j) (ltb e (2 ^ j)) _ _ (le-ltb e (2 ^ j)) (λ l. open-next false e (2 ^ j + e) (row-upper j e l)))
     where
-      low : (e : ℕ) → e < 2 ^ j → (ltb (2 ^ j + e) (2 ^ suc j) && open-at (row ++ rowBits (suc j) (2 ^ j + e)))
-          ≡ (ltb e (2 ^ j) && open-at ((row ++ false ∷ []) ++ rowBits j e))
-      low e l =
-          ap₂ _&&_ (lt-ltb (2 ^ j + e) (2 ^ suc j) (omega (arith, pow-suc 2 j)) ∙ sym (lt-ltb e (2 ^ j) l))
-          (ap open-at (ap (λ (r : List Bool). row ++ r) (row-upper j e l) ∙ sym (append-assoc row (false ∷ []) (rowBits j e))))
-
-      high : (e : ℕ) → 2 ^ j ≤ e → (ltb (2 ^ j + e) (2 ^ suc j) && open-at (row ++ rowBits (suc j) (2 ^ j + e)))
-          ≡ (ltb e (2 ^ j) && open-at ((row ++ false ∷ []) ++ rowBits j e))
-      high e l =
-          ap (λ (a : Bool). a && open-at (row ++ rowBits (suc j) (2 ^ j + e)))
-          (le-ltb (2 ^ j + e) (2 ^ suc j) (omega (arith, pow-suc 2 j)))
-          ∙ sym (ap (λ (a : Bool). a && open-at ((row ++ false ∷ []) ++ rowBits j e)) (le-ltb e (2 ^ j) l))
+      bound : (e : ℕ) → ltb (2 ^ j + e) (2 ^ suc j) ≡ ltb e (2 ^ j)
+      bound e =
+          ⊎-elim (λ l. lt-ltb (2 ^ j + e) (2 ^ suc j) (omega (arith, pow-suc 2 j)) ∙ sym (lt-ltb e (2 ^ j) l))
+          (λ l. le-ltb (2 ^ j + e) (2 ^ suc j) (omega (arith, pow-suc 2 j)) ∙ sym (le-ltb e (2 ^ j) l)) (side e (2 ^ j))
 
 -- ---- the candidates by one run
 
@@ -160,14 +145,6 @@ module _ (many : ℕ) (code ends : List ℕ) (rules : List (Form ℕ)) (leaves :
     (no : EvalSet) (says : RefutedSays code ends leaves no) where
   pub open-rows : minusOf (belowOf d) (mem no) ≡ candidatesOf rules (rowBits k row) d
   unfolding candidatesOf RefutedSays
-  open-rows = fun-ext (λ e. ap (λ (b : Bool). b && not (mem no e)) (below-few d few e) ∙ ⊎-elim (low e) (high e) (side e (2 ^ d)))
-    where
-      low : (e : ℕ) → e < 2 ^ d → (ltb e (2 ^ d) && not (mem no e)) ≡ (ltb e (2 ^ d) && not (refutes rules (extended (rowBits k row) d e)))
-      low e l =
-          ap (λ (b : Bool). ltb e (2 ^ d) && not b)
-          (says many rules coded e (omega (arith, names-room d few)) (extended (rowBits k row) d e) (λ i. are i e l))
-
-      high : (e : ℕ) → 2 ^ d ≤ e → (ltb e (2 ^ d) && not (mem no e)) ≡ (ltb e (2 ^ d) && not (refutes rules (extended (rowBits k row) d e)))
-      high e l =
-          ap (λ (b : Bool). b && not (mem no e)) (le-ltb e (2 ^ d) l)
-          ∙ sym (ap (λ (b : Bool). b && not (refutes rules (extended (rowBits k row) d e))) (le-ltb e (2 ^ d) l))
+  open-rows = fun-ext (λ e. ap (λ (b : Bool). b && not (mem no e)) (below-few d few e)
+      ∙ guarded e (2 ^ d) (ltb e (2 ^ d)) _ _ (le-ltb e (2 ^ d)) (λ l. ap not
+      (says many rules coded e (omega (arith, names-room d few)) (extended (rowBits k row) d e) (λ i. are i e l))))

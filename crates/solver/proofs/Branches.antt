@@ -14,7 +14,7 @@ use lib.Dec.{ltb}
 use lib.ListN.{length, take, drop, take-append-drop}
 use lib.Pow.{pow-mono}
 use lib.Seq.{length-take-le}
-use borrow.Author.Tests.{lt-ltb, not-true}
+use borrow.Author.Tests.{lt-ltb, not-true, not-false}
 use Rattle.formula.specs.Formula.{Atom, Form}
 use Rattle.evalset.specs.declared.EvalSet.{EvalSet}
 use Rattle.lists.specs.Search.{In, any, first, orElse, below}
@@ -31,13 +31,13 @@ use Rattle.contact.proofs.Searching.{refutes-sound, closes-exact, extends-prefi
 use Rattle.search.specs.declared.Sheet.{Sheet}
 use Rattle.search.specs.declared.State.{State}
 use Rattle.search.specs.Rows.{rowBits}
-use Rattle.search.specs.Compiled.{Compiled, Fit, StepSays}
+use Rattle.search.specs.Compiled.{limit, Compiled, Fit, StepSays}
 use Rattle.search.proofs.Rows.{row-length, row-true, row-false, no-marks}
 use Rattle.search.proofs.Claims.{step-true, step-false}
+use Rattle.solver.specs.declared.Block.{Block}
 use Rattle.solver.specs.declared.RowAnswer.{RowAnswer}
 use Rattle.solver.specs.declared.RowAnswer.the-variants.{At, Nothing}
-use Rattle.solver.specs.Coded.{Coded}
-use Rattle.solver.specs.Tree.{candidatesOf, CandidatesSay, ParentPasses, PassesSays, ComesFrom, Runnable, Node, rowsOf, UnderSays, FirstRowSays}
+use Rattle.solver.specs.Tree.{candidatesOf, CandidatesSay, Filled, ParentPasses, PassesSays, ComesFrom, Runnable, Node, rowsOf, UnderSays, FirstRowSays}
 use Rattle.solver.proofs.Codes.{coded-numbers}
 use Rattle.solver.proofs.Blocks.{number, lower-half, upper-half}
 
@@ -50,43 +50,32 @@ none-good p row d g =
     (none-intro p (under row d)
     (λ x i q. let w = map-elim (λ ext. row ++ ext) (rows d) i in clash q (ap p (w .1) ∙ g (w .0) (rows-elim d (w .0) (w .2)))))
 
-both-sides : (p : List Bool → Bool) (row : List Bool) (d : ℕ)
-    → first p (under row (suc d)) ≡ orElse (first p (under (row ++ true ∷ []) d)) (first p (under (row ++ false ∷ []) d))
-both-sides p row d =
-    ap (first p) (under-split row d) ∙ first-append p (under (row ++ true ∷ []) d) (under (row ++ false ∷ []) d)
-
--- what is found on the left is what is found
-kept : (n i : ℕ) (r : RowAnswer) (xs : List (List Bool)) → r ≡ At i → rowsOf n r ≡ orElse (rowsOf n r) xs
-kept n i (At j) xs z = refl
-kept n i Nothing xs z =
-    let y : _≡_ {A = ℕ} 0 1 = cc in
-    absurd (omega arith)
-
 -- ---- places in the tree
 
 module _ {code ends : List ℕ} {sheet : Sheet} {row k j : ℕ} (n : Node code ends sheet row k j) where
+  pub few-atoms : k ≤ limit
+  few-atoms = omega (arith, n .within, n .runnable .atoms-fit)
+
+  pub one-free : (k ≡ sheet .atoms → ⊥) → k < limit
+  one-free more = omega (arith, n .within, n .runnable .atoms-fit)
+
   pub row-small : row < 65536
-  row-small =
-      let p : 2 ^ k ≤ 2 ^ 16 = pow-mono {i = k} {j = 16} (omega (arith, n .within, n .runnable .atoms-fit)) in
-      omega (arith, n .row-fits)
+  row-small = omega (arith, n .row-fits, pow-mono {i = k} {j = 16} few-atoms)
 
-  pub node-true : (i : ℕ) → i < most → k + suc i ≤ sheet .atoms → Node code ends sheet (row * 2) (k + 1) i
-  node-true i few l = record {
-    runnable = n .runnable;
-    within = omega arith;
-    row-fits = subst (λ (x : ℕ). row * 2 < 2 ^ x) (sym (add-one k)) (omega (arith, pow-suc 2 k, n .row-fits));
-    few = omega arith;
-    block-fits = omega arith;
-  }
-
-  pub node-false : (i : ℕ) → i < most → k + suc i ≤ sheet .atoms → Node code ends sheet (row * 2 + 1) (k + 1) i
-  node-false i few l = record {
-    runnable = n .runnable;
-    within = omega arith;
-    row-fits = subst (λ (x : ℕ). row * 2 + 1 < 2 ^ x) (sym (add-one k)) (omega (arith, pow-suc 2 k, n .row-fits));
-    few = omega arith;
-    block-fits = omega arith;
-  }
+  -- either branch goes to a place with fewer atoms left
+  pub next-node : {unrefuted : EvalSet} {block : Block} → Filled code ends row k (sheet .atoms - k) j unrefuted block
+      → (k ≡ sheet .atoms → ⊥) → (left : ℕ) → sheet .atoms - k ≡ left → (next : ℕ) → next ≤ row * 2 + 1
+      → (sheet .atoms - (k + 1) < left) × Node code ends sheet next (k + 1) (block .levels - 1)
+  next-node filled more left counted next l = (
+    omega (arith, n .within),
+    record {
+      runnable = n .runnable;
+      within = omega (arith, n .within);
+      row-fits = subst (λ (x : ℕ). next < 2 ^ x) (sym (add-one k)) (omega (arith, pow-suc 2 k, n .row-fits));
+      few = omega (arith, filled .few);
+      block-fits = omega (arith, filled .some, filled .fits);
+    },
+  )
 
 -- ---- the ways out
 
@@ -111,12 +100,12 @@ module _ (code ends : List ℕ) (sheet : Sheet) (s : State) (row k j : ℕ) (unr
       clash is-left (none-elim (mem unrefuted) h (below-intro room (w .0) (omega (arith, w .1, names-room j (n .few))))))))
 
   -- the check fails
-  pub under-closed : PassesSays sheet s row k false → UnderSays code ends sheet s row k j unrefuted Nothing
+  pub under-closed : (ok : Bool) → PassesSays sheet s row k ok → not ok ≡ true → UnderSays code ends sheet s row k j unrefuted Nothing
   unfolding UnderSays PassesSays good
-  under-closed h = λ atoms rules g f p q.
+  under-closed ok h z = λ atoms rules g f p q.
       let b = rowBits k row in
       let fails : check (sheet .names) (rowMarks atoms b) ≡ false =
-      sym (h atoms (g .compiled) (omega (arith, n .within, g .compiled .counted)) f p) in
+      sym (h atoms (g .compiled) (omega (arith, n .within, g .compiled .counted)) f p) ∙ not-true ok z in
       sym (none-good (good (sheet .names) atoms rules) b (sheet .atoms - k)
       (λ ext l. eq-false-of-not-eq-true
       (λ t. clash
@@ -124,14 +113,14 @@ module _ (code ends : List ℕ) (sheet : Sheet) (s : State) (row k j : ℕ) (unr
       fails)))
 
   -- a whole row
-  pub under-found : k ≡ sheet .atoms → any (mem unrefuted) (below room) ≡ true → PassesSays sheet s row k true
+  pub under-found : k ≡ sheet .atoms → any (mem unrefuted) (below room) ≡ true → (ok : Bool) → PassesSays sheet s row k ok → not ok ≡ false
       → UnderSays code ends sheet s row k j unrefuted (At row)
   unfolding UnderSays PassesSays closes candidatesOf rowBits
-  under-found y some h = λ atoms rules g f p q.
+  under-found y some ok h z = λ atoms rules g f p q.
       let b = rowBits k row in
       let whole : length b ≡ length atoms = row-length k row ∙ y ∙ g .compiled .counted in
       let passed : check (sheet .names) (rowMarks atoms b) ≡ true =
-      sym (h atoms (g .compiled) (omega (arith, n .within, g .compiled .counted)) f p) in
+      sym (h atoms (g .compiled) (omega (arith, n .within, g .compiled .counted)) f p) ∙ not-false ok z in
       let w = any-elim (mem unrefuted) (below room) some in
       let zero-levels : j ≡ 0 = omega (arith, n .block-fits) in
       let left-open : refutes rules (map is (b ++ rowBits j (w .0))) ≡ false =
@@ -149,68 +138,80 @@ module _ (code ends : List ℕ) (sheet : Sheet) (s : State) (row k j : ℕ) (unr
       ∙ sym (ap (λ (m : ℕ). first (good (sheet .names) atoms rules) (under b m)) none-below
       ∙ ap (λ (x : Bool). cond x ((b ++ []) ∷ []) []) is-good ∙ ap (λ (x : List Bool). x ∷ []) (append-nil b))
 
-  -- two branches, where `whole` has the rows left in a block of suc m levels
-  module _ (m : ℕ) (few : suc m ≤ most) (whole : EvalSet)
-      (are : (many : ℕ) (rules : List (Form ℕ)) → Coded many code ends rules → mem unrefuted ≡ candidatesOf rules (rowBits k row) j
-      → mem whole ≡ candidatesOf rules (rowBits k row) (suc m)) (more : k < sheet .atoms) (passed : PassesSays sheet s row k true) where
-    abbrev d : ℕ
-    d = sheet .atoms - k - 1
+  -- two branches of a block of at least one level
+  module _ (block : Block) (filled : Filled code ends row k (sheet .atoms - k) j unrefuted block) (more : k ≡ sheet .atoms → ⊥)
+      (ok : Bool) (passed : PassesSays sheet s row k ok) (is-ok : not ok ≡ false) where
+    -- so many atoms are left after the next one, and so many of the block's levels
+    abbrev rest : ℕ
+    rest = sheet .atoms - k - 1
 
-    -- what a branch finds
+    abbrev levels : ℕ
+    levels = block .levels - 1
+
+    -- the answer is the first good row of a branch
+    abbrev Finds : Bool → RowAnswer → Type 0
+    Finds value r =
+        (atoms : List (Atom ℕ)) (rules : List (Form ℕ)) → ComesFrom code ends sheet atoms rules
+        → Fit (sheet .names) s (rowMarks atoms (rowBits k row)) → ParentPasses sheet atoms row k
+        → mem unrefuted ≡ candidatesOf rules (rowBits k row) j
+        → rowsOf (sheet .atoms) r ≡ first (good (sheet .names) atoms rules) (under (rowBits k row ++ value ∷ []) rest)
+
     branch : (value : Bool) (next : ℕ) (t : State) (half : EvalSet) → rowBits (k + 1) next ≡ rowBits k row ++ value ∷ [] → next / 2 ≡ row
         → ((atoms : List (Atom ℕ)) → Compiled sheet atoms → Fit (sheet .names) s (rowMarks atoms (rowBits k row))
         → Fit (sheet .names) t (rowMarks atoms (rowBits (k + 1) next)))
-        → ((rules : List (Form ℕ)) → mem whole ≡ candidatesOf rules (rowBits k row) (suc m)
-        → mem half ≡ candidatesOf rules (rowBits k row ++ value ∷ []) m)
-        → (r : RowAnswer) → UnderSays code ends sheet t next (k + 1) m half r
-        → (atoms : List (Atom ℕ)) (rules : List (Form ℕ)) → ComesFrom code ends sheet atoms rules
-        → Fit (sheet .names) s (rowMarks atoms (rowBits k row)) → ParentPasses sheet atoms row k
-        → mem unrefuted ≡ candidatesOf rules (rowBits k row) j
-        → rowsOf (sheet .atoms) r ≡ first (good (sheet .names) atoms rules) (under (rowBits k row ++ value ∷ []) d)
+        → ((rules : List (Form ℕ)) → mem (block .unrefuted) ≡ candidatesOf rules (rowBits k row) (suc levels)
+        → mem half ≡ candidatesOf rules (rowBits k row ++ value ∷ []) levels)
+        → (r : RowAnswer) → UnderSays code ends sheet t next (k + 1) levels half r → Finds value r
     unfolding UnderSays PassesSays
     branch value next t half e back fits cs r says atoms rules g f p q =
-        let y : sheet .atoms - (k + 1) ≡ d = omega arith in
+        let y : sheet .atoms - (k + 1) ≡ rest = omega arith in
         let x : k + 1 - 1 ≡ k = omega arith in
+        let one-more : block .levels ≡ suc levels = omega (arith, filled .some) in
         says atoms rules g (fits atoms (g .compiled) f)
         (λ l. ap₂ (λ (a b : ℕ). check (sheet .names) (rowMarks atoms (rowBits a b))) x back
-        ∙ sym (passed atoms (g .compiled) (omega (arith, g .compiled .counted)) f p))
-        (cs rules (are (sheet .atoms) rules (g .coded) q) ∙ ap (λ (z : List Bool). candidatesOf rules z m) (sym e))
+        ∙ sym (passed atoms (g .compiled) (omega (arith, n .within, g .compiled .counted)) f p) ∙ not-false ok is-ok)
+        (cs rules (filled .are (sheet .atoms) rules (g .coded) q ∙ ap (candidatesOf rules (rowBits k row)) one-more)
+        ∙ ap (λ (z : List Bool). candidatesOf rules z levels) (sym e))
         ∙ ap₂ (λ (z : List Bool) (i : ℕ). first (good (sheet .names) atoms rules) (under z i)) e y
 
-    module _ (t1 : State) (half1 : EvalSet) (step1 : StepSays sheet s k true t1) (q1 : mem half1 ≡ meetOf (mem whole) (belowOf m))
-        (r1 : RowAnswer) (says1 : UnderSays code ends sheet t1 (row * 2) (k + 1) m half1 r1) where
-      left : (atoms : List (Atom ℕ)) (rules : List (Form ℕ)) → ComesFrom code ends sheet atoms rules
-          → Fit (sheet .names) s (rowMarks atoms (rowBits k row)) → ParentPasses sheet atoms row k
-          → mem unrefuted ≡ candidatesOf rules (rowBits k row) j
-          → rowsOf (sheet .atoms) r1 ≡ first (good (sheet .names) atoms rules) (under (rowBits k row ++ true ∷ []) d)
+    -- and that of the left one, else that of the right one, is the first below
+    both-sides : (p : List Bool → Bool)
+        → orElse (first p (under (rowBits k row ++ true ∷ []) rest)) (first p (under (rowBits k row ++ false ∷ []) rest))
+        ≡ first p (under (rowBits k row) (sheet .atoms - k))
+    both-sides p =
+        let one-left : sheet .atoms - k ≡ suc rest = omega (arith, n .within) in
+        sym (ap (λ (i : ℕ). first p (under (rowBits k row) i)) one-left ∙ ap (first p) (under-split (rowBits k row) rest)
+        ∙ first-append p (under (rowBits k row ++ true ∷ []) rest) (under (rowBits k row ++ false ∷ []) rest))
+
+    module _ (t1 : State) (low half1 : EvalSet) (step1 : StepSays sheet s k true t1) (is-low : mem low ≡ belowOf levels)
+        (q1 : mem half1 ≡ meetOf (mem (block .unrefuted)) (mem low)) (r1 : RowAnswer)
+        (says1 : UnderSays code ends sheet t1 (row * 2) (k + 1) levels half1 r1) where
+      left : Finds true r1
       left =
           branch true (row * 2) t1 half1 (row-true k row) (omega arith)
-          (λ atoms c f. step-true sheet atoms c k row step1 (omega (arith, c .counted)) f)
-          (λ rules q. q1 ∙ ap (λ (z : ℕ → Bool). meetOf z (belowOf m)) q ∙ lower-half rules (rowBits k row) m (omega arith))
+          (λ atoms c f. step-true sheet atoms c k row step1 (omega (arith, n .within, c .counted)) f)
+          (λ rules q. q1 ∙ ap₂ meetOf q is-low ∙ lower-half rules (rowBits k row) levels (omega (arith, filled .few)))
           r1 says1
 
       -- the left one finds a row
       pub under-left : (i : ℕ) → r1 ≡ At i → UnderSays code ends sheet s row k j unrefuted r1
       unfolding UnderSays
       under-left i z = λ atoms rules g f p q.
-          let t : sheet .atoms - k ≡ suc d = omega arith in
-          let passes = good (sheet .names) atoms rules in
-          kept (sheet .atoms) i r1 (first passes (under (rowBits k row ++ false ∷ []) d)) z
-          ∙ ap (λ (x : List (List Bool)). orElse x (first passes (under (rowBits k row ++ false ∷ []) d))) (left atoms rules g f p q)
-          ∙ sym (both-sides passes (rowBits k row) d) ∙ ap (λ (m : ℕ). first passes (under (rowBits k row) m)) (sym t)
+          let right = first (good (sheet .names) atoms rules) (under (rowBits k row ++ false ∷ []) rest) in
+          subst (λ (r : RowAnswer). rowsOf (sheet .atoms) r ≡ orElse (rowsOf (sheet .atoms) r) right) (sym z) refl
+          ∙ ap (λ (x : List (List Bool)). orElse x right) (left atoms rules g f p q) ∙ both-sides (good (sheet .names) atoms rules)
 
       -- the left one finds none
-      pub under-right : r1 ≡ Nothing → (t2 : State) (half2 : EvalSet) → StepSays sheet s k false t2 → mem half2 ≡ shiftOf (mem whole) m
-          → (r : RowAnswer) → UnderSays code ends sheet t2 (row * 2 + 1) (k + 1) m half2 r → UnderSays code ends sheet s row k j unrefuted r
+      pub under-right : r1 ≡ Nothing → (t2 : State) (half2 : EvalSet) → StepSays sheet s k false t2
+          → mem half2 ≡ shiftOf (mem (block .unrefuted)) levels → (r : RowAnswer)
+          → UnderSays code ends sheet t2 (row * 2 + 1) (k + 1) levels half2 r → UnderSays code ends sheet s row k j unrefuted r
       unfolding UnderSays
       under-right z t2 half2 step2 q2 r says = λ atoms rules g f p q.
-          let t : sheet .atoms - k ≡ suc d = omega arith in
-          let passes = good (sheet .names) atoms rules in
           ap₂ orElse (sym (ap (rowsOf (sheet .atoms)) z) ∙ left atoms rules g f p q)
           (branch false (row * 2 + 1) t2 half2 (row-false k row) (omega arith)
-          (λ atoms c f. step-false sheet atoms c k row step2 (omega (arith, c .counted)) f)
-          (λ rules q. q2 ∙ ap (λ (z : ℕ → Bool). shiftOf z m) q ∙ upper-half rules (rowBits k row) m) r says atoms rules g f p q)
-          ∙ sym (both-sides passes (rowBits k row) d) ∙ ap (λ (m : ℕ). first passes (under (rowBits k row) m)) (sym t)
+          (λ atoms c f. step-false sheet atoms c k row step2 (omega (arith, n .within, c .counted)) f)
+          (λ rules q. q2 ∙ ap (λ (z : ℕ → Bool). shiftOf z levels) q ∙ upper-half rules (rowBits k row) levels) r says atoms rules g f p q)
+          ∙ both-sides (good (sheet .names) atoms rules)
 
 -- ---- from the root
 

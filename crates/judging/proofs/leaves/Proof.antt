@@ -59,19 +59,19 @@ loop-less c = omega arith
 loop-again : tie.Need-loop-again Inv-loop μ-loop
 unfolding valueOf memAt room
 loop-again c =
-    let k = c .before .before .before .before .before .before .loop in (
+    let loop = c .before .before .before .before .before .before .loop in (
       omega arith,
-      length-set (k .out) (k .i) _ ∙ k .inv .1,
-      sure-more (k .out) (k .i) _ _ (omega arith) (k .inv .2) (c .settled2 .ensures 0 (omega arith) ∙ ap sure (c .before .atom-value .ensures)),
+      length-set (loop .out) (loop .i) _ ∙ loop .inv .1,
+      sure-more (loop .out) (loop .i) _ _ (omega arith) (loop .inv .2) (c .settled2 .ensures 0 (omega arith) ∙ ap sure (c .before .atom-value .ensures)),
     )
 
 returns : tie.Need-returns Inv-loop μ-loop
 unfolding LeavesSay
 returns c =
-    let k = c .before .loop in
+    let loop = c .before .loop in
     let a = c .before .before .before .args in
-    let z : k .i ≡ a .t2 .atoms = omega arith in
-    subst (λ (n : ℕ). Sure (k .out) n (valueOf (a .plan) (a .t2))) z (k .inv .2)
+    let z : loop .i ≡ a .t2 .atoms = omega arith in
+    subst (λ (n : ℕ). Sure (loop .out) n (valueOf (a .plan) (a .t2))) z (loop .inv .2)
 
 pub leaves-spec : {M : Type 1} → statement M
 leaves-spec =

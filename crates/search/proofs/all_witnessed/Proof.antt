@@ -31,6 +31,20 @@ Inv-loop s row k sheet i₀ i =
 abbrev μ-loop : tie.MeasureT-loop
 μ-loop s row k sheet i₀ i = k - i
 
+-- the mark of the atom that was tried
+tried : (c : tie.After-witnessed Inv-loop μ-loop)
+    → let a = c .before .before .before .before .before .before .before .args in
+    let i = c .before .before .before .before .before .before .loop .i in
+    (atoms : List (Atom ℕ)) → Compiled (a .t1) atoms → a .k ≤ length atoms → (ms : List Mark) → Fit (a .t1 .names) (a .s) ms
+    → c .witnessed .result ≡ witnessed (a .t1 .names) ms (mark (atomAt atoms i) (getD (rowBits (a .k) (a .row)) i false))
+unfolding memAt
+tried c atoms h l ms f =
+    let a = c .before .before .before .before .before .before .before .args in
+    let i = c .before .before .before .before .before .before .loop .i in
+    let b : i < length atoms = omega arith in
+    c .witnessed .ensures ∙ witnessed-is _ (h .few) _ ms f _ _ _ _ (atomAt atoms i) (h .atom-is i b)
+    ∙ ap (λ (v : Bool). witnessed (a .t1 .names) ms (mark (atomAt atoms i) v)) (c .before .value-in .ensures)
+
 loop-holds : tie.Need-loop-holds Inv-loop μ-loop
 loop-holds c = (omega arith, λ atoms h l ms f. ap (all (witnessed _ ms)) (no-marks atoms))
 
@@ -55,28 +69,14 @@ value-in-requires c κs = search needs
 witnessed-requires : tie.Need-witnessed-requires Inv-loop μ-loop
 witnessed-requires c κs = search needs
 
--- the mark of the atom that was tried
-tried : (c : tie.After-witnessed Inv-loop μ-loop)
-    → let a = c .before .before .before .before .before .before .before .args in
-    let i = c .before .before .before .before .before .before .loop .i in
-    (atoms : List (Atom ℕ)) → Compiled (a .t1) atoms → a .k ≤ length atoms → (ms : List Mark) → Fit (a .t1 .names) (a .s) ms
-    → c .witnessed .result ≡ witnessed (a .t1 .names) ms (mark (atomAt atoms i) (getD (rowBits (a .k) (a .row)) i false))
-unfolding memAt
-tried c atoms h l ms f =
-    let a = c .before .before .before .before .before .before .before .args in
-    let i = c .before .before .before .before .before .before .loop .i in
-    let b : i < length atoms = omega arith in
-    c .witnessed .ensures ∙ witnessed-is _ (h .few) _ ms f _ _ _ _ (atomAt atoms i) (h .atom-is i b)
-    ∙ ap (λ (v : Bool). witnessed (a .t1 .names) ms (mark (atomAt atoms i) v)) (c .before .value-in .ensures)
-
 returns : tie.Need-returns Inv-loop μ-loop
 unfolding WitnessedSays
 returns c = λ atoms h l ms f.
     let a = c .before .before .before .before .before .before .before .before .args in
     let i = c .before .before .before .before .before .before .before .loop .i in
-    let n : length (rowBits (a .k) (a .row)) ≡ a .k = row-length _ _ in
+    let long = row-length (a .k) (a .row) in
     sym (eq-false-of-not-eq-true
-    (λ t. clash (all-elim (witnessed _ ms) (mark-in atoms (rowBits (a .k) (a .row)) i (omega arith) (omega arith)) t)
+    (λ t. clash (all-elim (witnessed _ ms) (mark-in atoms (rowBits (a .k) (a .row)) i (omega (arith, long)) (omega (arith, long))) t)
     (sym (tried (c .before) atoms h l ms f) ∙ not-true _ (c .if1 .taken))))
 
 add-i : tie.Need-add-i Inv-loop μ-loop
@@ -88,23 +88,23 @@ loop-less c = omega arith
 loop-again : tie.Need-loop-again Inv-loop μ-loop
 loop-again c =
     let a = c .before .before .before .before .before .before .before .before .args in
-    let k = c .before .before .before .before .before .before .before .loop in
+    let loop = c .before .before .before .before .before .before .before .loop in
     let row = rowBits (a .k) (a .row) in
-    let n : length row ≡ a .k = row-length _ _ in (
+    let long = row-length (a .k) (a .row) in (
       omega arith,
       λ atoms h l ms f.
-          ap (all (witnessed (a .t1 .names) ms)) (marks-take atoms row (k .i) (omega arith) (omega arith))
-          ∙ all-last (witnessed (a .t1 .names) ms) (rowMarks atoms (take (k .i) row)) _
-          ∙ ap₂ _&&_ (k .inv .1 atoms h l ms f) (sym (tried (c .before) atoms h l ms f) ∙ not-false _ (c .if1 .left)),
+          ap (all (witnessed (a .t1 .names) ms)) (marks-take atoms row (loop .i) (omega (arith, long)) (omega (arith, long)))
+          ∙ all-last (witnessed (a .t1 .names) ms) (rowMarks atoms (take (loop .i) row)) _
+          ∙ ap₂ _&&_ (loop .inv .1 atoms h l ms f) (sym (tried (c .before) atoms h l ms f) ∙ not-false _ (c .if1 .left)),
     )
 
 returns-2 : tie.Need-returns-2 Inv-loop μ-loop
 unfolding WitnessedSays
 returns-2 c = λ atoms h l ms f.
     let a = c .before .before .args in
-    let k = c .before .loop in
-    sym (k .inv .1 atoms h l ms f)
-    ∙ ap (all (witnessed (a .t1 .names) ms)) (marks-whole atoms (a .k) (a .row) (k .i) (omega arith))
+    let loop = c .before .loop in
+    sym (loop .inv .1 atoms h l ms f)
+    ∙ ap (all (witnessed (a .t1 .names) ms)) (marks-whole atoms (a .k) (a .row) (loop .i) (omega arith))
 
 pub all-witnessed-spec : {M : Type 1} → statement M
 all-witnessed-spec =

@@ -23,6 +23,20 @@ Inv-loop points₀ rest₀ from₀ count₀ points rest from count =
 abbrev μ-loop : tie.MeasureT-loop
 μ-loop points₀ rest₀ from₀ count₀ points rest from count = room - from
 
+-- the evaluation that was taken
+taken : (c : tie.After-known-told Inv-loop μ-loop)
+    → Step room (c .before .before .before .before .before .loop .from) (c .before .e .given .0 .0)
+    (mem (c .before .before .before .before .before .before .args .s)) (mem (c .before .before .before .before .before .loop .rest))
+taken c =
+    step room _ _ _ (c .before .before .before .before .before .loop .inv .1) _
+    (sym (c .before .before .before .least .ensures) ∙ c .before .e .given .1)
+
+-- there is room for it
+fits : (c : tie.After-known-told Inv-loop μ-loop) → c .before .before .before .before .before .loop .count < room
+fits c =
+    let loop = c .before .before .before .before .before .loop in
+    omega (arith, loop .inv .2, taken c .within, taken c .low, keep-length (mem (c .before .before .before .before .before .before .args .s)) (loop .from))
+
 loop-holds : tie.Need-loop-holds Inv-loop μ-loop
 unfolding room pad
 loop-holds c = (omega arith, from-zero _, refl, refl)
@@ -36,27 +50,12 @@ enum-known-e c = search needs
 enum-told : tie.Need-enum-told Inv-loop μ-loop
 enum-told c = search needs
 
--- the evaluation that was taken
-taken : (c : tie.After-known-told Inv-loop μ-loop)
-    → Step room (c .before .before .before .before .before .loop .from) (c .before .e .given .0 .0)
-    (mem (c .before .before .before .before .before .before .args .s)) (mem (c .before .before .before .before .before .loop .rest))
-taken c =
-    step room _ _ _ (c .before .before .before .before .before .loop .inv .1) _
-    (sym (c .before .before .before .least .ensures) ∙ c .before .e .given .1)
-
 returns : tie.Need-returns Inv-loop μ-loop
 returns c =
-    let k = c .before .before .before .before .loop in
-    let rest = stop room (k .from) _ _ (k .inv .1) (sym (c .before .before .least .ensures) ∙ c .enum-told .given .1) in (
-      k .inv .2 ∙ ap length (sym (keep-cut _ (k .from) room (k .inv .0) rest)),
-      k .inv .3 ∙ ap (pad room) (sym (keep-cut _ (k .from) room (k .inv .0) rest)),
-    )
-
--- there is room for it
-fits : (c : tie.After-known-told Inv-loop μ-loop) → c .before .before .before .before .before .loop .count < room
-fits c =
-    let k = c .before .before .before .before .before .loop in
-    omega (arith, k .inv .2, taken c .within, taken c .low, keep-length (mem (c .before .before .before .before .before .before .args .s)) (k .from))
+    let loop = c .before .before .before .before .loop in
+    let rest = stop room (loop .from) _ _ (loop .inv .1) (sym (c .before .before .least .ensures) ∙ c .enum-told .given .1) in
+    let whole = sym (keep-cut _ (loop .from) room (loop .inv .0) rest) in
+    (loop .inv .2 ∙ ap length whole, loop .inv .3 ∙ ap (pad room) whole)
 
 cast-points : tie.Need-cast-points Inv-loop μ-loop
 unfolding room
@@ -84,24 +83,24 @@ loop-less c = omega (arith, taken (c .before) .within, taken (c .before) .low)
 loop-again : tie.Need-loop-again Inv-loop μ-loop
 loop-again c =
     let t = taken (c .before) in
-    let k = c .before .before .before .before .before .before .loop in
+    let loop = c .before .before .before .before .before .before .loop in
     let e = c .before .before .e .given .0 .0 in
-    let so-far : List ℕ = keep (mem (c .before .before .before .before .before .before .before .args .s)) (below (k .from)) in (
+    let so-far : List ℕ = keep (mem (c .before .before .before .before .before .before .before .args .s)) (below (loop .from)) in (
       omega (arith, t .within),
       c .without .ensures ∙ t .rest,
-      ap (λ (x : ℕ). x + 1) (k .inv .2) ∙ sym (count-step _ _ _ (t .low) (t .passes) (t .between)),
-      ap₂ (λ (x : List ℕ) (y : ℕ). set x y e) (k .inv .3) (k .inv .2)
-          ∙ pad-set room so-far (length so-far) e refl (omega (arith, fits (c .before), k .inv .2))
+      ap (λ (x : ℕ). x + 1) (loop .inv .2) ∙ sym (count-step _ _ _ (t .low) (t .passes) (t .between)),
+      ap₂ (λ (x : List ℕ) (y : ℕ). set x y e) (loop .inv .3) (loop .inv .2)
+          ∙ pad-set room so-far (length so-far) e refl (omega (arith, fits (c .before), loop .inv .2))
           ∙ ap (pad room) (sym (keep-step _ _ _ (t .low) (t .passes) (t .between))),
     )
 
 returns-2 : tie.Need-returns-2 Inv-loop μ-loop
 unfolding room
 returns-2 c =
-    let k = c .before .loop in
-    let z : k .from ≡ room = omega (arith, k .inv .0) in (
-      k .inv .2 ∙ ap (λ (x : ℕ). length (keep (mem (c .before .before .args .s)) (below x))) z,
-      k .inv .3 ∙ ap (λ (x : ℕ). pad room (keep (mem (c .before .before .args .s)) (below x))) z,
+    let loop = c .before .loop in
+    let z : loop .from ≡ room = omega (arith, loop .inv .0) in (
+      loop .inv .2 ∙ ap (λ (x : ℕ). length (keep (mem (c .before .before .args .s)) (below x))) z,
+      loop .inv .3 ∙ ap (λ (x : ℕ). pad room (keep (mem (c .before .before .args .s)) (below x))) z,
     )
 
 pub ascending-spec : {M : Type 1} → statement M

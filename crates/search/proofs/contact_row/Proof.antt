@@ -45,11 +45,11 @@ loop-less c = omega arith
 loop-again : tie.Need-loop-again Inv-loop μ-loop
 loop-again c =
     let a = c .before .before .before .before .before .args in
-    let k = c .before .before .before .loop in (
+    let loop = c .before .before .before .loop in (
       omega arith,
       c .insert-unless .ensures
-          ∙ ap₂ (λ (b : Bool) (s : ℕ → Bool). pickOf b s (addOf s (k .j))) (c .before .contains .ensures) (k .inv .1)
-          ∙ row-more (k .j) (a .t1) (mem (a .apart)) (omega arith),
+          ∙ ap₂ (λ (b : Bool) (s : ℕ → Bool). pickOf b s (addOf s (loop .j))) (c .before .contains .ensures) (loop .inv .1)
+          ∙ row-more (loop .j) (a .t1) (mem (a .apart)) (omega arith),
     )
 
 returns : tie.Need-returns Inv-loop μ-loop

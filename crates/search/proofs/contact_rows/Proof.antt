@@ -34,8 +34,7 @@ cast-e c = search needs
 
 mul-row : tie.Need-mul-row Inv-loop μ-loop
 unfolding room
-mul-row c =
-    let l = c .before .before .before .pre .low (c .before .loop .i) (omega arith) in omega arith
+mul-row c = omega (arith, c .before .before .before .pre .low (c .before .loop .i) (omega arith))
 
 array-copy-out-row : tie.Need-array-copy-out-row Inv-loop μ-loop
 unfolding room
@@ -61,13 +60,12 @@ loop-less c = omega arith
 loop-again : tie.Need-loop-again Inv-loop μ-loop
 unfolding memAt room
 loop-again c =
-    let a = c .before .before .before .before .before .args in
-    let k = c .before .before .before .loop in
-    let l : k .i < length (k .out) = omega (arith, k .inv .1, c .before .before .before .before .before .pre .fits) in (
+    let loop = c .before .before .before .loop in
+    let long : loop .i < length (loop .out) = omega (arith, loop .inv .1, c .before .before .before .before .before .pre .fits) in (
       omega arith,
-      length-set (k .out) _ _ ∙ k .inv .1,
-      filled-more _ (k .i) (memAt (k .out)) _ (k .inv .2) (mem-at-same (k .out) (k .i) _ l ∙ c .contact-row .ensures)
-          (λ i ne. mem-at-other (k .out) (k .i) i _ ne),
+      length-set (loop .out) _ _ ∙ loop .inv .1,
+      filled-more _ (loop .i) (memAt (loop .out)) _ (loop .inv .2) (mem-at-same (loop .out) (loop .i) _ long ∙ c .contact-row .ensures)
+          (λ i ne. mem-at-other (loop .out) (loop .i) i _ ne),
     )
 
 returns : tie.Need-returns Inv-loop μ-loop

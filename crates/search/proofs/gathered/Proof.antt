@@ -37,7 +37,7 @@ loop-holds c = (
   omega arith,
   refl,
   λ atoms h ms f e.
-      congr-fun (c .empty .ensures) e ∙ sym (ap (λ (l : List Mark). elem e (gather (gives (c .before .args .t1 .names) ms) l)) (no-marks atoms)),
+      congr-fun (c .empty .ensures) e ∙ sym (ap (λ (marks : List Mark). elem e (gather (gives (c .before .args .t1 .names) ms) marks)) (no-marks atoms)),
 )
 
 element-copy-out-contact : tie.Need-element-copy-out-contact Inv-loop μ-loop
@@ -74,30 +74,30 @@ loop-again : tie.Need-loop-again Inv-loop μ-loop
 unfolding memAt
 loop-again c =
     let a = c .before .before .before .before .before .before .before .before .before .args in
-    let k = c .before .before .before .before .before .before .before .loop in
+    let loop = c .before .before .before .before .before .before .before .loop in
     let row = rowBits (a .t1 .atoms) (a .row) in
-    let n : length row ≡ a .t1 .atoms = row-length _ _ in (
+    let long = row-length (a .t1 .atoms) (a .row) in (
       omega arith,
       refl,
       λ atoms h ms f e.
-          let l : k .i < length atoms = omega (arith, h .counted) in
+          let within : loop .i < length atoms = omega (arith, h .counted) in
           congr-fun (c .join .ensures) e
-          ∙ ap₂ _||_ (k .inv .2 atoms h ms f e)
+          ∙ ap₂ _||_ (loop .inv .2 atoms h ms f e)
           (c .before .gives .ensures e
-          ∙ ap (elem e) (gives-is _ (h .few) _ ms f _ _ _ _ (atomAt atoms (k .i)) (h .atom-is (k .i) l)
-          ∙ ap (λ (v : Bool). gives (a .t1 .names) ms (mark (atomAt atoms (k .i)) v)) (c .before .before .value-in .ensures)))
-          ∙ sym (ap (λ (l : List Mark). elem e (gather (gives (a .t1 .names) ms) l))
-          (marks-take atoms row (k .i) (omega arith) (omega (arith, h .counted)))
-          ∙ elem-gather-last (gives (a .t1 .names) ms) (rowMarks atoms (take (k .i) row)) _ e),
+          ∙ ap (elem e) (gives-is _ (h .few) _ ms f _ _ _ _ (atomAt atoms (loop .i)) (h .atom-is (loop .i) within)
+          ∙ ap (λ (v : Bool). gives (a .t1 .names) ms (mark (atomAt atoms (loop .i)) v)) (c .before .before .value-in .ensures)))
+          ∙ sym (ap (λ (marks : List Mark). elem e (gather (gives (a .t1 .names) ms) marks))
+          (marks-take atoms row (loop .i) (omega (arith, long)) (omega (arith, long, h .counted)))
+          ∙ elem-gather-last (gives (a .t1 .names) ms) (rowMarks atoms (take (loop .i) row)) _ e),
     )
 
 returns : tie.Need-returns Inv-loop μ-loop
 unfolding GatheredSays
 returns c = λ atoms h ms f e.
     let a = c .before .before .before .args in
-    let k = c .before .loop in
-    k .inv .2 atoms h ms f e
-    ∙ ap (λ (l : List Mark). elem e (gather (gives (a .t1 .names) ms) l)) (marks-whole atoms (a .t1 .atoms) (a .row) (k .i) (omega arith))
+    let loop = c .before .loop in
+    loop .inv .2 atoms h ms f e
+    ∙ ap (λ (marks : List Mark). elem e (gather (gives (a .t1 .names) ms) marks)) (marks-whole atoms (a .t1 .atoms) (a .row) (loop .i) (omega arith))
 
 pub gathered-spec : {M : Type 1} → statement M
 gathered-spec =

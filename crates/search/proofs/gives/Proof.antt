@@ -1,4 +1,5 @@
--- `search::gives` meets its contract, case by case. Assumes nothing.
+-- `search::gives` meets its contract: a true contact gives its pair, a false zero atom its least allowed evaluation, and the
+-- others nothing. Assumes nothing.
 use mathlib.Core.Bool.{Bool}
 use mathlib.Core.Path.{ap, ap₂, _∙_}
 use mathlib.Mathlib.Logic.Function.Defs.{congr-fun}

@@ -5,6 +5,7 @@ use mathlib.Core.Path.{_≡_, sym, ap, _∙_}
 use mathlib.Mathlib.Logic.Function.Defs.{congr-fun}
 use Prim.Native.Nat.{ℕ, _-_, _≤_}
 use native.Mathlib.Omega.{arith}
+use borrow.Author.Count.{below-none}
 use borrow.Author.Needs.{needs}
 use Rattle.lists.specs.Search.{first, below}
 use Rattle.evalset.specs.Sets.{room, mem, memAt, minusOf, addOf, fromOf, foundOf}
@@ -21,22 +22,6 @@ Inv-loop second rows none rest₀ from₀ rest from =
 abbrev μ-loop : tie.MeasureT-loop
 μ-loop second rows none rest₀ from₀ rest from = room - from
 
-empty-requires : tie.Need-empty-requires Inv-loop μ-loop
-empty-requires c κs = search needs
-
-loop-holds : tie.Need-loop-holds Inv-loop μ-loop
-unfolding room
-loop-holds c = (omega arith, from-zero _, λ d l. absurd (omega arith))
-
-least-requires : tie.Need-least-requires Inv-loop μ-loop
-least-requires c κs = search needs
-
-enum-known-p : tie.Need-enum-known-p Inv-loop μ-loop
-enum-known-p c = search needs
-
-enum-told : tie.Need-enum-told Inv-loop μ-loop
-enum-told c = search needs
-
 -- the evaluation that was taken
 taken : (c : tie.After-known-told Inv-loop μ-loop)
     → Step room (c .before .before .before .before .before .loop .from) (c .before .p .given .0 .0)
@@ -52,12 +37,28 @@ partner : (c : tie.After-least2 Inv-loop μ-loop)
 unfolding memAt
 partner c = c .least2 .ensures ∙ ap (λ (p : ℕ → Bool). foundOf (first p (below room))) (c .before .minus .ensures)
 
+empty-requires : tie.Need-empty-requires Inv-loop μ-loop
+empty-requires c κs = search needs
+
+loop-holds : tie.Need-loop-holds Inv-loop μ-loop
+unfolding room
+loop-holds c = (omega arith, from-zero _, below-none _)
+
+least-requires : tie.Need-least-requires Inv-loop μ-loop
+least-requires c κs = search needs
+
+enum-known-p : tie.Need-enum-known-p Inv-loop μ-loop
+enum-known-p c = search needs
+
+enum-told : tie.Need-enum-told Inv-loop μ-loop
+enum-told c = search needs
+
 returns : tie.Need-returns Inv-loop μ-loop
 returns c = λ e.
-    let k = c .before .before .before .before .loop in
+    let loop = c .before .before .before .before .loop in
     congr-fun (c .before .before .before .before .before .empty .ensures) e
-    ∙ pair-none _ _ _ (walk-ends _ _ _ (k .from) (k .inv .2)
-    (stop room (k .from) _ _ (k .inv .1) (sym (c .before .before .least .ensures) ∙ c .enum-told .given .1))) e
+    ∙ pair-none _ _ _ (walk-ends _ _ _ (loop .from) (loop .inv .2)
+    (stop room (loop .from) _ _ (loop .inv .1) (sym (c .before .before .least .ensures) ∙ c .enum-told .given .1))) e
 
 mul-r : tie.Need-mul-r Inv-loop μ-loop
 unfolding room
@@ -123,9 +124,9 @@ loop-again c =
 returns-3 : tie.Need-returns-3 Inv-loop μ-loop
 unfolding room
 returns-3 c = λ e.
-    let k = c .before .loop in
+    let loop = c .before .loop in
     congr-fun (c .before .before .empty .ensures) e
-    ∙ pair-none _ _ _ (walk-ends _ _ _ (k .from) (k .inv .2) (λ d a b. absurd (omega arith))) e
+    ∙ pair-none _ _ _ (walk-ends _ _ _ (loop .from) (loop .inv .2) (λ d a b. absurd (omega arith))) e
 
 pub pair-of-spec : {M : Type 1} → statement M
 pair-of-spec =

@@ -21,6 +21,14 @@ Inv-loop second out₀ rest₀ from₀ out rest from =
 abbrev μ-loop : tie.MeasureT-loop
 μ-loop second out₀ rest₀ from₀ out rest from = room - from
 
+-- the evaluation that was taken
+taken : (c : tie.After-known-told Inv-loop μ-loop)
+    → Step room (c .before .before .before .before .before .loop .from) (c .before .p .given .0 .0)
+    (mem (c .before .before .before .before .before .before .args .first)) (mem (c .before .before .before .before .before .loop .rest))
+taken c =
+    step room _ _ _ (c .before .before .before .before .before .loop .inv .2) _
+    (sym (c .before .before .before .least .ensures) ∙ c .before .p .given .1)
+
 loop-holds : tie.Need-loop-holds Inv-loop μ-loop
 loop-holds c = (omega arith, refl, from-zero _, separate-none _ _ _)
 
@@ -33,19 +41,11 @@ enum-known-p c = search needs
 enum-told : tie.Need-enum-told Inv-loop μ-loop
 enum-told c = search needs
 
--- the evaluation that was taken
-taken : (c : tie.After-known-told Inv-loop μ-loop)
-    → Step room (c .before .before .before .before .before .loop .from) (c .before .p .given .0 .0)
-    (mem (c .before .before .before .before .before .before .args .first)) (mem (c .before .before .before .before .before .loop .rest))
-taken c =
-    step room _ _ _ (c .before .before .before .before .before .loop .inv .2) _
-    (sym (c .before .before .before .least .ensures) ∙ c .before .p .given .1)
-
 returns : tie.Need-returns Inv-loop μ-loop
 returns c =
-    let k = c .before .before .before .before .loop in
-    separate-ends _ _ _ (k .from) _ (k .inv .3)
-    (stop room (k .from) _ _ (k .inv .2) (sym (c .before .before .least .ensures) ∙ c .enum-told .given .1))
+    let loop = c .before .before .before .before .loop in
+    separate-ends _ _ _ (loop .from) _ (loop .inv .3)
+    (stop room (loop .from) _ _ (loop .inv .2) (sym (c .before .before .least .ensures) ∙ c .enum-told .given .1))
 
 mul-r : tie.Need-mul-r Inv-loop μ-loop
 unfolding room
@@ -81,15 +81,15 @@ loop-again : tie.Need-loop-again Inv-loop μ-loop
 unfolding room memAt
 loop-again c =
     let t = taken (c .before .before .before) in
-    let k = c .before .before .before .before .before .before .before .before .loop in
+    let loop = c .before .before .before .before .before .before .before .before .loop in
     let p = c .before .before .before .before .p .given .0 .0 in
-    let l : p < length (k .out) = omega (arith, t .within, k .inv .1) in (
+    let l : p < length (loop .out) = omega (arith, t .within, loop .inv .1) in (
       omega (arith, t .within),
-      length-set (k .out) _ _ ∙ k .inv .1,
+      length-set (loop .out) _ _ ∙ loop .inv .1,
       c .without .ensures ∙ t .rest,
-      separate-on _ _ _ (k .from) p _ t (memAt (k .out)) _ (k .inv .3)
-          (λ q. congr-fun (mem-at-same (k .out) p _ l) q ∙ congr-fun (c .before .join .ensures) q)
-          (λ d q ne. congr-fun (mem-at-other (k .out) p d _ ne) q),
+      separate-on _ _ _ (loop .from) p _ t (memAt (loop .out)) _ (loop .inv .3)
+          (λ q. congr-fun (mem-at-same (loop .out) p _ l) q ∙ congr-fun (c .before .join .ensures) q)
+          (λ d q ne. congr-fun (mem-at-other (loop .out) p d _ ne) q),
     )
 
 returns-2 : tie.Need-returns-2 Inv-loop μ-loop

@@ -15,11 +15,7 @@ below-requires c κs = search needs
 
 returns : tie.Need-returns
 unfolding room
-returns c = (
-  c .below .ensures,
-  λ p q. empty-rows room p q (c .before .empty .result) (c .before .empty .ensures),
-  λ l. fit-start _ _ l (c .below .ensures) (λ p q. empty-rows room p q (c .before .empty .result) (c .before .empty .ensures)),
-)
+returns c = fit-start _ _ (c .below .ensures) (λ p q. empty-rows room p q (c .before .empty .result) (c .before .empty .ensures))
 
 pub start-spec : {M : Type 1} → statement M
 start-spec = tie.close (tie.spec empty-requires below-requires returns)

@@ -4,7 +4,7 @@ use mathlib.Core.Path.{_≡_, refl, sym, ap, _∙_, subst}
 use mathlib.Core.List.{List, [], _∷_, _++_}
 use Prim.Native.Nat.{ℕ, _-_, _≤_}
 use native.Mathlib.Omega.{arith}
-use lib.ListN.{length, take}
+use lib.ListN.{take}
 use borrow.Author.Needs.{needs}
 use Rattle.formula.specs.Formula.{Atom}
 use Rattle.contact.specs.Plan.{mark, rowMarks}
@@ -45,24 +45,24 @@ loop-again : tie.Need-loop-again Inv-loop μ-loop
 unfolding StepSays
 loop-again c =
     let a = c .before .before .before .before .before .args in
-    let k = c .before .before .before .loop in
+    let loop = c .before .before .before .loop in
     let row = rowBits (a .sheet .atoms) (a .row) in
-    let n : length row ≡ a .sheet .atoms = row-length _ _ in (
+    let long = row-length (a .sheet .atoms) (a .row) in (
       omega arith,
       refl,
       λ atoms h.
           subst (Fit _ _)
-          (ap (λ (v : Bool). rowMarks atoms (take (k .i) row) ++ mark (atomAt atoms (k .i)) v ∷ []) (c .before .value-in .ensures)
-          ∙ sym (marks-take atoms row (k .i) (omega arith) (omega (arith, h .counted))))
-          (c .step .ensures atoms h (omega (arith, h .counted)) _ (k .inv .2 atoms h)),
+          (ap (λ (v : Bool). rowMarks atoms (take (loop .i) row) ++ mark (atomAt atoms (loop .i)) v ∷ []) (c .before .value-in .ensures)
+          ∙ sym (marks-take atoms row (loop .i) (omega (arith, long)) (omega (arith, long, h .counted))))
+          (c .step .ensures atoms h (omega (arith, h .counted)) _ (loop .inv .2 atoms h)),
     )
 
 returns : tie.Need-returns Inv-loop μ-loop
 unfolding StateSays
 returns c = λ atoms h.
     let a = c .before .before .before .args in
-    let k = c .before .loop in
-    subst (Fit (a .sheet .names) (k .s)) (marks-whole atoms (a .sheet .atoms) (a .row) (k .i) (omega arith)) (k .inv .2 atoms h)
+    let loop = c .before .loop in
+    subst (Fit (a .sheet .names) (loop .s)) (marks-whole atoms (a .sheet .atoms) (a .row) (loop .i) (omega arith)) (loop .inv .2 atoms h)
 
 pub state-of-spec : {M : Type 1} → statement M
 state-of-spec =

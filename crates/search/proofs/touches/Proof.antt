@@ -4,6 +4,7 @@ use mathlib.Core.Bool.{Bool, true, not}
 use mathlib.Core.Path.{_≡_, sym, ap, ap₂, _∙_}
 use Prim.Native.Nat.{ℕ, _-_, _≤_}
 use native.Mathlib.Omega.{arith}
+use borrow.Author.Count.{below-none}
 use borrow.Author.Needs.{needs}
 use borrow.Author.Tests.{not-true, not-false}
 use Rattle.lists.specs.Search.{any, below}
@@ -22,25 +23,6 @@ Inv-loop s second rest₀ from₀ rest from =
 abbrev μ-loop : tie.MeasureT-loop
 μ-loop s second rest₀ from₀ rest from = room - from
 
-meet-requires : tie.Need-meet-requires Inv-loop μ-loop
-meet-requires c κs = search needs
-
-meet-requires-2 : tie.Need-meet-requires-2 Inv-loop μ-loop
-meet-requires-2 c κs = search needs
-
-loop-holds : tie.Need-loop-holds Inv-loop μ-loop
-unfolding room
-loop-holds c = (omega arith, from-zero _, λ d l. absurd (omega arith))
-
-least-requires : tie.Need-least-requires Inv-loop μ-loop
-least-requires c κs = search needs
-
-enum-known-p : tie.Need-enum-known-p Inv-loop μ-loop
-enum-known-p c = search needs
-
-enum-told : tie.Need-enum-told Inv-loop μ-loop
-enum-told c = search needs
-
 -- the two sets are the allowed evaluations of x and of y
 asked : (c : tie.After-meet2 Inv-loop μ-loop)
     → let a = c .before .before .before .before .args in
@@ -58,11 +40,39 @@ taken c =
     step room _ _ _ (c .before .before .before .before .before .loop .inv .1) _
     (sym (c .before .before .before .least .ensures) ∙ c .before .p .given .1)
 
+-- whether it has no partner
+alone : (c : tie.After-is-empty Inv-loop μ-loop)
+    → let a = c .before .before .before .before .before .before .before .before .before .before .before .before .before .args in
+    let second = c .before .before .before .before .before .before .before .before .before .before .before .meet .result in
+    c .is-empty .result
+    ≡ not (any (minusOf (mem second) (memAt (a .t1 .rows) (c .before .before .before .before .p .given .0 .0))) (below room))
+unfolding memAt
+alone c = c .is-empty .ensures ∙ ap (λ (p : ℕ → Bool). not (any p (below room))) (c .before .minus .ensures)
+
+meet-requires : tie.Need-meet-requires Inv-loop μ-loop
+meet-requires c κs = search needs
+
+meet-requires-2 : tie.Need-meet-requires-2 Inv-loop μ-loop
+meet-requires-2 c κs = search needs
+
+loop-holds : tie.Need-loop-holds Inv-loop μ-loop
+unfolding room
+loop-holds c = (omega arith, from-zero _, below-none _)
+
+least-requires : tie.Need-least-requires Inv-loop μ-loop
+least-requires c κs = search needs
+
+enum-known-p : tie.Need-enum-known-p Inv-loop μ-loop
+enum-known-p c = search needs
+
+enum-told : tie.Need-enum-told Inv-loop μ-loop
+enum-told c = search needs
+
 returns : tie.Need-returns Inv-loop μ-loop
 returns c =
-    let k = c .before .before .before .before .loop in
-    sym (any-none _ room (walk-ends _ _ _ (k .from) (k .inv .2)
-    (stop room (k .from) _ _ (k .inv .1) (sym (c .before .before .least .ensures) ∙ c .enum-told .given .1))))
+    let loop = c .before .before .before .before .loop in
+    sym (any-none _ room (walk-ends _ _ _ (loop .from) (loop .inv .2)
+    (stop room (loop .from) _ _ (loop .inv .1) (sym (c .before .before .least .ensures) ∙ c .enum-told .given .1))))
     ∙ asked (c .before .before .before .before .before)
 
 mul-r : tie.Need-mul-r Inv-loop μ-loop
@@ -78,15 +88,6 @@ minus-requires c κs = search needs
 
 is-empty-requires : tie.Need-is-empty-requires Inv-loop μ-loop
 is-empty-requires c κs = search needs
-
--- whether it has no partner
-alone : (c : tie.After-is-empty Inv-loop μ-loop)
-    → let a = c .before .before .before .before .before .before .before .before .before .before .before .before .before .args in
-    let second = c .before .before .before .before .before .before .before .before .before .before .before .meet .result in
-    c .is-empty .result
-    ≡ not (any (minusOf (mem second) (memAt (a .t1 .rows) (c .before .before .before .before .p .given .0 .0))) (below room))
-unfolding memAt
-alone c = c .is-empty .ensures ∙ ap (λ (p : ℕ → Bool). not (any p (below room))) (c .before .minus .ensures)
 
 returns-2 : tie.Need-returns-2 Inv-loop μ-loop
 returns-2 c =

@@ -1,4 +1,5 @@
--- `search::witnessed` meets its contract, case by case. Assumes nothing.
+-- `search::witnessed` meets its contract: a true contact needs two allowed evaluations that touch, a false zero atom an allowed one,
+-- and the others nothing. Assumes nothing.
 use mathlib.Core.Bool.{Bool, not, Bool·not-not}
 use mathlib.Core.Path.{ap, _∙_}
 use Prim.Native.Nat.{ℕ}

@@ -1,4 +1,4 @@
--- The end of the last part is the last of the ends. Assumes nothing.
+-- `sheets::last_end` meets its contract: the last part ends at the last of the ends. Assumes nothing.
 use mathlib.Core.Path.{_≡_, sym, ap, _∙_}
 use Prim.Native.Nat.{ℕ, suc, _-_}
 use native.Mathlib.Omega.{arith}

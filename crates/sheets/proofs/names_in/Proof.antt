@@ -1,4 +1,4 @@
--- The names before a place and those from it on are all; the measure is what is left of the tokens. Assumes nothing.
+-- `sheets::names_in` meets its contract: the names before a place and those from it on are all. Assumes nothing.
 use mathlib.Core.Path.{_≡_}
 use Prim.Native.Nat.{_+_, _-_, _≤_}
 use native.Mathlib.Omega.{arith}
@@ -27,9 +27,9 @@ names-of-kind-requires c κs = search needs
 
 add-n : tie.Need-add-n Inv-loop μ-loop
 add-n c =
-    let l = c .before .before .before .loop in
+    let loop = c .before .before .before .loop in
     let order = c .before .before .before .before .before .args .order .now in
-    omega (arith, c .names-of-kind .ensures, one-at-most (getD order (l .i) 0))
+    omega (arith, c .names-of-kind .ensures, one-at-most (getD order (loop .i) 0))
 
 add-i : tie.Need-add-i Inv-loop μ-loop
 add-i c = omega arith
@@ -39,10 +39,10 @@ loop-less c = omega arith
 
 loop-again : tie.Need-loop-again Inv-loop μ-loop
 loop-again c =
-    let l = c .before .before .before .loop in
+    let loop = c .before .before .before .loop in
     let order = c .before .before .before .before .before .args .order .now in (
-      omega (arith, c .names-of-kind .ensures, count-step order (l .i) (omega arith)),
-      omega (arith, c .names-of-kind .ensures, one-at-most (getD order (l .i) 0)),
+      omega (arith, c .names-of-kind .ensures, count-step order (loop .i) (omega arith)),
+      omega (arith, c .names-of-kind .ensures, one-at-most (getD order (loop .i) 0)),
       omega arith,
     )
 

@@ -1,4 +1,4 @@
--- Of no rule there is no name, no atom and no code. Assumes nothing.
+-- `sheets::nothing_compiled` meets its contract: of no rule there is no name, no atom and no code. Assumes nothing.
 use mathlib.Core.Path.{refl}
 use native.Mathlib.Omega.{arith}
 use borrow.Author.Needs.{needs}

@@ -1,4 +1,5 @@
--- The plan of a row is asked for and given as Claims.antt says of the compiled rules. Assumes nothing.
+-- `sheets::plan_of` meets its contract: what `planned` answers of the compiled rules' sheet is, beside its number of names, the plan of
+-- the row (Claims.antt). Assumes nothing.
 use borrow.Author.Needs.{needs}
 use Rattle.sheets.specs.Texts.{RowPlanIs}
 use Rattle.sheets.proofs.Claims.{answer-row-plan}
@@ -13,10 +14,7 @@ cast-t7 c = search needs
 
 returns : tie.Need-returns
 unfolding RowPlanIs
-returns c = λ rules code h.
-    let s = c .before .before .before .before .before in
-    let planned = c .before .before .before .planned in
-    answer-row-plan rules (s .args .c) code h (s .args .row) (planned .result) (planned .ensures)
+returns c = λ rules code h. answer-row-plan rules _ code h _ _ (c .before .before .before .planned .ensures)
 
 pub plan-of-spec : {M : Type 1} → statement M
 plan-of-spec = tie.close (tie.spec planned-requires cast-t7 returns)

@@ -14,8 +14,8 @@ candidates-requires c κs = search needs
 returns : tie.Need-returns
 unfolding CandidatesSay
 returns c =
-    let l = c .before .levels .ensures in
-    record { some = l .0; few = l .1; fits = l .2; are = λ many rules h q. c .candidates .ensures many rules h }
+    let levels = c .before .levels .ensures in
+    record { some = levels .0; few = levels .1; fits = levels .2; are = λ many rules h q. c .candidates .ensures many rules h }
 
 returns-2 : tie.Need-returns-2
 returns-2 c = search needs

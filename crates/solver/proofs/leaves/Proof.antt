@@ -1,11 +1,12 @@
 -- `solver::leaves` meets its contract: the entries before i have their values, and the others are undecided.
 -- Assumes nothing.
-use mathlib.Core.Path.{_≡_, refl, sym, _∙_, subst}
+use mathlib.Core.Path.{_≡_, refl, sym, _∙_}
 use mathlib.Core.Logic.{⊎-elim}
 use Prim.Native.Nat.{ℕ, _+_, _-_, _^_, _≤_, _<_}
 use mathlib.Core.Bool.{false}
 use native.Mathlib.Omega.{arith}
-use lib.ListN.{length, set, length-set}
+use lib.ListN.{length, length-set}
+use borrow.Author.Count.{below-none, below-more}
 use Rattle.lists.proofs.Truth.{side}
 use Rattle.kleene.specs.Rails.{duo, twoAt}
 use Rattle.kleene.proofs.Turns.{rails-at, two-same, two-other}
@@ -16,7 +17,7 @@ use Rattle.solver.proofs.leaves.Tie as tie
 
 abbrev Inv-loop : tie.InvT-loop
 Inv-loop row k d out₀ n i₀ out i =
-    (i ≤ n) × (n ≡ k + d) × (length out ≡ 16) × ((j e : ℕ) → j < i → e < 2 ^ d → twoAt out j e ≡ decidedAt k row d e j)
+    (i ≤ n) × (n ≡ k + d) × (length out ≡ 16) × ((j : ℕ) → j < i → (e : ℕ) → e < 2 ^ d → twoAt out j e ≡ decidedAt k row d e j)
     × ((j e : ℕ) → i ≤ j → twoAt out j e ≡ duo false false)
 
 abbrev μ-loop : tie.MeasureT-loop
@@ -36,7 +37,7 @@ loop-holds c = (
   omega arith,
   refl,
   refl,
-  (λ j e l m. absurd (omega arith)),
+  below-none _,
   λ j e l. nil-at 16 j (c .rails .result) e (rails-at (c .rails .ensures) (c .before .empty .ensures) (c .before .empty .ensures) e),
 )
 
@@ -57,26 +58,22 @@ loop-less c = omega arith
 
 loop-again : tie.Need-loop-again Inv-loop μ-loop
 loop-again c =
-    let k = c .before .before .loop in
-    let a = c .before .before .before .before .before .args in
-    let lt : k .i < length (k .out) = omega (arith, k .inv .2, c .before .before .before .before .before .pre .0) in (
+    let loop = c .before .before .loop in
+    let long : loop .i < length (loop .out) = omega (arith, loop .inv .2, c .before .before .before .before .before .pre .0) in (
       omega arith,
       refl,
-      length-set (k .out) _ _ ∙ k .inv .2,
-      (λ j e l m. ⊎-elim (λ q. two-other (k .out) (k .i) j _ e (λ z. omega arith) ∙ k .inv .3 j e q m)
-          (λ q. let z : k .i ≡ j = omega arith in
-          subst (λ (x : ℕ). twoAt (set (k .out) (k .i) (c .leaf .result)) x e ≡ decidedAt (a .k) (a .row) (a .d) e x) z
-          (two-same (k .out) (k .i) (c .leaf .result) e lt ∙ c .leaf .ensures e m))
-          (side j (k .i))),
-      λ j e l. two-other (k .out) (k .i) j _ e (λ z. omega arith) ∙ k .inv .4 j e (omega arith),
+      length-set (loop .out) _ _ ∙ loop .inv .2,
+      below-more _ (loop .i) (λ j l e m. two-other (loop .out) (loop .i) j _ e (λ z. omega arith) ∙ loop .inv .3 j l e m)
+          (λ e m. two-same (loop .out) (loop .i) (c .leaf .result) e long ∙ c .leaf .ensures e m),
+      λ j e l. two-other (loop .out) (loop .i) j _ e (λ z. omega arith) ∙ loop .inv .4 j e (omega arith),
     )
 
 returns : tie.Need-returns Inv-loop μ-loop
 returns c = λ i e l.
-    let k = c .before .loop in
+    let loop = c .before .loop in
     let a = c .before .before .before .before .args in
-    ⊎-elim (λ q. k .inv .3 i e q l)
-    (λ q. k .inv .4 i e q ∙ sym (leaf-past (a .k) (a .d) (a .row) e i (omega arith))) (side i (k .i))
+    ⊎-elim (λ before. loop .inv .3 i before e l)
+    (λ past. loop .inv .4 i e past ∙ sym (leaf-past (a .k) (a .d) (a .row) e i (omega arith))) (side i (loop .i))
 
 pub leaves-spec : {M : Type 1} → statement M
 leaves-spec =

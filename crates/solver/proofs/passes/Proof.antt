@@ -1,5 +1,5 @@
--- `solver::passes` meets its contract: the first row has no row before it, and the others' parents passed.
--- Assumes nothing.
+-- `solver::passes` meets its contract: where no atom is decided the whole check is made, else only that of the last
+-- atom, for the row without it passed. Assumes nothing.
 use Rattle.search.specs.Compiled.{RealisableSays, NextSays}
 use Rattle.solver.specs.Tree.{PassesSays}
 use native.Mathlib.Omega.{arith}

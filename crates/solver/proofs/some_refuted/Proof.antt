@@ -36,9 +36,9 @@ shared-slice-read-end c = omega arith
 
 refuted-requires : tie.Need-refuted-requires Inv-loop μ-loop
 refuted-requires c κs =
-    let k = c .before .before .loop in
+    let loop = c .before .before .loop in
     let a = c .before .before .before .before .before .before .args in
-    subst (SafeFrom (a .code .now) (k .from)) (drop-cons (a .ends .now) (k .i) 0 (omega arith)) (k .inv .0) .0
+    subst (SafeFrom (a .code .now) (loop .from)) (drop-cons (a .ends .now) (loop .i) 0 (omega arith)) (loop .inv .0) .0
 
 join-requires : tie.Need-join-requires Inv-loop μ-loop
 join-requires c κs = tt
@@ -51,26 +51,26 @@ loop-less c = omega arith
 
 loop-again : tie.Need-loop-again Inv-loop μ-loop
 loop-again c =
-    let k = c .before .before .before .before .loop in
+    let loop = c .before .before .before .before .loop in
     let a = c .before .before .before .before .before .before .before .before .args in
-    let now-first : drop (k .i) (a .ends .now) ≡ getD (a .ends .now) (k .i) 0 ∷ drop (k .i + 1) (a .ends .now) =
-    drop-cons (a .ends .now) (k .i) 0 (omega arith)
-    ∙ ap (λ (n : ℕ). getD (a .ends .now) (k .i) 0 ∷ drop n (a .ends .now)) (sym (add-one (k .i))) in (
-      subst (SafeFrom (a .code .now) (k .from)) now-first (k .inv .0) .1,
-      λ many rules h. joined-next many (a .code .now) (a .leaves) rules (k .from) _ _ (mem (k .acc)) (c .before .refuted .result)
+    let now-first : drop (loop .i) (a .ends .now) ≡ getD (a .ends .now) (loop .i) 0 ∷ drop (loop .i + 1) (a .ends .now) =
+    drop-cons (a .ends .now) (loop .i) 0 (omega arith)
+    ∙ ap (λ (n : ℕ). getD (a .ends .now) (loop .i) 0 ∷ drop n (a .ends .now)) (sym (add-one (loop .i))) in (
+      subst (SafeFrom (a .code .now) (loop .from)) now-first (loop .inv .0) .1,
+      λ many rules h. joined-next many (a .code .now) (a .leaves) rules (loop .from) _ _ (mem (loop .acc)) (c .before .refuted .result)
           (c .before .refuted .ensures) _ (c .join .ensures)
-          (subst (λ (es : List ℕ). Joined many (a .code .now) (k .from) es (a .leaves) (mem (k .acc)) rules) now-first (k .inv .1 many rules h)),
+          (subst (λ (es : List ℕ). Joined many (a .code .now) (loop .from) es (a .leaves) (mem (loop .acc)) rules) now-first (loop .inv .1 many rules h)),
     )
 
 returns : tie.Need-returns Inv-loop μ-loop
 unfolding RefutedSays
 returns c = λ many rules h.
-    let k = c .before .loop in
+    let loop = c .before .loop in
     let a = c .before .before .before .before .before .args in
-    let past : length (a .ends .now) ≤ k .i = omega arith in
-    let none-left : drop (k .i) (a .ends .now) ≡ [] = drop-of-length-le (a .ends .now) past in
-    joined-all many (a .code .now) (a .leaves) rules (k .from) (mem (k .acc))
-    (subst (λ (es : List ℕ). Joined many (a .code .now) (k .from) es (a .leaves) (mem (k .acc)) rules) none-left (k .inv .1 many rules h))
+    let past : length (a .ends .now) ≤ loop .i = omega arith in
+    let none-left : drop (loop .i) (a .ends .now) ≡ [] = drop-of-length-le (a .ends .now) past in
+    joined-all many (a .code .now) (a .leaves) rules (loop .from) (mem (loop .acc))
+    (subst (λ (es : List ℕ). Joined many (a .code .now) (loop .from) es (a .leaves) (mem (loop .acc)) rules) none-left (loop .inv .1 many rules h))
 
 pub some-refuted-spec : {M : Type 1} → statement M
 some-refuted-spec =
