@@ -129,54 +129,54 @@ module _ (n : ℕ) (l : n ≤ most) (contact value : Bool) (x y : ℕ → Bool) 
 
 -- ---- the tests on the state
 
+abbrev pub allowedIn : State → ℕ → Bool
+allowedIn s = mem (s .allowed)
+
+abbrev pub separatedIn : State → ℕ → ℕ → Bool
+separatedIn s = memAt (s .rows)
+
 module _ (n : ℕ) (few : n ≤ most) (s : State) (ms : List Mark) (f : Fit n s ms) where
-  abbrev al : ℕ → Bool
-  al = mem (s .allowed)
-
-  abbrev sep : ℕ → ℕ → Bool
-  sep = memAt (s .rows)
-
-  pub some-is : any al (below room) ≡ any (allowed n ms) (evaluations n)
+  pub some-is : any (allowedIn s) (below room) ≡ any (allowed n ms) (evaluations n)
   some-is = ap (λ (p : ℕ → Bool). any p (below room)) (f .allowed-is) ∙ any-names (allowed n ms) n few (allowed-low n ms)
 
-  pub fills-is : (x : ℕ → Bool) (t : Term ℕ) → Stands n x t → meetOf al x ≡ fills n ms t
+  pub fills-is : (x : ℕ → Bool) (t : Term ℕ) → Stands n x t → meetOf (allowedIn s) x ≡ fills n ms t
   unfolding fills
   fills-is x t h =
       fun-ext
       (λ e. ap (λ (b : Bool). b && x e) (congr-fun (f .allowed-is) e)
       ∙ guarded e (2 ^ n) (allowed n ms e) (x e) (at t e) (allowed-out n ms e) (h e))
 
-  pub partners-is : (y : ℕ → Bool) (t : Term ℕ) → Stands n y t → (p : ℕ) → p < 2 ^ n → minusOf (meetOf al y) (sep p) ≡ partners n ms t p
+  pub partners-is : (y : ℕ → Bool) (t : Term ℕ) → Stands n y t → (p : ℕ) → p < 2 ^ n → minusOf (meetOf (allowedIn s) y) (separatedIn s p) ≡ partners n ms t p
   unfolding partners
   partners-is y t h p lp =
       fun-ext
-      (λ q. ap (λ (b : Bool). b && not (sep p q)) (congr-fun (fills-is y t h) q)
+      (λ q. ap (λ (b : Bool). b && not (separatedIn s p q)) (congr-fun (fills-is y t h) q)
       ∙ guarded q (2 ^ n) (fills n ms t q) _ _ (fills-out n ms t q) (λ l. ap not (f .rows-are p q lp l)))
 
   pub leads-is : (x y : ℕ → Bool) (u t : Term ℕ) → Stands n x u → Stands n y t
-      → startsOf (meetOf al x) (meetOf al y) sep ≡ leads n ms u t
+      → startsOf (meetOf (allowedIn s) x) (meetOf (allowedIn s) y) (separatedIn s) ≡ leads n ms u t
   unfolding startsOf leads
   leads-is x y u t hx hy =
       fun-ext
-      (λ p. ap (λ (b : Bool). b && any (minusOf (meetOf al y) (sep p)) (below room)) (congr-fun (fills-is x u hx) p)
+      (λ p. ap (λ (b : Bool). b && any (minusOf (meetOf (allowedIn s) y) (separatedIn s p)) (below room)) (congr-fun (fills-is x u hx) p)
       ∙ guarded p (2 ^ n) (fills n ms u p) _ _ (fills-out n ms u p)
       (λ l. ap (λ (r : ℕ → Bool). any r (below room)) (partners-is y t hy p l)
       ∙ any-names (partners n ms t p) n few (partners-low n ms t p)))
 
   zero-witnessed : (contact value : Bool) (x y : ℕ → Bool) (t : Term ℕ) → contact ≡ false → Stands n x t
-      → witnessedOf contact value al sep x y ≡ witnessed n ms (zeroMark value t)
-  zero-witnessed contact true x y t h g = ap (λ (b : Bool). witnessedOf b true al sep x y) h
+      → witnessedOf contact value (allowedIn s) (separatedIn s) x y ≡ witnessed n ms (zeroMark value t)
+  zero-witnessed contact true x y t h g = ap (λ (b : Bool). witnessedOf b true (allowedIn s) (separatedIn s) x y) h
   zero-witnessed contact false x y t h g =
-      ap (λ (b : Bool). witnessedOf b false al sep x y) h ∙ ap (λ (p : ℕ → Bool). any p (below room)) (fills-is x t g)
+      ap (λ (b : Bool). witnessedOf b false (allowedIn s) (separatedIn s) x y) h ∙ ap (λ (p : ℕ → Bool). any p (below room)) (fills-is x t g)
       ∙ any-names (fills n ms t) n few (fills-low n ms t)
 
   pub witnessed-is : (contact value : Bool) (x y : ℕ → Bool) (a : Atom ℕ) → AtomIs n contact x y a
-      → witnessedOf contact value al sep x y ≡ witnessed n ms (mark a value)
+      → witnessedOf contact value (allowedIn s) (separatedIn s) x y ≡ witnessed n ms (mark a value)
   witnessed-is contact true x y (Atom.contact u t) h =
-      ap (λ (b : Bool). witnessedOf b true al sep x y) (h .0)
+      ap (λ (b : Bool). witnessedOf b true (allowedIn s) (separatedIn s) x y) (h .0)
       ∙ ap (λ (p : ℕ → Bool). any p (below room)) (leads-is x y u t (h .1) (h .2))
       ∙ any-names (leads n ms u t) n few (leads-low n ms u t)
-  witnessed-is contact false x y (Atom.contact u t) h = ap (λ (b : Bool). witnessedOf b false al sep x y) (h .0)
+  witnessed-is contact false x y (Atom.contact u t) h = ap (λ (b : Bool). witnessedOf b false (allowedIn s) (separatedIn s) x y) (h .0)
   witnessed-is contact value x y (Atom.part u t) h = zero-witnessed contact value x y (partTerm u t) (h .0) (h .1)
   witnessed-is contact value x y (Atom.empty t) h = zero-witnessed contact value x y t (h .0) (h .1)
 

@@ -7,7 +7,7 @@ use mathlib.Core.List.{List, [], _∷_}
 use Prim.Native.Nat.{ℕ, _^_, _≤_, _<_}
 use Rattle.formula.specs.Formula.{Term, Atom}
 use Rattle.lists.specs.Search.{In, here, any, first, orElse, gather, below, elem}
-use Rattle.evalset.specs.Sets.{most, room, mem, memAt, meetOf}
+use Rattle.evalset.specs.Sets.{most, room, meetOf}
 use Rattle.evalset.proofs.Bounded.{any-at, any-none}
 use Rattle.evalset.proofs.Members.{first-names}
 use Rattle.lists.proofs.Search.{none-in, uncons, first-in, below-elim, elem-intro, elem-elim, gather-elim, or-else-cases, gather-same}
@@ -17,48 +17,42 @@ use Rattle.contact.specs.Plan.{evaluations, Mark, touching, apart, vacant, inha
 use Rattle.search.specs.declared.State.{State}
 use Rattle.search.specs.Tests.{pairFrom, pairOf, givesOf}
 use Rattle.search.specs.Compiled.{Stands, AtomIs, Fit}
-use Rattle.search.proofs.Fitting.{allowed-low, fills-low, partners-low, leads-low, fills-is, partners-is, leads-is}
+use Rattle.search.proofs.Fitting.{allowedIn, separatedIn, allowed-low, fills-low, partners-low, leads-low, fills-is, partners-is, leads-is}
 
 -- ---- what an atom with its value gives
 
 module _ (n : ℕ) (few : n ≤ most) (s : State) (ms : List Mark) (f : Fit n s ms) where
-  abbrev al : ℕ → Bool
-  al = mem (s .allowed)
-
-  abbrev sep : ℕ → ℕ → Bool
-  sep = memAt (s .rows)
-
-  pub least-is : first al (below room) ≡ first (allowed n ms) (evaluations n)
+  pub least-is : first (allowedIn s) (below room) ≡ first (allowed n ms) (evaluations n)
   least-is = ap (λ (p : ℕ → Bool). first p (below room)) (f .allowed-is) ∙ first-names (allowed n ms) n few (allowed-low n ms)
 
   partner-is : (y : ℕ → Bool) (t : Term ℕ) → Stands n y t → (p : ℕ) → p < 2 ^ n
-      → pairFrom (meetOf al y) sep p ≡ withPartner n ms t p
+      → pairFrom (meetOf (allowedIn s) y) (separatedIn s) p ≡ withPartner n ms t p
   partner-is y t h p l =
       ap (λ (xs : List ℕ). p ∷ xs)
       (ap (λ (q : ℕ → Bool). first q (below room)) (partners-is n few s ms f y t h p l)
       ∙ first-names (partners n ms t p) n few (partners-low n ms t p))
 
   pair-is : (x y : ℕ → Bool) (u t : Term ℕ) → Stands n x u → Stands n y t
-      → pairOf (meetOf al x) (meetOf al y) sep ≡ gives n ms (touching u t)
+      → pairOf (meetOf (allowedIn s) x) (meetOf (allowedIn s) y) (separatedIn s) ≡ gives n ms (touching u t)
   unfolding pairOf
   pair-is x y u t hx hy =
-      ap (gather (pairFrom (meetOf al y) sep))
+      ap (gather (pairFrom (meetOf (allowedIn s) y) (separatedIn s)))
       (ap (λ (p : ℕ → Bool). first p (below room)) (leads-is n few s ms f x y u t hx hy)
       ∙ first-names (leads n ms u t) n few (leads-low n ms u t))
-      ∙ gather-same (pairFrom (meetOf al y) sep) (withPartner n ms t) (first (leads n ms u t) (evaluations n))
+      ∙ gather-same (pairFrom (meetOf (allowedIn s) y) (separatedIn s)) (withPartner n ms t) (first (leads n ms u t) (evaluations n))
       (λ p i. partner-is y t hy p (leads-low n ms u t p (first-in (leads n ms u t) (evaluations n) i .1)))
 
   zero-gives : (contact value : Bool) (x y : ℕ → Bool) (t : Term ℕ) → contact ≡ false → Stands n x t
-      → givesOf contact value al sep x y ≡ gives n ms (zeroMark value t)
-  zero-gives contact true x y t h g = ap (λ (b : Bool). givesOf b true al sep x y) h
+      → givesOf contact value (allowedIn s) (separatedIn s) x y ≡ gives n ms (zeroMark value t)
+  zero-gives contact true x y t h g = ap (λ (b : Bool). givesOf b true (allowedIn s) (separatedIn s) x y) h
   zero-gives contact false x y t h g =
-      ap (λ (b : Bool). givesOf b false al sep x y) h ∙ ap (λ (p : ℕ → Bool). first p (below room)) (fills-is n few s ms f x t g)
+      ap (λ (b : Bool). givesOf b false (allowedIn s) (separatedIn s) x y) h ∙ ap (λ (p : ℕ → Bool). first p (below room)) (fills-is n few s ms f x t g)
       ∙ first-names (fills n ms t) n few (fills-low n ms t)
 
   pub gives-is : (contact value : Bool) (x y : ℕ → Bool) (a : Atom ℕ) → AtomIs n contact x y a
-      → givesOf contact value al sep x y ≡ gives n ms (mark a value)
-  gives-is contact true x y (Atom.contact u t) h = ap (λ (b : Bool). givesOf b true al sep x y) (h .0) ∙ pair-is x y u t (h .1) (h .2)
-  gives-is contact false x y (Atom.contact u t) h = ap (λ (b : Bool). givesOf b false al sep x y) (h .0)
+      → givesOf contact value (allowedIn s) (separatedIn s) x y ≡ gives n ms (mark a value)
+  gives-is contact true x y (Atom.contact u t) h = ap (λ (b : Bool). givesOf b true (allowedIn s) (separatedIn s) x y) (h .0) ∙ pair-is x y u t (h .1) (h .2)
+  gives-is contact false x y (Atom.contact u t) h = ap (λ (b : Bool). givesOf b false (allowedIn s) (separatedIn s) x y) (h .0)
   gives-is contact value x y (Atom.part u t) h = zero-gives contact value x y (partTerm u t) (h .0) (h .1)
   gives-is contact value x y (Atom.empty t) h = zero-gives contact value x y t (h .0) (h .1)
 
