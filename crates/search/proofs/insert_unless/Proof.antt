@@ -1,4 +1,4 @@
--- `search::insert_unless` meets its contract: where j is held apart the set stays as it is, else j is in it. Assumes nothing.
+-- `search::insert_unless` meets its contract: where j is held apart the set stays as it is, else j is added. Assumes nothing.
 use borrow.Author.Needs.{needs}
 use Rattle.search.proofs.insert_unless.Statement.{statement}
 use Rattle.search.proofs.insert_unless.Tie as tie

@@ -1,5 +1,5 @@
--- `sheets::judged` meets its contract: the compiled rules may be run, and what `judge_plan` answers of them is the judgement of the rules as read
--- (Claims.antt). Assumes nothing.
+-- `sheets::judged` meets its contract: the compiled rules may be run, and what `judge_plan` answers of them is the judgement of the
+-- rules as read (Claims.antt). Assumes nothing.
 use mathlib.Core.Path.{sym}
 use Prim.Native.Nat.{_≤_}
 use lib.ListN.{length, length-map}

@@ -1,5 +1,5 @@
--- `solver::passes` meets its contract: where no atom is decided the whole check is made, else only that of the last
--- atom, for the row without it passed. Assumes nothing.
+-- `solver::passes` meets its contract: the row of no atoms has no row above it and is checked as a whole; of another the row without its
+-- last atom passed, as `search::realisable_next` asks. Assumes nothing.
 use Rattle.search.specs.Compiled.{RealisableSays, NextSays}
 use Rattle.solver.specs.Tree.{PassesSays}
 use native.Mathlib.Omega.{arith}
