@@ -11,8 +11,7 @@ use lib.Seq.{take-append-seam}
 use borrow.Author.Tests.{le-leb, lt-leb, eq-eqb, ne-eqb}
 use Rattle.formula.specs.Formula.{Formula, Name}
 use Rattle.contact.specs.Numbering.{namesOf}
-use Rattle.solver.specs.declared.RowAnswer.{RowAnswer as Found}
-use Rattle.solver.specs.declared.RowAnswer.the-variants as Found
+use Rattle.solver.specs.declared.RowAnswer.{RowAnswer}
 use Rattle.solver.specs.Tree.{rowsOf}
 use Rattle.plan.specs.declared.PlanArrays.{PlanArrays}
 use Rattle.plan.specs.declared.PlanAnswer.the-variants as PlanAnswer
@@ -114,7 +113,7 @@ module _ (t : Table) (v : FromUs t) (buffer : List ℕ) where
       (g ∙ ap (λ (ps : List Plan). foundWords ps buffer) (sym e) ∙ sym (words-some (rulesOf t) some buffer))
 
 -- the plans of the rows that are found
-pub found-plans : (rules : List (Formula Name)) (c : Compiling) (code : List ℕ) (r : Found) → CompiledRules rules c code → FirstRowIs c code r
+pub found-plans : (rules : List (Formula Name)) (c : Compiling) (code : List ℕ) (r : RowAnswer) → CompiledRules rules c code → FirstRowIs c code r
     → plansOf rules ≡ map (rowPlan rules) (rowsOf (c .sheet .atoms) r)
 unfolding plansOf FirstRowIs
 found-plans rules c code r h says = ap (map (rowPlan rules)) (sym (says rules h))

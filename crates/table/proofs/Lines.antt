@@ -1,5 +1,5 @@
 -- What a table from us holds, by its number of rules and by line, and a line put last: its lines are those of its texts, then empty ones. Assumes nothing.
-use Prim.Native.Nat.{ℕ, zero, suc, _+_, _-_, _<_}
+use Prim.Native.Nat.{ℕ, zero, suc, _+_, _-_, _≤_, _<_}
 use mathlib.Core.Path.{_≡_, refl, sym, ap, _∙_}
 use mathlib.Core.List.{List, [], _∷_, _++_, map, map-append}
 use native.Mathlib.Omega.{arith}
@@ -15,14 +15,20 @@ use Rattle.table.specs.Calls.{FromUs}
 abbrev pub linesWith : List Text → List Line
 linesWith rs = map lineOf rs ++ replicate (16 - length rs) (lineOf [])
 
+abbrev pub lineWith : List ℕ → ℕ → Line
+lineWith bytes n = record { bytes = bytes; len = n }
+
 -- what the logic takes for an element past the end
 abbrev pub none : Line
-none = record { bytes = []; len = 0 }
+none = lineWith [] 0
 
 module _ (t : Table) (v : FromUs t) where
   pub count-is : t .count ≡ length (rulesOf t)
   unfolding tableOf
   count-is = ap (λ (u : Table). u .count) (v .same)
+
+  pub count-few : t .count ≤ 16
+  count-few = omega (arith, count-is, v .standing .few)
 
   pub lines-are : t .lines ≡ linesWith (rulesOf t)
   unfolding tableOf

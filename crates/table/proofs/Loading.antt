@@ -23,7 +23,7 @@ use Rattle.table.proofs.Counting.{answer-is, counts-next}
 use Rattle.table.proofs.Stored.{rules-table, from-us-table}
 use Rattle.table.proofs.Lines.{count-is}
 
--- the loop's invariant: the lines before `from` have been judged and kept, `line` of them, and their rules are counted
+-- the loop's invariant: the lines before `from`, `line` of them, are judged; those of them that are not blank are the table's rules, and are counted
 pub record Progress (file : Text) (t : Table) (c : Counts) (line from : ℕ) : Type 0 where
   pub short : length file ≤ 8192
   pub within : from ≤ length file + 1

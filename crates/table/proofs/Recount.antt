@@ -73,8 +73,8 @@ module _ (t : Table) (v : FromUs t) (i : ℕ) (d : Line) (h : i < t .count) wher
   text-read = room (take i (rulesOf t)) text (stand-added (take i (rulesOf t)) text stands) .read
 
   module _ (ns : Names) (n : ℕ) (p : CountedTo t ns n i) where
-    pub counted-gathers : (rule : Rule) → rule ≡ ruleOf text → Gathers text rule ns
-    counted-gathers rule e = may-gather text rule ns (namesIn (take i (rulesOf t))) e (p .names) (stand-first (take i (rulesOf t)) (text ∷ []) stands .names)
+    pub text-gathers : (rule : Rule) → rule ≡ ruleOf text → Gathers text rule ns
+    text-gathers rule e = may-gather text rule ns (namesIn (take i (rulesOf t))) e (p .names) (stand-first (take i (rulesOf t)) (text ∷ []) stands .names)
 
     pub counted-few : n ≤ 16
     counted-few = omega (arith, p .atoms, stand-first (take i (rulesOf t)) (text ∷ []) stands .atoms)

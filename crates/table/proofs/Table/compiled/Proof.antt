@@ -1,8 +1,8 @@
--- The invariant: the first i texts are compiled. Assumes nothing.
+-- `table::Table::compiled` meets its contract: so far the first i texts are compiled. Assumes nothing.
 use borrow.Author.Needs.{needs}
 use Prim.Native.Nat.{_-_, _<_}
 use native.Mathlib.Omega.{arith}
-use Rattle.table.proofs.Lines.{none, count-is}
+use Rattle.table.proofs.Lines.{none, count-few}
 use Rattle.table.proofs.Recount.{text-within, text-length}
 use Rattle.table.proofs.Compiled.{Reached, reached-none, reached-all, reached-ready, reached-next}
 use Rattle.table.proofs.Table.compiled.Statement.{statement}
@@ -15,7 +15,7 @@ abbrev μ-loop : tie.MeasureT-loop
 μ-loop code₀ self standing c₀ i₀ code c i = standing - i
 
 few : (c : tie.In-loop Inv-loop μ-loop) → c .before .loop .i < 16
-few c = omega (arith, count-is (c .before .before .before .args .t1) (c .before .before .before .pre .0), c .before .before .before .pre .0 .standing .few, c .loop-test .taken)
+few c = omega (arith, count-few (c .before .before .before .args .t1) (c .before .before .before .pre .0), c .loop-test .taken)
 
 nothing-compiled-requires : tie.Need-nothing-compiled-requires Inv-loop μ-loop
 nothing-compiled-requires c κs = search needs

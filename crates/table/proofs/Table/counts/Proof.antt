@@ -1,9 +1,9 @@
--- The invariant: the names and atoms are those of the first i texts. Assumes nothing.
+-- `table::Table::counts` meets its contract: so far the names and atoms are those of the first i texts. Assumes nothing.
 use borrow.Author.Needs.{needs}
 use Prim.Native.Nat.{_-_, _<_}
-use Rattle.table.proofs.Lines.{none, count-is}
+use Rattle.table.proofs.Lines.{none, count-few}
 use Rattle.table.proofs.Counting.{was-read}
-use Rattle.table.proofs.Recount.{CountedTo, counted-none, counted-all, text-within, text-length, text-read, counted-gathers, counted-few, counted-next}
+use Rattle.table.proofs.Recount.{CountedTo, counted-none, counted-all, text-within, text-length, text-read, text-gathers, counted-few, counted-next}
 use native.Mathlib.Omega.{arith}
 use Rattle.table.proofs.Table.counts.Statement.{statement}
 use Rattle.table.proofs.Table.counts.Tie as tie
@@ -15,7 +15,7 @@ abbrev μ-loop : tie.MeasureT-loop
 μ-loop self rules names₀ atoms₀ i₀ names atoms i = rules - i
 
 few : (c : tie.In-loop Inv-loop μ-loop) → c .before .loop .i < 16
-few c = omega (arith, count-is (c .before .before .before .args .t1) (c .before .before .before .pre), c .before .before .before .pre .standing .few, c .loop-test .taken)
+few c = omega (arith, count-few (c .before .before .before .args .t1) (c .before .before .before .pre), c .loop-test .taken)
 
 no-names-requires : tie.Need-no-names-requires Inv-loop μ-loop
 no-names-requires c κs = search needs
@@ -39,7 +39,7 @@ read-rule-requires : tie.Need-read-rule-requires Inv-loop μ-loop
 read-rule-requires c κs = search needs
 
 gather-requires : tie.Need-gather-requires Inv-loop μ-loop
-gather-requires c κs = counted-gathers (c .before .before .before .before .before .before .before .args .t1) (c .before .before .before .before .before .before .before .pre) _ none (c .before .before .before .before .loop-test .taken) _ _ (c .before .before .before .before .before .loop .inv) _ (c .read-rule .ensures)
+gather-requires c κs = text-gathers (c .before .before .before .before .before .before .before .args .t1) (c .before .before .before .before .before .before .before .pre) _ none (c .before .before .before .before .loop-test .taken) _ _ (c .before .before .before .before .before .loop .inv) _ (c .read-rule .ensures)
 
 atoms-of-requires : tie.Need-atoms-of-requires Inv-loop μ-loop
 atoms-of-requires c κs = was-read _ _ (c .before .before .read-rule .ensures) (text-read (c .before .before .before .before .before .before .before .before .before .args .t1) (c .before .before .before .before .before .before .before .before .before .pre) _ none (c .before .before .before .before .before .before .loop-test .taken))

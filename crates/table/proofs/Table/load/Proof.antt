@@ -1,4 +1,4 @@
--- The invariant: the lines before a place have been judged and kept. A line that is refused ends the load, and the old table comes back. Assumes nothing.
+-- `table::Table::load` meets its contract: so far each line is judged and those that are not blank are held; a refused line ends the load, and the old table comes back. Assumes nothing.
 use borrow.Author.Needs.{needs}
 use Prim.Native.Nat.{_+_, _-_}
 use mathlib.Core.Path.{sym, subst, _∙_}
