@@ -15,7 +15,6 @@ use Rattle.evalset.proofs.Search.{gather-append}
 use Rattle.plan.specs.Arrays.{pairOf, rowTo, linksTo, planBy}
 use Rattle.plan.specs.declared.PlanArrays.{PlanArrays}
 use Rattle.plan.proofs.Contacts.{pair-there}
-use Rattle.evalset.proofs.Bounded.{gather-more, gather-within}
 use Rattle.report.specs.Output.{labelled, ended, headLine, blanked, nameIf, pointNames, namesOrNone, pointLine, pointLines, contactLine, planText}
 
 gather-gather : {A B C : Type 0} (g : B → List C) (f : A → List B) (xs : List A) → gather g (gather f xs) ≡ gather (λ x. gather g (f x)) xs
@@ -94,8 +93,3 @@ plan-parts names r h full =
     ++ gather contactLine (linksTo x x (memAt (r .rows)))) n
     ∙ ap (λ (x : ℕ). headLine (r .names) x ++ pointLines names (take (r .count) (r .points))
     ++ gather contactLine (linksTo (r .count) (r .count) (memAt (r .rows)))) (length-take-le (r .count) (r .points) (omega arith))
-
--- where the text of all turns fits, that of the turns so far and of the next one does
-pub fits-turn : (f : ℕ → List ℕ) (at room i n : ℕ) → i < n → at + length (gather f (below n)) ≤ room
-    → at + length (gather f (below i) ++ f i) ≤ room
-fits-turn f at room i n l h = omega (arith, ap length (gather-more f i), gather-within f (i + 1) n (omega arith))
