@@ -1,6 +1,6 @@
 -- A name that is kept in an array is the one of its number. Assumes nothing.
 use mathlib.Core.Path.{_≡_, refl, sym, ap, _∙_}
-use mathlib.Core.Bool.{Bool, true, false, cond}
+use mathlib.Core.Bool.{true, false}
 use mathlib.Core.List.{List, [], _∷_, _++_, map, append-nil}
 use Prim.Native.Nat.{ℕ, zero, suc, _-_, _<_}
 use native.Mathlib.Omega.{arith}
@@ -46,9 +46,7 @@ module _ (names : Names) (kept : Kept names) where
     known-size = ap (λ (k : KeptName). k .len) known-at ∙ size-back (getD (knownOf names) i []) ∙ ap length (sym known-name)
 
     pub name-set : (e : ℕ) → bit e i ≡ true → gather blanked (nameIf (knownOf names) e i) ≡ blanked (bytesIn (getD (names .list) i empty))
-    name-set e b =
-        ap (λ (t : Bool). gather blanked (cond t (getD (knownOf names) i [] ∷ []) [])) b
-        ∙ append-nil (blanked (getD (knownOf names) i [])) ∙ ap blanked (sym known-name)
+    name-set e b = rw b (append-nil (blanked (getD (knownOf names) i [])) ∙ ap blanked (sym known-name))
 
 pub name-clear : (names : List Name) (e i : ℕ) → bit e i ≡ false → gather blanked (nameIf names e i) ≡ []
-name-clear names e i b = ap (λ (t : Bool). gather blanked (cond t (getD names i [] ∷ []) [])) b
+name-clear names e i b = rw b

@@ -3,7 +3,7 @@ use Prim.Native.Nat.{ℕ, zero, suc, _+_, _-_, _≤_, _<_}
 use mathlib.Core.Path.{_≡_, refl, sym, ap, _∙_}
 use mathlib.Core.List.{List, [], _∷_, _++_, map, map-append}
 use native.Mathlib.Omega.{arith}
-use lib.ListN.{length, take, drop, getD, set, replicate, length-map, List·getD-append, length-append}
+use lib.ListN.{length, take, drop, getD, set, replicate, length-map, drop-of-length-le, List·getD-append, length-append}
 use lib.Seq.{set-at, append-snoc}
 use Rattle.lexer.proofs.Lists.{map-at}
 use Rattle.table.specs.declared.Line.{Line}
@@ -29,6 +29,9 @@ module _ (t : Table) (v : FromUs t) where
 
   pub count-few : t .count ≤ 16
   count-few = omega (arith, count-is, v .standing .few)
+
+  pub none-stand : t .count ≤ 0 → rulesOf t ≡ []
+  none-stand h = drop-of-length-le (rulesOf t) {i = 0} (omega (arith, count-is))
 
   pub lines-are : t .lines ≡ linesWith (rulesOf t)
   unfolding tableOf
