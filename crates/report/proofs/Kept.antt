@@ -39,7 +39,7 @@ module _ (names : Names) (kept : Kept names) where
         ap (λ (n : Names). getD (n .list) i empty) (kept .canonical)
         ∙ name-at (knownOf names) (replicate (6 - length (knownOf names)) (nameOf [])) i (omega (arith, known-count))
 
-    pub known-name : bytesIn (getD (names .list) i empty) ≡ getD (knownOf names) i []
+    known-name : bytesIn (getD (names .list) i empty) ≡ getD (knownOf names) i []
     known-name = ap bytesIn known-at ∙ bytes-back (getD (knownOf names) i [])
 
     pub known-size : getD (names .list) i empty .len ≡ length (bytesIn (getD (names .list) i empty))

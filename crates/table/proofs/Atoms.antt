@@ -1,7 +1,7 @@
 -- The atoms of a rule are found in its formula's postfix order: each C, <= and =0 stands in it once, and no other kind of token is an
 -- atom's sign. Assumes nothing.
 use Prim.Native.Nat.{ℕ, suc, _+_, _-_, _≤_}
-use mathlib.Core.Path.{_≡_, refl, ap, ap₂, _∙_}
+use mathlib.Core.Path.{_≡_, refl, sym, ap, ap₂, _∙_}
 use mathlib.Core.Bool.{Bool, true, false, cond}
 use mathlib.Core.List.{List, [], _∷_, _++_, map-append}
 use native.Mathlib.Omega.{arith}
@@ -70,8 +70,11 @@ sign : (o p : List Sym) (x : Sym) → count (x ∷ []) ≡ 1 → count p ≡ cou
 sign o p x e f = omega (arith, count-last p x)
 
 -- the two sides of a binary sign, and the sign
+sides : (a b o p q : ℕ) → p ≡ o + a → q ≡ p + b → q ≡ o + (a + b)
+sides a b o p q e f = omega arith
+
 both : (f g : Formula Name) (o p q : ℕ) → p ≡ o + length (atomsOf f) → q ≡ p + length (atomsOf g) → q ≡ o + length (atomsOf f ++ atomsOf g)
-both f g o p q e h = omega (arith, length-append (atomsOf f) (atomsOf g))
+both f g o p q e h = sides (length (atomsOf f)) (length (atomsOf g)) o p q e h ∙ ap (λ (n : ℕ). o + n) (sym (length-append (atomsOf f) (atomsOf g)))
 
 formula-count : (f : Formula Name) (o : List Sym) → count (formulaAfter f o) ≡ count o + length (atomsOf f)
 unfolding formulaAfter codes atomPlaces atomKind

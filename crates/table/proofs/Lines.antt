@@ -37,18 +37,14 @@ module _ (t : Table) (v : FromUs t) where
   unfolding tableOf
   lines-are = ap (λ (u : Table). u .lines) (v .same)
 
--- the i-th line of such a table, whatever stands past the end
-line-at : (rs : List Text) (i : ℕ) (d : Line) → i < length rs → getD (linesWith rs) i d ≡ lineOf (getD rs i [])
-line-at rs i d h =
-    List·getD-append (map lineOf rs) _ d i (simp length-map h)
-    ∙ map-at lineOf rs i [] d h
+-- the i-th line of such a table
+line-at : (rs : List Text) (i : ℕ) → i < length rs → getD (linesWith rs) i none ≡ lineOf (getD rs i [])
+line-at rs i h =
+    List·getD-append (map lineOf rs) _ none i (simp length-map h)
+    ∙ map-at lineOf rs i [] none h
 
-module _ (t : Table) (v : FromUs t) (i : ℕ) (d : Line) (h : i < t .count) where
-  in-rules : i < length (rulesOf t)
-  in-rules = omega (arith, count-is t v)
-
-  pub line-is : getD (t .lines) i d ≡ lineOf (getD (rulesOf t) i [])
-  line-is = ap (λ (ls : List Line). getD ls i d) (lines-are t v) ∙ line-at (rulesOf t) i d in-rules
+pub line-is : {t : Table} {i : ℕ} → FromUs t → i < t .count → getD (t .lines) i none ≡ lineOf (getD (rulesOf t) i [])
+line-is {t} {i} v h = ap (λ (ls : List Line). getD ls i none) (lines-are t v) ∙ line-at (rulesOf t) i (omega (arith, count-is t v))
 
 -- lists with a padded end
 module _ {A : Type 0} where
