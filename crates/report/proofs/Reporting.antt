@@ -145,31 +145,22 @@ module _ {t : Table} {buffer : List ℕ} {r : AskResult} {exit : List ℕ} (h : 
     stored : Stored (q .plan) (it .plan)
     stored = written-read (it .plan) (it .is) q (subst (λ (ws : List ℕ). Reads ws q) (it .words) reads) .1
 
-    known : knownOf names ≡ namesIn (rulesOf t)
-    known = ap knownOf are ∙ known-back (namesIn (rulesOf t))
-
-    put-kept : Kept names
-    put-kept = subst Kept (sym are) (kept-names (namesIn (rulesOf t)) (h .from-us .standing .names))
+    said : planText (knownOf names) (planBy (q .plan)) ≡ planText (namesIn (rulesOf t)) (it .plan)
+    said = ap₂ planText (ap knownOf are ∙ known-back (namesIn (rulesOf t))) (plan-again (q .plan) (it .plan) (it .is) stored)
 
     points : length (it .plan .points) ≤ 32
     points = given-points rules few-atoms (it .plan) (it .only)
 
-    put-count : q .plan .count ≤ 64
-    put-count = omega (arith, stored .count, points)
-
-    put-text-is : planText (knownOf names) (planBy (q .plan)) ≡ rulesText rules
-    unfolding rulesText namesIn
-    put-text-is =
-        ap₂ planText known (plan-again (q .plan) (it .plan) (it .is) stored)
-        ∙ sym (ap (plansText (namesOf rules)) (it .only))
-
-    put-fits : length (planText (knownOf names) (planBy (q .plan))) ≤ 10551
-    put-fits =
-        subst (λ (l : List ℕ). length l ≤ 10551) (sym (ap₂ planText known (plan-again (q .plan) (it .plan) (it .is) stored)))
-        (plan-few (namesIn (rulesOf t)) (h .from-us .standing .names) (names-short (rulesOf t) (h .from-us .standing .rules)) (it .plan) (it .is) points (given-words rules few-atoms (it .plan) (it .only)))
-
     pub plan-puttable : Puttable names (q .plan) (formulasOf (rulesOf t))
-    plan-puttable = record { kept = put-kept; count = put-count; fits = put-fits; text = put-text-is }
+    unfolding rulesText namesIn
+    plan-puttable =
+        record {
+          kept = subst Kept (sym are) (kept-names (namesIn (rulesOf t)) (h .from-us .standing .names));
+          count = omega (arith, stored .count, points);
+          fits = subst (λ (l : List ℕ). length l ≤ 10551) (sym said)
+              (plan-few (namesIn (rulesOf t)) (h .from-us .standing .names) (names-short (rulesOf t) (h .from-us .standing .rules)) (it .plan) (it .is) points (given-words rules few-atoms (it .plan) (it .only)));
+          text = said ∙ sym (ap (plansText (namesOf rules)) (it .only));
+        }
 
 -- ---- a sheet
 
