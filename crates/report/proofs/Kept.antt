@@ -1,6 +1,6 @@
 -- A name that is kept in an array is the one of its number. Assumes nothing.
 use mathlib.Core.Path.{_≡_, refl, sym, ap, _∙_}
-use mathlib.Core.Bool.{Bool, true, false, cond}
+use mathlib.Core.Bool.{true, false}
 use mathlib.Core.List.{List, [], _∷_, _++_, map, append-nil}
 use Prim.Native.Nat.{ℕ, zero, suc, _-_, _<_}
 use native.Mathlib.Omega.{arith}
@@ -39,16 +39,14 @@ module _ (names : Names) (kept : Kept names) where
         ap (λ (n : Names). getD (n .list) i empty) (kept .canonical)
         ∙ name-at (knownOf names) (replicate (6 - length (knownOf names)) (nameOf [])) i (omega (arith, known-count))
 
-    pub known-name : bytesIn (getD (names .list) i empty) ≡ getD (knownOf names) i []
+    known-name : bytesIn (getD (names .list) i empty) ≡ getD (knownOf names) i []
     known-name = ap bytesIn known-at ∙ bytes-back (getD (knownOf names) i [])
 
     pub known-size : getD (names .list) i empty .len ≡ length (bytesIn (getD (names .list) i empty))
     known-size = ap (λ (k : KeptName). k .len) known-at ∙ size-back (getD (knownOf names) i []) ∙ ap length (sym known-name)
 
     pub name-set : (e : ℕ) → bit e i ≡ true → gather blanked (nameIf (knownOf names) e i) ≡ blanked (bytesIn (getD (names .list) i empty))
-    name-set e b =
-        ap (λ (t : Bool). gather blanked (cond t (getD (knownOf names) i [] ∷ []) [])) b
-        ∙ append-nil (blanked (getD (knownOf names) i [])) ∙ ap blanked (sym known-name)
+    name-set e b = rw b (append-nil (blanked (getD (knownOf names) i [])) ∙ ap blanked (sym known-name))
 
 pub name-clear : (names : List Name) (e i : ℕ) → bit e i ≡ false → gather blanked (nameIf names e i) ≡ []
-name-clear names e i b = ap (λ (t : Bool). gather blanked (cond t (getD names i [] ∷ []) [])) b
+name-clear names e i b = rw b

@@ -1,6 +1,6 @@
 -- The text of what is gathered is gathered part by part, so a loop that puts a part a turn has put the text of the turns so far.
 -- Assumes nothing.
-use mathlib.Core.Path.{_≡_, refl, sym, ap, ap₂, _∙_}
+use mathlib.Core.Path.{_≡_, refl, sym, ap, _∙_}
 use mathlib.Core.Bool.{Bool, true}
 use mathlib.Core.List.{List, [], _∷_, _++_, append-nil}
 use Prim.Native.Nat.{ℕ, min, _+_, _*_, _/_, _%_, _≤_, _<_}
@@ -15,7 +15,6 @@ use Rattle.lists.proofs.Search.{gather-append}
 use Rattle.plan.specs.Arrays.{pairOf, rowTo, linksTo, planBy}
 use Rattle.plan.specs.declared.PlanArrays.{PlanArrays}
 use Rattle.plan.proofs.Contacts.{pair-there}
-use Rattle.evalset.proofs.Bounded.{gather-more, gather-within}
 use Rattle.report.specs.Output.{labelled, ended, headLine, blanked, nameIf, pointNames, namesOrNone, pointLine, pointLines, contactLine, planText}
 
 gather-gather : {A B C : Type 0} (g : B → List C) (f : A → List B) (xs : List A) → gather g (gather f xs) ≡ gather (λ x. gather g (f x)) xs
@@ -59,8 +58,7 @@ module _ (names : List Name) (e : ℕ) where
 pub points-parts : (names : List Name) (points : List ℕ) (n : ℕ) → n ≤ length points
     → pointLines names (take n points) ≡ gather (λ i. pointLine names i (getD (take n points) i 0)) (below n)
 unfolding pointLines
-points-parts names points n h =
-    ap (λ (m : ℕ). gather (λ i. pointLine names i (getD (take n points) i 0)) (below m)) (length-take-le n points h)
+points-parts names points n h = rw (length-take-le n points h)
 
 pub row-parts : (n i : ℕ) (row : ℕ → Bool)
     → gather contactLine (rowTo n i row) ≡ gather (λ j. gather contactLine (pairOf i j row)) (below n)
@@ -78,7 +76,7 @@ unfolding contactLine
 contact-text i j h =
     let q : (i * 256 + j) / 256 ≡ i = omega arith in
     let r : (i * 256 + j) % 256 ≡ j = omega arith in
-    ap₂ (λ (a b : ℕ). ended (labelled (bytes "contact ") a ++ labelled (bytes " ") b)) q r
+    rw (q, r)
 
 pub pair-text : (i j : ℕ) (row : ℕ → Bool) → i < j → row j ≡ true → gather contactLine (pairOf i j row) ≡ contactLine (i * 256 + j)
 pair-text i j row h e = ap (gather contactLine) (pair-there i j row h e) ∙ append-nil (contactLine (i * 256 + j))
@@ -90,12 +88,4 @@ pub plan-parts : (names : List Name) (r : PlanArrays) → r .count ≤ 64 → le
 unfolding planText planBy
 plan-parts names r h full =
     let n : min (r .count) 64 ≡ r .count = omega arith in
-    ap (λ (x : ℕ). headLine (r .names) (length (take x (r .points))) ++ pointLines names (take x (r .points))
-    ++ gather contactLine (linksTo x x (memAt (r .rows)))) n
-    ∙ ap (λ (x : ℕ). headLine (r .names) x ++ pointLines names (take (r .count) (r .points))
-    ++ gather contactLine (linksTo (r .count) (r .count) (memAt (r .rows)))) (length-take-le (r .count) (r .points) (omega arith))
-
--- where the text of all turns fits, that of the turns so far and of the next one does
-pub fits-turn : (f : ℕ → List ℕ) (at room i n : ℕ) → i < n → at + length (gather f (below n)) ≤ room
-    → at + length (gather f (below i) ++ f i) ≤ room
-fits-turn f at room i n l h = omega (arith, ap length (gather-more f i), gather-within f (i + 1) n (omega arith))
+    rw (n, length-take-le (r .count) (r .points) (omega arith))

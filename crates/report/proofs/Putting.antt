@@ -1,10 +1,12 @@
 -- Texts put one after the other are their list put at once. Assumes nothing.
 use mathlib.Core.Path.{_≡_, sym, ap, ap₂, _∙_, subst}
 use mathlib.Core.List.{List, [], _∷_, _++_}
-use Prim.Native.Nat.{ℕ, _+_, _≤_}
+use Prim.Native.Nat.{ℕ, _+_, _≤_, _<_}
 use native.Mathlib.Omega.{arith}
 use native.Mathlib.Nat.{add-zero}
 use lib.ListN.{length, set, length-append}
+use Rattle.lists.specs.Search.{gather, below}
+use Rattle.evalset.proofs.Bounded.{gather-more, gather-within}
 use Rattle.plan.specs.Private.{written}
 use Rattle.plan.proofs.Buffer.{written-none, written-set, written-more, written-length}
 use Rattle.report.specs.Putting.{Puts}
@@ -16,17 +18,13 @@ puts-none at buffer h = record { fits = omega arith; place = sym (add-zero at); 
 pub puts-text : {at : ℕ} {xs ys buffer exit : List ℕ} {end : ℕ} → xs ≡ ys → Puts at xs buffer exit end → Puts at ys buffer exit end
 puts-text {at} {xs} {ys} {buffer} {exit} {end} e h = subst (λ (l : List ℕ). Puts at l buffer exit end) e h
 
--- a part fits where the whole does
-pub fits-first : (at n : ℕ) (xs ys : List ℕ) → at + length (xs ++ ys) ≤ n → at + length xs ≤ n
-fits-first at n xs ys h = omega (arith, length-append xs ys)
-
 module _ {at : ℕ} {xs buffer mid : List ℕ} {end : ℕ} (first : Puts at xs buffer mid end) where
   pub puts-length : length mid ≡ length buffer
   puts-length = ap length (first .bytes) ∙ written-length at xs buffer (first .fits)
 
-  -- and so does the next part behind it
-  pub fits-next : (ys : List ℕ) → at + length (xs ++ ys) ≤ length buffer → end + length ys ≤ length mid
-  fits-next ys h = omega (arith, first .place, puts-length, length-append xs ys)
+  -- where it and n bytes fit, the n bytes fit behind it
+  pub fits-next : (n : ℕ) → at + length xs + n ≤ length buffer → end + n ≤ length mid
+  fits-next n h = omega (arith, first .place, puts-length)
 
   -- one byte more
   pub puts-byte : (b : ℕ) → at + length (xs ++ b ∷ []) ≤ length buffer → Puts at (xs ++ b ∷ []) buffer (set mid end b) (end + 1)
@@ -45,3 +43,17 @@ module _ {at : ℕ} {xs buffer mid : List ℕ} {end : ℕ} (first : Puts at xs b
     bytes = second .bytes ∙ ap₂ (λ (x : ℕ) (l : List ℕ). written x ys l) (first .place) (first .bytes)
         ∙ written-more at xs ys buffer (first .fits);
   }
+
+-- a loop that puts the text f i in turn i, before that turn
+module _ (f : ℕ → List ℕ) (i : ℕ) {at : ℕ} {buffer mid : List ℕ} {end : ℕ} (before : Puts at (gather f (below i)) buffer mid end) where
+  -- where the text of all turns fits, that of this one does
+  pub turn-fits : (n : ℕ) → i < n → at + length (gather f (below n)) ≤ length buffer → end + length (f i) ≤ length mid
+  turn-fits n l h =
+      fits-next before (length (f i))
+      (omega (arith, ap length (gather-more f i), length-append (gather f (below i)) (f i), gather-within f (i + 1) n (omega arith)))
+
+  pub turn-puts : {exit : List ℕ} {last : ℕ} → Puts end (f i) mid exit last → Puts at (gather f (below (i + 1))) buffer exit last
+  turn-puts this = puts-text (gather-more f i) (puts-more before this)
+
+  pub turns-put : (n : ℕ) {text : List ℕ} → i ≡ n → text ≡ gather f (below n) → Puts at text buffer mid end
+  turns-put n e t = puts-text (ap (λ (k : ℕ). gather f (below k)) e ∙ sym t) before

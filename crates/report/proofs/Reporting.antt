@@ -52,14 +52,14 @@ pub told-other : (a : AskAnswer) → OneOf (1 ∷ 2 ∷ 3 ∷ []) (tagOf the-typ
 told-other a h n e = miss (1 ∷ 2 ∷ 3 ∷ []) 0 tt (subst (λ (x : AskAnswer). OneOf (1 ∷ 2 ∷ 3 ∷ []) (tagOf the-type x)) e h)
 
 -- an outcome that is another than a refusal on a line has no text
-pub no-line : (o : Outcome) → OneOf (0 ∷ 1 ∷ 2 ∷ 3 ∷ 4 ∷ 5 ∷ []) (tagOf outcome-type o) → outcomeText o ≡ []
-no-line Outcome.Done h = refl
-no-line (Outcome.Plan words) h = refl
-no-line Outcome.NoPlan h = refl
-no-line Outcome.Yes h = refl
-no-line (Outcome.Unmet rule) h = refl
-no-line (Outcome.Refused number carried) h = refl
-no-line (Outcome.RefusedLine number line place) h = absurd (miss (0 ∷ 1 ∷ 2 ∷ 3 ∷ 4 ∷ 5 ∷ []) 6 tt h)
+pub no-refusal-text : (o : Outcome) → OneOf (0 ∷ 1 ∷ 2 ∷ 3 ∷ 4 ∷ 5 ∷ []) (tagOf outcome-type o) → outcomeText o ≡ []
+no-refusal-text Outcome.Done h = refl
+no-refusal-text (Outcome.Plan words) h = refl
+no-refusal-text Outcome.NoPlan h = refl
+no-refusal-text Outcome.Yes h = refl
+no-refusal-text (Outcome.Unmet rule) h = refl
+no-refusal-text (Outcome.Refused number carried) h = refl
+no-refusal-text (Outcome.RefusedLine number line place) h = absurd (miss (0 ∷ 1 ∷ 2 ∷ 3 ∷ 4 ∷ 5 ∷ []) 6 tt h)
 
 -- the outcome of a plan is a plan's alone
 is-plan : (a : AskAnswer) {n : ℕ} → askOutcome a ≡ Outcome.Plan n → a ≡ AskAnswer.Plan n
@@ -75,18 +75,25 @@ pub record Puttable (names : Names) (plan : PlanArrays) (rules : List (Formula N
   pub fits : length (planText (knownOf names) (planBy plan)) ≤ 10551
   pub text : planText (knownOf names) (planBy plan) ≡ rulesText rules
 
-module _ (t : Table) (v : FromUs t) (some : SomeStand (rulesOf t)) (buffer : List ℕ) (room : length buffer ≡ 530) (r : AskResult) (exit : List ℕ) (asks : Asks t buffer r exit) where
+-- ask was called where some rule stands, with room for every plan
+pub record Asking (t : Table) (buffer : List ℕ) (r : AskResult) (exit : List ℕ) : Type 0 where
+  pub from-us : FromUs t
+  pub some : SomeStand (rulesOf t)
+  pub room : length buffer ≡ 530
+  pub asks : Asks t buffer r exit
+
+module _ {t : Table} {buffer : List ℕ} {r : AskResult} {exit : List ℕ} (h : Asking t buffer r exit) where
   abbrev rules : List (Formula Name)
   rules = formulasOf (rulesOf t)
 
   few-atoms : length (allAtoms rules) ≤ 16
   unfolding atomsIn
-  few-atoms = v .standing .atoms
+  few-atoms = h .from-us .standing .atoms
 
   row : AskRow (rulesOf t) (length buffer) (askOutcome (r .answer))
   unfolding asked
   row =
-      subst (λ (a : AskAnswer). AskRow (rulesOf t) (length buffer) (askOutcome a)) (sym (ap (λ (x : AskResult). x .answer) (asks .result)))
+      subst (λ (a : AskAnswer). AskRow (rulesOf t) (length buffer) (askOutcome a)) (sym (ap (λ (x : AskResult). x .answer) (h .asks .result)))
       (ask-answered (length buffer) (rulesOf t))
 
   -- where ask gives no plan
@@ -95,9 +102,9 @@ module _ (t : Table) (v : FromUs t) (some : SomeStand (rulesOf t)) (buffer : Lis
   no-text other = go (askOutcome (r .answer)) row refl
     where
       go : (o : Outcome) → AskRow (rulesOf t) (length buffer) o → askOutcome (r .answer) ≡ o → ended (bytes "NO PLAN") ≡ plansText (namesOf rules) (plansOf rules)
-      go o (AskRow.none e) f = absurd (some e)
+      go o (AskRow.none e) f = absurd (h .some e)
       go o (AskRow.without z never) f = sym (ap (plansText (namesOf rules)) (no-plan-given rules .1 never))
-      go o (AskRow.short {p} z g l) f = absurd (omega (arith, room, given-words rules few-atoms p (given-exactly rules p .1 g)))
+      go o (AskRow.short {p} z g l) f = absurd (omega (arith, h .room, given-words rules few-atoms p (given-exactly rules p .1 g)))
       go o (AskRow.given {p} z g l) f = absurd (other (length (wordsOf p)) (is-plan (r .answer) f))
 
   -- where it gives one
@@ -109,22 +116,22 @@ module _ (t : Table) (v : FromUs t) (some : SomeStand (rulesOf t)) (buffer : Lis
     pub counted : n ≡ length (take n exit)
     pub words : take n exit ≡ wordsOf plan
 
-  pub wrote-plan : (n : ℕ) → r .answer ≡ AskAnswer.Plan n → Wrote n
+  pub plan-written : (n : ℕ) → r .answer ≡ AskAnswer.Plan n → Wrote n
   unfolding over namesIn
-  wrote-plan n e = go (askOutcome (r .answer)) row (ap askOutcome e)
+  plan-written n e = go (askOutcome (r .answer)) row (ap askOutcome e)
     where
       go : (o : Outcome) → AskRow (rulesOf t) (length buffer) o → o ≡ Outcome.Plan n → Wrote n
-      go o (AskRow.none z) f = absurd (some z)
+      go o (AskRow.none z) f = absurd (h .some z)
       go o (AskRow.without z never) f = absurd (let z : _≡_ {A = ℕ} 0 1 = cc in omega arith)
       go o (AskRow.short z g l) f = absurd (let z : _≡_ {A = ℕ} 0 1 = cc in omega arith)
       go o (AskRow.given {p} z g l) f =
           let size : length (wordsOf p) ≡ n = cc in
-          let wrote : exit ≡ over (wordsOf p) buffer = asks .words ∙ words-written (rulesOf t) buffer some p g l in
+          let wrote : exit ≡ over (wordsOf p) buffer = h .asks .words ∙ words-written (rulesOf t) buffer (h .some) p g l in
           let words : take n exit ≡ wordsOf p
-          = ap (take n) (asks .words) ∙ ap (λ (k : ℕ). take k (askWords (rulesOf t) buffer)) (sym size) ∙ first-words (rulesOf t) buffer some p g l in
+          = ap (take n) (h .asks .words) ∙ ap (λ (k : ℕ). take k (askWords (rulesOf t) buffer)) (sym size) ∙ first-words (rulesOf t) buffer (h .some) p g l in
           record {
             plan = p;
-            is = subst IsPlan (sym (g .is)) (given-is-plan rules (v .standing .names) (g .row) (first-row-only-named rules (g .row) (g .first)));
+            is = subst IsPlan (sym (g .is)) (given-is-plan rules (h .from-us .standing .names) (g .row) (first-row-only-named rules (g .row) (g .first)));
             only = given-exactly rules p .1 g;
             within = omega (arith, size, ap length wrote, length-append (wordsOf p) (drop (length (wordsOf p)) buffer));
             counted = sym (ap length words ∙ size);
@@ -133,41 +140,32 @@ module _ (t : Table) (v : FromUs t) (some : SomeStand (rulesOf t)) (buffer : Lis
 
   module _ (n : ℕ) (e : r .answer ≡ AskAnswer.Plan n) (q : PlanRead) (reads : Reads (take n exit) q) (names : Names) (are : names ≡ arraysOf (namesIn (rulesOf t))) where
     abbrev it : Wrote n
-    it = wrote-plan n e
+    it = plan-written n e
 
     stored : Stored (q .plan) (it .plan)
     stored = written-read (it .plan) (it .is) q (subst (λ (ws : List ℕ). Reads ws q) (it .words) reads) .1
 
-    known : knownOf names ≡ namesIn (rulesOf t)
-    known = ap knownOf are ∙ known-back (namesIn (rulesOf t))
-
-    put-kept : Kept names
-    put-kept = subst Kept (sym are) (kept-names (namesIn (rulesOf t)) (v .standing .names))
+    said : planText (knownOf names) (planBy (q .plan)) ≡ planText (namesIn (rulesOf t)) (it .plan)
+    said = ap₂ planText (ap knownOf are ∙ known-back (namesIn (rulesOf t))) (plan-again (q .plan) (it .plan) (it .is) stored)
 
     points : length (it .plan .points) ≤ 32
     points = given-points rules few-atoms (it .plan) (it .only)
 
-    put-count : q .plan .count ≤ 64
-    put-count = omega (arith, stored .count, points)
-
-    put-text-is : planText (knownOf names) (planBy (q .plan)) ≡ rulesText rules
+    pub plan-puttable : Puttable names (q .plan) (formulasOf (rulesOf t))
     unfolding rulesText namesIn
-    put-text-is =
-        ap₂ planText known (plan-again (q .plan) (it .plan) (it .is) stored)
-        ∙ sym (ap (plansText (namesOf rules)) (it .only))
-
-    put-fits : length (planText (knownOf names) (planBy (q .plan))) ≤ 10551
-    put-fits =
-        subst (λ (l : List ℕ). length l ≤ 10551) (sym (ap₂ planText known (plan-again (q .plan) (it .plan) (it .is) stored)))
-        (plan-few (namesIn (rulesOf t)) (v .standing .names) (names-short (rulesOf t) (v .standing .rules)) (it .plan) (it .is) points (given-words rules few-atoms (it .plan) (it .only)))
-
-    pub may-put : Puttable names (q .plan) (formulasOf (rulesOf t))
-    may-put = record { kept = put-kept; count = put-count; fits = put-fits; text = put-text-is }
+    plan-puttable =
+        record {
+          kept = subst Kept (sym are) (kept-names (namesIn (rulesOf t)) (h .from-us .standing .names));
+          count = omega (arith, stored .count, points);
+          fits = subst (λ (l : List ℕ). length l ≤ 10551) (sym said)
+              (plan-few (namesIn (rulesOf t)) (h .from-us .standing .names) (names-short (rulesOf t) (h .from-us .standing .rules)) (it .plan) (it .is) points (given-words rules few-atoms (it .plan) (it .only)));
+          text = said ∙ sym (ap (plansText (namesOf rules)) (it .only));
+        }
 
 -- ---- a sheet
 
-pub told-refused : (a : LoadAnswer) → OneOf (1 ∷ 2 ∷ 3 ∷ []) (tagOf load-type a) → a ≡ LoadAnswer.Loaded → ⊥
-told-refused a h e = miss (1 ∷ 2 ∷ 3 ∷ []) 0 tt (subst (λ (x : LoadAnswer). OneOf (1 ∷ 2 ∷ 3 ∷ []) (tagOf load-type x)) e h)
+pub told-not-loaded : (a : LoadAnswer) → OneOf (1 ∷ 2 ∷ 3 ∷ []) (tagOf load-type a) → a ≡ LoadAnswer.Loaded → ⊥
+told-not-loaded a h e = miss (1 ∷ 2 ∷ 3 ∷ []) 0 tt (subst (λ (x : LoadAnswer). OneOf (1 ∷ 2 ∷ 3 ∷ []) (tagOf load-type x)) e h)
 
 module _ (t : Table) (file : Text) (r : LoadResult) (loads : Loads t file r) where
   answer-is : r .answer ≡ judgeLoad file

@@ -11,8 +11,7 @@ use lib.Seq.{take-append-seam}
 use borrow.Author.Tests.{le-leb, lt-leb, eq-eqb, ne-eqb}
 use Rattle.formula.specs.Formula.{Formula, Name}
 use Rattle.contact.specs.Numbering.{namesOf}
-use Rattle.solver.specs.declared.RowAnswer.{RowAnswer as Found}
-use Rattle.solver.specs.declared.RowAnswer.the-variants as Found
+use Rattle.solver.specs.declared.RowAnswer.{RowAnswer}
 use Rattle.solver.specs.Tree.{rowsOf}
 use Rattle.plan.specs.declared.PlanArrays.{PlanArrays}
 use Rattle.plan.specs.declared.PlanAnswer.the-variants as PlanAnswer
@@ -43,7 +42,7 @@ use Rattle.table.specs.Calls.{formulasOf, FromUs}
 use Rattle.table.specs.Asking.{foundAnswer, askAnswer, foundWords, askWords, asked, Asks, judgementAnswer, judgePlan, judgeReading, judgeAnswer, judged, Judges}
 use Rattle.table.specs.Steps.{writtenAnswer, judgedAnswer, JudgeAnswerSays}
 use Rattle.table.specs.Rows.{SomeStand}
-use Rattle.table.proofs.Lines.{count-is}
+use Rattle.table.proofs.Lines.{count-is, none-stand}
 use Rattle.plan.specs.Meant.{ReadingSays, IsGiven}
 
 -- ---- where some rule stands
@@ -99,11 +98,9 @@ module _ (t : Table) (v : FromUs t) (buffer : List ℕ) where
 
   pub asks-none : t .count ≤ 0 → Asks t buffer (askResult t AskAnswer.NoRule) buffer
   unfolding askAnswer askWords
-  asks-none h = go (rulesOf t) refl (omega (arith, count-is t v))
-    where
-      go : (rs : List Text) → rulesOf t ≡ rs → length rs ≤ 0 → Asks t buffer (askResult t AskAnswer.NoRule) buffer
-      go [] e l = asks-of AskAnswer.NoRule buffer (sym (ap (λ (rs : List Text). askAnswer rs (length buffer)) e)) (sym (ap (λ (rs : List Text). askWords rs buffer) e))
-      go (s ∷ rs) e l = absurd (omega arith)
+  asks-none h =
+      let e = none-stand t v h in
+      asks-of AskAnswer.NoRule buffer (sym (ap (λ (rs : List Text). askAnswer rs (length buffer)) e)) (sym (ap (λ (rs : List Text). askWords rs buffer) e))
 
   -- some rule stands, and these are its plans, none or one
   pub asks-some : 0 < t .count → (plans : List Plan) → plansOf (formulasOf (rulesOf t)) ≡ plans
@@ -114,7 +111,7 @@ module _ (t : Table) (v : FromUs t) (buffer : List ℕ) where
       (g ∙ ap (λ (ps : List Plan). foundWords ps buffer) (sym e) ∙ sym (words-some (rulesOf t) some buffer))
 
 -- the plans of the rows that are found
-pub found-plans : (rules : List (Formula Name)) (c : Compiling) (code : List ℕ) (r : Found) → CompiledRules rules c code → FirstRowIs c code r
+pub found-plans : (rules : List (Formula Name)) (c : Compiling) (code : List ℕ) (r : RowAnswer) → CompiledRules rules c code → FirstRowIs c code r
     → plansOf rules ≡ map (rowPlan rules) (rowsOf (c .sheet .atoms) r)
 unfolding plansOf FirstRowIs
 found-plans rules c code r h says = ap (map (rowPlan rules)) (sym (says rules h))
@@ -173,11 +170,7 @@ module _ (t : Table) (v : FromUs t) (words : List ℕ) where
 
   pub judges-none : t .count ≤ 0 → Judges t words (judgeResult t JudgeAnswer.NoRule)
   unfolding judgeAnswer
-  judges-none h = go (rulesOf t) refl (omega (arith, count-is t v))
-    where
-      go : (rs : List Text) → rulesOf t ≡ rs → length rs ≤ 0 → Judges t words (judgeResult t JudgeAnswer.NoRule)
-      go [] e l = judges-of JudgeAnswer.NoRule (sym (ap (λ (rs : List Text). judgeAnswer rs words) e))
-      go (s ∷ rs) e l = absurd (omega arith)
+  judges-none h = judges-of JudgeAnswer.NoRule (sym (ap (λ (rs : List Text). judgeAnswer rs words) (none-stand t v h)))
 
   -- some rule stands
   judges-some : 0 < t .count → (a : JudgeAnswer) → a ≡ judgeReading (formulasOf (rulesOf t)) words (readOf words) (exact words) → Judges t words (judgeResult t a)

@@ -10,7 +10,6 @@ use Rattle.syntax.specs.Rule.{meaningOf}
 use Rattle.sheets.specs.declared.Compiling.{Compiling}
 use Rattle.sheets.specs.Texts.{Fits, CompiledTexts, NothingCompiled, Ready, WithText}
 use Rattle.sheets.proofs.Claims.{no-texts, may-add, text-added}
-use Rattle.table.specs.declared.Line.{Line}
 use Rattle.table.specs.declared.Table.{Table}
 use Rattle.table.specs.Store.{Text, rulesOf}
 use Rattle.table.specs.Calls.{namesIn, atomsIn, CanStand, FromUs}
@@ -36,17 +35,17 @@ reached-all t c code i v p h =
     subst (λ (rs : List Text). CompiledTexts rs c code) (take-all i (rulesOf t) (omega (arith, count-is t v))) (p .texts)
 
 -- the i-th text
-module _ (t : Table) (v : FromUs t) (i : ℕ) (d : Line) (h : i < t .count) (c : Compiling) (code : List ℕ) (p : Reached t c code i) where
-  room : Fits (map meaningOf (take i (rulesOf t) ++ text t v i d h ∷ []))
-  room = stand-fits (take i (rulesOf t) ++ text t v i d h ∷ []) (stands t v i d h)
+module _ {t : Table} {i : ℕ} (v : FromUs t) (h : i < t .count) (c : Compiling) (code : List ℕ) (p : Reached t c code i) where
+  room : Fits (map meaningOf (take i (rulesOf t) ++ text v h ∷ []))
+  room = stand-fits (take i (rulesOf t) ++ text v h ∷ []) (stands v h)
 
-  pub reached-ready : Ready (text t v i d h) c code
-  reached-ready = may-add (take i (rulesOf t)) (text t v i d h) c code (p .texts) (is-rule (text t v i d h) (text-read t v i d h)) room
+  pub reached-ready : Ready (text v h) c code
+  reached-ready = may-add (take i (rulesOf t)) (text v h) c code (p .texts) (is-rule (text v h) (text-read v h)) room
 
-  pub reached-next : (r : Compiling) (out : List ℕ) → WithText (text t v i d h) c code r out → Reached t r out (i + 1)
+  pub reached-next : (r : Compiling) (out : List ℕ) → WithText (text v h) c code r out → Reached t r out (i + 1)
   reached-next r out says =
       record {
         within = omega (arith, count-is t v);
-        texts = subst (λ (rs : List Text). CompiledTexts rs r out) (sym (first t v i d h))
-            (text-added (take i (rulesOf t)) (text t v i d h) c code (p .texts) (is-rule (text t v i d h) (text-read t v i d h)) room r out says);
+        texts = subst (λ (rs : List Text). CompiledTexts rs r out) (sym (first v h))
+            (text-added (take i (rulesOf t)) (text v h) c code (p .texts) (is-rule (text v h) (text-read v h)) room r out says);
       }

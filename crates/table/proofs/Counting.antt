@@ -2,7 +2,6 @@
 -- counted, and the first refusal of the table of calls that applies is the answer. Assumes nothing.
 use Prim.Native.Nat.{ℕ, _+_, _≤_, _<_}
 use mathlib.Core.Path.{_≡_, sym, ap, _∙_}
-use mathlib.Core.Bool.{Bool, cond}
 use mathlib.Core.List.{List, [], _∷_, _++_}
 use native.Mathlib.Omega.{arith}
 use lib.ListN.{length, take, length-append}
@@ -22,7 +21,7 @@ use Rattle.table.specs.declared.Counted.{Counted}
 use Rattle.table.specs.declared.AddAnswer.{AddAnswer}
 use Rattle.table.specs.declared.AddAnswer.the-variants as AddAnswer
 use Rattle.table.specs.Store.{Text}
-use Rattle.table.specs.Calls.{formulasOf, namesIn, atomsIn, readAnswer, namesAnswer, ifAdded, firstRefusal, judgeNames, judgeAtoms, judgeRoom, judgeText, judgeAdd, addRules, CanStand}
+use Rattle.table.specs.Calls.{formulasOf, namesIn, atomsIn, readAnswer, namesAnswer, firstRefusal, judgeNames, judgeAtoms, judgeRoom, judgeText, judgeAdd, addRules, CanStand}
 use Rattle.table.specs.Steps.{WasRead, atomPlaces, countsOf, countedOf, CountsWith}
 use Rattle.table.proofs.Standing.{NotAdded, not-full, not-many, refused-else, names-last, atoms-append, atoms-one, read-formula, names-enough, added-taken, added-refused}
 use Rattle.syntax.proofs.Claims.{is-rule}
@@ -37,29 +36,29 @@ module _ (rs : List Text) (s : Text) where
 
   judge-room : judgeText s ≡ AddAnswer.Added → judgeAdd rs s ≡ judgeRoom rs s
   unfolding judgeAdd
-  judge-room e = ap (λ (a : AddAnswer). ifAdded a (judgeRoom rs s) (judgeText s)) e
+  judge-room e = rw e
 
   pub judge-full : judgeText s ≡ AddAnswer.Added → 16 ≤ length rs → judgeAdd rs s ≡ AddAnswer.TableFull
   unfolding judgeRoom
-  judge-full e h = judge-room e ∙ ap (λ (t : Bool). cond t AddAnswer.TableFull (firstRefusal (judgeNames rs s) (judgeAtoms rs s))) (le-leb 16 (length rs) h)
+  judge-full e h = judge-room e ∙ rw (le-leb 16 (length rs) h)
 
   judge-counted : judgeText s ≡ AddAnswer.Added → length rs < 16 → judgeAdd rs s ≡ firstRefusal (judgeNames rs s) (judgeAtoms rs s)
   unfolding judgeRoom
-  judge-counted e h = judge-room e ∙ ap (λ (t : Bool). cond t AddAnswer.TableFull (firstRefusal (judgeNames rs s) (judgeAtoms rs s))) (lt-leb 16 (length rs) h)
+  judge-counted e h = judge-room e ∙ rw (lt-leb 16 (length rs) h)
 
   pub judge-names : judgeText s ≡ AddAnswer.Added → length rs < 16 → (a : AddAnswer) → judgeNames rs s ≡ a → NotAdded a → judgeAdd rs s ≡ a
   judge-names e h a f n = judge-counted e h ∙ refused-else (judgeNames rs s) (judgeAtoms rs s) (judgeNames rs s) (λ g. n (sym f ∙ g)) ∙ f
 
   judge-named : judgeText s ≡ AddAnswer.Added → length rs < 16 → judgeNames rs s ≡ AddAnswer.Added → judgeAdd rs s ≡ judgeAtoms rs s
-  judge-named e h f = judge-counted e h ∙ ap (λ (a : AddAnswer). ifAdded a (judgeAtoms rs s) (judgeNames rs s)) f
+  judge-named e h f = judge-counted e h ∙ rw f
 
   pub judge-atoms : judgeText s ≡ AddAnswer.Added → length rs < 16 → judgeNames rs s ≡ AddAnswer.Added → 16 < atomsIn (rs ++ s ∷ []) → judgeAdd rs s ≡ AddAnswer.TooManyAtoms
   unfolding judgeAtoms
-  judge-atoms e h f k = judge-named e h f ∙ ap (λ (t : Bool). cond t AddAnswer.TooManyAtoms AddAnswer.Added) (lt-ltb 16 (atomsIn (rs ++ s ∷ [])) k)
+  judge-atoms e h f k = judge-named e h f ∙ rw (lt-ltb 16 (atomsIn (rs ++ s ∷ [])) k)
 
   pub judge-added : judgeText s ≡ AddAnswer.Added → length rs < 16 → judgeNames rs s ≡ AddAnswer.Added → atomsIn (rs ++ s ∷ []) ≤ 16 → judgeAdd rs s ≡ AddAnswer.Added
   unfolding judgeAtoms
-  judge-added e h f k = judge-named e h f ∙ ap (λ (t : Bool). cond t AddAnswer.TooManyAtoms AddAnswer.Added) (le-ltb 16 (atomsIn (rs ++ s ∷ [])) k)
+  judge-added e h f k = judge-named e h f ∙ rw (le-ltb 16 (atomsIn (rs ++ s ∷ [])) k)
 
 pub text-is : (s : Text) (a : RuleAnswer) → ruleOf s .answer ≡ a → judgeText s ≡ readAnswer a
 unfolding judgeText
@@ -109,8 +108,7 @@ countsWith k ns n = record { rules = k; names = ns; atoms = n }
 
 pub counts-are : (k : ℕ) (ns : Names) (n : ℕ) (rs : List Text) → k ≡ length rs → ns ≡ arraysOf (namesIn rs) → n ≡ atomsIn rs → countsWith k ns n ≡ countsOf rs
 unfolding countsOf
-counts-are k ns n rs e f g =
-    ap (λ (j : ℕ). countsWith j ns n) e ∙ ap (λ (m : Names). countsWith (length rs) m n) f ∙ ap (λ (j : ℕ). countsWith (length rs) (arraysOf (namesIn rs)) j) g
+counts-are k ns n rs e f g = rw (e, f, g)
 
 abbrev countedWith : Counts → AddAnswer → Counted
 countedWith c a = record { counts = c; answer = a }

@@ -1,9 +1,9 @@
 -- What a table from us holds, by its number of rules and by line, and a line put last: its lines are those of its texts, then empty ones. Assumes nothing.
-use Prim.Native.Nat.{ℕ, suc, _+_, _-_, _<_}
+use Prim.Native.Nat.{ℕ, suc, _+_, _-_, _≤_, _<_}
 use mathlib.Core.Path.{_≡_, sym, ap, _∙_}
 use mathlib.Core.List.{List, [], _∷_, _++_, map, map-append}
 use native.Mathlib.Omega.{arith}
-use lib.ListN.{length, getD, set, replicate, length-map, List·getD-append, length-append}
+use lib.ListN.{length, getD, set, replicate, length-map, drop-of-length-le, List·getD-append, length-append}
 use lib.Seq.{set-at, append-snoc}
 use Rattle.lists.proofs.Lists.{map-at}
 use Rattle.table.specs.declared.Line.{Line}
@@ -15,31 +15,36 @@ use Rattle.table.specs.Calls.{FromUs}
 abbrev pub linesWith : List Text → List Line
 linesWith rs = map lineOf rs ++ replicate (16 - length rs) (lineOf [])
 
+abbrev pub lineWith : List ℕ → ℕ → Line
+lineWith bytes n = record { bytes = bytes; len = n }
+
 -- what the logic takes for an element past the end
 abbrev pub none : Line
-none = record { bytes = []; len = 0 }
+none = lineWith [] 0
 
 module _ (t : Table) (v : FromUs t) where
   pub count-is : t .count ≡ length (rulesOf t)
   unfolding tableOf
   count-is = ap (λ (u : Table). u .count) (v .same)
 
+  pub count-few : t .count ≤ 16
+  count-few = omega (arith, count-is, v .standing .few)
+
+  pub none-stand : t .count ≤ 0 → rulesOf t ≡ []
+  none-stand h = drop-of-length-le (rulesOf t) {i = 0} (omega (arith, count-is))
+
   pub lines-are : t .lines ≡ linesWith (rulesOf t)
   unfolding tableOf
   lines-are = ap (λ (u : Table). u .lines) (v .same)
 
--- the i-th line of such a table, whatever stands past the end
-line-at : (rs : List Text) (i : ℕ) (d : Line) → i < length rs → getD (linesWith rs) i d ≡ lineOf (getD rs i [])
-line-at rs i d h =
-    List·getD-append (map lineOf rs) _ d i (simp length-map h)
-    ∙ map-at lineOf rs i [] d h
+-- the i-th line of such a table
+line-at : (rs : List Text) (i : ℕ) → i < length rs → getD (linesWith rs) i none ≡ lineOf (getD rs i [])
+line-at rs i h =
+    List·getD-append (map lineOf rs) _ none i (simp length-map h)
+    ∙ map-at lineOf rs i [] none h
 
-module _ (t : Table) (v : FromUs t) (i : ℕ) (d : Line) (h : i < t .count) where
-  in-rules : i < length (rulesOf t)
-  in-rules = omega (arith, count-is t v)
-
-  pub line-is : getD (t .lines) i d ≡ lineOf (getD (rulesOf t) i [])
-  line-is = ap (λ (ls : List Line). getD ls i d) (lines-are t v) ∙ line-at (rulesOf t) i d in-rules
+pub line-is : {t : Table} {i : ℕ} → FromUs t → i < t .count → getD (t .lines) i none ≡ lineOf (getD (rulesOf t) i [])
+line-is {t} {i} v h = ap (λ (ls : List Line). getD ls i none) (lines-are t v) ∙ line-at (rulesOf t) i (omega (arith, count-is t v))
 
 -- lists with a padded end
 module _ {A : Type 0} where

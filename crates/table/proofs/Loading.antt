@@ -3,7 +3,7 @@
 use Prim.Native.Nat.{ℕ, _+_, _-_, _≤_, _<_}
 use mathlib.Core.Path.{_≡_, refl, sym, ap, subst, _∙_}
 use mathlib.Core.List.{List, [], _∷_, _++_, append-assoc, append-nil}
-use mathlib.Core.Bool.{Bool, true, false, cond, not}
+use mathlib.Core.Bool.{true, false}
 use native.Mathlib.Omega.{arith}
 use lib.ListN.{length, take, drop}
 use borrow.Author.Tests.{lt-leb, le-leb, le-ltb, lt-ltb}
@@ -16,14 +16,13 @@ use Rattle.table.specs.declared.LoadAnswer.{LoadAnswer}
 use Rattle.table.specs.declared.LoadAnswer.the-variants as LoadAnswer
 use Rattle.table.specs.Store.{Text, tableOf, rulesOf}
 use Rattle.table.specs.Calls.{ifAdded, judgeAdd, linesOf, linesFrom, blankLine, filled, judgeLines, isNone, judgeLoad, FromUs}
-use Rattle.table.specs.Steps.{countsOf, Counting, CountsWith}
-use Rattle.table.proofs.Standing.{NotAdded, refused-else, stand-none, stand-more, room}
-use Rattle.syntax.proofs.Claims.{read-short}
+use Rattle.table.specs.Steps.{countsOf, CountsWith}
+use Rattle.table.proofs.Standing.{NotAdded, refused-else, stand-none, stand-more}
 use Rattle.table.proofs.Counting.{answer-is, counts-next}
 use Rattle.table.proofs.Stored.{rules-table, from-us-table}
-use Rattle.table.proofs.Lines.{count-is}
+use Rattle.table.proofs.Lines.{count-is, none-stand}
 
--- the loop's invariant: the lines before `from` have been judged and kept, `line` of them, and their rules are counted
+-- the loop's invariant: the lines before `from`, `line` of them, are judged; those of them that are not blank are the table's rules, and are counted
 pub record Progress (file : Text) (t : Table) (c : Counts) (line from : ℕ) : Type 0 where
   pub short : length file ≤ 8192
   pub within : from ≤ length file + 1
@@ -65,14 +64,14 @@ not-none (r ∷ rs) l ls = refl
 module _ (n : ℕ) (rs : List Text) (l : Text) (ls : List Text) where
   pub judge-blank : blankLine l ≡ true → judgeLines n rs (l ∷ ls) ≡ judgeLines (n + 1) rs ls
   unfolding judgeLines
-  judge-blank e = ap (λ (b : Bool). cond b (judgeLines (n + 1) rs ls) (ifAdded (judgeAdd rs l) (judgeLines (n + 1) (rs ++ l ∷ []) ls) (LoadAnswer.Line n (judgeAdd rs l)))) e
+  judge-blank e = rw e
 
   judge-filled : blankLine l ≡ false → judgeLines n rs (l ∷ ls) ≡ ifAdded (judgeAdd rs l) (judgeLines (n + 1) (rs ++ l ∷ []) ls) (LoadAnswer.Line n (judgeAdd rs l))
   unfolding judgeLines
-  judge-filled e = ap (λ (b : Bool). cond b (judgeLines (n + 1) rs ls) (ifAdded (judgeAdd rs l) (judgeLines (n + 1) (rs ++ l ∷ []) ls) (LoadAnswer.Line n (judgeAdd rs l)))) e
+  judge-filled e = rw e
 
   pub judge-added : blankLine l ≡ false → judgeAdd rs l ≡ AddAnswer.Added → judgeLines n rs (l ∷ ls) ≡ judgeLines (n + 1) (rs ++ l ∷ []) ls
-  judge-added e f = judge-filled e ∙ ap (λ (a : AddAnswer). ifAdded a (judgeLines (n + 1) (rs ++ l ∷ []) ls) (LoadAnswer.Line n (judgeAdd rs l))) f
+  judge-added e f = judge-filled e ∙ rw f
 
   pub judge-refused : (a : AddAnswer) → blankLine l ≡ false → judgeAdd rs l ≡ a → NotAdded a → judgeLines n rs (l ∷ ls) ≡ LoadAnswer.Line n a
   judge-refused a e f m =
@@ -82,11 +81,11 @@ module _ (n : ℕ) (rs : List Text) (l : Text) (ls : List Text) where
 
 pub filled-blank : (l : Text) (ls : List Text) → blankLine l ≡ true → filled (l ∷ ls) ≡ filled ls
 unfolding filled
-filled-blank l ls e = ap (λ (b : Bool). cond (not b) (l ∷ filled ls) (filled ls)) e
+filled-blank l ls e = rw e
 
 pub filled-more : (l : Text) (ls : List Text) → blankLine l ≡ false → filled (l ∷ ls) ≡ l ∷ filled ls
 unfolding filled
-filled-more l ls e = ap (λ (b : Bool). cond (not b) (l ∷ filled ls) (filled ls)) e
+filled-more l ls e = rw e
 
 pub start : (file : Text) (t : Table) (c : Counts) → length file ≤ 8192 → t ≡ tableOf [] → c ≡ countsOf [] → Progress file t c 0 0
 start file t c h e f =
@@ -125,10 +124,6 @@ module _ (file : Text) (t : Table) (c : Counts) (line from e : ℕ) (p : Progres
         kept = ap (λ (ls : List Text). held ++ ls) (sym (filled-blank here (linesFrom file (e + 1)) b) ∙ ap filled (sym whole)) ∙ p .kept;
       }
 
-  -- the text may be put to what is counted
-  pub counting : Counting c
-  counting = record { rules = held; counted = p .counted; standing = p .from-us .standing }
-
   module _ (r : Counted) (b : blankLine here ≡ false) (a : CountsWith c here r) where
     answered : r .answer ≡ judgeAdd held here
     answered = answer-is c held (p .from-us .standing) (p .counted) here r a
@@ -136,10 +131,6 @@ module _ (file : Text) (t : Table) (c : Counts) (line from e : ℕ) (p : Progres
     module _ (k : r .answer ≡ AddAnswer.Added) where
       taken : judgeAdd held here ≡ AddAnswer.Added
       taken = sym answered ∙ k
-
-      -- there is a line for it
-      pub fits : FromUs t × (t .count < 16) × (length here ≤ 256)
-      fits = let m = room held here taken in (p .from-us, omega (arith, m .few, count-is t (p .from-us)), read-short here (m .read))
 
       pub after-added : (u : Table) → u ≡ tableOf (held ++ here ∷ []) → Progress file u (r .counts) (line + 1) (e + 1)
       after-added u f =
@@ -181,11 +172,7 @@ module _ (file : Text) (t : Table) (c : Counts) (line from : ℕ) (p : Progress 
   all-judged = sym (ap (judgeLines (line + 1) (rulesOf t)) (sym (lines-none file from h)) ∙ p .judged)
 
   pub nothing-kept : t .count ≤ 0 → judgeLoad file ≡ LoadAnswer.AllBlank
-  nothing-kept k = all-blank file (p .short) (ap isNone (sym all-kept) ∙ go (rulesOf t) (omega (arith, count-is t (p .from-us))))
-    where
-      go : (rs : List Text) → length rs ≤ 0 → isNone rs ≡ true
-      go [] z = refl
-      go (r ∷ rs) z = absurd (omega arith)
+  nothing-kept k = all-blank file (p .short) (ap isNone (sym all-kept ∙ none-stand t (p .from-us) k))
 
   pub something-kept : 0 < t .count → judgeLoad file ≡ LoadAnswer.Loaded
   something-kept k = by-lines file (p .short) (ap isNone (sym all-kept) ∙ go (rulesOf t) (omega (arith, count-is t (p .from-us)))) ∙ all-judged

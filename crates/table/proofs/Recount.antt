@@ -22,7 +22,7 @@ use Rattle.table.specs.Steps.{atomPlaces, countsOf}
 use Rattle.table.proofs.Stored.{text-line}
 use Rattle.table.proofs.Standing.{stand-first, stand-added, room}
 use Rattle.table.proofs.Counting.{names-with, atoms-with, read-atoms, counts-are}
-use Rattle.table.proofs.Lines.{count-is, line-is}
+use Rattle.table.proofs.Lines.{none, count-is, line-is}
 
 -- the loop's invariant: the names and atoms are those of the first i texts
 pub record CountedTo (t : Table) (ns : Names) (n i : ℕ) : Type 0 where
@@ -40,21 +40,21 @@ counted-all t ns n i v p h =
     counts-are (t .count) ns n (rulesOf t) (count-is t v) (p .names ∙ ap (λ (rs : List Text). arraysOf (namesIn rs)) e) (p .atoms ∙ ap atomsIn e)
 
 -- the i-th line
-module _ (t : Table) (v : FromUs t) (i : ℕ) (d : Line) (h : i < t .count) where
+module _ {t : Table} {i : ℕ} (v : FromUs t) (h : i < t .count) where
   abbrev pub line : Line
-  line = getD (t .lines) i d
+  line = getD (t .lines) i none
 
   abbrev pub text : Text
   text = take (line .len) (line .bytes)
 
   pub text-is : text ≡ getD (rulesOf t) i []
   unfolding textOf
-  text-is = ap textOf (line-is t v i d h) ∙ text-line (getD (rulesOf t) i [])
+  text-is = ap textOf (line-is v h) ∙ text-line (getD (rulesOf t) i [])
 
   pub text-within : line .len ≤ length (line .bytes)
   unfolding lineOf
   text-within =
-      let e = line-is t v i d h in
+      let e = line-is v h in
       omega (arith, ap (λ (l : Line). l .len) e, ap (λ (l : Line). length (l .bytes)) e, length-append (getD (rulesOf t) i []) (replicate (256 - length (getD (rulesOf t) i [])) 0))
 
   pub text-length : line .len ≡ length text
@@ -72,8 +72,8 @@ module _ (t : Table) (v : FromUs t) (i : ℕ) (d : Line) (h : i < t .count) wher
   text-read = room (take i (rulesOf t)) text (stand-added (take i (rulesOf t)) text stands) .read
 
   module _ (ns : Names) (n : ℕ) (p : CountedTo t ns n i) where
-    pub counted-gathers : (rule : Rule) → rule ≡ ruleOf text → Gathers text rule ns
-    counted-gathers rule e = may-gather text rule ns (namesIn (take i (rulesOf t))) e (p .names) (stand-first (take i (rulesOf t)) (text ∷ []) stands .names)
+    pub text-gathers : (rule : Rule) → rule ≡ ruleOf text → Gathers text rule ns
+    text-gathers rule e = may-gather text rule ns (namesIn (take i (rulesOf t))) e (p .names) (stand-first (take i (rulesOf t)) (text ∷ []) stands .names)
 
     pub counted-few : n ≤ 16
     counted-few = omega (arith, p .atoms, stand-first (take i (rulesOf t)) (text ∷ []) stands .atoms)

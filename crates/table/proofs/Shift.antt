@@ -1,6 +1,6 @@
 -- Withdraw's loop and the table that it leaves: each line takes the place before it, and the last one is cleared. Assumes nothing.
 use Prim.Native.Nat.{ℕ, suc, _+_, _-_, _≤_, _<_}
-use mathlib.Core.Path.{_≡_, sym, ap, _∙_}
+use mathlib.Core.Path.{_≡_, refl, sym, ap, _∙_}
 use mathlib.Core.List.{List, [], _∷_, _++_, map, map-append}
 use native.Mathlib.Omega.{arith}
 use lib.ListN.{length, take, drop, getD, set, replicate, length-map, length-append, length-take, length-drop, length-replicate}
@@ -76,12 +76,12 @@ module _ (rs : List Text) (k : ℕ) (pos : 1 ≤ k) (high : k ≤ length rs) (fe
       let pad : List Line = replicate (16 - length rs) (lineOf []) in
       let n : length m ≡ length rs = length-map rs lineOf in
       let a : take (k - 1) (m ++ pad) ≡ take (k - 1) m = take-append-le (k - 1) m pad (omega (arith, n)) in
-      let d : length (drop k m) ≡ length rs - k = length-drop k m ∙ ap (λ (j : ℕ). j - k) n in
+      let d : length (drop k m) ≡ length rs - k = simp (length-drop, length-map) refl in
       let b : take (length rs - k) (drop k (m ++ pad)) ≡ drop k m
       = ap (λ (l : List Line). take (length rs - k) l) (drop-append-le k m pad (omega (arith, n))) ∙ take-at (drop k m) pad (length rs - k) d in
       let f : k - 1 + (length rs - k) ≡ length rs - 1 = omega arith in
       let g : suc (length rs - 1) ≡ length rs = omega arith in
-      let q : length (m ++ pad) ≡ length rs + (16 - length rs) = length-append m pad ∙ ap (λ (j : ℕ). j + length pad) n ∙ ap (λ (j : ℕ). length rs + j) (length-replicate (16 - length rs) (lineOf [])) in
+      let q : length (m ++ pad) ≡ length rs + (16 - length rs) = simp (length-append, length-map, length-replicate) refl in
       let z : Line = getD (m ++ pad) (length rs - 1) (lineOf []) in
       let r : drop (length rs - 1) (m ++ pad) ≡ z ∷ pad
       = drop-cons (m ++ pad) (length rs - 1) (lineOf []) (omega (arith, q)) ∙ ap (λ (j : ℕ). z ∷ drop j (m ++ pad)) g ∙ ap {B = List Line} (λ (l : List Line). z ∷ l) (drop-at m pad (length rs) n) in
@@ -114,8 +114,4 @@ left-table t k ls v pos high e =
 
 pub lines-length : (t : Table) → FromUs t → length (t .lines) ≡ 16
 lines-length t v =
-    ap length (lines-are t v)
-    ∙ length-append (map lineOf (rulesOf t)) (replicate (16 - length (rulesOf t)) (lineOf []))
-    ∙ ap (λ (n : ℕ). n + length (replicate (16 - length (rulesOf t)) (lineOf []))) (length-map (rulesOf t) lineOf)
-    ∙ ap (λ (n : ℕ). length (rulesOf t) + n) (length-replicate (16 - length (rulesOf t)) (lineOf []))
-    ∙ omega (arith, v .standing .few)
+    ap length (lines-are t v) ∙ simp (length-append, length-map, length-replicate) (omega (arith, v .standing .few))

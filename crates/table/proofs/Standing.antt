@@ -214,7 +214,7 @@ stand-added rs s h =
 
 pub added-taken : (rs : List Text) (s : Text) → judgeAdd rs s ≡ AddAnswer.Added → addRules rs s ≡ rs ++ s ∷ []
 unfolding addRules
-added-taken rs s e = ap (λ (a : AddAnswer). ifAdded a (rs ++ s ∷ []) rs) e
+added-taken rs s e = rw e
 
 pub added-refused : (rs : List Text) (s : Text) → NotAdded (judgeAdd rs s) → addRules rs s ≡ rs
 unfolding addRules

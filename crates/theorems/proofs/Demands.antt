@@ -11,7 +11,6 @@ use lib.ListN.{length, take}
 use Rattle.formula.specs.Formula.{Formula, Name}
 use Rattle.syntax.proofs.Claims.{text-means, is-rule}
 use Rattle.contact.specs.Meaning.{Floor, meetsAll}
-use Rattle.plan.specs.declared.PlanAnswer.the-variants as PlanAnswer
 use Rattle.plan.specs.Words.{Plan, wordsOf}
 use Rattle.plan.specs.Reader.{plan}
 use Rattle.plan.specs.Given.{givenPlan, rowPlan, plansOf}
@@ -21,15 +20,10 @@ use Rattle.contact.proofs.Claims.{first-row-only-named}
 use Rattle.table.specs.declared.Table.{Table}
 use Rattle.table.specs.declared.Outcome.{Outcome}
 use Rattle.table.specs.declared.Outcome.the-variants as Outcome
-use Rattle.table.specs.declared.AddAnswer.the-variants as AddAnswer
 use Rattle.table.specs.declared.AddResult.{AddResult}
-use Rattle.table.specs.declared.WithdrawAnswer.the-variants as WithdrawAnswer
 use Rattle.table.specs.declared.WithdrawResult.{WithdrawResult}
-use Rattle.table.specs.declared.LoadAnswer.the-variants as LoadAnswer
 use Rattle.table.specs.declared.LoadResult.{LoadResult}
-use Rattle.table.specs.declared.AskAnswer.the-variants as AskAnswer
 use Rattle.table.specs.declared.AskResult.{AskResult}
-use Rattle.table.specs.declared.JudgeAnswer.the-variants as JudgeAnswer
 use Rattle.table.specs.declared.JudgeResult.{JudgeResult}
 use Rattle.table.specs.Store.{Text, tableOf, rulesOf}
 use Rattle.table.specs.Calls.{formulasOf, namesIn, judgeAdd, addRules, added, judgeWithdraw, withdrawRules, withdrawn, judgeLoad, loadRules, loaded, CanStand, FromUs, Adds}

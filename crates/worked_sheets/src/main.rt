@@ -359,7 +359,7 @@ fn no_words() -> [u32; 600]
     [0u32; 600]
 }
 
-// Words with every value different, none of which is a plan's.
+// Words that all differ, none of which a plan has.
 fn marked() -> [u32; 600]
     ensures { λ r. ⌜ length r ≡ 600 ⌝ }
 {

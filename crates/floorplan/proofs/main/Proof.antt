@@ -1,5 +1,6 @@
--- What was read is a part of the sheet, and the text a part of its buffer. Assumes nothing.
+-- `floorplan::main` is safe: what was read is a part of the sheet, and the text a part of its buffer. Assumes nothing.
 use borrow.Author.Needs.{needs}
+use Prim.Native.Nat.{_≤_}
 use mathlib.Core.Path.{sym, subst}
 use native.Mathlib.Omega.{arith}
 use lib.ListN.{length}
@@ -7,6 +8,10 @@ use lib.Seq.{length-take-le}
 use Rattle.floorplan.specs.Reading.{Within}
 use Rattle.floorplan.proofs.main.Statement.{statement}
 use Rattle.floorplan.proofs.main.Tie as tie
+
+-- what was read is within the sheet
+read-within : (c : tie.After-got) → c .got .given .0 .0 ≤ length (c .before .before .before .read-sheet .last .0)
+read-within c = omega (arith, subst (Within 0 _) (c .got .given .1) (c .before .before .before .read-sheet .ensures))
 
 no-bytes-requires : tie.Need-no-bytes-requires
 no-bytes-requires c κs = search needs
@@ -36,10 +41,10 @@ no-text-requires : tie.Need-no-text-requires
 no-text-requires c κs = search needs
 
 array-share-prefix-sheet : tie.Need-array-share-prefix-sheet
-array-share-prefix-sheet c = let w = subst (Within 0 (length (c .before .before .before .before .before .read-sheet .last .0))) (c .before .before .got .given .1) (c .before .before .before .before .before .read-sheet .ensures) in omega arith
+array-share-prefix-sheet c = read-within (c .before .before)
 
 slice-aggregate-report : tie.Need-slice-aggregate-report
-slice-aggregate-report c = let w = subst (Within 0 (length (c .before .before .before .before .before .before .read-sheet .last .0))) (c .before .before .before .got .given .1) (c .before .before .before .before .before .before .read-sheet .ensures) in sym (length-take-le _ _ (omega arith))
+slice-aggregate-report c = sym (length-take-le _ _ (read-within (c .before .before .before)))
 
 report-requires : tie.Need-report-requires
 report-requires c κs = search needs

@@ -1,6 +1,6 @@
--- Each read stays within the sheet, and one that gives no byte is the last. Assumes nothing.
+-- `floorplan::read_sheet` meets its contract: each read stays within the sheet, and one that gives no byte is the last. Assumes nothing.
 use borrow.Author.Needs.{needs}
-use Prim.Native.Nat.{_-_, _≤_}
+use Prim.Native.Nat.{_+_, _-_, _≤_}
 use mathlib.Core.Path.{_≡_, refl, sym, subst, _∙_}
 use Rattle.floorplan.specs.Reading.{Within}
 use lib.ListN.{length}
@@ -13,6 +13,10 @@ Inv-loop sheet₀ done₀ sheet done = (done ≤ length sheet) × (length sheet 
 
 abbrev μ-loop : tie.MeasureT-loop
 μ-loop sheet₀ done₀ sheet done = length sheet₀ - done
+
+-- what a read gave is within the sheet
+read-within : (c : tie.After-got Inv-loop μ-loop) → c .before .before .before .before .before .before .before .loop .done + c .got .given .0 .0 ≤ length (c .before .before .before .before .before .before .before .loop .sheet)
+read-within c = subst (Within _ _) (c .got .given .1) (c .before .before .before .before .read-on .ensures .0)
 
 loop-holds : tie.Need-loop-holds Inv-loop μ-loop
 loop-holds c = (omega arith, refl)
@@ -39,13 +43,13 @@ returns-2 : tie.Need-returns-2 Inv-loop μ-loop
 returns-2 c = omega (arith, c .before .before .before .before .before .before .before .before .before .loop .inv .0, c .before .before .before .before .before .before .read-on .ensures .1)
 
 add-done : tie.Need-add-done Inv-loop μ-loop
-add-done c = let w = subst (Within (c .before .before .before .before .before .before .before .before .before .loop .done) (length (c .before .before .before .before .before .before .before .before .before .loop .sheet))) (c .before .before .got .given .1) (c .before .before .before .before .before .before .read-on .ensures .0) in omega arith
+add-done c = omega (arith, read-within (c .before .before))
 
 loop-less : tie.Need-loop-less Inv-loop μ-loop
-loop-less c = let w = subst (Within (c .before .before .before .before .before .before .before .before .before .loop .done) (length (c .before .before .before .before .before .before .before .before .before .loop .sheet))) (c .before .before .got .given .1) (c .before .before .before .before .before .before .read-on .ensures .0) in omega (arith, c .before .before .before .before .before .before .before .before .before .loop .inv .1)
+loop-less c = omega (arith, read-within (c .before .before), c .before .before .before .before .before .before .before .before .before .loop .inv .1)
 
 loop-again : tie.Need-loop-again Inv-loop μ-loop
-loop-again c = let w = subst (Within (c .before .before .before .before .before .before .before .before .before .loop .done) (length (c .before .before .before .before .before .before .before .before .before .loop .sheet))) (c .before .before .got .given .1) (c .before .before .before .before .before .before .read-on .ensures .0) in (omega (arith, c .before .before .before .before .before .before .read-on .ensures .1), c .before .before .before .before .before .before .read-on .ensures .1 ∙ c .before .before .before .before .before .before .before .before .before .loop .inv .1)
+loop-again c = (omega (arith, read-within (c .before .before), c .before .before .before .before .before .before .read-on .ensures .1), c .before .before .before .before .before .before .read-on .ensures .1 ∙ c .before .before .before .before .before .before .before .before .before .loop .inv .1)
 
 same-length-3 : tie.Need-same-length-3 Inv-loop μ-loop
 same-length-3 c = c .before .loop .inv .1

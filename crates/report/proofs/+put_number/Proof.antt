@@ -1,4 +1,4 @@
--- `put_number` meets its contract: the digits of a tenth, then the last one. A tenth is less. Assumes nothing.
+-- `report::put_number` meets its contract: the digits of a tenth, which is less, then the last one. Assumes nothing.
 use mathlib.Core.Path.{sym, ap}
 use native.Mathlib.Omega.{arith}
 use borrow.Author.Needs.{needs}

@@ -1,4 +1,4 @@
--- `lies_in` meets its contract: bit i by a shift. Assumes nothing.
+-- `report::lies_in` meets its contract: bit i by a shift. Assumes nothing.
 use mathlib.Core.Path.{refl}
 use Rattle.evalset.specs.Bit.{bit}
 use borrow.Author.Needs.{needs}

@@ -1,9 +1,8 @@
--- `put_head` meets its contract: the parts of the line, one after the other. Assumes nothing.
-use mathlib.Core.List.{[], _∷_, _++_}
-use lib.ListN.{length}
-use Rattle.lexer.specs.Text.{bytes}
-use Rattle.report.specs.Output.{labelled, headLine}
-use Rattle.report.proofs.Putting.{fits-first, fits-next, puts-more}
+-- `report::put_head` meets its contract: the parts of the line, one after the other. Assumes nothing.
+use lib.ListN.{length-append}
+use native.Mathlib.Omega.{arith}
+use Rattle.report.specs.Output.{headLine}
+use Rattle.report.proofs.Putting.{fits-next, puts-more}
 use borrow.Author.Needs.{needs}
 use Rattle.report.proofs.put_head.Statement.{statement}
 use Rattle.report.proofs.put_head.Tie as tie
@@ -13,40 +12,28 @@ slice-aggregate-put-labelled c = search needs
 
 put-labelled-requires : tie.Need-put-labelled-requires
 unfolding headLine
-put-labelled-requires c κs =
-    let s = c .before .before .before in
-    let a = s .args in
-    fits-first (a .at) (length (a .out .now)) (labelled (bytes "PLAN names=") (a .names)) (labelled (bytes " points=") (a .points)) (fits-first (a .at) (length (a .out .now)) (labelled (bytes "PLAN names=") (a .names) ++ labelled (bytes " points=") (a .points)) (10 ∷ []) (s .pre))
+put-labelled-requires c κs = simp length-append (omega (arith, simp length-append at (c .before .before .before .pre)))
 
 slice-aggregate-put-labelled-2 : tie.Need-slice-aggregate-put-labelled-2
 slice-aggregate-put-labelled-2 c = search needs
 
 put-labelled-requires-2 : tie.Need-put-labelled-requires-2
 unfolding headLine
-put-labelled-requires-2 c κs =
-    let s = c .before .before .before .before .before .before .before .before in
-    let a = s .args in
-    fits-next (c .before .before .before .before .put-labelled .ensures) (labelled (bytes " points=") (a .points)) (fits-first (a .at) (length (a .out .now)) (labelled (bytes "PLAN names=") (a .names) ++ labelled (bytes " points=") (a .points)) (10 ∷ []) (s .pre))
+put-labelled-requires-2 c κs = fits-next (c .before .before .before .before .put-labelled .ensures) _ (simp length-append (omega (arith, simp length-append at (c .before .before .before .before .before .before .before .before .pre))))
 
 slice-aggregate-put-text : tie.Need-slice-aggregate-put-text
 slice-aggregate-put-text c = search needs
 
 put-text-requires : tie.Need-put-text-requires
 unfolding headLine
-put-text-requires c κs =
-    let s = c .before .before .before .before .before .before .before .before .before .before .before .before .before in
-    let a = s .args in
-    fits-next (puts-more (c .before .before .before .before .before .before .before .before .before .put-labelled .ensures) (c .before .before .before .before .put-labelled2 .ensures)) (10 ∷ []) (s .pre)
+put-text-requires c κs = fits-next (puts-more (c .before .before .before .before .before .before .before .before .before .put-labelled .ensures) (c .before .before .before .before .put-labelled2 .ensures)) _ (simp length-append (omega (arith, simp length-append at (c .before .before .before .before .before .before .before .before .before .before .before .before .before .pre))))
 
 same-length : tie.Need-same-length
 same-length c = search needs
 
 returns : tie.Need-returns
 unfolding headLine
-returns c =
-    let s = c .before .before .before .before .before .before .before .before .before .before .before .before .before .before .before .before in
-    let a = s .args in
-    puts-more (puts-more (c .before .before .before .before .before .before .before .before .before .before .before .before .put-labelled .ensures) (c .before .before .before .before .before .before .before .put-labelled2 .ensures)) (c .before .before .put-text .ensures)
+returns c = puts-more (puts-more (c .before .before .before .before .before .before .before .before .before .before .before .before .put-labelled .ensures) (c .before .before .before .before .before .before .before .put-labelled2 .ensures)) (c .before .before .put-text .ensures)
 
 pub put-head-spec : {M : Type 1} → statement M
 put-head-spec =

@@ -1,20 +1,16 @@
--- `put_labelled` meets its contract: the text, then the number. Assumes nothing.
-use lib.ListN.{length}
-use Rattle.report.specs.Output.{decimal}
-use Rattle.report.proofs.Putting.{fits-first, fits-next, puts-more}
+-- `report::put_labelled` meets its contract: the text, then the number. Assumes nothing.
+use native.Mathlib.Omega.{arith}
+use lib.ListN.{length-append}
+use Rattle.report.proofs.Putting.{fits-next, puts-more}
 use borrow.Author.Needs.{needs}
 use Rattle.report.proofs.put_labelled.Statement.{statement}
 use Rattle.report.proofs.put_labelled.Tie as tie
 
 put-text-requires : tie.Need-put-text-requires
-put-text-requires c κs =
-    let s = c .before .before .before in
-    fits-first (s .args .at) (length (s .args .out .now)) (s .args .label .now) (decimal (s .args .n)) (s .pre)
+put-text-requires c κs = omega (arith, simp length-append at (c .before .before .before .pre))
 
 put-number-requires : tie.Need-put-number-requires
-put-number-requires c κs =
-    let s = c .before .before .before .before .before .before .before in
-    fits-next (c .before .before .before .put-text .ensures) (decimal (s .args .n)) (s .pre)
+put-number-requires c κs = fits-next (c .before .before .before .put-text .ensures) _ (omega (arith, simp length-append at (c .before .before .before .before .before .before .before .pre)))
 
 same-length : tie.Need-same-length
 same-length c = search needs

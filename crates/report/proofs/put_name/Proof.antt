@@ -1,4 +1,4 @@
--- `put_name` meets its contract: a blank, then the name's bytes. Assumes nothing.
+-- `report::put_name` meets its contract: a blank, then the name's bytes. Assumes nothing.
 use native.Mathlib.Omega.{arith}
 use lib.ListN.{length-take}
 use Rattle.report.proofs.Putting.{puts-more}

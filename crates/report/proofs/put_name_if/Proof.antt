@@ -1,4 +1,4 @@
--- `put_name_if` meets its contract: the name is put where its bit is set, and nothing elsewhere. Assumes nothing.
+-- `report::put_name_if` meets its contract: the name is put where its bit is set, and nothing elsewhere. Assumes nothing.
 use mathlib.Core.Path.{sym, ap, _∙_}
 use native.Mathlib.Omega.{arith}
 use lib.ListN.{length}

@@ -1,22 +1,24 @@
--- `put_names` meets its contract: so far the names with numbers below i are put. Assumes nothing.
-use mathlib.Core.Path.{_≡_, sym, ap, _∙_}
+-- `report::put_names` meets its contract: so far the names with numbers below i are put. Assumes nothing.
+use mathlib.Core.Path.{ap}
 use mathlib.Core.List.{List}
 use Prim.Native.Nat.{ℕ, _-_, _≤_}
 use native.Mathlib.Omega.{arith}
 use lib.ListN.{length}
 use Rattle.lists.specs.Search.{gather, below}
 use Rattle.names.specs.Gather.{knownOf}
-use Rattle.evalset.proofs.Bounded.{gather-more}
+use Rattle.names.specs.declared.Names.{Names}
 use Rattle.report.specs.Output.{nameIf, blanked}
 use Rattle.report.specs.Putting.{Puts}
-use Rattle.report.proofs.Putting.{puts-none, puts-text, fits-next, puts-length, puts-more}
-use Rattle.report.proofs.Parts.{fits-turn}
+use Rattle.report.proofs.Putting.{puts-none, puts-length, turn-fits, turn-puts, turns-put}
 use Rattle.report.proofs.Kept.{names-turns}
 use Rattle.report.proofs.put_names.Statement.{statement}
 use Rattle.report.proofs.put_names.Tie as tie
 
+abbrev nameText : Names → ℕ → ℕ → List ℕ
+nameText names e i = gather blanked (nameIf (knownOf names) e i)
+
 abbrev Inv-loop : tie.InvT-loop
-Inv-loop names e out₀ at count end₀ i₀ out end i = (i ≤ count) × Puts at (gather (λ j. gather blanked (nameIf (knownOf names) e j)) (below i)) out₀ out end
+Inv-loop names e out₀ at count end₀ i₀ out end i = (i ≤ count) × Puts at (gather (nameText names e) (below i)) out₀ out end
 
 abbrev μ-loop : tie.MeasureT-loop
 μ-loop names e out₀ at count end₀ i₀ out end i = count - i
@@ -31,12 +33,7 @@ put-name-if-requires c κs =
     let s = c .before .before .before .before in
     let a = s .args in
     let k = c .before .before .loop in
-    let f : ℕ → List ℕ = λ j. gather blanked (nameIf (knownOf (a .names)) (a .e) j) in (
-      s .pre .0,
-      omega arith,
-      fits-next (k .inv .1) (f (k .i)) (fits-turn f (a .at) (length (a .out .now)) (k .i) (a .names .count) (omega arith)
-          (omega (arith, s .pre .1, ap length (names-turns (a .names) (s .pre .0) (a .e))))),
-    )
+    (s .pre .0, omega arith, turn-fits (nameText (a .names) (a .e)) (k .i) (k .inv .1) (a .names .count) (omega arith) (omega (arith, s .pre .1, ap length (names-turns (a .names) (s .pre .0) (a .e)))))
 
 add-i : tie.Need-add-i Inv-loop μ-loop
 add-i c = omega arith
@@ -48,8 +45,7 @@ loop-again : tie.Need-loop-again Inv-loop μ-loop
 loop-again c =
     let a = c .before .before .before .before .before .before .before .args in
     let k = c .before .before .before .before .before .loop in
-    let f : ℕ → List ℕ = λ j. gather blanked (nameIf (knownOf (a .names)) (a .e) j) in
-    (omega arith, puts-text (gather-more f (k .i)) (puts-more (k .inv .1) (c .before .before .put-name-if .ensures)))
+    (omega arith, turn-puts (nameText (a .names) (a .e)) (k .i) (k .inv .1) (c .before .before .put-name-if .ensures))
 
 same-length : tie.Need-same-length Inv-loop μ-loop
 same-length c = puts-length (c .before .loop .inv .1)
@@ -59,8 +55,7 @@ returns c =
     let s = c .before .before .before in
     let a = s .args in
     let k = c .before .loop in
-    let e : k .i ≡ a .names .count = omega arith in
-    puts-text (ap (λ (n : ℕ). gather (λ j. gather blanked (nameIf (knownOf (a .names)) (a .e) j)) (below n)) e ∙ sym (names-turns (a .names) (s .pre .0) (a .e))) (k .inv .1)
+    turns-put (nameText (a .names) (a .e)) (k .i) (k .inv .1) (a .names .count) (omega arith) (names-turns (a .names) (s .pre .0) (a .e))
 
 pub put-names-spec : {M : Type 1} → statement M
 put-names-spec =

@@ -1,4 +1,4 @@
--- `put_pair` meets its contract: each branch is a case of the pair. Assumes nothing.
+-- `report::put_pair` meets its contract: each branch is a case of the pair. Assumes nothing.
 use mathlib.Core.Path.{sym, ap, _∙_}
 use native.Mathlib.Omega.{arith}
 use lib.ListN.{length}

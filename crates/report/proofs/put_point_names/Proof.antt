@@ -1,8 +1,7 @@
--- `put_point_names` meets its contract: where no byte was put there are no names. Assumes nothing.
+-- `report::put_point_names` meets its contract: where no byte was put there are no names. Assumes nothing.
 use mathlib.Core.Path.{ap}
 use native.Mathlib.Omega.{arith}
-use lib.ListN.{length}
-use Rattle.lexer.specs.Text.{bytes}
+use lib.ListN.{length, length-append}
 use Rattle.names.specs.Gather.{knownOf}
 use Rattle.report.proofs.Putting.{puts-text, fits-next, puts-more}
 use Rattle.report.proofs.Parts.{no-names, some-names, names-within}
@@ -24,7 +23,7 @@ put-text-requires c κs =
     let a = s .args in
     let first = c .before .before .before .before .before .put-names .ensures in
     let e = no-names (knownOf (a .names)) (a .e) (omega (arith, first .place)) in
-    fits-next first (bytes " -") (omega (arith, s .pre .1, ap length e))
+    fits-next first _ (omega (arith, s .pre .1, simp length-append at (ap length e)))
 
 same-length : tie.Need-same-length
 same-length c = search needs

@@ -1,9 +1,9 @@
--- `put_refusal` meets its contract: the line of a refusal, and nothing for another outcome. Assumes nothing.
+-- `report::put_refusal` meets its contract: the line of a refusal, and nothing for another outcome. Assumes nothing.
 use mathlib.Core.Path.{sym, ap, _∙_}
 use native.Mathlib.Omega.{arith}
 use Rattle.report.specs.Output.{outcomeText}
 use Rattle.report.proofs.Putting.{puts-none, puts-text}
-use Rattle.report.proofs.Reporting.{no-line}
+use Rattle.report.proofs.Reporting.{no-refusal-text}
 use borrow.Author.Needs.{needs}
 use Rattle.report.proofs.put_refusal.Statement.{statement}
 use Rattle.report.proofs.put_refusal.Tie as tie
@@ -18,7 +18,7 @@ returns : tie.Need-returns
 returns c =
     let s = c .before .before .before in
     let a = s .args in
-    puts-text (sym (no-line (c .before .load-outcome .result) (c .match .keys2)) ∙ ap outcomeText (c .before .load-outcome .ensures)) (puts-none (a .at) (a .out .now) (omega (arith, s .pre)))
+    puts-text (sym (no-refusal-text (c .before .load-outcome .result) (c .match .keys2)) ∙ ap outcomeText (c .before .load-outcome .ensures)) (puts-none (a .at) (a .out .now) (omega (arith, s .pre)))
 
 put-refused-requires : tie.Need-put-refused-requires
 put-refused-requires c κs = search needs

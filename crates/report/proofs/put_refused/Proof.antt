@@ -1,12 +1,10 @@
--- `put_refused` meets its contract: the parts of the line, one after the other. Assumes nothing.
-use mathlib.Core.List.{[], _∷_, _++_}
+-- `report::put_refused` meets its contract: the parts of the line, one after the other. Assumes nothing.
 use Prim.Native.Nat.{_+_, _≤_}
 use native.Mathlib.Omega.{arith}
-use lib.ListN.{length}
-use Rattle.lexer.specs.Text.{bytes}
-use Rattle.report.specs.Output.{labelled, refusedText}
+use lib.ListN.{length, length-append}
+use Rattle.report.specs.Output.{refusedText}
 use Rattle.report.proofs.Bounds.{refused-few}
-use Rattle.report.proofs.Putting.{fits-first, fits-next, puts-more}
+use Rattle.report.proofs.Putting.{fits-next, puts-more}
 use borrow.Author.Needs.{needs}
 use Rattle.report.proofs.put_refused.Statement.{statement}
 use Rattle.report.proofs.put_refused.Tie as tie
@@ -21,20 +19,14 @@ slice-aggregate-put-labelled c = search needs
 
 put-labelled-requires : tie.Need-put-labelled-requires
 unfolding refusedText
-put-labelled-requires c κs =
-    let s = c .before .before .before in
-    let a = s .args in
-    fits-first (a .at) (length (a .out .now)) (labelled (bytes "refused ") (a .number)) (labelled (bytes " line ") (a .line)) (fits-first (a .at) (length (a .out .now)) (labelled (bytes "refused ") (a .number) ++ labelled (bytes " line ") (a .line)) (labelled (bytes " at ") (a .place)) (fits-first (a .at) (length (a .out .now)) (labelled (bytes "refused ") (a .number) ++ labelled (bytes " line ") (a .line) ++ labelled (bytes " at ") (a .place)) (10 ∷ []) (fits s)))
+put-labelled-requires c κs = simp length-append (omega (arith, simp length-append at (fits (c .before .before .before))))
 
 slice-aggregate-put-labelled-2 : tie.Need-slice-aggregate-put-labelled-2
 slice-aggregate-put-labelled-2 c = search needs
 
 put-labelled-requires-2 : tie.Need-put-labelled-requires-2
 unfolding refusedText
-put-labelled-requires-2 c κs =
-    let s = c .before .before .before .before .before .before .before .before in
-    let a = s .args in
-    fits-next (c .before .before .before .before .put-labelled .ensures) (labelled (bytes " line ") (a .line)) (fits-first (a .at) (length (a .out .now)) (labelled (bytes "refused ") (a .number) ++ labelled (bytes " line ") (a .line)) (labelled (bytes " at ") (a .place)) (fits-first (a .at) (length (a .out .now)) (labelled (bytes "refused ") (a .number) ++ labelled (bytes " line ") (a .line) ++ labelled (bytes " at ") (a .place)) (10 ∷ []) (fits s)))
+put-labelled-requires-2 c κs = fits-next (c .before .before .before .before .put-labelled .ensures) _ (simp length-append (omega (arith, simp length-append at (fits (c .before .before .before .before .before .before .before .before)))))
 
 slice-aggregate-put-labelled-3 : tie.Need-slice-aggregate-put-labelled-3
 slice-aggregate-put-labelled-3 c = search needs
@@ -42,9 +34,7 @@ slice-aggregate-put-labelled-3 c = search needs
 put-labelled-requires-3 : tie.Need-put-labelled-requires-3
 unfolding refusedText
 put-labelled-requires-3 c κs =
-    let s = c .before .before .before .before .before .before .before .before .before .before .before .before .before in
-    let a = s .args in
-    fits-next (puts-more (c .before .before .before .before .before .before .before .before .before .put-labelled .ensures) (c .before .before .before .before .put-labelled2 .ensures)) (labelled (bytes " at ") (a .place)) (fits-first (a .at) (length (a .out .now)) (labelled (bytes "refused ") (a .number) ++ labelled (bytes " line ") (a .line) ++ labelled (bytes " at ") (a .place)) (10 ∷ []) (fits s))
+    fits-next (puts-more (c .before .before .before .before .before .before .before .before .before .put-labelled .ensures) (c .before .before .before .before .put-labelled2 .ensures)) _ (simp length-append (omega (arith, simp length-append at (fits (c .before .before .before .before .before .before .before .before .before .before .before .before .before)))))
 
 slice-aggregate-put-text : tie.Need-slice-aggregate-put-text
 slice-aggregate-put-text c = search needs
@@ -52,7 +42,7 @@ slice-aggregate-put-text c = search needs
 put-text-requires : tie.Need-put-text-requires
 unfolding refusedText
 put-text-requires c κs =
-    fits-next (puts-more (puts-more (c .before .before .before .before .before .before .before .before .before .before .before .before .before .before .put-labelled .ensures) (c .before .before .before .before .before .before .before .before .before .put-labelled2 .ensures)) (c .before .before .before .before .put-labelled3 .ensures)) (10 ∷ []) (fits (c .before .before .before .before .before .before .before .before .before .before .before .before .before .before .before .before .before .before))
+    fits-next (puts-more (puts-more (c .before .before .before .before .before .before .before .before .before .before .before .before .before .before .put-labelled .ensures) (c .before .before .before .before .before .before .before .before .before .put-labelled2 .ensures)) (c .before .before .before .before .put-labelled3 .ensures)) _ (simp length-append (omega (arith, simp length-append at (fits (c .before .before .before .before .before .before .before .before .before .before .before .before .before .before .before .before .before .before)))))
 
 same-length : tie.Need-same-length
 same-length c = search needs

@@ -1,7 +1,7 @@
--- The sheet is loaded or refused, and each has its text (Reporting.antt). Assumes nothing.
+-- `report::put_report` meets its contract: the sheet is loaded or refused, and each has its text (Reporting.antt). Assumes nothing.
 use borrow.Author.Needs.{needs}
 use Rattle.report.proofs.Putting.{puts-text}
-use Rattle.report.proofs.Reporting.{told-refused, refused-text, loaded-some, loaded-text}
+use Rattle.report.proofs.Reporting.{told-not-loaded, refused-text, loaded-some, loaded-text}
 use Rattle.report.proofs.put_report.Statement.{statement}
 use Rattle.report.proofs.put_report.Tie as tie
 
@@ -21,7 +21,7 @@ same-length : tie.Need-same-length
 same-length c = search needs
 
 returns : tie.Need-returns
-returns c = puts-text (refused-text _ _ _ (c .before .before .before .before .before .load .ensures) (told-refused _ (c .before .before .before .before .match .keys2))) (c .before .before .put-refusal .ensures)
+returns c = puts-text (refused-text _ _ _ (c .before .before .before .before .before .load .ensures) (told-not-loaded _ (c .before .before .before .before .match .keys2))) (c .before .before .put-refusal .ensures)
 
 put-rules-requires : tie.Need-put-rules-requires
 put-rules-requires c κs = (c .before .before .before .before .load .ensures .from-us, loaded-some _ _ _ (c .before .before .before .before .load .ensures) (c .before .before .enum-told .given .1), c .before .before .before .before .before .before .before .before .pre)

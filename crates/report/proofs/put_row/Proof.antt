@@ -1,22 +1,25 @@
--- `put_row` meets its contract: so far the lines of the pairs below j are put. Assumes nothing.
-use mathlib.Core.Path.{_≡_, sym, ap, _∙_}
+-- `report::put_row` meets its contract: so far the lines of the pairs below j are put. Assumes nothing.
+use mathlib.Core.Path.{ap}
 use mathlib.Core.List.{List}
 use Prim.Native.Nat.{ℕ, _-_, _≤_}
 use native.Mathlib.Omega.{arith}
 use lib.ListN.{length}
 use Rattle.lists.specs.Search.{gather, below}
 use Rattle.evalset.specs.Sets.{mem}
+use Rattle.evalset.specs.declared.EvalSet.{EvalSet}
 use Rattle.plan.specs.Arrays.{pairOf}
-use Rattle.evalset.proofs.Bounded.{gather-more}
 use Rattle.report.specs.Output.{contactLine}
 use Rattle.report.specs.Putting.{Puts}
-use Rattle.report.proofs.Putting.{puts-none, puts-text, fits-next, puts-length, puts-more}
-use Rattle.report.proofs.Parts.{row-parts, fits-turn}
+use Rattle.report.proofs.Putting.{puts-none, puts-length, turn-fits, turn-puts, turns-put}
+use Rattle.report.proofs.Parts.{row-parts}
 use Rattle.report.proofs.put_row.Statement.{statement}
 use Rattle.report.proofs.put_row.Tie as tie
 
+abbrev pairText : EvalSet → ℕ → ℕ → List ℕ
+pairText row i j = gather contactLine (pairOf i j (mem row))
+
 abbrev Inv-loop : tie.InvT-loop
-Inv-loop row i n out₀ at end₀ j₀ out end j = (j ≤ n) × Puts at (gather (λ b. gather contactLine (pairOf i b (mem row))) (below j)) out₀ out end
+Inv-loop row i n out₀ at end₀ j₀ out end j = (j ≤ n) × Puts at (gather (pairText row i) (below j)) out₀ out end
 
 abbrev μ-loop : tie.MeasureT-loop
 μ-loop row i n out₀ at end₀ j₀ out end j = n - j
@@ -31,11 +34,7 @@ put-pair-requires c κs =
     let s = c .before .before .before .before in
     let a = s .args in
     let k = c .before .before .loop in
-    let f : ℕ → List ℕ = λ b. gather contactLine (pairOf (a .i) b (mem (a .row))) in (
-      omega arith,
-      fits-next (k .inv .1) (f (k .j)) (fits-turn f (a .at) (length (a .out .now)) (k .j) (a .n) (omega arith)
-          (omega (arith, s .pre .1, ap length (row-parts (a .n) (a .i) (mem (a .row)))))),
-    )
+    (omega arith, turn-fits (pairText (a .row) (a .i)) (k .j) (k .inv .1) (a .n) (omega arith) (omega (arith, s .pre .1, ap length (row-parts (a .n) (a .i) (mem (a .row))))))
 
 add-j : tie.Need-add-j Inv-loop μ-loop
 add-j c = omega arith
@@ -47,19 +46,16 @@ loop-again : tie.Need-loop-again Inv-loop μ-loop
 loop-again c =
     let a = c .before .before .before .before .before .before .before .args in
     let k = c .before .before .before .before .before .loop in
-    let f : ℕ → List ℕ = λ b. gather contactLine (pairOf (a .i) b (mem (a .row))) in
-    (omega arith, puts-text (gather-more f (k .j)) (puts-more (k .inv .1) (c .before .before .put-pair .ensures)))
+    (omega arith, turn-puts (pairText (a .row) (a .i)) (k .j) (k .inv .1) (c .before .before .put-pair .ensures))
 
 same-length : tie.Need-same-length Inv-loop μ-loop
 same-length c = puts-length (c .before .loop .inv .1)
 
 returns : tie.Need-returns Inv-loop μ-loop
 returns c =
-    let s = c .before .before .before in
-    let a = s .args in
+    let a = c .before .before .before .args in
     let k = c .before .loop in
-    let e : k .j ≡ a .n = omega arith in
-    puts-text (ap (λ (n : ℕ). gather (λ b. gather contactLine (pairOf (a .i) b (mem (a .row)))) (below n)) e ∙ sym (row-parts (a .n) (a .i) (mem (a .row)))) (k .inv .1)
+    turns-put (pairText (a .row) (a .i)) (k .j) (k .inv .1) (a .n) (omega arith) (row-parts (a .n) (a .i) (mem (a .row)))
 
 pub put-row-spec : {M : Type 1} → statement M
 put-row-spec =

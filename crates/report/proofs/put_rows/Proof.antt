@@ -1,5 +1,6 @@
--- `put_rows` meets its contract: so far the lines of the rows below i are put. Assumes nothing.
-use mathlib.Core.Path.{_≡_, sym, ap, _∙_}
+-- `report::put_rows` meets its contract: so far the lines of the rows below i are put. Assumes nothing.
+use mathlib.Core.Path.{ap}
+use mathlib.Core.Bool.{Bool}
 use mathlib.Core.List.{List}
 use Prim.Native.Nat.{ℕ, _-_, _≤_}
 use native.Mathlib.Omega.{arith}
@@ -7,16 +8,18 @@ use lib.ListN.{length}
 use Rattle.lists.specs.Search.{gather, below}
 use Rattle.evalset.specs.Sets.{memAt}
 use Rattle.plan.specs.Arrays.{rowTo}
-use Rattle.evalset.proofs.Bounded.{gather-more}
 use Rattle.report.specs.Output.{contactLine}
 use Rattle.report.specs.Putting.{Puts}
-use Rattle.report.proofs.Putting.{puts-none, puts-text, fits-next, puts-length, puts-more}
-use Rattle.report.proofs.Parts.{rows-parts, fits-turn}
+use Rattle.report.proofs.Putting.{puts-none, puts-length, turn-fits, turn-puts, turns-put}
+use Rattle.report.proofs.Parts.{rows-parts}
 use Rattle.report.proofs.put_rows.Statement.{statement}
 use Rattle.report.proofs.put_rows.Tie as tie
 
+abbrev rowText : (ℕ → ℕ → Bool) → ℕ → ℕ → List ℕ
+rowText rows n i = gather contactLine (rowTo n i (rows i))
+
 abbrev Inv-loop : tie.InvT-loop
-Inv-loop n out₀ at rows end₀ i₀ out end i = (i ≤ n) × Puts at (gather (λ a. gather contactLine (rowTo n a (memAt rows a))) (below i)) out₀ out end
+Inv-loop n out₀ at rows end₀ i₀ out end i = (i ≤ n) × Puts at (gather (rowText (memAt rows) n) (below i)) out₀ out end
 
 abbrev μ-loop : tie.MeasureT-loop
 μ-loop n out₀ at rows end₀ i₀ out end i = n - i
@@ -38,11 +41,7 @@ put-row-requires c κs =
     let s = c .before .before .before .before .before in
     let a = s .args in
     let k = c .before .before .before .loop in
-    let f : ℕ → List ℕ = λ b. gather contactLine (rowTo (a .n) b (memAt (a .t1) b)) in (
-      omega arith,
-      fits-next (k .inv .1) (f (k .i)) (fits-turn f (a .at) (length (a .out .now)) (k .i) (a .n) (omega arith)
-          (omega (arith, s .pre .1, ap length (rows-parts (a .n) (a .n) (memAt (a .t1)))))),
-    )
+    (omega arith, turn-fits (rowText (memAt (a .t1)) (a .n)) (k .i) (k .inv .1) (a .n) (omega arith) (omega (arith, s .pre .1, ap length (rows-parts (a .n) (a .n) (memAt (a .t1))))))
 
 add-i : tie.Need-add-i Inv-loop μ-loop
 add-i c = omega arith
@@ -53,22 +52,18 @@ loop-less c = omega arith
 loop-again : tie.Need-loop-again Inv-loop μ-loop
 unfolding memAt
 loop-again c =
-    let s = c .before .before .before .before .before .before .before .before in
-    let a = s .args in
+    let a = c .before .before .before .before .before .before .before .before .args in
     let k = c .before .before .before .before .before .before .loop in
-    let f : ℕ → List ℕ = λ b. gather contactLine (rowTo (a .n) b (memAt (a .t1) b)) in
-    (omega arith, puts-text (gather-more f (k .i)) (puts-more (k .inv .1) (c .before .before .put-row .ensures)))
+    (omega arith, turn-puts (rowText (memAt (a .t1)) (a .n)) (k .i) (k .inv .1) (c .before .before .put-row .ensures))
 
 same-length : tie.Need-same-length Inv-loop μ-loop
 same-length c = puts-length (c .before .loop .inv .1)
 
 returns : tie.Need-returns Inv-loop μ-loop
 returns c =
-    let s = c .before .before .before in
-    let a = s .args in
+    let a = c .before .before .before .args in
     let k = c .before .loop in
-    let e : k .i ≡ a .n = omega arith in
-    puts-text (ap (λ (n : ℕ). gather (λ b. gather contactLine (rowTo (a .n) b (memAt (a .t1) b))) (below n)) e ∙ sym (rows-parts (a .n) (a .n) (memAt (a .t1)))) (k .inv .1)
+    turns-put (rowText (memAt (a .t1)) (a .n)) (k .i) (k .inv .1) (a .n) (omega arith) (rows-parts (a .n) (a .n) (memAt (a .t1)))
 
 pub put-rows-spec : {M : Type 1} → statement M
 put-rows-spec =

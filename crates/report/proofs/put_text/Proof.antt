@@ -1,4 +1,4 @@
--- `put_text` meets its contract: so far the first i bytes are put. Assumes nothing.
+-- `report::put_text` meets its contract: so far the first i bytes are put. Assumes nothing.
 use mathlib.Core.Path.{_≡_, sym, ap, subst}
 use mathlib.Core.List.{[], _∷_, _++_}
 use Prim.Native.Nat.{ℕ, _+_, _-_, _≤_}

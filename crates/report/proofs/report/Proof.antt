@@ -1,4 +1,4 @@
--- What is put at the first byte is over the buffer. Assumes nothing.
+-- `report::report` meets its contract: what is put at the first byte is over the buffer. Assumes nothing.
 use borrow.Author.Needs.{needs}
 use Rattle.report.proofs.Reporting.{puts-over}
 use Rattle.report.proofs.report.Statement.{statement}

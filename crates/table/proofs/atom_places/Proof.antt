@@ -1,4 +1,4 @@
--- The invariant: the atoms that were counted and those that are left are all. Assumes nothing.
+-- `table::atom_places` meets its contract: the atoms counted so far and those that are left are all. Assumes nothing.
 use borrow.Author.Needs.{needs}
 use Prim.Native.Nat.{_+_, _-_, _≤_}
 use mathlib.Core.Path.{_≡_, sym, _∙_}

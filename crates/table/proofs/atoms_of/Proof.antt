@@ -1,6 +1,6 @@
--- The order of a rule that was read lies within its array, and of its kinds at most all are atoms' signs. Assumes nothing.
+-- `table::atoms_of` meets its contract: the order of a rule that was read lies within its array, and of its kinds at most all are atoms' signs. Assumes nothing.
 use borrow.Author.Needs.{needs}
-use mathlib.Core.Path.{_≡_, sym, _∙_}
+use mathlib.Core.Path.{_≡_, sym}
 use native.Mathlib.Omega.{arith}
 use lib.ListN.{length, take, length-map, length-take}
 use lib.Seq.{length-take-le}
@@ -20,7 +20,7 @@ atom-places-requires c κs = search needs
 returns : tie.Need-returns
 returns c =
     let r = c .before .before .before .args .rule in
-    let full : length (r .order) ≡ 256 = sym (length-map (r .order) (λ v. v)) ∙ c .before .before .before .good .0 .1 .1 .1 .1 .0 .1 .0 .1 in
+    let full : length (r .order) ≡ 256 = simp length-map at (c .before .before .before .good .0 .1 .1 .1 .1 .0 .1 .0 .1) in
     (c .atom-places .ensures, omega (arith, c .atom-places .ensures, places-most (take (r .len) (r .order)), length-take (r .len) (r .order)))
 
 pub atoms-of-spec : {M : Type 1} → statement M

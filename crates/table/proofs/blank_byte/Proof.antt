@@ -1,4 +1,4 @@
--- `blank_byte` meets its contract: each class is told. Assumes nothing.
+-- `table::blank_byte` meets its contract: each arm knows the class, which decides. Assumes nothing.
 use borrow.Author.Needs.{needs}
 use mathlib.Core.Path.{sym, ap, _∙_}
 use Rattle.table.specs.Calls.{blankByte, blankClass}

@@ -1,4 +1,4 @@
--- The invariant: the line is blank if what is left of it is. Assumes nothing.
+-- `table::blank_line` meets its contract: the line is blank exactly if what is left of it is, since the bytes passed are. Assumes nothing.
 use borrow.Author.Needs.{needs}
 use Prim.Native.Nat.{_-_, _≤_}
 use mathlib.Core.Path.{_≡_, refl, sym, _∙_}
@@ -27,9 +27,7 @@ blank-byte-requires c κs = search needs
 
 returns : tie.Need-returns Inv-loop μ-loop
 returns c =
-    let s = c .before .before .before .before .before .before .args .text .now in
-    let i = c .before .before .before .before .loop .i in
-    sym (sym (c .before .before .before .before .loop .inv .1) ∙ blank-not s i (c .before .before .before .loop-test .taken) (sym (c .before .blank-byte .ensures) ∙ not-true _ (c .if1 .taken)))
+    sym (sym (c .before .before .before .before .loop .inv .1) ∙ blank-not _ _ (c .before .before .before .loop-test .taken) (sym (c .before .blank-byte .ensures) ∙ not-true _ (c .if1 .taken)))
 
 add-i : tie.Need-add-i Inv-loop μ-loop
 add-i c = omega arith
@@ -39,9 +37,7 @@ loop-less c = omega arith
 
 loop-again : tie.Need-loop-again Inv-loop μ-loop
 loop-again c =
-    let s = c .before .before .before .before .before .before .args .text .now in
-    let i = c .before .before .before .before .loop .i in
-    (omega arith, sym (blank-next s i (c .before .before .before .loop-test .taken) (sym (c .before .blank-byte .ensures) ∙ not-false _ (c .if1 .left))) ∙ c .before .before .before .before .loop .inv .1)
+    (omega arith, sym (blank-next _ _ (c .before .before .before .loop-test .taken) (sym (c .before .blank-byte .ensures) ∙ not-false _ (c .if1 .left))) ∙ c .before .before .before .before .loop .inv .1)
 
 returns-2 : tie.Need-returns-2 Inv-loop μ-loop
 returns-2 c = sym (sym (c .before .loop .inv .1) ∙ blank-end (c .before .before .before .args .text .now) _ (c .loop-test .left))

@@ -1,4 +1,4 @@
--- The names decide first; then it is the judgement. Assumes nothing.
+-- `table::judge_answer` meets its contract: the number of names decides first, then the judgement. Assumes nothing.
 use borrow.Author.Needs.{needs}
 use Rattle.table.proofs.Asking.{says-differ, says-equal}
 use Rattle.table.proofs.judge_answer.Statement.{statement}

@@ -1,4 +1,4 @@
--- Each case is answered by its own. Assumes nothing.
+-- `table::judged_answer` meets its contract: each arm knows the judgement, whose answer the definition gives. Assumes nothing.
 use borrow.Author.Needs.{needs}
 use mathlib.Core.Path.{sym, ap}
 use Rattle.table.specs.Steps.{judgedAnswer}

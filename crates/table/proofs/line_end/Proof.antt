@@ -1,4 +1,4 @@
--- The invariant: the lines from the start on are those of what is left, with what was passed in front of the first. Assumes nothing.
+-- `table::line_end` meets its contract: the lines from the start on are those of what is left, with what was passed in front of the first. Assumes nothing.
 use borrow.Author.Needs.{needs}
 use Prim.Native.Nat.{ℕ, _-_, _≤_}
 use mathlib.Core.Path.{_≡_, sym, ap, _∙_}

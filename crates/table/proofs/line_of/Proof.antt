@@ -1,13 +1,13 @@
--- The invariant: the bytes are those of the text that were passed, then zeros. Assumes nothing.
+-- `table::line_of` meets its contract: so far the bytes are those of the text that were passed, then zeros. Assumes nothing.
 use borrow.Author.Needs.{needs}
 use Prim.Native.Nat.{ℕ, _-_, _≤_}
 use mathlib.Core.Path.{_≡_, ap, _∙_}
 use mathlib.Core.List.{List, _++_}
 use lib.ListN.{length, take, getD, set, replicate}
 use lib.Seq.{take-length}
-use Rattle.table.specs.declared.Line.{Line}
 use Rattle.table.specs.Store.{lineOf}
 use Rattle.names.proofs.Scans.{copy-next}
+use Rattle.table.proofs.Lines.{lineWith}
 use native.Mathlib.Omega.{arith}
 use Rattle.table.proofs.line_of.Statement.{statement}
 use Rattle.table.proofs.line_of.Tie as tie
@@ -17,9 +17,6 @@ Inv-loop text bytes₀ i₀ bytes i = (i ≤ length text) × (bytes ≡ take i t
 
 abbrev μ-loop : tie.MeasureT-loop
 μ-loop text bytes₀ i₀ bytes i = length text - i
-
-abbrev lineWith : List ℕ → ℕ → Line
-lineWith b n = record { bytes = b; len = n }
 
 zeros-requires : tie.Need-zeros-requires Inv-loop μ-loop
 zeros-requires c κs = search needs

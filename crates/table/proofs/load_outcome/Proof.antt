@@ -1,4 +1,4 @@
--- `load_outcome` meets its contract: each case has its number. Assumes nothing.
+-- `table::load_outcome` meets its contract: each arm knows its answer, whose outcome the definition gives; a refused line's is add's, on that line. Assumes nothing.
 use mathlib.Core.Path.{sym, ap, _∙_}
 use Rattle.table.specs.Numbers.{onLine, loadOutcome}
 use borrow.Author.Needs.{needs}

@@ -1,4 +1,4 @@
--- `names_answer` meets its contract: each case is told. Assumes nothing.
+-- `table::names_answer` meets its contract: each arm knows the answer for the names, whose own the definition gives. Assumes nothing.
 use borrow.Author.Needs.{needs}
 use mathlib.Core.Path.{sym, ap}
 use Rattle.table.specs.Calls.{namesAnswer}

@@ -1,4 +1,4 @@
--- `no_counts` meets its contract: no rule has no name and no atom. Assumes nothing.
+-- `table::no_counts` meets its contract: where no rule stands there is no name and no atom. Assumes nothing.
 use borrow.Author.Needs.{needs}
 use mathlib.Core.Path.{refl}
 use mathlib.Core.List.{[]}

@@ -1,22 +1,19 @@
--- `no_line` meets its contract: its bytes are zeros and its length is 0. Assumes nothing.
+-- `table::no_line` meets its contract: its bytes are zeros and its length is 0. Assumes nothing.
 use borrow.Author.Needs.{needs}
 use mathlib.Core.Path.{ap}
 use mathlib.Core.List.{List}
 use Prim.Native.Nat.{ℕ}
-use Rattle.table.specs.declared.Line.{Line}
 use Rattle.table.specs.Store.{lineOf}
+use Rattle.table.proofs.Lines.{lineWith}
 use Rattle.table.proofs.no_line.Statement.{statement}
 use Rattle.table.proofs.no_line.Tie as tie
-
-abbrev lineWith : List ℕ → Line
-lineWith b = record { bytes = b; len = 0 }
 
 zeros-requires : tie.Need-zeros-requires
 zeros-requires c κs = search needs
 
 returns : tie.Need-returns
 unfolding lineOf
-returns c = ap lineWith (c .zeros .ensures)
+returns c = ap (λ (bytes : List ℕ). lineWith bytes 0) (c .zeros .ensures)
 
 pub no-line-spec : {M : Type 1} → statement M
 no-line-spec = tie.close (tie.spec zeros-requires returns)

@@ -1,4 +1,4 @@
--- `on_line` meets its contract: each case is told. Assumes nothing.
+-- `table::on_line` meets its contract: each arm knows its outcome, and a refusal gets the line. Assumes nothing.
 use mathlib.Core.Path.{sym, ap}
 use Rattle.table.specs.Numbers.{onLine}
 use borrow.Author.Needs.{needs}

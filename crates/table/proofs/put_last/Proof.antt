@@ -1,4 +1,4 @@
--- `put_last` meets its contract: the first empty line takes the text. Assumes nothing.
+-- `table::put_last` meets its contract: the first empty line takes the text. Assumes nothing.
 use borrow.Author.Needs.{needs}
 use Rattle.table.proofs.Lines.{put-table}
 use Rattle.table.proofs.put_last.Statement.{statement}

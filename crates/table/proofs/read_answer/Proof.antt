@@ -1,4 +1,4 @@
--- `read_answer` meets its contract: each case is told. Assumes nothing.
+-- `table::read_answer` meets its contract: each arm knows the reader's answer, whose own the definition gives. Assumes nothing.
 use borrow.Author.Needs.{needs}
 use mathlib.Core.Path.{sym, ap}
 use Rattle.table.specs.Calls.{readAnswer}

@@ -1,4 +1,4 @@
--- `with_rule` meets its contract: refusals 9, 7 and 8 are found in this order, and a rule with room is counted. Assumes nothing.
+-- `table::with_rule` meets its contract: refusals 9, 7 and 8 are looked for in this order, and a rule with room is counted. Assumes nothing.
 use borrow.Author.Needs.{needs}
 use native.Mathlib.Omega.{arith}
 use Rattle.table.proofs.Refusals.{told-refused}

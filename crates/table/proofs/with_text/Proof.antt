@@ -1,4 +1,4 @@
--- `with_text` meets its contract: the reader decides first, and a rule is left to `with_rule`. Assumes nothing.
+-- `table::with_text` meets its contract: the reader decides first, and a rule is left to `with_rule`. Assumes nothing.
 use borrow.Author.Needs.{needs}
 use mathlib.Core.Path.{_∙_}
 use Rattle.table.proofs.Refusals.{told-refused}

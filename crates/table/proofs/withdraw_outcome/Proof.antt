@@ -1,4 +1,4 @@
--- `withdraw_outcome` meets its contract: each case has its number. Assumes nothing.
+-- `table::withdraw_outcome` meets its contract: each arm knows its answer, whose outcome the definition gives. Assumes nothing.
 use mathlib.Core.Path.{sym, ap}
 use Rattle.table.specs.Numbers.{withdrawOutcome}
 use borrow.Author.Needs.{needs}

@@ -1,4 +1,4 @@
--- Each case is answered by its own. Assumes nothing.
+-- `table::written_answer` meets its contract: each arm knows what was written, whose answer the definition gives. Assumes nothing.
 use borrow.Author.Needs.{needs}
 use mathlib.Core.Path.{sym, ap}
 use Rattle.table.specs.Steps.{writtenAnswer}

@@ -1,4 +1,4 @@
--- `add` meets its contract: the text is put to what is counted of the table's rules, and put last if it is taken. Assumes nothing.
+-- `table::Table::add` meets its contract: the text is put to what is counted of the table's rules, and put last if it is taken. Assumes nothing.
 use borrow.Author.Needs.{needs}
 use Rattle.table.proofs.Refusals.{told-refused}
 use Rattle.table.proofs.Results.{adds-refused, adds-taken, may-put}

@@ -1,4 +1,4 @@
--- The rules are compiled, the search finds the first row or none, and its plan is written. Assumes nothing.
+-- `table::Table::ask` meets its contract: the rules are compiled, the search finds the first row or none, and its plan is written. Assumes nothing.
 use borrow.Author.Needs.{needs}
 use mathlib.Core.Path.{refl, sym, ap, _∙_}
 use mathlib.Core.List.{[], _∷_, map}

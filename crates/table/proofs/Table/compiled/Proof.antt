@@ -1,8 +1,8 @@
--- The invariant: the first i texts are compiled. Assumes nothing.
+-- `table::Table::compiled` meets its contract: so far the first i texts are compiled. Assumes nothing.
 use borrow.Author.Needs.{needs}
 use Prim.Native.Nat.{_-_, _<_}
 use native.Mathlib.Omega.{arith}
-use Rattle.table.proofs.Lines.{none, count-is}
+use Rattle.table.proofs.Lines.{count-few}
 use Rattle.table.proofs.Recount.{text-within, text-length}
 use Rattle.table.proofs.Compiled.{Reached, reached-none, reached-all, reached-ready, reached-next}
 use Rattle.table.proofs.Table.compiled.Statement.{statement}
@@ -15,7 +15,7 @@ abbrev μ-loop : tie.MeasureT-loop
 μ-loop code₀ self standing c₀ i₀ code c i = standing - i
 
 few : (c : tie.In-loop Inv-loop μ-loop) → c .before .loop .i < 16
-few c = omega (arith, count-is (c .before .before .before .args .t1) (c .before .before .before .pre .0), c .before .before .before .pre .0 .standing .few, c .loop-test .taken)
+few c = omega (arith, count-few (c .before .before .before .args .t1) (c .before .before .before .pre .0), c .loop-test .taken)
 
 nothing-compiled-requires : tie.Need-nothing-compiled-requires Inv-loop μ-loop
 nothing-compiled-requires c κs = search needs
@@ -30,13 +30,13 @@ element-copy-out-line : tie.Need-element-copy-out-line Inv-loop μ-loop
 element-copy-out-line c = few c
 
 array-share-prefix-bytes : tie.Need-array-share-prefix-bytes Inv-loop μ-loop
-array-share-prefix-bytes c = text-within (c .before .before .before .before .before .args .t1) (c .before .before .before .before .before .pre .0) _ none (c .before .before .loop-test .taken)
+array-share-prefix-bytes c = text-within (c .before .before .before .before .before .pre .0) (c .before .before .loop-test .taken)
 
 slice-aggregate-with-text : tie.Need-slice-aggregate-with-text Inv-loop μ-loop
-slice-aggregate-with-text c = text-length (c .before .before .before .before .before .before .args .t1) (c .before .before .before .before .before .before .pre .0) _ none (c .before .before .before .loop-test .taken)
+slice-aggregate-with-text c = text-length (c .before .before .before .before .before .before .pre .0) (c .before .before .before .loop-test .taken)
 
 with-text-requires : tie.Need-with-text-requires Inv-loop μ-loop
-with-text-requires c κs = reached-ready (c .before .before .before .before .before .before .before .args .t1) (c .before .before .before .before .before .before .before .pre .0) _ none (c .before .before .before .before .loop-test .taken) _ _ (c .before .before .before .before .before .loop .inv)
+with-text-requires c κs = reached-ready (c .before .before .before .before .before .before .before .pre .0) (c .before .before .before .before .loop-test .taken) _ _ (c .before .before .before .before .before .loop .inv)
 
 add-i : tie.Need-add-i Inv-loop μ-loop
 add-i c = omega (arith, few (c .before .before .before .before .before))
@@ -45,7 +45,7 @@ loop-less : tie.Need-loop-less Inv-loop μ-loop
 loop-less c = omega arith
 
 loop-again : tie.Need-loop-again Inv-loop μ-loop
-loop-again c = reached-next (c .before .before .before .before .before .before .before .before .args .t1) (c .before .before .before .before .before .before .before .before .pre .0) _ none (c .before .before .before .before .before .loop-test .taken) _ _ (c .before .before .before .before .before .before .loop .inv) _ _ (c .with-text .ensures)
+loop-again c = reached-next (c .before .before .before .before .before .before .before .before .pre .0) (c .before .before .before .before .before .loop-test .taken) _ _ (c .before .before .before .before .before .before .loop .inv) _ _ (c .with-text .ensures)
 
 returns : tie.Need-returns Inv-loop μ-loop
 returns c = reached-all _ _ _ _ (c .before .before .before .pre .0) (c .before .loop .inv) (c .loop-test .left)

@@ -1,9 +1,9 @@
--- The invariant: the names and atoms are those of the first i texts. Assumes nothing.
+-- `table::Table::counts` meets its contract: so far the names and atoms are those of the first i texts. Assumes nothing.
 use borrow.Author.Needs.{needs}
 use Prim.Native.Nat.{_-_, _<_}
-use Rattle.table.proofs.Lines.{none, count-is}
+use Rattle.table.proofs.Lines.{count-few}
 use Rattle.table.proofs.Counting.{was-read}
-use Rattle.table.proofs.Recount.{CountedTo, counted-none, counted-all, text-within, text-length, text-read, counted-gathers, counted-few, counted-next}
+use Rattle.table.proofs.Recount.{CountedTo, counted-none, counted-all, text-within, text-length, text-read, text-gathers, counted-few, counted-next}
 use native.Mathlib.Omega.{arith}
 use Rattle.table.proofs.Table.counts.Statement.{statement}
 use Rattle.table.proofs.Table.counts.Tie as tie
@@ -15,7 +15,7 @@ abbrev μ-loop : tie.MeasureT-loop
 μ-loop self rules names₀ atoms₀ i₀ names atoms i = rules - i
 
 few : (c : tie.In-loop Inv-loop μ-loop) → c .before .loop .i < 16
-few c = omega (arith, count-is (c .before .before .before .args .t1) (c .before .before .before .pre), c .before .before .before .pre .standing .few, c .loop-test .taken)
+few c = omega (arith, count-few (c .before .before .before .args .t1) (c .before .before .before .pre), c .loop-test .taken)
 
 no-names-requires : tie.Need-no-names-requires Inv-loop μ-loop
 no-names-requires c κs = search needs
@@ -30,22 +30,22 @@ element-copy-out-line : tie.Need-element-copy-out-line Inv-loop μ-loop
 element-copy-out-line c = few c
 
 array-share-prefix-bytes : tie.Need-array-share-prefix-bytes Inv-loop μ-loop
-array-share-prefix-bytes c = text-within (c .before .before .before .before .before .args .t1) (c .before .before .before .before .before .pre) _ none (c .before .before .loop-test .taken)
+array-share-prefix-bytes c = text-within (c .before .before .before .before .before .pre) (c .before .before .loop-test .taken)
 
 slice-aggregate-text : tie.Need-slice-aggregate-text Inv-loop μ-loop
-slice-aggregate-text c = text-length (c .before .before .before .before .before .before .args .t1) (c .before .before .before .before .before .before .pre) _ none (c .before .before .before .loop-test .taken)
+slice-aggregate-text c = text-length (c .before .before .before .before .before .before .pre) (c .before .before .before .loop-test .taken)
 
 read-rule-requires : tie.Need-read-rule-requires Inv-loop μ-loop
 read-rule-requires c κs = search needs
 
 gather-requires : tie.Need-gather-requires Inv-loop μ-loop
-gather-requires c κs = counted-gathers (c .before .before .before .before .before .before .before .args .t1) (c .before .before .before .before .before .before .before .pre) _ none (c .before .before .before .before .loop-test .taken) _ _ (c .before .before .before .before .before .loop .inv) _ (c .read-rule .ensures)
+gather-requires c κs = text-gathers (c .before .before .before .before .before .before .before .pre) (c .before .before .before .before .loop-test .taken) _ _ (c .before .before .before .before .before .loop .inv) _ (c .read-rule .ensures)
 
 atoms-of-requires : tie.Need-atoms-of-requires Inv-loop μ-loop
-atoms-of-requires c κs = was-read _ _ (c .before .before .read-rule .ensures) (text-read (c .before .before .before .before .before .before .before .before .before .args .t1) (c .before .before .before .before .before .before .before .before .before .pre) _ none (c .before .before .before .before .before .before .loop-test .taken))
+atoms-of-requires c κs = was-read _ _ (c .before .before .read-rule .ensures) (text-read (c .before .before .before .before .before .before .before .before .before .pre) (c .before .before .before .before .before .before .loop-test .taken))
 
 add-atoms : tie.Need-add-atoms Inv-loop μ-loop
-add-atoms c = omega (arith, c .atoms-of .ensures .1, counted-few (c .before .before .before .before .before .before .before .before .before .before .args .t1) (c .before .before .before .before .before .before .before .before .before .before .pre) _ none (c .before .before .before .before .before .before .before .loop-test .taken) _ _ (c .before .before .before .before .before .before .before .before .loop .inv))
+add-atoms c = omega (arith, c .atoms-of .ensures .1, counted-few (c .before .before .before .before .before .before .before .before .before .before .pre) (c .before .before .before .before .before .before .before .loop-test .taken) _ _ (c .before .before .before .before .before .before .before .before .loop .inv))
 
 add-i : tie.Need-add-i Inv-loop μ-loop
 add-i c = omega (arith, few (c .before .before .before .before .before .before .before))
@@ -54,7 +54,7 @@ loop-less : tie.Need-loop-less Inv-loop μ-loop
 loop-less c = omega arith
 
 loop-again : tie.Need-loop-again Inv-loop μ-loop
-loop-again c = counted-next (c .before .before .before .before .before .before .before .before .before .before .args .t1) (c .before .before .before .before .before .before .before .before .before .before .pre) _ none (c .before .before .before .before .before .before .before .loop-test .taken) _ _ (c .before .before .before .before .before .before .before .before .loop .inv) _ _ _ (c .before .before .before .read-rule .ensures) (c .before .before .gather .ensures) (c .atoms-of .ensures .0)
+loop-again c = counted-next (c .before .before .before .before .before .before .before .before .before .before .pre) (c .before .before .before .before .before .before .before .loop-test .taken) _ _ (c .before .before .before .before .before .before .before .before .loop .inv) _ _ _ (c .before .before .before .read-rule .ensures) (c .before .before .gather .ensures) (c .atoms-of .ensures .0)
 
 returns : tie.Need-returns Inv-loop μ-loop
 returns c = counted-all _ _ _ _ (c .before .before .before .pre) (c .before .loop .inv) (c .loop-test .left)

@@ -1,4 +1,4 @@
--- The words are read first; a plan is judged by the rules, once they are compiled. Assumes nothing.
+-- `table::Table::judge` meets its contract: the words are read first; a plan is judged by the rules, once they are compiled. Assumes nothing.
 use borrow.Author.Needs.{needs}
 use Rattle.table.proofs.Asking.{judges-none, judges-words, judges-plan}
 use Rattle.table.proofs.Table.judge.Statement.{statement}

@@ -1,4 +1,4 @@
--- The invariant: the lines before a place have been judged and kept. A line that is refused ends the load, and the old table comes back. Assumes nothing.
+-- `table::Table::load` meets its contract: so far each line is judged and those that are not blank are held; a refused line ends the load, and the old table comes back. Assumes nothing.
 use borrow.Author.Needs.{needs}
 use Prim.Native.Nat.{_+_, _-_}
 use mathlib.Core.Path.{sym, subst, _∙_}
@@ -9,8 +9,8 @@ use Rattle.table.specs.declared.Table.{Table}
 use Rattle.table.specs.declared.Counts.{Counts}
 use Rattle.table.specs.Calls.{Loads}
 use Rattle.table.proofs.Refusals.{told-refused}
-use Rattle.table.proofs.Results.{loaded-by}
-use Rattle.table.proofs.Loading.{Progress, start, after-blank, counting, fits, after-added, line-refused, nothing-kept, something-kept, kept-table, too-long}
+use Rattle.table.proofs.Results.{may-put, loaded-by}
+use Rattle.table.proofs.Loading.{Progress, start, after-blank, after-added, line-refused, nothing-kept, something-kept, kept-table, too-long}
 use native.Mathlib.Omega.{arith}
 use Rattle.table.proofs.Table.load.Statement.{statement}
 use Rattle.table.proofs.Table.load.Tie as tie
@@ -57,9 +57,7 @@ blank-line-requires : tie.Need-blank-line-requires Inv-loop μ-loop
 blank-line-requires c κs = search needs
 
 with-text-requires : tie.Need-with-text-requires Inv-loop μ-loop
-with-text-requires c κs =
-    let cut = c .before .before .before .line-end .ensures in
-    counting _ _ _ _ _ _ (c .before .before .before .before .before .loop .inv) (c .before .before .before .before .loop-test .taken) (cut .0) (cut .1) (cut .2)
+with-text-requires c κs = let inv = c .before .before .before .before .before .loop .inv in record { rules = _; counted = inv .counted; standing = inv .from-us .standing }
 
 enum-told : tie.Need-enum-told Inv-loop μ-loop
 enum-told c = search needs
@@ -76,10 +74,8 @@ returns-2 c =
 
 put-last-requires : tie.Need-put-last-requires Inv-loop μ-loop
 put-last-requires c κs =
-    let at = c .before .before .before .before .before .before .before .before .before .loop in
-    let cut = c .before .before .before .before .before .before .before .line-end .ensures in
-    let filled = sym (c .before .before .before .before .before .blank-line .ensures) ∙ not-true _ (c .before .before .before .before .if2 .taken) in
-    fits _ _ _ _ _ _ (at .inv) (c .before .before .before .before .before .before .before .before .loop-test .taken) (cut .0) (cut .1) (cut .2) _ filled (c .before .before .before .with-text .ensures) (c .before .enum-told .given .1)
+    let inv = c .before .before .before .before .before .before .before .before .before .loop .inv in
+    may-put _ _ _ _ (inv .from-us) (inv .counted) (c .before .before .before .with-text .ensures) (c .before .enum-told .given .1)
 
 add-from : tie.Need-add-from Inv-loop μ-loop
 add-from c = omega (arith, c .before .before .before .line-end .ensures .1, c .before .before .before .before .before .loop .inv .short)

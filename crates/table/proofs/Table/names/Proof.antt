@@ -1,4 +1,4 @@
--- What is counted has the names. Assumes nothing.
+-- `table::Table::names` meets its contract: the names are part of what is counted. Assumes nothing.
 use borrow.Author.Needs.{needs}
 use mathlib.Core.Path.{ap}
 use Rattle.table.specs.declared.Counts.{Counts}

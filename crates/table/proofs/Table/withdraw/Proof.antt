@@ -1,4 +1,4 @@
--- The invariant: the lines from k up to i have moved down by one place. The freed line is cleared last. Assumes nothing.
+-- `table::Table::withdraw` meets its contract: so far the lines from k up to i have moved down by one place, and the freed line is cleared last. Assumes nothing.
 use borrow.Author.Needs.{needs}
 use Prim.Native.Nat.{ℕ, _-_, _≤_, _<_}
 use mathlib.Core.Path.{_≡_, ap, _∙_}
@@ -7,7 +7,7 @@ use lib.ListN.{length, getD, set}
 use Rattle.table.specs.declared.Line.{Line}
 use Rattle.table.specs.Store.{rulesOf}
 use Rattle.table.proofs.Results.{withdraw-zero, withdraw-high, withdraw-good, withdrawn-by}
-use Rattle.table.proofs.Lines.{none, count-is, tableWith}
+use Rattle.table.proofs.Lines.{none, count-is, count-few, tableWith}
 use Rattle.table.proofs.Shift.{moved, moved-none, moved-next, left-table, lines-length}
 use native.Mathlib.Omega.{arith}
 use Rattle.table.proofs.Table.withdraw.Statement.{statement}
@@ -20,7 +20,7 @@ abbrev μ-loop : tie.MeasureT-loop
 μ-loop k count table₀ i₀ table i = count - i
 
 few : (c : tie.Else2 Inv-loop μ-loop) → c .before .before .args .self .count ≤ 16
-few c = omega (arith, count-is (c .before .before .args .self) (c .before .before .pre), c .before .before .pre .standing .few)
+few c = count-few (c .before .before .args .self) (c .before .before .pre)
 
 returns : tie.Need-returns Inv-loop μ-loop
 returns c = withdrawn-by (c .before .args .self) _ _ _ (c .before .pre) (withdraw-zero _ _ (c .if1 .taken)) (c .before .pre .same)
