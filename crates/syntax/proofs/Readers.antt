@@ -41,10 +41,10 @@ after-less ks a m (Refused p) w = omega arith
 -- ---- level
 
 pub level-formula-asked : (ks : List ℕ) (a k : ℕ) (w : Bool) (n t : ℕ) → Asked ks a k w n → leftAt ks a k ≡ t → k < 4 → (left ks a 7 < t) × Asked ks a 3 true n
-level-formula-asked ks a k w n t q u l = (omega arith, record { inside = q .inside; short = q .short; deep = omega arith; formula = λ h. refl; room = q .room; plain = λ h. absurd (let y : ⊥ = omega arith in y) })
+level-formula-asked ks a k w n t q u l = (omega arith, record { inside = q .inside; short = q .short; deep = omega arith; formula = λ h. refl; room = q .room; plain = λ h. absurd (omega arith) })
 
 pub level-term-asked : (ks : List ℕ) (a k : ℕ) (w : Bool) (n t : ℕ) → Asked ks a k w n → leftAt ks a k ≡ t → 4 ≤ k → (left ks a 1 < t) × Asked ks a 6 w n
-level-term-asked ks a k w n t q u h = (omega (arith, q .deep), record { inside = q .inside; short = q .short; deep = omega arith; formula = λ l. absurd (let y : ⊥ = omega arith in y); room = q .room; plain = λ l. q .plain h })
+level-term-asked ks a k w n t q u h = (omega (arith, q .deep), record { inside = q .inside; short = q .short; deep = omega arith; formula = λ l. absurd (omega arith); room = q .room; plain = λ l. q .plain h })
 
 pub level-more-asked : (ks : List ℕ) (a k : ℕ) (w : Bool) (n t j : ℕ) (v : Bool) (A : List ℕ) (x : Read) (B : List ℕ) → Asked ks a k w n → leftAt ks a k ≡ t → (k < 4 → j ≤ 3) → Said ks a j v n A x B → (leftAfter ks x < t) × MoreAsked ks k x
 level-more-asked ks a k w n t j v A x B q u h s = (omega (arith, q .deep, after-less ks a n x (s .within)), record { short = q .short; deep = q .deep; inside = inside-of (length ks) a n x (q .room) (s .within); stopped = λ l. stops-looser ks j 3 x (h l) (s .stops) })
@@ -76,7 +76,7 @@ binding-inside ks t p h = by-test (ltb p (length ks)) refl
   where
     by-test : (b : Bool) → ltb p (length ks) ≡ b → p < length ks
     by-test true q = ltb-true p (length ks) q
-    by-test false q = absurd (let z : bindingOf t (kindAt ks p) ≡ 0 = ap (bindingOf t) (List·getD-eq-default ks 19 (ltb-false p (length ks) q)) ∙ binding-end t in let y : ⊥ = omega arith in y)
+    by-test false q = absurd (let z : bindingOf t (kindAt ks p) ≡ 0 = ap (bindingOf t) (List·getD-eq-default ks 19 (ltb-false p (length ks) q)) ∙ binding-end t in omega arith)
 
 -- a sign of formulas has a rank below 3, and one of terms a rank from 4 on
 record Rank (t : Bool) (b : ℕ) : Type 0 where
@@ -85,7 +85,7 @@ record Rank (t : Bool) (b : ℕ) : Type 0 where
   term : 4 ≤ b → not t ≡ true → ⊥
 
 rank-of : (t : Bool) (c : ℕ) → 0 < bindingOf t c → Rank t (bindingOf t c)
-rank-of true c h = record { deep = binding-term c .0; formula = λ l. absurd (let z : 5 ≤ bindingOf true c = binding-term c .1 h in let y : ⊥ = omega arith in y); term = λ l q. true≢false (sym q) }
+rank-of true c h = record { deep = binding-term c .0; formula = λ l. absurd (let z : 5 ≤ bindingOf true c = binding-term c .1 h in omega arith); term = λ l q. true≢false (sym q) }
 rank-of false c h = record { deep = omega (arith, binding-formula c); formula = λ l. refl; term = λ l q. omega (arith, binding-formula c) }
 
 -- =0 aside, what goes on a value is a binary sign
@@ -104,7 +104,7 @@ goes-binding t c k h s = by-test t (eqb c 10) (ltb k 4) refl s h
     by-test : (v b d : Bool) → ltb k 4 ≡ d → (k < 4 → cond b (cond v 4 0) (bindingOf t c) ≤ 3) → bindingOf t c ≤ k → cond b (cond v 4 0) (bindingOf t c) ≤ k
     by-test v false d q l m = m
     by-test false true d q l m = omega arith
-    by-test true true true q l m = absurd (let z : 4 ≤ 3 = l (ltb-true k 4 q) in let y : ⊥ = omega arith in y)
+    by-test true true true q l m = absurd (let z : 4 ≤ 3 = l (ltb-true k 4 q) in omega arith)
     by-test true true false q l m = ltb-false k 4 q
 
 module _ (ks : List ℕ) (k : ℕ) (s : Read) (t : Bool) (p n c b : ℕ) (f : Found ks k s t p n c b) where
@@ -137,7 +137,7 @@ module _ (ks : List ℕ) (k : ℕ) (s : Read) (t : Bool) (p n c b : ℕ) (f : Fo
     ended-inside = ended-within (length ks) p n t x (g .within)
 
     stopped-formula : k < 4 → (v : Bool) → t ≡ v → StopsBelow ks 3 (Value v p n) → b ≤ 3
-    stopped-formula h true q u = absurd (let z : 5 ≤ bindingOf true (kindAt ks p) = binding-term (kindAt ks p) .1 (subst (λ (v : Bool). 0 < bindingOf v (kindAt ks p)) q found-positive) in let y : ⊥ = omega (arith, binding-goes true (kindAt ks p), u) in y)
+    stopped-formula h true q u = absurd (let z : 5 ≤ bindingOf true (kindAt ks p) = binding-term (kindAt ks p) .1 (subst (λ (v : Bool). 0 < bindingOf v (kindAt ks p)) q found-positive) in omega (arith, binding-goes true (kindAt ks p), u))
     stopped-formula h false q u = omega (arith, found-binding ∙ ap (λ (v : Bool). bindingOf v (kindAt ks p)) q, binding-formula (kindAt ks p))
 
     -- the sign is read, then its right value, and then it is written
@@ -202,7 +202,7 @@ level-alone ks a k w n j v A x B q u h l s f = level-said ks a k w n j v A x B x
 
 -- a term alone may stand here
 term-asked : (ks : List ℕ) (a k n : ℕ) → a ≤ length ks → length ks ≤ 256 → 4 ≤ k → k ≤ 6 → n ≤ a → Asked ks a k false n
-term-asked ks a k n i s l d r = record { inside = i; short = s; deep = d; formula = λ h. absurd (let y : ⊥ = omega arith in y); room = r; plain = λ h e. absurd (true≢false (sym e)) }
+term-asked ks a k n i s l d r = record { inside = i; short = s; deep = d; formula = λ h. absurd (omega arith); room = r; plain = λ h e. absurd (true≢false (sym e)) }
 
 pub ended-room : (ks : List ℕ) (a k : ℕ) (w : Bool) (n j : ℕ) (v : Bool) (A : List ℕ) (x : Read) (B : List ℕ) → Asked ks a k w n → Said ks (a + 1) j v n A x B → Room x
 ended-room ks a k w n j v A x B q s = room-of (length ks) (a + 1) n x (omega (arith, q .room)) (q .short) (s .within)
@@ -231,7 +231,7 @@ relation-at c h l = by-test (eqb c 14) refl
 
 module _ (ks : List ℕ) (a n : ℕ) (q : Asked ks a 3 true n) where
   pub tilde-asked : (t c : ℕ) → left ks a 7 ≡ t → c ≡ kindAt ks a → c ≡ 7 → (left ks (a + 1) 7 < t) × Asked ks (a + 1) 3 true n
-  tilde-asked t c u k h = let l : a < length ks = kind-inside ks a (omega arith) in (omega arith, record { inside = omega arith; short = q .short; deep = omega arith; formula = λ h. refl; room = omega (arith, q .room); plain = λ h. absurd (let y : ⊥ = omega arith in y) })
+  tilde-asked t c u k h = let l : a < length ks = kind-inside ks a (omega arith) in (omega arith, record { inside = omega arith; short = q .short; deep = omega arith; formula = λ h. refl; room = omega (arith, q .room); plain = λ h. absurd (omega arith) })
 
   pub relation-asked : (t c : ℕ) → left ks a 7 ≡ t → c ≡ kindAt ks a → c < 16 → (left ks (a + 1) 0 < t) × RelationAsked ks (a + 1) n
   relation-asked t c u k h = let l : a < length ks = kind-inside ks a (omega arith) in (omega arith, record { inside = omega arith; short = q .short; room = omega (arith, q .room) })
@@ -303,7 +303,7 @@ module _ (ks : List ℕ) (a : ℕ) (w : Bool) (n : ℕ) (q : Asked ks a 6 w n) w
   parenthesis-asked t c u k e = let l : a < length ks = kind-inside ks a (omega arith) in (omega arith, by-sort l w)
     where
       by-sort : a < length ks → (v : Bool) → Asked ks (a + 1) (startOf v) v n
-      by-sort l true = record { inside = omega arith; short = q .short; deep = omega arith; formula = λ h. refl; room = omega (arith, q .room); plain = λ h. absurd (let y : ⊥ = omega arith in y) }
+      by-sort l true = record { inside = omega arith; short = q .short; deep = omega arith; formula = λ h. refl; room = omega (arith, q .room); plain = λ h. absurd (omega arith) }
       by-sort l false = term-asked ks (a + 1) 4 n (omega arith) (q .short) (omega arith) (omega arith) (omega (arith, q .room))
 
   pub minus-said : (A : List ℕ) (x : Read) (B : List ℕ) (r : Read) (C : List ℕ) (c : ℕ) → c ≡ kindAt ks a → c ≡ 6 → Said ks (a + 1) 6 false n A x B → (r ≡ endedOf true x) × (C ≡ endedIn true c x B) → Said ks a 6 w n A r C
@@ -354,7 +354,7 @@ module _ (ks : List ℕ) (a : ℕ) (w : Bool) (n : ℕ) (q : Asked ks a 6 w n) w
 
 module _ (ks : List ℕ) (a n : ℕ) (q : Asked ks a 3 true n) (c : ℕ) (k : c ≡ kindAt ks a) (h : c ≡ 8) where
   opening-plain : Asked ks a 4 true n
-  opening-plain = plain-asked ks a n q (left ks a 7) c refl k (λ e. absurd (let y : ⊥ = omega arith in y)) (λ e. absurd (let y : ⊥ = omega arith in y)) .1
+  opening-plain = plain-asked ks a n q (left ks a 7) c refl k (λ e. absurd (omega arith)) (λ e. absurd (omega arith)) .1
 
   opening-term : Asked ks a 6 true n
   opening-term = level-term-asked ks a 4 true n (leftAt ks a 4) opening-plain refl (omega arith) .1
@@ -367,13 +367,13 @@ module _ (ks : List ℕ) (a n : ℕ) (q : Asked ks a 3 true n) (c : ℕ) (k : c 
     opening-read = parenthesis-prefix-said ks a true n opening-term A x B c k h s
 
     pub opening-more-asked : (t : ℕ) → left ks a 7 ≡ t → (leftAfter ks x < t) × MoreAsked ks 4 x
-    opening-more-asked t u = let z : (leftAfter ks x < leftAt ks a 4) × MoreAsked ks 4 x = level-more-asked ks a 4 true n (leftAt ks a 4) 6 true A x B opening-plain refl (λ l. absurd (let y : ⊥ = omega arith in y)) opening-read in (omega (arith, z .0, u), z .1)
+    opening-more-asked t u = let z : (leftAfter ks x < leftAt ks a 4) × MoreAsked ks 4 x = level-more-asked ks a 4 true n (leftAt ks a 4) 6 true A x B opening-plain refl (λ l. absurd (omega arith)) opening-read in (omega (arith, z .0, u), z .1)
 
     pub opening-joined : (y : Read) (C : List ℕ) → MoreSaid ks 4 x B y C → Said ks a 4 true n A y C
     opening-joined y C m = level-said ks a 4 true n 6 true A x B y C refl (omega arith) opening-read m
 
     pub opening-alone : followsOf ks 4 x ≡ false → Said ks a 4 true n A x B
-    opening-alone f = level-alone ks a 4 true n 6 true A x B opening-plain refl (omega arith) (λ l. absurd (let y : ⊥ = omega arith in y)) opening-read f
+    opening-alone f = level-alone ks a 4 true n 6 true A x B opening-plain refl (omega arith) (λ l. absurd (omega arith)) opening-read f
 
 -- ---- parenthesis
 
@@ -473,13 +473,13 @@ module _ (ks : List ℕ) (A : List ℕ) (x : Read) (B : List ℕ) (s : Said ks 0
   pub whole-term : (t : Bool) (p n : ℕ) → x ≡ Value t p n → t ≡ true → ParseSaid ks A (Refused p) B
   whole-term t p n v u xs e h =
       let g : EndsAs xs (reading xs) [] (Value t p n) B = whole (Value t p n) v xs e h in
-      g .2 ∙ rejected (drop p xs) t 0 p [] (g .0) (goes-at xs ks e p t 0 (stops-whole t p n v)) (omega arith) (omega arith) (λ z. refl) (λ z. refl) (λ z. absurd (let y : ⊥ = omega arith in y)) (λ z f. absurd (true≢false (sym u ∙ f)))
+      g .2 ∙ rejected (drop p xs) t 0 p [] (g .0) (goes-at xs ks e p t 0 (stops-whole t p n v)) (omega arith) (omega arith) (λ z. refl) (λ z. refl) (λ z. absurd (omega arith)) (λ z f. absurd (true≢false (sym u ∙ f)))
 
   pub whole-longer : (t : Bool) (p n : ℕ) → x ≡ Value t p n → p < length ks → ParseSaid ks A (Refused p) B
   whole-longer t p n v l xs e h =
       let g : EndsAs xs (reading xs) [] (Value t p n) B = whole (Value t p n) v xs e h in
-      g .2 ∙ rejected (drop p xs) t 0 p [] (g .0) (goes-at xs ks e p t 0 (stops-whole t p n v)) (omega arith) (omega arith) (λ z. refl) (λ z. refl) (λ z. absurd (let y : ⊥ = omega arith in y))
-      (λ z f. absurd (let i : length xs - p ≡ 0 = sym (length-drop p xs) ∙ ap length z in let j : length xs ≡ length ks = sym (length-codes xs) ∙ ap length e in let y : ⊥ = omega arith in y))
+      g .2 ∙ rejected (drop p xs) t 0 p [] (g .0) (goes-at xs ks e p t 0 (stops-whole t p n v)) (omega arith) (omega arith) (λ z. refl) (λ z. refl) (λ z. absurd (omega arith))
+      (λ z f. absurd (let i : length xs - p ≡ 0 = sym (length-drop p xs) ∙ ap length z in let j : length xs ≡ length ks = sym (length-codes xs) ∙ ap length e in omega arith))
 
   pub whole-formula : (t : Bool) (p n : ℕ) → x ≡ Value t p n → t ≡ false → length ks ≤ p → ParseSaid ks A (Value t p n) B
   unfolding run

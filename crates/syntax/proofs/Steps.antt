@@ -101,7 +101,7 @@ stuck : (l : List Sym) (p : ℕ) (f : Frame) (K : List Frame) (o : List Sym) →
 stuck l p f K o w h =
     let q : FormulaFrame f = formula-frame f w in
     let m : need f ≤ 3 = q .low in
-    rejected l true (need f) p (f ∷ K) o h (omega arith) (omega arith) (λ e. q .unshut true K o p) (λ e. q .unparted K o p) (λ e. absurd (let y : ⊥ = omega arith in y)) (λ e s. absurd (true≢false s))
+    rejected l true (need f) p (f ∷ K) o h (omega arith) (omega arith) (λ e. q .unshut true K o p) (λ e. q .unparted K o p) (λ e. absurd (omega arith)) (λ e s. absurd (true≢false s))
 
 -- the run ends as one from the place of the answer on, where the second term of C or <= is wanted
 abbrev pub Turns : List Sym → Result → Relation → List Frame → Read → List ℕ → Type 0
@@ -125,7 +125,7 @@ module _ (xs : List Sym) (ks : List ℕ) (e : codes xs ≡ ks) (R : Result) wher
       unclosed false q = rw (k q) (omega arith)
 
       barred : (v : Bool) → w ≡ v → 4 ≤ startOf v → allow K ≡ false
-      barred true q h = absurd (let y : ⊥ = omega arith in y)
+      barred true q h = absurd (omega arith)
       barred false q h = a ∙ q
 
       by-test : (b : Bool) → eqb (kindAt ks p) 9 ≡ b → EndsAs xs R K (cond b (Value t (p + 1) n) (Refused p)) A
@@ -228,7 +228,7 @@ zeroed-within ks a m (Refused p) w = tt
 
 below-five : (m : ℕ) → (0 < m → 5 ≤ m) → m ≤ 4 → m ≤ 3
 below-five ℕ.zero h l = omega arith
-below-five (suc m) h l = absurd (let z : 5 ≤ suc m = h (omega arith) in let y : ⊥ = omega arith in y)
+below-five (suc m) h l = absurd (let z : 5 ≤ suc m = h (omega arith) in omega arith)
 
 -- a term on which neither =0 nor a binary sign of terms goes
 goes-no-zero : (c : ℕ) → (c ≡ 10 → ⊥) → goesAt true c ≤ 4 → goesAt true c ≤ 3
