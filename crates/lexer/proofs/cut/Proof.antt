@@ -1,5 +1,5 @@
--- The invariant: the tokens that are in the arrays and the cutting of the rest of the text give the answer for the whole text. The
--- measure is what is left of the text. Assumes nothing.
+-- `lexer::cut` meets its contract: the tokens that are in the arrays and the cutting of the rest of the text give the answer for the
+-- whole text (the invariant); what is left of the text falls. Assumes nothing.
 use mathlib.Core.Path.{_≡_, sym, ap, _∙_}
 use mathlib.Core.List.{[]}
 use Prim.Native.Nat.{_+_, _-_, _≤_}

@@ -1,4 +1,5 @@
--- `syntax::zeroed` meets its contract: the sort of the value and the kind after it decide, and a token that stands there leaves room for a number. Assumes nothing.
+-- `syntax::zeroed` meets its contract: the sort of the value and the kind after it decide, and a token that stands there leaves room for
+-- a number. Assumes nothing.
 use Prim.Native.Nat.{_≤_}
 use native.Mathlib.Omega.{arith}
 use mathlib.Core.Path.{sym, _∙_}
