@@ -17,6 +17,12 @@ use Rattle.names.specs.declared.Names.{Names}
 use Rattle.names.specs.Gather.{nameOf}
 use Rattle.names.specs.Steps.{sameKept, placeIn, push, withKept}
 
+-- the rest, from a place on, of the first n elements
+rest-taken : {A : Type 0} (l : List A) (n i : ℕ) (d : A) → n ≤ length l → i < n → drop i (take n l) ≡ getD l i d ∷ drop (i + 1) (take n l)
+rest-taken {A} l n i d fits h =
+    let inside : i < length (take n l) = omega (arith, length-take n l) in
+    rest (take n l) i d inside ∙ ap (λ (x : A). x ∷ drop (i + 1) (take n l)) (getD-take n l i d h)
+
 -- ---- same
 
 module _ (k : KeptName) (w : Name) where
@@ -34,10 +40,7 @@ module _ (bytes w : List ℕ) (i : ℕ) (full : length bytes ≡ 16) (short : le
   sameFrom = sameName (drop i (take (length w) bytes)) (drop i w)
 
   kept-rest : i < length w → drop i (take (length w) bytes) ≡ getD bytes i 0 ∷ drop (i + 1) (take (length w) bytes)
-  kept-rest h =
-      let l : i < length (take (length w) bytes) = omega (arith, length-take (length w) bytes) in
-      rest (take (length w) bytes) i 0 l
-      ∙ ap (λ (x : ℕ). x ∷ drop (i + 1) (take (length w) bytes)) (getD-take (length w) bytes i 0 h)
+  kept-rest h = rest-taken bytes (length w) i 0 (omega arith) h
 
   pub byte-same : i < length w → getD bytes i 0 ≡ getD w i 0 → sameFrom ≡ sameName (drop (i + 1) (take (length w) bytes)) (drop (i + 1) w)
   byte-same h e = rw (kept-rest h, rest w i 0 h, eq-eqb (getD bytes i 0) (getD w i 0) e)
@@ -56,23 +59,28 @@ module _ (bytes w : List ℕ) (i : ℕ) (full : length bytes ≡ 16) (short : le
 abbrev pub empty : KeptName
 empty = record { bytes = []; len = 0 }
 
-module _ (w : Name) (ks : List KeptName) (i : ℕ) where
-  pub number-here : i < length ks → sameKept (getD ks i empty) w ≡ true → i + placeIn w (drop i ks) ≡ i
+module _ (w : Name) (list : List KeptName) (count i : ℕ) (fits : count ≤ length list) where
+  -- the name's place among the first ones, counted from i
+  abbrev placeFrom : ℕ → ℕ
+  placeFrom j = j + placeIn w (drop j (take count list))
+
+  pub number-here : i < count → sameKept (getD list i empty) w ≡ true → placeFrom i ≡ i
   unfolding placeIn
   number-here h e =
-      let z : placeIn w (drop i ks) ≡ 0 = rw (rest ks i empty h, e) in
+      let z : placeIn w (drop i (take count list)) ≡ 0 = rw (rest-taken list count i empty fits h, e) in
       omega arith
 
-  pub number-next : i < length ks → sameKept (getD ks i empty) w ≡ false → i + placeIn w (drop i ks) ≡ i + 1 + placeIn w (drop (i + 1) ks)
+  pub number-next : i < count → sameKept (getD list i empty) w ≡ false → placeFrom i ≡ placeFrom (i + 1)
   unfolding placeIn
   number-next h e =
-      let z : placeIn w (drop i ks) ≡ suc (placeIn w (drop (i + 1) ks)) = rw (rest ks i empty h, e) in
+      let z : placeIn w (drop i (take count list)) ≡ suc (placeIn w (drop (i + 1) (take count list))) = rw (rest-taken list count i empty fits h, e) in
       omega arith
 
-  pub number-end : length ks ≤ i → i + placeIn w (drop i ks) ≡ i
+  pub number-end : count ≤ i → placeFrom i ≡ i
   unfolding placeIn
   number-end h =
-      let z : placeIn w (drop i ks) ≡ 0 = rw (drop-of-length-le ks h) in
+      let past : length (take count list) ≤ i = omega (arith, length-take count list) in
+      let z : placeIn w (drop i (take count list)) ≡ 0 = rw (drop-of-length-le (take count list) past) in
       omega arith
 
 -- ---- name_of: one byte more over the zeros, m places in all
