@@ -10,6 +10,7 @@ use lib.Dec.{eqb}
 use lib.ListN.{length, getD, take, drop, set, length-append, length-drop, length-set, take-append-drop}
 use lib.Seq.{sets, length-take-le, take-suc, take-length}
 use Rattle.formula.specs.Formula.{Atom, Formula, Name}
+use Rattle.lexer.proofs.Lists.{map-at}
 use Rattle.syntax.specs.Symbol.{Leaf, leaf, opening}
 use Rattle.syntax.specs.Postfix.{postfix, symbolNames, namesIn}
 use Rattle.syntax.specs.Machine.{Sym}
@@ -31,9 +32,7 @@ use Rattle.compile.proofs.Steps.{Stacked, Put, term-step, Made, atom-st
 
 code-at : (xs : List Sym) (i : ℕ) → i < length xs → getD (codes xs) i 0 ≡ code (symbolAt xs i)
 unfolding codes
-code-at [] i l = absurd (omega arith)
-code-at (x ∷ xs) ℕ.zero l = refl
-code-at (x ∷ xs) (suc i) l = code-at xs i (omega arith)
+code-at xs i l = map-at code xs i opening 0 l
 
 -- how many names stand before a place
 abbrev pub passed : List Sym → ℕ → ℕ
