@@ -226,10 +226,10 @@ module _ {order numbers : List ℕ} {before : Sheet} {buf : List ℕ} {from : �
                 (sym (passed-next (postfix f) i z ∙ ap (λ (k : ℕ). passed (postfix f) i + namesBy k) (sym (kind-is G i l)))) (h' f g atoms G));
           }
 
-      pub term-again : (r : EvalSet) (k more : ℕ) → h < 172 → termKind kind ≡ true → k ≡ getD numbers used 0 → more ≡ namesBy kind
-          → mem r ≡ setBy kind k (memAt stack h) (memAt stack (h + 1))
+      pub term-again : (r : EvalSet) (number more : ℕ) → h < 172 → termKind kind ≡ true → number ≡ getD numbers used 0 → more ≡ namesBy kind
+          → mem r ≡ setBy kind number (memAt stack h) (memAt stack (h + 1))
           → Inv order numbers before buf from out (set stack h r) (h + 1) (used + more) sheet end (i + 1)
-      term-again r k more b t n j m =
+      term-again r number more low-enough term read passes made =
           next (length-set stack h r ∙ inv .whole)
           (λ f g atoms G.
           let F = inv .follows f g atoms G in
@@ -237,14 +237,14 @@ module _ {order numbers : List ℕ} {before : Sheet} {buf : List ℕ} {from : �
           let x : Sym = symbolAt (postfix f) i in
           let e : kind ≡ code x = kind-is G i l in
           let P : Put (set stack h r) h S (step g x S)
-          = term-step g stack r k height h (S .atoms) (S .code) (omega (arith, inv .whole)) x (S .terms) (ap termKind (sym e) ∙ t) (F .high)
+          = term-step g stack r number height h (S .atoms) (S .code) (omega (arith, inv .whole)) x (S .terms) (ap termKind (sym e) ∙ term) (F .high)
           (subst (λ (j : ℕ). takenBy j ≤ height) e enough) (d ∙ ap (λ (j : ℕ). height - takenBy j) e) (F .stacked)
-          (λ y w. n ∙ ap (λ (j : ℕ). getD numbers j 0) (F .counted) ∙ number-is G i y l w)
-          (m ∙ ap (λ (j : ℕ). setBy j k (memAt stack h) (memAt stack (h + 1))) e) in
+          (λ y w. read ∙ ap (λ (j : ℕ). getD numbers j 0) (F .counted) ∙ number-is G i y l w)
+          (made ∙ ap (λ (j : ℕ). setBy j number (memAt stack h) (memAt stack (h + 1))) e) in
           record {
             high = P .high;
             stacked = P .stacked;
-            counted = ap₂ _+_ (F .counted) j;
+            counted = ap₂ _+_ (F .counted) passes;
             compiled-from = subst (CompiledFrom sheet) (sym (P .same-atoms)) (F .compiled-from);
             named = F .named;
             ends = F .ends ∙ ap (λ (c : List ℕ). from + length c) (sym (P .same-code));

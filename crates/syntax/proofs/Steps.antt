@@ -159,12 +159,12 @@ module _ (xs : List Sym) (ks : List ℕ) (e : codes xs ≡ ks) (R : Result) wher
     where
       by-test : (b : Bool) → eqb (kindAt ks p) 10 ≡ b → EndsAs xs R K (cond b (Value false (p + 1) (n + 1)) (Value true p n)) (cond b (set A n 10) A)
       by-test true q =
-          let k : kindAt ks p ≡ 10 = eqb-true (kindAt ks p) 10 q in
-          let l : p < length ks = kind-inside ks p (omega arith) in (
+          let kind : kindAt ks p ≡ 10 = eqb-true (kindAt ks p) 10 q in
+          let here : p < length ks = kind-inside ks p (omega arith) in (
             g .0 ++ isZero ∷ [],
             holds-one A n (g .0) isZero (g .1) (omega arith),
             g .2
-                ∙ at-sign xs ks e p 10 (have true K (g .0)) k (omega arith)
+                ∙ at-sign xs ks e p 10 (have true K (g .0)) kind (omega arith)
                 ∙ ap (λ (z : Popped). run (drop (p + 1) xs) (p + 1) (zeroed z p)) (pop-keep 4 K (g .0) h)
                 ∙ ap (λ (b : Bool). run (drop (p + 1) xs) (p + 1) (guard b (have false K (g .0 ++ isZero ∷ [])) p)) a,
           )
@@ -208,8 +208,8 @@ expected-within ks c a m (Value t p n) h w = by-test (eqb (kindAt ks p) c) refl
   where
     by-test : (b : Bool) → eqb (kindAt ks p) c ≡ b → Within (length ks) a m (cond b (Value t (p + 1) n) (Refused p))
     by-test true q =
-        let k : kindAt ks p ≡ c = eqb-true (kindAt ks p) c q in
-        let l : p < length ks = kind-inside ks p (omega arith) in
+        let kind : kindAt ks p ≡ c = eqb-true (kindAt ks p) c q in
+        let here : p < length ks = kind-inside ks p (omega arith) in
         (omega arith, omega arith, omega arith)
     by-test false q = tt
 expected-within ks c a m (Refused p) h w = tt
@@ -219,8 +219,8 @@ zeroed-within ks a m (Value true p n) w = by-test (eqb (kindAt ks p) 10) refl
   where
     by-test : (b : Bool) → eqb (kindAt ks p) 10 ≡ b → Within (length ks) a m (cond b (Value false (p + 1) (n + 1)) (Value true p n))
     by-test true q =
-        let k : kindAt ks p ≡ 10 = eqb-true (kindAt ks p) 10 q in
-        let l : p < length ks = kind-inside ks p (omega arith) in
+        let kind : kindAt ks p ≡ 10 = eqb-true (kindAt ks p) 10 q in
+        let here : p < length ks = kind-inside ks p (omega arith) in
         (omega arith, omega arith, omega arith)
     by-test false q = w
 zeroed-within ks a m (Value false p n) w = w
