@@ -7,7 +7,7 @@ use Prim.Native.Nat.{ℕ, suc, _+_, _-_, _≤_, _<_}
 use native.Mathlib.Omega.{arith}
 use native.Mathlib.Numerals.{add-one}
 use lib.ListN.{length, take, drop, getD, set, replicate, drop-of-length-le, length-take}
-use lib.Seq.{set-at, take-suc, append-snoc, length-take-le, getD-take}
+use lib.Seq.{set-at, take-suc, append-snoc, length-take-le, slice-cons}
 use borrow.Author.Tests.{eq-eqb, ne-eqb, lt-ltb, le-ltb}
 use Rattle.formula.specs.Formula.{Name}
 use Rattle.lexer.proofs.Lists.{rest}
@@ -16,12 +16,6 @@ use Rattle.names.specs.declared.KeptName.{KeptName}
 use Rattle.names.specs.declared.Names.{Names}
 use Rattle.names.specs.Gather.{nameOf}
 use Rattle.names.specs.Steps.{sameKept, placeIn, push, withKept}
-
--- the rest, from a place on, of the first n elements
-rest-taken : {A : Type 0} (l : List A) (n i : ℕ) (d : A) → n ≤ length l → i < n → drop i (take n l) ≡ getD l i d ∷ drop (i + 1) (take n l)
-rest-taken {A} l n i d fits h =
-    let inside : i < length (take n l) = omega (arith, length-take n l) in
-    rest (take n l) i d inside ∙ ap (λ (x : A). x ∷ drop (i + 1) (take n l)) (getD-take n l i d h)
 
 -- ---- same
 
@@ -40,7 +34,7 @@ module _ (bytes w : List ℕ) (i : ℕ) (full : length bytes ≡ 16) (short : le
   sameFrom = sameName (drop i (take (length w) bytes)) (drop i w)
 
   kept-rest : i < length w → drop i (take (length w) bytes) ≡ getD bytes i 0 ∷ drop (i + 1) (take (length w) bytes)
-  kept-rest h = rest-taken bytes (length w) i 0 (omega arith) h
+  kept-rest h = rw (add-one, slice-cons i (length w) bytes 0 h (omega arith))
 
   pub byte-same : i < length w → getD bytes i 0 ≡ getD w i 0 → sameFrom ≡ sameName (drop (i + 1) (take (length w) bytes)) (drop (i + 1) w)
   byte-same h e = rw (kept-rest h, rest w i 0 h, eq-eqb (getD bytes i 0) (getD w i 0) e)
@@ -67,13 +61,13 @@ module _ (w : Name) (list : List KeptName) (count i : ℕ) (fits : count ≤ len
   pub number-here : i < count → sameKept (getD list i empty) w ≡ true → placeFrom i ≡ i
   unfolding placeIn
   number-here h e =
-      let z : placeIn w (drop i (take count list)) ≡ 0 = rw (rest-taken list count i empty fits h, e) in
+      let z : placeIn w (drop i (take count list)) ≡ 0 = rw (slice-cons i count list empty h fits, e) in
       omega arith
 
   pub number-next : i < count → sameKept (getD list i empty) w ≡ false → placeFrom i ≡ placeFrom (i + 1)
   unfolding placeIn
   number-next h e =
-      let z : placeIn w (drop i (take count list)) ≡ suc (placeIn w (drop (i + 1) (take count list))) = rw (rest-taken list count i empty fits h, e) in
+      let z : placeIn w (drop i (take count list)) ≡ suc (placeIn w (drop (i + 1) (take count list))) = rw (add-one, slice-cons i count list empty h fits, e) in
       omega arith
 
   pub number-end : count ≤ i → placeFrom i ≡ i
