@@ -25,12 +25,9 @@ module _ (c : tie.After-taken Inv-loop μ-loop) where
 
   height-low : c .before .before .before .loop .height < 171
   height-low =
-      omega (
-        arith,
-        low (c .before .before .before .before .before .before .before .pre) (c .before .before .before .loop .inv),
-        lower (c .before .before .before .before .before .before .before .pre) (c .before .before .before .loop .inv),
-        c .before .before .before .before .before .before .before .pre .short,
-      )
+      let asked = c .before .before .before .before .before .before .before .pre in
+      let inv = c .before .before .before .loop .inv in
+      omega (arith, low asked inv, lower asked inv, asked .short)
 
   -- the height without what the symbol takes
   height-left : let at = c .before .before .before .loop in at .height - c .taken .result ≡ at .height - takenBy (getD (c .before .before .before .before .before .before .before .args .order .now) (at .i) 0)

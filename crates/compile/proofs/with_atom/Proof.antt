@@ -37,10 +37,10 @@ returns-3 : tie.Need-returns-3
 unfolding firstBy secondBy
 returns-3 c =
     let a = c .before .before .before .args in
-    let n = c .before .before .match .rest in
-    grows-same (c .added3 .ensures) (sym (ne-eqb _ 14 (n .0 .1)))
-    (sym (simp (ne-eqb (a .kind) 15 (n .1))))
-    (c .before .empty2 .ensures ∙ sym (simp (ne-eqb (a .kind) 14 (n .0 .1))))
+    let neither = c .before .before .match .rest in
+    grows-same (c .added3 .ensures) (sym (ne-eqb _ 14 (neither .0 .1)))
+    (sym (simp (ne-eqb (a .kind) 15 (neither .1))))
+    (c .before .empty2 .ensures ∙ sym (simp (ne-eqb (a .kind) 14 (neither .0 .1))))
 
 pub with-atom-spec : {M : Type 1} → statement M
 with-atom-spec = tie.close (tie.spec added-requires minus-requires empty-requires added-requires-2 empty-requires-2 added-requires-3 returns returns-2 returns-3)
