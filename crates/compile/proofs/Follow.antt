@@ -8,7 +8,7 @@ use native.Mathlib.Omega.{arith}
 use lib.Dec.{eqb}
 use lib.ListN.{length, getD, take, drop, set, length-append, length-drop, length-set, take-append-drop}
 use lib.Seq.{sets, length-take-le, take-length}
-use Rattle.lists.proofs.Lists.{take-next}
+use Rattle.lists.proofs.Lists.{take-next, map-at}
 use Rattle.formula.specs.Formula.{Atom, Formula, Name}
 use Rattle.syntax.specs.Symbol.{Leaf, leaf, opening}
 use Rattle.syntax.specs.Postfix.{postfix, symbolNames, namesIn}
@@ -31,9 +31,7 @@ use Rattle.compile.proofs.Steps.{Stacked, Put, term-step, Made, atom-st
 
 code-at : (xs : List Sym) (i : ℕ) → i < length xs → getD (codes xs) i 0 ≡ code (symbolAt xs i)
 unfolding codes
-code-at [] i l = absurd (omega arith)
-code-at (x ∷ xs) ℕ.zero l = refl
-code-at (x ∷ xs) (suc i) l = code-at xs i (omega arith)
+code-at xs i l = map-at code xs i opening 0 l
 
 -- how many names stand before a place
 abbrev pub passed : List Sym → ℕ → ℕ
@@ -209,7 +207,8 @@ module _ {order numbers : List ℕ} {before : Sheet} {buf : List ℕ} {from : �
     module _ (h : ℕ) (d : h ≡ height - takenBy kind) where
       -- the next symbol, once the values are those of the state after it
       next : {out' : List ℕ} {stack' : List EvalSet} {height' used' : ℕ} {sheet' : Sheet} {end' : ℕ} → length stack' ≡ 172
-          → ((f : Formula Name) (g : Name → ℕ) (atoms : List (Atom ℕ)) → Given order numbers before f g atoms
+          → ((f : Formula Name) (g : Name → ℕ) (atoms : List (Atom ℕ)) → Given order numbers before f g atoms → kind ≡ code (symbolAt (postfix f) i)
+          → Follows (before .names) from buf (reached f g atoms i) (passed (postfix f) i) out stack height used sheet end
           → Follows (before .names) from buf (step g (symbolAt (postfix f) i) (reached f g atoms i)) (passed (postfix f) i + namesBy kind) out' stack' height' used' sheet' end')
           → Inv order numbers before buf from out' stack' height' used' sheet' end' (i + 1)
       next {out'} {stack'} {height'} {used'} {sheet'} {end'} w h' =
@@ -221,28 +220,26 @@ module _ {order numbers : List ℕ} {before : Sheet} {buf : List ℕ} {from : �
                 subst (λ (s : State). Follows (before .names) from buf s (passed (postfix f) (i + 1)) out' stack' height' used' sheet' end')
                 (sym (reached-next f g atoms i z))
                 (subst (λ (k : ℕ). Follows (before .names) from buf (step g (symbolAt (postfix f) i) (reached f g atoms i)) k out' stack' height' used' sheet' end')
-                (sym (passed-next (postfix f) i z ∙ ap (λ (k : ℕ). passed (postfix f) i + namesBy k) (sym (kind-is G i l)))) (h' f g atoms G));
+                (sym (passed-next (postfix f) i z ∙ ap (λ (k : ℕ). passed (postfix f) i + namesBy k) (sym (kind-is G i l)))) (h' f g atoms G (kind-is G i l) (inv .follows f g atoms G)));
           }
 
-      pub term-again : (r : EvalSet) (k more : ℕ) → h < 172 → termKind kind ≡ true → k ≡ getD numbers used 0 → more ≡ namesBy kind
-          → mem r ≡ setBy kind k (memAt stack h) (memAt stack (h + 1))
+      pub term-again : (r : EvalSet) (number more : ℕ) → h < 172 → termKind kind ≡ true → number ≡ getD numbers used 0 → more ≡ namesBy kind
+          → mem r ≡ setBy kind number (memAt stack h) (memAt stack (h + 1))
           → Inv order numbers before buf from out (set stack h r) (h + 1) (used + more) sheet end (i + 1)
-      term-again r k more b t n j m =
+      term-again r number more low-enough term read passes made =
           next (length-set stack h r ∙ inv .whole)
-          (λ f g atoms G.
-          let F = inv .follows f g atoms G in
+          (λ f g atoms G e F.
           let S : State = reached f g atoms i in
           let x : Sym = symbolAt (postfix f) i in
-          let e : kind ≡ code x = kind-is G i l in
           let P : Put (set stack h r) h S (step g x S)
-          = term-step g stack r k height h (S .atoms) (S .code) (omega (arith, inv .whole)) x (S .terms) (ap termKind (sym e) ∙ t) (F .high)
+          = term-step g stack r number height h (S .atoms) (S .code) (omega (arith, inv .whole)) x (S .terms) (ap termKind (sym e) ∙ term) (F .high)
           (subst (λ (j : ℕ). takenBy j ≤ height) e enough) (d ∙ ap (λ (j : ℕ). height - takenBy j) e) (F .stacked)
-          (λ y w. n ∙ ap (λ (j : ℕ). getD numbers j 0) (F .counted) ∙ number-is G i y l w)
-          (m ∙ ap (λ (j : ℕ). setBy j k (memAt stack h) (memAt stack (h + 1))) e) in
+          (λ y w. read ∙ ap (λ (j : ℕ). getD numbers j 0) (F .counted) ∙ number-is G i y l w)
+          (made ∙ ap (λ (j : ℕ). setBy j number (memAt stack h) (memAt stack (h + 1))) e) in
           record {
             high = P .high;
             stacked = P .stacked;
-            counted = ap₂ _+_ (F .counted) j;
+            counted = ap₂ _+_ (F .counted) passes;
             compiled-from = subst (CompiledFrom sheet) (sym (P .same-atoms)) (F .compiled-from);
             named = F .named;
             ends = F .ends ∙ ap (λ (c : List ℕ). from + length c) (sym (P .same-code));
@@ -268,11 +265,9 @@ module _ {order numbers : List ℕ} {before : Sheet} {buf : List ℕ} {from : �
             → Inv order numbers before buf from (set out end v) stack h used r (end + 1) (i + 1)
         atom-again r a m =
             next (inv .whole)
-            (λ f g atoms G.
-            let F = inv .follows f g atoms G in
+            (λ f g atoms G e F.
             let S : State = reached f g atoms i in
             let x : Sym = symbolAt (postfix f) i in
-            let e : kind ≡ code x = kind-is G i l in
             let M : Made stack h (signBy (code x) (length (S .atoms))) r S (step g x S)
             = atom-step g stack height h (S .atoms) (S .code) (F .compiled-from) (omega (arith, space a, F .compiled-from .counted)) x (S .terms) (ap atomKind (sym e) ∙ a) (F .high)
             (subst (λ (j : ℕ). takenBy j ≤ height) e enough) (d ∙ ap (λ (j : ℕ). height - takenBy j) e) (F .stacked)
@@ -291,11 +286,9 @@ module _ {order numbers : List ℕ} {before : Sheet} {buf : List ℕ} {from : �
         pub sign-again : atomKind kind ≡ false → Inv order numbers before buf from (set out end v) stack h used sheet (end + 1) (i + 1)
         sign-again a =
             next (inv .whole)
-            (λ f g atoms G.
-            let F = inv .follows f g atoms G in
+            (λ f g atoms G e F.
             let S : State = reached f g atoms i in
             let x : Sym = symbolAt (postfix f) i in
-            let e : kind ≡ code x = kind-is G i l in
             let z : i < length (postfix f) = omega (arith, same-length G) in
             let W = sign-step g x S (order-fine g (start atoms) f i z .proper) (ap termKind (sym e) ∙ t) (ap atomKind (sym e) ∙ a) in
             let C = code-more x (step g x S .code) e F (ap (λ (s : State). s .code) (W .0)) in

@@ -68,7 +68,7 @@ fn taken(kind: u8) -> usize
     }
 }
 
-// Whether a token belongs to a term.
+// Whether a token belongs to a term: a sign of terms, or 0, 1 or a name, whose kinds are the last.
 fn is_term(kind: u8) -> bool
     ensures { λ r. ⌜ r ≡ termKind kind ⌝ }
 {

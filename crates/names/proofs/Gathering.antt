@@ -26,7 +26,7 @@ use Rattle.names.specs.Gather.{NameAt, nameAt, placesOf, ruleTokens, wit
 use Rattle.names.specs.Steps.{placeIn, withKept}
 use Rattle.names.proofs.Distinct.{position-most}
 use Rattle.names.proofs.Arrays.{kept-count, number-kept, with-kept, too-many, not-too-many}
-use Rattle.names.proofs.Tokens.{rule-tokens, tokens-lie, past, token-lies, at-name, at-other, at-end}
+use Rattle.names.proofs.Tokens.{rule-tokens, tokens-lie, past, token-within, at-name, at-other, at-end}
 use Rattle.evalset.specs.Sets.{most}
 
 pub record Going (text kinds starts lens : List ℕ) (n : ℕ) (first : Names) (known : Names) (numbers : List ℕ) (m i : ℕ) : Type 0 where
@@ -114,10 +114,10 @@ module _ {text kinds starts lens : List ℕ} {n : ℕ} {first known : Names} {nu
     len-is = ap (λ (t : Tokens). getD (t .lens) i 0) (g .tokens) ∙ len-at every i past inside
 
     pub token-inside : getD starts i 0 + getD lens i 0 ≤ length text
-    token-inside = omega (arith, start-is, len-is, token-lies text i inside .0)
+    token-inside = omega (arith, start-is, len-is, token-within text i inside .0)
 
     pub token-short : getD lens i 0 ≤ 16
-    token-short = omega (arith, len-is, token-lies text i inside .1)
+    token-short = omega (arith, len-is, token-within text i inside .1)
 
     -- a token that is no name
     pub going-other : (getD kinds i 0 ≡ 18 → ⊥) → Going text kinds starts lens n first known numbers m (i + 1)

@@ -5,8 +5,9 @@ use mathlib.Core.Bool.{Bool, true, false, _&&_, cond}
 use mathlib.Core.List.{List, [], _∷_, _++_}
 use Prim.Native.Nat.{ℕ, suc, _+_, _-_, _≤_, _<_}
 use native.Mathlib.Omega.{arith}
+use native.Mathlib.Numerals.{add-one}
 use lib.ListN.{length, take, drop, getD, set, replicate, drop-of-length-le, length-take}
-use lib.Seq.{set-at, append-snoc, length-take-le, getD-take}
+use lib.Seq.{set-at, append-snoc, length-take-le, slice-cons}
 use borrow.Author.Tests.{eq-eqb, ne-eqb, lt-ltb, le-ltb}
 use Rattle.lists.proofs.Lists.{take-next, rest}
 use Rattle.formula.specs.Formula.{Name}
@@ -33,10 +34,7 @@ module _ (bytes w : List ℕ) (i : ℕ) (full : length bytes ≡ 16) (short : le
   sameFrom = sameName (drop i (take (length w) bytes)) (drop i w)
 
   kept-rest : i < length w → drop i (take (length w) bytes) ≡ getD bytes i 0 ∷ drop (i + 1) (take (length w) bytes)
-  kept-rest h =
-      let l : i < length (take (length w) bytes) = omega (arith, length-take (length w) bytes) in
-      rest (take (length w) bytes) i 0 l
-      ∙ ap (λ (x : ℕ). x ∷ drop (i + 1) (take (length w) bytes)) (getD-take (length w) bytes i 0 h)
+  kept-rest h = rw (add-one, slice-cons i (length w) bytes 0 h (omega arith))
 
   pub byte-same : i < length w → getD bytes i 0 ≡ getD w i 0 → sameFrom ≡ sameName (drop (i + 1) (take (length w) bytes)) (drop (i + 1) w)
   byte-same h e = rw (kept-rest h, rest w i 0 h, eq-eqb (getD bytes i 0) (getD w i 0) e)
@@ -55,23 +53,28 @@ module _ (bytes w : List ℕ) (i : ℕ) (full : length bytes ≡ 16) (short : le
 abbrev pub empty : KeptName
 empty = record { bytes = []; len = 0 }
 
-module _ (w : Name) (ks : List KeptName) (i : ℕ) where
-  pub number-here : i < length ks → sameKept (getD ks i empty) w ≡ true → i + placeIn w (drop i ks) ≡ i
+module _ (w : Name) (list : List KeptName) (count i : ℕ) (fits : count ≤ length list) where
+  -- the name's place among the first ones, counted from i
+  abbrev placeFrom : ℕ → ℕ
+  placeFrom j = j + placeIn w (drop j (take count list))
+
+  pub number-here : i < count → sameKept (getD list i empty) w ≡ true → placeFrom i ≡ i
   unfolding placeIn
   number-here h e =
-      let z : placeIn w (drop i ks) ≡ 0 = rw (rest ks i empty h, e) in
+      let z : placeIn w (drop i (take count list)) ≡ 0 = rw (slice-cons i count list empty h fits, e) in
       omega arith
 
-  pub number-next : i < length ks → sameKept (getD ks i empty) w ≡ false → i + placeIn w (drop i ks) ≡ i + 1 + placeIn w (drop (i + 1) ks)
+  pub number-next : i < count → sameKept (getD list i empty) w ≡ false → placeFrom i ≡ placeFrom (i + 1)
   unfolding placeIn
   number-next h e =
-      let z : placeIn w (drop i ks) ≡ suc (placeIn w (drop (i + 1) ks)) = rw (rest ks i empty h, e) in
+      let z : placeIn w (drop i (take count list)) ≡ suc (placeIn w (drop (i + 1) (take count list))) = rw (add-one, slice-cons i count list empty h fits, e) in
       omega arith
 
-  pub number-end : length ks ≤ i → i + placeIn w (drop i ks) ≡ i
+  pub number-end : count ≤ i → placeFrom i ≡ i
   unfolding placeIn
   number-end h =
-      let z : placeIn w (drop i ks) ≡ 0 = rw (drop-of-length-le ks h) in
+      let past : length (take count list) ≤ i = omega (arith, length-take count list) in
+      let z : placeIn w (drop i (take count list)) ≡ 0 = rw (drop-of-length-le (take count list) past) in
       omega arith
 
 -- ---- name_of: one byte more over the zeros, m places in all

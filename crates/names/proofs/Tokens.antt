@@ -83,9 +83,9 @@ tokens-lie s = lies-by s (ruleOf s .answer) (text-answered s)
 abbrev pub past : Token
 past = record { kind = Kind.Name; start = 0; len = 0 }
 
-pub token-lies : (s : List ℕ) (i : ℕ) → i < length (ruleTokens s)
+pub token-within : (s : List ℕ) (i : ℕ) → i < length (ruleTokens s)
     → (getD (ruleTokens s) i past .start + getD (ruleTokens s) i past .len ≤ length s) × (getD (ruleTokens s) i past .len ≤ 16)
-token-lies s i h = let t = placed-at s 0 (ruleTokens s) (tokens-lie s .0) i past h in (t .inside, t .short)
+token-within s i h = let t = placed-at s 0 (ruleTokens s) (tokens-lie s .0) i past h in (t .inside, t .short)
 
 -- ---- the names among tokens
 

@@ -21,7 +21,7 @@ use Rattle.contact.proofs.Naming.{same-name}
 use Rattle.names.specs.Gather.{NameAt, placesOf, ruleTokens}
 use Rattle.names.specs.Seventh.{namesAt}
 use Rattle.names.proofs.Distinct.{distinct-in-list}
-use Rattle.names.proofs.Tokens.{past, token-lies, at-name, at-other, at-end}
+use Rattle.names.proofs.Tokens.{past, token-within, at-name, at-other, at-end}
 use Rattle.names.proofs.Texts.{names-of-rule, atoms-names}
 use Rattle.table.specs.Store.{Text}
 use Rattle.table.specs.Calls.{formulasOf, namesIn}
@@ -38,7 +38,7 @@ here-or-later s i h w at later = go (ℕ-discrete (codeOf (this .kind)) 18)
     go : Dec (codeOf (this .kind) ≡ 18) → length w ≤ 16
     go (yes q) =
         ⊎-elim
-        (λ e. omega (arith, ap length e, length-take (this .len) (drop (this .start) s), token-lies s i h .1))
+        (λ e. omega (arith, ap length e, length-take (this .len) (drop (this .start) s), token-within s i h .1))
         later
         (uncons (subst (λ (l : List NameAt). In w (namesAt l)) (at-name s (ruleTokens s) i h q) at))
     go (no q) = later (subst (λ (l : List NameAt). In w (namesAt l)) (at-other s (ruleTokens s) i h q) at)

@@ -2,12 +2,10 @@
 // its place or the tokens of the formula in postfix order, parted by one blank. The file `stdout` has the
 // lines that document 01 asks for. A byte outside 32..126, or a backslash, is written as a backslash
 // and two hexadecimal digits.
+use lexer::NAME;
 use lexer::Tokens;
 use syntax::Rule;
 use syntax::RuleAnswer;
-
-// The kind of a name.
-const NAME: u8 = 18;
 
 // Writes one byte as it is.
 fn write_byte(b: u8) {

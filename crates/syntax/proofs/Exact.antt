@@ -359,9 +359,9 @@ refusal-underived xs j r f g = stops-underived (r .pre) (r .post) (r .stops) f (
 
 -- of two beginnings of one list the shorter is the beginning of the longer
 longer : (p a q b : List Sym) → p ++ a ≡ q ++ b → length p < length q → (x : Sym) × (m : List Sym) × (p ++ x ∷ m ≡ q) × (a ≡ x ∷ (m ++ b))
-longer [] a [] b e h = absurd (let y : ⊥ = omega arith in y)
+longer [] a [] b e h = absurd (omega arith)
 longer [] a (y ∷ q) b e h = (y, q, refl, e)
-longer (x ∷ p) a [] b e h = absurd (let y : ⊥ = omega arith in y)
+longer (x ∷ p) a [] b e h = absurd (omega arith)
 longer (x ∷ p) a (y ∷ q) b e h =
     let t : p ++ a ≡ q ++ b = cc in
     let r : (z : Sym) × (m : List Sym) × (p ++ z ∷ m ≡ q) × (a ≡ z ∷ (m ++ b)) = longer p a q b t (omega arith) in

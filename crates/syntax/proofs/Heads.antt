@@ -55,9 +55,9 @@ abbrev signAt : ℕ → Sym
 signAt c = getD signs c opening
 
 sign-code : (x : Sym) → code x < 16 → signAt (code x) ≡ x
-sign-code (leaf Leaf.zero) h = absurd (let y : ⊥ = omega arith in y)
-sign-code (leaf Leaf.one) h = absurd (let y : ⊥ = omega arith in y)
-sign-code (leaf (Leaf.name b)) h = absurd (let y : ⊥ = omega arith in y)
+sign-code (leaf Leaf.zero) h = absurd (omega arith)
+sign-code (leaf Leaf.one) h = absurd (omega arith)
+sign-code (leaf (Leaf.name b)) h = absurd (omega arith)
 sign-code minus h = refl
 sign-code tilde h = refl
 sign-code opening h = refl
@@ -76,30 +76,30 @@ sign-code (relation contact) h = refl
 sign-code (relation part) h = refl
 
 sign-first : (l : List Sym) (c : ℕ) → kindOn l ≡ c → c < 16 → l ≡ signAt c ∷ later l
-sign-first [] c e h = absurd (let y : ⊥ = omega arith in y)
+sign-first [] c e h = absurd (omega arith)
 sign-first (x ∷ l) c e h = ap (λ (y : Sym). y ∷ l) (sym (sign-code x (omega arith)) ∙ ap signAt e)
 
 leaf-code : (x : Sym) → 16 ≤ code x → (y : Leaf Name) × (x ≡ leaf y)
 leaf-code (leaf y) h = (y, refl)
-leaf-code minus h = absurd (let y : ⊥ = omega arith in y)
-leaf-code tilde h = absurd (let y : ⊥ = omega arith in y)
-leaf-code opening h = absurd (let y : ⊥ = omega arith in y)
-leaf-code closing h = absurd (let y : ⊥ = omega arith in y)
-leaf-code comma h = absurd (let y : ⊥ = omega arith in y)
-leaf-code isZero h = absurd (let y : ⊥ = omega arith in y)
-leaf-code (binary Implies) h = absurd (let y : ⊥ = omega arith in y)
-leaf-code (binary Iff) h = absurd (let y : ⊥ = omega arith in y)
-leaf-code (binary Or) h = absurd (let y : ⊥ = omega arith in y)
-leaf-code (binary And) h = absurd (let y : ⊥ = omega arith in y)
-leaf-code (binary Plus) h = absurd (let y : ⊥ = omega arith in y)
-leaf-code (binary Times) h = absurd (let y : ⊥ = omega arith in y)
-leaf-code (constant true) h = absurd (let y : ⊥ = omega arith in y)
-leaf-code (constant false) h = absurd (let y : ⊥ = omega arith in y)
-leaf-code (relation contact) h = absurd (let y : ⊥ = omega arith in y)
-leaf-code (relation part) h = absurd (let y : ⊥ = omega arith in y)
+leaf-code minus h = absurd (omega arith)
+leaf-code tilde h = absurd (omega arith)
+leaf-code opening h = absurd (omega arith)
+leaf-code closing h = absurd (omega arith)
+leaf-code comma h = absurd (omega arith)
+leaf-code isZero h = absurd (omega arith)
+leaf-code (binary Implies) h = absurd (omega arith)
+leaf-code (binary Iff) h = absurd (omega arith)
+leaf-code (binary Or) h = absurd (omega arith)
+leaf-code (binary And) h = absurd (omega arith)
+leaf-code (binary Plus) h = absurd (omega arith)
+leaf-code (binary Times) h = absurd (omega arith)
+leaf-code (constant true) h = absurd (omega arith)
+leaf-code (constant false) h = absurd (omega arith)
+leaf-code (relation contact) h = absurd (omega arith)
+leaf-code (relation part) h = absurd (omega arith)
 
 leaf-first : (l : List Sym) → 16 ≤ kindOn l → kindOn l < 19 → (y : Leaf Name) × (l ≡ leaf y ∷ later l)
-leaf-first [] a b = absurd (let y : ⊥ = omega arith in y)
+leaf-first [] a b = absurd (omega arith)
 leaf-first (x ∷ l) a b = let r : (y : Leaf Name) × (x ≡ leaf y) = leaf-code x a in (r .0, ap (λ (z : Sym). z ∷ l) (r .1))
 
 -- ---- what goes on a value
@@ -138,35 +138,35 @@ Joins t b m = (t ≡ joinsTerms b) × (m ≡ suc (rankOf b)) × (Bool·beq t (jo
 
 binary-code : (t : Bool) (x : Sym) → 0 < bindingOf t (code x) → (b : Sign) × Joins t b (bindingOf t (code x)) × (x ≡ binary b)
 unfolding bindingOf
-binary-code t (leaf Leaf.zero) h = absurd (let y : ⊥ = omega arith in y)
-binary-code t (leaf Leaf.one) h = absurd (let y : ⊥ = omega arith in y)
-binary-code t (leaf (Leaf.name b)) h = absurd (let y : ⊥ = omega arith in y)
-binary-code t minus h = absurd (let y : ⊥ = omega arith in y)
-binary-code t tilde h = absurd (let y : ⊥ = omega arith in y)
-binary-code t opening h = absurd (let y : ⊥ = omega arith in y)
-binary-code t closing h = absurd (let y : ⊥ = omega arith in y)
-binary-code t comma h = absurd (let y : ⊥ = omega arith in y)
-binary-code t isZero h = absurd (let y : ⊥ = omega arith in y)
-binary-code true (binary Implies) h = absurd (let y : ⊥ = omega arith in y)
-binary-code true (binary Iff) h = absurd (let y : ⊥ = omega arith in y)
-binary-code true (binary Or) h = absurd (let y : ⊥ = omega arith in y)
-binary-code true (binary And) h = absurd (let y : ⊥ = omega arith in y)
+binary-code t (leaf Leaf.zero) h = absurd (omega arith)
+binary-code t (leaf Leaf.one) h = absurd (omega arith)
+binary-code t (leaf (Leaf.name b)) h = absurd (omega arith)
+binary-code t minus h = absurd (omega arith)
+binary-code t tilde h = absurd (omega arith)
+binary-code t opening h = absurd (omega arith)
+binary-code t closing h = absurd (omega arith)
+binary-code t comma h = absurd (omega arith)
+binary-code t isZero h = absurd (omega arith)
+binary-code true (binary Implies) h = absurd (omega arith)
+binary-code true (binary Iff) h = absurd (omega arith)
+binary-code true (binary Or) h = absurd (omega arith)
+binary-code true (binary And) h = absurd (omega arith)
 binary-code true (binary Plus) h = (Plus, (refl, refl, refl), refl)
 binary-code true (binary Times) h = (Times, (refl, refl, refl), refl)
 binary-code false (binary Implies) h = (Implies, (refl, refl, refl), refl)
 binary-code false (binary Iff) h = (Iff, (refl, refl, refl), refl)
 binary-code false (binary Or) h = (Or, (refl, refl, refl), refl)
 binary-code false (binary And) h = (And, (refl, refl, refl), refl)
-binary-code false (binary Plus) h = absurd (let y : ⊥ = omega arith in y)
-binary-code false (binary Times) h = absurd (let y : ⊥ = omega arith in y)
-binary-code t (constant true) h = absurd (let y : ⊥ = omega arith in y)
-binary-code t (constant false) h = absurd (let y : ⊥ = omega arith in y)
-binary-code t (relation contact) h = absurd (let y : ⊥ = omega arith in y)
-binary-code t (relation part) h = absurd (let y : ⊥ = omega arith in y)
+binary-code false (binary Plus) h = absurd (omega arith)
+binary-code false (binary Times) h = absurd (omega arith)
+binary-code t (constant true) h = absurd (omega arith)
+binary-code t (constant false) h = absurd (omega arith)
+binary-code t (relation contact) h = absurd (omega arith)
+binary-code t (relation part) h = absurd (omega arith)
 
 binary-first : (t : Bool) (l : List Sym) → 0 < bindingOf t (kindOn l) → (b : Sign) × Joins t b (bindingOf t (kindOn l)) × (l ≡ binary b ∷ later l)
 unfolding bindingOf
-binary-first t [] h = absurd (let y : ⊥ = omega arith in y)
+binary-first t [] h = absurd (omega arith)
 binary-first t (x ∷ l) h =
     let r : (b : Sign) × Joins t b (bindingOf t (code x)) × (x ≡ binary b) = binary-code t x h in
     (r .0, r .1, ap (λ (z : Sym). z ∷ l) (r .2))
@@ -222,12 +222,12 @@ rejects true m p K o (binary Implies) g a k s c z = refl
 rejects true m p K o (binary Iff) g a k s c z = refl
 rejects true m p K o (binary Or) g a k s c z = refl
 rejects true m p K o (binary And) g a k s c z = refl
-rejects true m p K o (binary Plus) g a k s c z = absurd (let y : ⊥ = omega arith in y)
-rejects true m p K o (binary Times) g a k s c z = absurd (let y : ⊥ = omega arith in y)
-rejects false m p K o (binary Implies) g a k s c z = absurd (let y : ⊥ = omega arith in y)
-rejects false m p K o (binary Iff) g a k s c z = absurd (let y : ⊥ = omega arith in y)
-rejects false m p K o (binary Or) g a k s c z = absurd (let y : ⊥ = omega arith in y)
-rejects false m p K o (binary And) g a k s c z = absurd (let y : ⊥ = omega arith in y)
+rejects true m p K o (binary Plus) g a k s c z = absurd (omega arith)
+rejects true m p K o (binary Times) g a k s c z = absurd (omega arith)
+rejects false m p K o (binary Implies) g a k s c z = absurd (omega arith)
+rejects false m p K o (binary Iff) g a k s c z = absurd (omega arith)
+rejects false m p K o (binary Or) g a k s c z = absurd (omega arith)
+rejects false m p K o (binary And) g a k s c z = absurd (omega arith)
 rejects false m p K o (binary Plus) g a k s c z = refl
 rejects false m p K o (binary Times) g a k s c z = refl
 rejects t m p K o (constant d) g a k s c z = refl
@@ -244,9 +244,9 @@ abbrev pub NoTerm : ℕ → Bool → Type 0
 NoTerm c w = (c ≡ 6 → ⊥) × (c ≡ 8 → ⊥) × (16 ≤ c → 19 ≤ c) × (w ≡ true → (c ≡ 7 → ⊥) × (12 ≤ c → 16 ≤ c))
 
 no-term-step : (p : ℕ) (K : List Frame) (o : List Sym) (x : Sym) → NoTerm (code x) (allow K) → step (want K o) x p ≡ dead p
-no-term-step p K o (leaf Leaf.zero) h = absurd (let y : 19 ≤ 16 = h .2 (omega arith) in let z : ⊥ = omega arith in z)
-no-term-step p K o (leaf Leaf.one) h = absurd (let y : 19 ≤ 17 = h .2 (omega arith) in let z : ⊥ = omega arith in z)
-no-term-step p K o (leaf (Leaf.name b)) h = absurd (let y : 19 ≤ 18 = h .2 (omega arith) in let z : ⊥ = omega arith in z)
+no-term-step p K o (leaf Leaf.zero) h = absurd (let y : 19 ≤ 16 = h .2 (omega arith) in omega arith)
+no-term-step p K o (leaf Leaf.one) h = absurd (let y : 19 ≤ 17 = h .2 (omega arith) in omega arith)
+no-term-step p K o (leaf (Leaf.name b)) h = absurd (let y : 19 ≤ 18 = h .2 (omega arith) in omega arith)
 no-term-step p K o minus h = absurd (h .0 refl)
 no-term-step p K o tilde h = ap (λ (b : Bool). guard b (want (afterTilde ∷ K) o) p) (eq-false-of-not-eq-true (λ w. h .3 w .0 refl))
 no-term-step p K o opening h = absurd (h .1 refl)

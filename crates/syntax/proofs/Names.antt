@@ -31,9 +31,10 @@ module _ {N : Type 0} where
 
   -- ---- in the order
 
-  -- what stands behind o, after a and then b
-  two : (o a b : List N) {x y : List N} → x ≡ o ++ a → y ≡ x ++ b → y ≡ o ++ (a ++ b)
-  two o a b e f = f ∙ ap (λ (l : List N). l ++ b) e ∙ append-assoc o a b
+  -- a sign after two parts that stand behind o
+  names-two : (o first second : List (Symbol N)) (a b : List N) (x : Symbol N) → symbolNames x ≡ [] → namesIn first ≡ namesIn o ++ a → namesIn second ≡ namesIn first ++ b
+      → namesIn (second ++ x ∷ []) ≡ namesIn o ++ (a ++ b)
+  names-two o first second a b x s e f = names-sign second x s ∙ f ∙ ap (λ (l : List N). l ++ b) e ∙ append-assoc (namesIn o) a b
 
   term-order : (t : Term N) (o : List (Symbol N)) → namesIn (termAfter t o) ≡ namesIn o ++ termNames t
   unfolding termAfter
@@ -41,21 +42,21 @@ module _ {N : Type 0} where
   term-order Term.one o = names-last o (leaf Leaf.one)
   term-order (Term.name x) o = names-last o (leaf (Leaf.name x))
   term-order (Term.complement t) o = names-sign (termAfter t o) _ refl ∙ term-order t o
-  term-order (Term.intersection t u) o = names-sign (termAfter u (termAfter t o)) _ refl ∙ two (namesIn o) (termNames t) (termNames u) (term-order t o) (term-order u (termAfter t o))
-  term-order (Term.union t u) o = names-sign (termAfter u (termAfter t o)) _ refl ∙ two (namesIn o) (termNames t) (termNames u) (term-order t o) (term-order u (termAfter t o))
+  term-order (Term.intersection t u) o = names-two o _ _ _ _ _ refl (term-order t o) (term-order u (termAfter t o))
+  term-order (Term.union t u) o = names-two o _ _ _ _ _ refl (term-order t o) (term-order u (termAfter t o))
 
   formula-order : (f : Formula N) (o : List (Symbol N)) → namesIn (formulaAfter f o) ≡ namesIn o ++ formulaNames f
   unfolding formulaAfter
   formula-order Form.truth o = names-last o _
   formula-order Form.falsity o = names-last o _
-  formula-order (Form.atom (Atom.contact t u)) o = names-sign (termAfter u (termAfter t o)) _ refl ∙ two (namesIn o) (termNames t) (termNames u) (term-order t o) (term-order u (termAfter t o))
-  formula-order (Form.atom (Atom.part t u)) o = names-sign (termAfter u (termAfter t o)) _ refl ∙ two (namesIn o) (termNames t) (termNames u) (term-order t o) (term-order u (termAfter t o))
+  formula-order (Form.atom (Atom.contact t u)) o = names-two o _ _ _ _ _ refl (term-order t o) (term-order u (termAfter t o))
+  formula-order (Form.atom (Atom.part t u)) o = names-two o _ _ _ _ _ refl (term-order t o) (term-order u (termAfter t o))
   formula-order (Form.atom (Atom.empty t)) o = names-sign (termAfter t o) _ refl ∙ term-order t o
   formula-order (Form.negation f) o = names-sign (formulaAfter f o) _ refl ∙ formula-order f o
-  formula-order (Form.conjunction f g) o = names-sign (formulaAfter g (formulaAfter f o)) _ refl ∙ two (namesIn o) (formulaNames f) (formulaNames g) (formula-order f o) (formula-order g (formulaAfter f o))
-  formula-order (Form.disjunction f g) o = names-sign (formulaAfter g (formulaAfter f o)) _ refl ∙ two (namesIn o) (formulaNames f) (formulaNames g) (formula-order f o) (formula-order g (formulaAfter f o))
-  formula-order (Form.implication f g) o = names-sign (formulaAfter g (formulaAfter f o)) _ refl ∙ two (namesIn o) (formulaNames f) (formulaNames g) (formula-order f o) (formula-order g (formulaAfter f o))
-  formula-order (Form.equivalence f g) o = names-sign (formulaAfter g (formulaAfter f o)) _ refl ∙ two (namesIn o) (formulaNames f) (formulaNames g) (formula-order f o) (formula-order g (formulaAfter f o))
+  formula-order (Form.conjunction f g) o = names-two o _ _ _ _ _ refl (formula-order f o) (formula-order g (formulaAfter f o))
+  formula-order (Form.disjunction f g) o = names-two o _ _ _ _ _ refl (formula-order f o) (formula-order g (formulaAfter f o))
+  formula-order (Form.implication f g) o = names-two o _ _ _ _ _ refl (formula-order f o) (formula-order g (formulaAfter f o))
+  formula-order (Form.equivalence f g) o = names-two o _ _ _ _ _ refl (formula-order f o) (formula-order g (formulaAfter f o))
 
   -- ---- in the tokens
 

@@ -42,10 +42,10 @@ after-less ks a m (Refused p) w = omega arith
 -- ---- level
 
 pub level-formula-asked : (ks : List ℕ) (a k : ℕ) (w : Bool) (n t : ℕ) → Asked ks a k w n → leftAt ks a k ≡ t → k < 4 → (left ks a 7 < t) × Asked ks a 3 true n
-level-formula-asked ks a k w n t q u l = (omega arith, record { inside = q .inside; short = q .short; deep = omega arith; formula = λ h. refl; room = q .room; plain = λ h. absurd (let y : ⊥ = omega arith in y) })
+level-formula-asked ks a k w n t q u l = (omega arith, record { inside = q .inside; short = q .short; deep = omega arith; formula = λ h. refl; room = q .room; plain = λ h. absurd (omega arith) })
 
 pub level-term-asked : (ks : List ℕ) (a k : ℕ) (w : Bool) (n t : ℕ) → Asked ks a k w n → leftAt ks a k ≡ t → 4 ≤ k → (left ks a 1 < t) × Asked ks a 6 w n
-level-term-asked ks a k w n t q u h = (omega (arith, q .deep), record { inside = q .inside; short = q .short; deep = omega arith; formula = λ l. absurd (let y : ⊥ = omega arith in y); room = q .room; plain = λ l. q .plain h })
+level-term-asked ks a k w n t q u h = (omega (arith, q .deep), record { inside = q .inside; short = q .short; deep = omega arith; formula = λ l. absurd (omega arith); room = q .room; plain = λ l. q .plain h })
 
 pub level-more-asked : (ks : List ℕ) (a k : ℕ) (w : Bool) (n t j : ℕ) (v : Bool) (A : List ℕ) (x : Read) (B : List ℕ) → Asked ks a k w n → leftAt ks a k ≡ t → (k < 4 → j ≤ 3) → Said ks a j v n A x B → (leftAfter ks x < t) × MoreAsked ks k x
 level-more-asked ks a k w n t j v A x B q u h s = (omega (arith, q .deep, after-less ks a n x (s .within)), record { short = q .short; deep = q .deep; inside = inside-of (length ks) a n x (q .room) (s .within); stopped = λ l. stops-looser ks j 3 x (h l) (s .stops) })
@@ -77,7 +77,7 @@ binding-inside ks t p h = by-test (ltb p (length ks)) refl
   where
     by-test : (b : Bool) → ltb p (length ks) ≡ b → p < length ks
     by-test true q = ltb-true p (length ks) q
-    by-test false q = absurd (let z : bindingOf t (kindAt ks p) ≡ 0 = ap (bindingOf t) (List·getD-eq-default ks 19 (ltb-false p (length ks) q)) ∙ binding-end t in let y : ⊥ = omega arith in y)
+    by-test false q = absurd (let z : bindingOf t (kindAt ks p) ≡ 0 = ap (bindingOf t) (List·getD-eq-default ks 19 (ltb-false p (length ks) q)) ∙ binding-end t in omega arith)
 
 -- a sign of formulas has a rank below 3, and one of terms a rank from 4 on
 record Rank (t : Bool) (b : ℕ) : Type 0 where
@@ -86,7 +86,7 @@ record Rank (t : Bool) (b : ℕ) : Type 0 where
   term : 4 ≤ b → not t ≡ true → ⊥
 
 rank-of : (t : Bool) (c : ℕ) → 0 < bindingOf t c → Rank t (bindingOf t c)
-rank-of true c h = record { deep = binding-term c .0; formula = λ l. absurd (let z : 5 ≤ bindingOf true c = binding-term c .1 h in let y : ⊥ = omega arith in y); term = λ l q. true≢false (sym q) }
+rank-of true c h = record { deep = binding-term c .0; formula = λ l. absurd (let z : 5 ≤ bindingOf true c = binding-term c .1 h in omega arith); term = λ l q. true≢false (sym q) }
 rank-of false c h = record { deep = omega (arith, binding-formula c); formula = λ l. refl; term = λ l q. omega (arith, binding-formula c) }
 
 -- =0 aside, what goes on a value is a binary sign
@@ -105,7 +105,7 @@ goes-binding t c k h s = by-test t (eqb c 10) (ltb k 4) refl s h
     by-test : (v b d : Bool) → ltb k 4 ≡ d → (k < 4 → cond b (cond v 4 0) (bindingOf t c) ≤ 3) → bindingOf t c ≤ k → cond b (cond v 4 0) (bindingOf t c) ≤ k
     by-test v false d q l m = m
     by-test false true d q l m = omega arith
-    by-test true true true q l m = absurd (let z : 4 ≤ 3 = l (ltb-true k 4 q) in let y : ⊥ = omega arith in y)
+    by-test true true true q l m = absurd (let z : 4 ≤ 3 = l (ltb-true k 4 q) in omega arith)
     by-test true true false q l m = ltb-false k 4 q
 
 module _ (ks : List ℕ) (k : ℕ) (s : Read) (t : Bool) (p n c b : ℕ) (f : Found ks k s t p n c b) where
@@ -126,7 +126,7 @@ module _ (ks : List ℕ) (k : ℕ) (s : Read) (t : Bool) (p n c b : ℕ) (f : Fo
 
   pub more-level-asked : (u : ℕ) → leftAfter ks s ≡ u → (leftAt ks (p + 1) b < u) × Asked ks (p + 1) b (not t) n
   more-level-asked u v =
-      let l : p < length ks = binding-inside ks t p found-positive in
+      let here : p < length ks = binding-inside ks t p found-positive in
       let i : (p ≤ length ks) × (n ≤ p) = found-inside in
       (omega (arith, found-left, f .above), record { inside = omega arith; short = f .asked .short; deep = found-rank .deep; formula = found-rank .formula; room = omega arith; plain = λ h q. absurd (found-rank .term h q) })
 
@@ -138,7 +138,7 @@ module _ (ks : List ℕ) (k : ℕ) (s : Read) (t : Bool) (p n c b : ℕ) (f : Fo
     ended-inside = ended-within (length ks) p n t x (g .within)
 
     stopped-formula : k < 4 → (v : Bool) → t ≡ v → StopsBelow ks 3 (Value v p n) → b ≤ 3
-    stopped-formula h true q u = absurd (let z : 5 ≤ bindingOf true (kindAt ks p) = binding-term (kindAt ks p) .1 (subst (λ (v : Bool). 0 < bindingOf v (kindAt ks p)) q found-positive) in let y : ⊥ = omega (arith, binding-goes true (kindAt ks p), u) in y)
+    stopped-formula h true q u = absurd (let z : 5 ≤ bindingOf true (kindAt ks p) = binding-term (kindAt ks p) .1 (subst (λ (v : Bool). 0 < bindingOf v (kindAt ks p)) q found-positive) in omega (arith, binding-goes true (kindAt ks p), u))
     stopped-formula h false q u = omega (arith, found-binding ∙ ap (λ (v : Bool). bindingOf v (kindAt ks p)) q, binding-formula (kindAt ks p))
 
     -- the sign is read, then its right value, and then it is written
@@ -203,13 +203,13 @@ level-alone ks a k w n j v A x B q u h l s f = level-said ks a k w n j v A x B x
 
 -- a term alone may stand here
 term-asked : (ks : List ℕ) (a k n : ℕ) → a ≤ length ks → length ks ≤ 256 → 4 ≤ k → k ≤ 6 → n ≤ a → Asked ks a k false n
-term-asked ks a k n i s l d r = record { inside = i; short = s; deep = d; formula = λ h. absurd (let y : ⊥ = omega arith in y); room = r; plain = λ h e. absurd (true≢false (sym e)) }
+term-asked ks a k n i s l d r = record { inside = i; short = s; deep = d; formula = λ h. absurd (omega arith); room = r; plain = λ h e. absurd (true≢false (sym e)) }
 
 pub ended-room : (ks : List ℕ) (a k : ℕ) (w : Bool) (n j : ℕ) (v : Bool) (A : List ℕ) (x : Read) (B : List ℕ) → Asked ks a k w n → Said ks (a + 1) j v n A x B → Room x
 ended-room ks a k w n j v A x B q s = room-of (length ks) (a + 1) n x (omega (arith, q .room)) (q .short) (s .within)
 
 pub here-room : (ks : List ℕ) (a k : ℕ) (w : Bool) (n c : ℕ) → Asked ks a k w n → c ≡ kindAt ks a → c < 19 → n < 256
-here-room ks a k w n c q e h = let l : a < length ks = kind-inside ks a (omega arith) in omega (arith, q .room, q .short)
+here-room ks a k w n c q e h = let here : a < length ks = kind-inside ks a (omega arith) in omega (arith, q .room, q .short)
 
 pub said-inside : (ks : List ℕ) (a k : ℕ) (w : Bool) (n j : ℕ) (v : Bool) (A : List ℕ) (x : Read) (B : List ℕ) → Asked ks a k w n → Said ks a j v n A x B → (length ks ≤ 256) × Inside (length ks) x
 said-inside ks a k w n j v A x B q s = (q .short, inside-of (length ks) a n x (q .room) (s .within))
@@ -232,34 +232,34 @@ relation-at c h l = by-test (eqb c 14) refl
 
 module _ (ks : List ℕ) (a n : ℕ) (q : Asked ks a 3 true n) where
   pub tilde-asked : (t c : ℕ) → left ks a 7 ≡ t → c ≡ kindAt ks a → c ≡ 7 → (left ks (a + 1) 7 < t) × Asked ks (a + 1) 3 true n
-  tilde-asked t c u k h = let l : a < length ks = kind-inside ks a (omega arith) in (omega arith, record { inside = omega arith; short = q .short; deep = omega arith; formula = λ h. refl; room = omega (arith, q .room); plain = λ h. absurd (let y : ⊥ = omega arith in y) })
+  tilde-asked t c u kind h = let here : a < length ks = kind-inside ks a (omega arith) in (omega arith, record { inside = omega arith; short = q .short; deep = omega arith; formula = λ h. refl; room = omega (arith, q .room); plain = λ h. absurd (omega arith) })
 
   pub relation-asked : (t c : ℕ) → left ks a 7 ≡ t → c ≡ kindAt ks a → c < 16 → (left ks (a + 1) 0 < t) × RelationAsked ks (a + 1) n
-  relation-asked t c u k h = let l : a < length ks = kind-inside ks a (omega arith) in (omega arith, record { inside = omega arith; short = q .short; room = omega (arith, q .room) })
+  relation-asked t c u kind h = let here : a < length ks = kind-inside ks a (omega arith) in (omega arith, record { inside = omega arith; short = q .short; room = omega (arith, q .room) })
 
   pub plain-asked : (t c : ℕ) → left ks a 7 ≡ t → c ≡ kindAt ks a → (c ≡ 7 → ⊥) → (12 ≤ c → 16 ≤ c) → (leftAt ks a 4 < t) × Asked ks a 4 true n
-  plain-asked t c u k h l = (omega arith, record { inside = q .inside; short = q .short; deep = omega arith; formula = λ m. refl; room = q .room; plain = λ m e. subst (λ (z : ℕ). (z ≡ 7 → ⊥) × (12 ≤ z → 16 ≤ z)) k (h, l) })
+  plain-asked t c u kind h l = (omega arith, record { inside = q .inside; short = q .short; deep = omega arith; formula = λ m. refl; room = q .room; plain = λ m e. subst (λ (z : ℕ). (z ≡ 7 → ⊥) × (12 ≤ z → 16 ≤ z)) kind (h, l) })
 
   pub tilde-said : (A : List ℕ) (x : Read) (B : List ℕ) (r : Read) (C : List ℕ) (c : ℕ) → c ≡ kindAt ks a → c ≡ 7 → Said ks (a + 1) 3 true n A x B → (r ≡ endedOf false x) × (C ≡ endedIn false c x B) → Said ks a 3 true n A r C
-  tilde-said A x B r C c k h s d =
+  tilde-said A x B r C c kind h s d =
       subst (λ (z : Read). Said ks a 3 true n A z C) (sym (d .0)) (subst (Said ks a 3 true n A (endedOf false x)) (sym (d .1 ∙ ap (λ (v : ℕ). endedIn false v x B) h)) (record {
         says = λ xs e K w l o g.
             ended-goes xs ks e (run (drop a xs) a (want K o)) false afterTilde K x B refl (s .stops) (sorted-formula true x refl) (ended-room ks a 3 true n 3 true A x B q s)
-            (subst (λ (z : Result). EndsAs xs z (afterTilde ∷ K) x B) (sym (at-sign xs ks e a 7 (want K o) (sym k ∙ h) (omega arith) ∙ ap (λ (b : Bool). run (drop (a + 1) xs) (a + 1) (guard b (want (afterTilde ∷ K) o) a)) w)) (s .says xs e (afterTilde ∷ K) refl (omega arith) o g));
+            (subst (λ (z : Result). EndsAs xs z (afterTilde ∷ K) x B) (sym (at-sign xs ks e a 7 (want K o) (sym kind ∙ h) (omega arith) ∙ ap (λ (b : Bool). run (drop (a + 1) xs) (a + 1) (guard b (want (afterTilde ∷ K) o) a)) w)) (s .says xs e (afterTilde ∷ K) refl (omega arith) o g));
         stops = ended-stops ks false 3 x (s .stops);
         sorted = sorted-formula true (endedOf false x) refl;
         within = ended-within (length ks) a n false x (s .within);
       }))
 
   pub constant-said : (A : List ℕ) (c : ℕ) → c ≡ kindAt ks a → 12 ≤ c → c < 14 → Said ks a 3 true n A (Value false (a + 1) (n + 1)) (set A n c)
-  constant-said A c k h m =
-      let l : a < length ks = kind-inside ks a (omega arith) in
+  constant-said A c kind h m =
+      let here : a < length ks = kind-inside ks a (omega arith) in
       let z : (b : Bool) × (c ≡ code (constant b)) = constant-at c h m in
       record {
         says = λ xs e K w t o g. (
           o ++ constant (z .0) ∷ [],
           subst (λ (v : ℕ). Holds (set A n v) (n + 1) (o ++ constant (z .0) ∷ [])) (sym (z .1)) (holds-one A n o (constant (z .0)) g (omega (arith, q .room, q .short))),
-          constant-goes xs e K o (z .0) w (sym k ∙ z .1),
+          constant-goes xs e K o (z .0) w (sym kind ∙ z .1),
         );
         stops = goes-false (kindAt ks (a + 1));
         sorted = λ e. absurd (true≢false e);
@@ -271,10 +271,10 @@ module _ (ks : List ℕ) (a n : ℕ) (q : Asked ks a 3 true n) where
       constant-goes xs e K o false w u = at-sign xs ks e a 13 (want K o) u (omega arith) ∙ ap (λ (b : Bool). run (drop (a + 1) xs) (a + 1) (guard b (have false K (o ++ constant false ∷ [])) a)) w
 
   pub relation-prefix-said : (A : List ℕ) (r : Read) (B : List ℕ) (c : ℕ) → c ≡ kindAt ks a → 14 ≤ c → c < 16 → RelationSaid ks (a + 1) c n A r B → Said ks a 3 true n A r B
-  relation-prefix-said A r B c k h m s =
+  relation-prefix-said A r B c kind h m s =
       let z : (d : Relation) × (code (relation d) ≡ c) = relation-at c h m in
       record {
-        says = λ xs e K w t o g. subst (λ (u : Result). EndsAs xs u K r B) (sym (relation-goes xs e K o (z .0) w (sym k ∙ sym (z .1)))) (s .says xs e (z .0) (z .1) K w o g);
+        says = λ xs e K w t o g. subst (λ (u : Result). EndsAs xs u K r B) (sym (relation-goes xs e K o (z .0) w (sym kind ∙ sym (z .1)))) (s .says xs e (z .0) (z .1) K w o g);
         stops = s .stops;
         sorted = sorted-formula true r refl;
         within = within-from (length ks) a n (a + 1) (n + 1) r (omega arith) (omega arith) (s .within);
@@ -298,42 +298,42 @@ module _ (ks : List ℕ) (a n : ℕ) (q : Asked ks a 3 true n) where
 
 module _ (ks : List ℕ) (a : ℕ) (w : Bool) (n : ℕ) (q : Asked ks a 6 w n) where
   pub minus-asked : (t c : ℕ) → left ks a 1 ≡ t → c ≡ kindAt ks a → c ≡ 6 → (left ks (a + 1) 1 < t) × Asked ks (a + 1) 6 false n
-  minus-asked t c u k h = let l : a < length ks = kind-inside ks a (omega arith) in (omega arith, term-asked ks (a + 1) 6 n (omega arith) (q .short) (omega arith) (omega arith) (omega (arith, q .room)))
+  minus-asked t c u kind h = let here : a < length ks = kind-inside ks a (omega arith) in (omega arith, term-asked ks (a + 1) 6 n (omega arith) (q .short) (omega arith) (omega arith) (omega (arith, q .room)))
 
   pub parenthesis-asked : (t c : ℕ) → left ks a 1 ≡ t → c ≡ kindAt ks a → c ≡ 8 → (left ks (a + 1) 15 < t) × Asked ks (a + 1) (startOf w) w n
-  parenthesis-asked t c u k e = let l : a < length ks = kind-inside ks a (omega arith) in (omega arith, by-sort l w)
+  parenthesis-asked t c u kind e = let here : a < length ks = kind-inside ks a (omega arith) in (omega arith, by-sort here w)
     where
       by-sort : a < length ks → (v : Bool) → Asked ks (a + 1) (startOf v) v n
-      by-sort l true = record { inside = omega arith; short = q .short; deep = omega arith; formula = λ h. refl; room = omega (arith, q .room); plain = λ h. absurd (let y : ⊥ = omega arith in y) }
-      by-sort l false = term-asked ks (a + 1) 4 n (omega arith) (q .short) (omega arith) (omega arith) (omega (arith, q .room))
+      by-sort here true = record { inside = omega arith; short = q .short; deep = omega arith; formula = λ h. refl; room = omega (arith, q .room); plain = λ h. absurd (omega arith) }
+      by-sort here false = term-asked ks (a + 1) 4 n (omega arith) (q .short) (omega arith) (omega arith) (omega (arith, q .room))
 
   pub minus-said : (A : List ℕ) (x : Read) (B : List ℕ) (r : Read) (C : List ℕ) (c : ℕ) → c ≡ kindAt ks a → c ≡ 6 → Said ks (a + 1) 6 false n A x B → (r ≡ endedOf true x) × (C ≡ endedIn true c x B) → Said ks a 6 w n A r C
-  minus-said A x B r C c k h s d =
+  minus-said A x B r C c kind h s d =
       subst (λ (z : Read). Said ks a 6 w n A z C) (sym (d .0)) (subst (Said ks a 6 w n A (endedOf true x)) (sym (d .1 ∙ ap (λ (v : ℕ). endedIn true v x B) h)) (record {
         says = λ xs e K v l o g.
             ended-goes xs ks e (run (drop a xs) a (want K o)) true afterMinus K x B refl (s .stops) (s .sorted) (ended-room ks a 6 w n 6 false A x B q s)
-            (subst (λ (z : Result). EndsAs xs z (afterMinus ∷ K) x B) (sym (at-sign xs ks e a 6 (want K o) (sym k ∙ h) (omega arith))) (s .says xs e (afterMinus ∷ K) refl (omega arith) o g));
+            (subst (λ (z : Result). EndsAs xs z (afterMinus ∷ K) x B) (sym (at-sign xs ks e a 6 (want K o) (sym kind ∙ h) (omega arith))) (s .says xs e (afterMinus ∷ K) refl (omega arith) o g));
         stops = stops-last ks (endedOf true x);
         sorted = ended-sorted true w x (λ v. refl);
         within = ended-within (length ks) a n true x (s .within);
       }))
 
   pub parenthesis-prefix-said : (A : List ℕ) (r : Read) (B : List ℕ) (c : ℕ) → c ≡ kindAt ks a → c ≡ 8 → ParenthesisSaid ks (a + 1) w n A r B → Said ks a 6 w n A r B
-  parenthesis-prefix-said A r B c k h s = record {
-    says = λ xs e K v l o g. subst (λ (z : Result). EndsAs xs z K r B) (sym (at-sign xs ks e a 8 (want K o) (sym k ∙ h) (omega arith))) (s .says xs e K v o g);
+  parenthesis-prefix-said A r B c kind h s = record {
+    says = λ xs e K v l o g. subst (λ (z : Result). EndsAs xs z K r B) (sym (at-sign xs ks e a 8 (want K o) (sym kind ∙ h) (omega arith))) (s .says xs e K v o g);
     stops = stops-last ks r;
     sorted = s .sorted;
     within = within-from (length ks) a n (a + 1) n r (omega arith) (omega arith) (s .within);
   }
 
   pub leaf-said : (A : List ℕ) (c : ℕ) → c ≡ kindAt ks a → 16 ≤ c → c < 19 → Said ks a 6 w n A (Value true (a + 1) (n + 1)) (set A n c)
-  leaf-said A c k h m =
-      let l : a < length ks = kind-inside ks a (omega arith) in
+  leaf-said A c kind h m =
+      let here : a < length ks = kind-inside ks a (omega arith) in
       record {
         says = λ xs e K v t o g.
             let z : (y : Leaf Name) × (code (leaf y) ≡ kindAt ks a) × ((s : State) → run (drop a xs) a s ≡ run (drop (a + 1) xs) (a + 1) (step s (leaf y) a)) = at-leaf xs ks e a (omega arith) (omega arith) in (
               o ++ leaf (z .0) ∷ [],
-              subst (λ (u : ℕ). Holds (set A n u) (n + 1) (o ++ leaf (z .0) ∷ [])) (z .1 ∙ sym k) (holds-one A n o (leaf (z .0)) g (omega (arith, q .room, q .short))),
+              subst (λ (u : ℕ). Holds (set A n u) (n + 1) (o ++ leaf (z .0) ∷ [])) (z .1 ∙ sym kind) (holds-one A n o (leaf (z .0)) g (omega (arith, q .room, q .short))),
               z .2 (want K o),
             );
         stops = goes-last true (kindAt ks (a + 1));
@@ -342,10 +342,10 @@ module _ (ks : List ℕ) (a : ℕ) (w : Bool) (n : ℕ) (q : Asked ks a 6 w n) w
       }
 
   pub no-term-said : (A : List ℕ) (c : ℕ) → c ≡ kindAt ks a → (c ≡ 6 → ⊥) → (c ≡ 8 → ⊥) → (16 ≤ c → 19 ≤ c) → Said ks a 6 w n A (Refused a) A
-  no-term-said A c k h6 h8 h = record {
+  no-term-said A c kind h6 h8 h = record {
     says = λ xs e K v l o g.
-        let i : c ≡ kindOn (drop a xs) = k ∙ kind-at xs ks e a in
-        no-term (drop a xs) a K o (subst (λ (z : ℕ). NoTerm z (allow K)) i (h6, h8, h, λ u. subst (λ (z : ℕ). (z ≡ 7 → ⊥) × (12 ≤ z → 16 ≤ z)) (sym k) (q .plain (omega arith) (sym v ∙ u))));
+        let i : c ≡ kindOn (drop a xs) = kind ∙ kind-at xs ks e a in
+        no-term (drop a xs) a K o (subst (λ (z : ℕ). NoTerm z (allow K)) i (h6, h8, h, λ u. subst (λ (z : ℕ). (z ≡ 7 → ⊥) × (12 ≤ z → 16 ≤ z)) (sym kind) (q .plain (omega arith) (sym v ∙ u))));
     stops = tt;
     sorted = tt;
     within = tt;
@@ -353,28 +353,28 @@ module _ (ks : List ℕ) (a : ℕ) (w : Bool) (n : ℕ) (q : Asked ks a 6 w n) w
 
 -- ---- formula_prefix at a parenthesis: what it holds is read as a term's parenthesis, then the signs of terms
 
-module _ (ks : List ℕ) (a n : ℕ) (q : Asked ks a 3 true n) (c : ℕ) (k : c ≡ kindAt ks a) (h : c ≡ 8) where
+module _ (ks : List ℕ) (a n : ℕ) (q : Asked ks a 3 true n) (c : ℕ) (kind : c ≡ kindAt ks a) (h : c ≡ 8) where
   opening-plain : Asked ks a 4 true n
-  opening-plain = plain-asked ks a n q (left ks a 7) c refl k (λ e. absurd (let y : ⊥ = omega arith in y)) (λ e. absurd (let y : ⊥ = omega arith in y)) .1
+  opening-plain = plain-asked ks a n q (left ks a 7) c refl kind (λ e. absurd (omega arith)) (λ e. absurd (omega arith)) .1
 
   opening-term : Asked ks a 6 true n
   opening-term = level-term-asked ks a 4 true n (leftAt ks a 4) opening-plain refl (omega arith) .1
 
   pub opening-asked : (t : ℕ) → left ks a 7 ≡ t → (left ks (a + 1) 15 < t) × Asked ks (a + 1) 0 true n
-  opening-asked t u = let z : (left ks (a + 1) 15 < left ks a 1) × Asked ks (a + 1) 0 true n = parenthesis-asked ks a true n opening-term (left ks a 1) c refl k h in (omega (arith, z .0, u), z .1)
+  opening-asked t u = let z : (left ks (a + 1) 15 < left ks a 1) × Asked ks (a + 1) 0 true n = parenthesis-asked ks a true n opening-term (left ks a 1) c refl kind h in (omega (arith, z .0, u), z .1)
 
   module _ (A : List ℕ) (x : Read) (B : List ℕ) (s : ParenthesisSaid ks (a + 1) true n A x B) where
     opening-read : Said ks a 6 true n A x B
-    opening-read = parenthesis-prefix-said ks a true n opening-term A x B c k h s
+    opening-read = parenthesis-prefix-said ks a true n opening-term A x B c kind h s
 
     pub opening-more-asked : (t : ℕ) → left ks a 7 ≡ t → (leftAfter ks x < t) × MoreAsked ks 4 x
-    opening-more-asked t u = let z : (leftAfter ks x < leftAt ks a 4) × MoreAsked ks 4 x = level-more-asked ks a 4 true n (leftAt ks a 4) 6 true A x B opening-plain refl (λ l. absurd (let y : ⊥ = omega arith in y)) opening-read in (omega (arith, z .0, u), z .1)
+    opening-more-asked t u = let z : (leftAfter ks x < leftAt ks a 4) × MoreAsked ks 4 x = level-more-asked ks a 4 true n (leftAt ks a 4) 6 true A x B opening-plain refl (λ l. absurd (omega arith)) opening-read in (omega (arith, z .0, u), z .1)
 
     pub opening-joined : (y : Read) (C : List ℕ) → MoreSaid ks 4 x B y C → Said ks a 4 true n A y C
     opening-joined y C m = level-said ks a 4 true n 6 true A x B y C refl (omega arith) opening-read m
 
     pub opening-alone : followsOf ks 4 x ≡ false → Said ks a 4 true n A x B
-    opening-alone f = level-alone ks a 4 true n 6 true A x B opening-plain refl (omega arith) (λ l. absurd (let y : ⊥ = omega arith in y)) opening-read f
+    opening-alone f = level-alone ks a 4 true n 6 true A x B opening-plain refl (omega arith) (λ l. absurd (omega arith)) opening-read f
 
 -- ---- parenthesis
 
@@ -401,11 +401,11 @@ related-within l a m (Refused p) w = tt
 
 module _ (ks : List ℕ) (a n : ℕ) (q : RelationAsked ks a n) where
   pub first-asked : (t c : ℕ) → left ks a 0 ≡ t → c ≡ kindAt ks a → c ≡ 8 → (leftAt ks (a + 1) 4 < t) × Asked ks (a + 1) 4 false n
-  first-asked t c u k h = let l : a < length ks = kind-inside ks a (omega arith) in (omega arith, term-asked ks (a + 1) 4 n (omega arith) (q .short) (omega arith) (omega arith) (omega (arith, q .room)))
+  first-asked t c u kind h = let here : a < length ks = kind-inside ks a (omega arith) in (omega arith, term-asked ks (a + 1) 4 n (omega arith) (q .short) (omega arith) (omega arith) (omega (arith, q .room)))
 
   pub no-opening-said : (A : List ℕ) (d c : ℕ) → c ≡ kindAt ks a → (c ≡ 8 → ⊥) → RelationSaid ks a d n A (Refused a) A
-  no-opening-said A d c k h = record {
-    says = λ xs e f u K w o g. no-opening (drop a xs) a f K o (λ z. h (k ∙ kind-at xs ks e a ∙ z));
+  no-opening-said A d c kind h = record {
+    says = λ xs e f u K w o g. no-opening (drop a xs) a f K o (λ z. h (kind ∙ kind-at xs ks e a ∙ z));
     stops = tt;
     within = tt;
   }
@@ -415,13 +415,13 @@ module _ (ks : List ℕ) (a n : ℕ) (q : RelationAsked ks a n) where
     first-inside = inside-of (length ks) (a + 1) n x (omega (arith, q .room)) (s .within)
 
     first-turns : (c : ℕ) → c ≡ kindAt ks a → c ≡ 8 → (xs : List Sym) (e : codes xs ≡ ks) (d : Relation) (K : List Frame) (o : List Sym) → Holds A n o → Turns xs (run (drop a xs) a (call d K o)) d K (expectedOf ks 11 x) B
-    first-turns c k h xs e d K o g =
+    first-turns c kind h xs e d K o g =
         parted-goes xs ks e (run (drop a xs) a (call d K o)) d K x B (s .sorted) (s .stops)
-        (subst (λ (z : Result). EndsAs xs z (firstOf d ∷ K) x B) (sym (at-sign xs ks e a 8 (call d K o) (sym k ∙ h) (omega arith))) (s .says xs e (firstOf d ∷ K) refl (omega arith) o g))
+        (subst (λ (z : Result). EndsAs xs z (firstOf d ∷ K) x B) (sym (at-sign xs ks e a 8 (call d K o) (sym kind ∙ h) (omega arith))) (s .says xs e (firstOf d ∷ K) refl (omega arith) o g))
 
     pub first-refused : (y : Read) (p d c : ℕ) → c ≡ kindAt ks a → c ≡ 8 → y ≡ expectedOf ks 11 x → y ≡ Refused p → RelationSaid ks a d n A (Refused p) B
-    first-refused y p d c k h e r = record {
-      says = λ xs i f u K w o g. subst (λ (z : Read). Turns xs (run (drop a xs) a (call f K o)) f K z B) (sym e ∙ r) (first-turns c k h xs i f K o g);
+    first-refused y p d c kind h e r = record {
+      says = λ xs i f u K w o g. subst (λ (z : Read). Turns xs (run (drop a xs) a (call f K o)) f K z B) (sym e ∙ r) (first-turns c kind h xs i f K o g);
       stops = tt;
       within = tt;
     }
@@ -450,11 +450,11 @@ module _ (ks : List ℕ) (a n : ℕ) (q : RelationAsked ks a n) where
         related-room r f = subst Room (sym f) (room-of (length ks) p m (expectedOf ks 9 z) second-room (q .short) second-expected)
 
         pub relation-said : (f r : Read) (D : List ℕ) (d c : ℕ) → c ≡ kindAt ks a → c ≡ 8 → f ≡ expectedOf ks 9 z → (r ≡ relatedOf f) × (D ≡ relatedIn d f C) → RelationSaid ks a d n A r D
-        relation-said f r D d c k h i j =
+        relation-said f r D d c kind h i j =
             subst (λ (u : Read). RelationSaid ks a d n A u D) (sym (j .0 ∙ ap relatedOf i)) (subst (RelationSaid ks a d n A (relatedOf (expectedOf ks 9 z))) (sym (j .1 ∙ ap (λ (u : Read). relatedIn d u C) i)) (record {
               says = λ xs b u w K l o H.
                   let R : Result = run (drop a xs) a (call u K o) in
-                  let T : Turns xs R u K (Value t p m) B = subst (λ (y : Read). Turns xs R u K y B) (sym e ∙ v) (first-turns c k h xs b u K o H) in
+                  let T : Turns xs R u K (Value t p m) B = subst (λ (y : Read). Turns xs R u K y B) (sym e ∙ v) (first-turns c kind h xs b u K o H) in
                   related-goes xs ks b R u d K z C w (g .sorted) (g .stops) (room-of (length ks) p m z second-room (q .short) (g .within))
                   (subst (λ (Q : Result). EndsAs xs Q (secondOf u ∷ K) z C) (sym (T .2)) (g .says xs b (secondOf u ∷ K) refl (omega arith) (T .0) (T .1)));
               stops = related-stops ks (expectedOf ks 9 z);
@@ -474,13 +474,13 @@ module _ (ks : List ℕ) (A : List ℕ) (x : Read) (B : List ℕ) (s : Said ks 0
   pub whole-term : (t : Bool) (p n : ℕ) → x ≡ Value t p n → t ≡ true → ParseSaid ks A (Refused p) B
   whole-term t p n v u xs e h =
       let g : EndsAs xs (reading xs) [] (Value t p n) B = whole (Value t p n) v xs e h in
-      g .2 ∙ rejected (drop p xs) t 0 p [] (g .0) (goes-at xs ks e p t 0 (stops-whole t p n v)) (omega arith) (omega arith) (λ z. refl) (λ z. refl) (λ z. absurd (let y : ⊥ = omega arith in y)) (λ z f. absurd (true≢false (sym u ∙ f)))
+      g .2 ∙ rejected (drop p xs) t 0 p [] (g .0) (goes-at xs ks e p t 0 (stops-whole t p n v)) (omega arith) (omega arith) (λ z. refl) (λ z. refl) (λ z. absurd (omega arith)) (λ z f. absurd (true≢false (sym u ∙ f)))
 
   pub whole-longer : (t : Bool) (p n : ℕ) → x ≡ Value t p n → p < length ks → ParseSaid ks A (Refused p) B
   whole-longer t p n v l xs e h =
       let g : EndsAs xs (reading xs) [] (Value t p n) B = whole (Value t p n) v xs e h in
-      g .2 ∙ rejected (drop p xs) t 0 p [] (g .0) (goes-at xs ks e p t 0 (stops-whole t p n v)) (omega arith) (omega arith) (λ z. refl) (λ z. refl) (λ z. absurd (let y : ⊥ = omega arith in y))
-      (λ z f. absurd (let i : length xs - p ≡ 0 = sym (length-drop p xs) ∙ ap length z in let j : length xs ≡ length ks = sym (length-codes xs) ∙ ap length e in let y : ⊥ = omega arith in y))
+      g .2 ∙ rejected (drop p xs) t 0 p [] (g .0) (goes-at xs ks e p t 0 (stops-whole t p n v)) (omega arith) (omega arith) (λ z. refl) (λ z. refl) (λ z. absurd (omega arith))
+      (λ z f. absurd (let i : length xs - p ≡ 0 = sym (length-drop p xs) ∙ ap length z in let j : length xs ≡ length ks = sym (length-codes xs) ∙ ap length e in omega arith))
 
   pub whole-formula : (t : Bool) (p n : ℕ) → x ≡ Value t p n → t ≡ false → length ks ≤ p → ParseSaid ks A (Value t p n) B
   unfolding run

@@ -73,7 +73,7 @@ binding-none t c h = sym (simp (ne-eqb c 0 (h .0 .0 .0 .0 .0 .1), ne-eqb c 1 (h 
 
 -- a kind that is not past the last
 pub kind-inside : (ks : List ℕ) (p : ℕ) → kindAt ks p < 19 → p < length ks
-kind-inside [] p h = absurd (let y : ⊥ = omega arith in y)
+kind-inside [] p h = absurd (omega arith)
 kind-inside (k ∷ ks) ℕ.zero h = omega arith
 kind-inside (k ∷ ks) (suc p) h = let z : p < length ks = kind-inside ks p h in omega arith
 

@@ -42,10 +42,10 @@ pub record Valued (s : Bool) (m : ℕ) (K : List Frame) (ts c o all : List Sym) 
 
 -- a binary sign takes only a value of the sort that it joins
 sort-of : (s : Bool) (b : Sign) → loosest s < suc (rankOf b) → (s ≡ false → allow (afterBinary b ∷ []) ≡ true) → s ≡ joinsTerms b
-sort-of true Implies h a = absurd (let y : ⊥ = omega arith in y)
-sort-of true Iff h a = absurd (let y : ⊥ = omega arith in y)
-sort-of true Or h a = absurd (let y : ⊥ = omega arith in y)
-sort-of true And h a = absurd (let y : ⊥ = omega arith in y)
+sort-of true Implies h a = absurd (omega arith)
+sort-of true Iff h a = absurd (omega arith)
+sort-of true Or h a = absurd (omega arith)
+sort-of true And h a = absurd (omega arith)
 sort-of true Plus h a = refl
 sort-of true Times h a = refl
 sort-of false Implies h a = refl

@@ -101,7 +101,7 @@ stuck : (l : List Sym) (p : ℕ) (f : Frame) (K : List Frame) (o : List Sym) →
 stuck l p f K o w h =
     let q : FormulaFrame f = formula-frame f w in
     let m : need f ≤ 3 = q .low in
-    rejected l true (need f) p (f ∷ K) o h (omega arith) (omega arith) (λ e. q .unshut true K o p) (λ e. q .unparted K o p) (λ e. absurd (let y : ⊥ = omega arith in y)) (λ e s. absurd (true≢false s))
+    rejected l true (need f) p (f ∷ K) o h (omega arith) (omega arith) (λ e. q .unshut true K o p) (λ e. q .unparted K o p) (λ e. absurd (omega arith)) (λ e s. absurd (true≢false s))
 
 -- the run ends as one from the place of the answer on, where the second term of C or <= is wanted
 abbrev pub Turns : List Sym → Result → Relation → List Frame → Read → List ℕ → Type 0
@@ -125,7 +125,7 @@ module _ (xs : List Sym) (ks : List ℕ) (e : codes xs ≡ ks) (R : Result) wher
       unclosed false q = rw (k q) (omega arith)
 
       barred : (v : Bool) → w ≡ v → 4 ≤ startOf v → allow K ≡ false
-      barred true q h = absurd (let y : ⊥ = omega arith in y)
+      barred true q h = absurd (omega arith)
       barred false q h = a ∙ q
 
       by-test : (b : Bool) → eqb (kindAt ks p) 9 ≡ b → EndsAs xs R K (cond b (Value t (p + 1) n) (Refused p)) A
@@ -159,12 +159,12 @@ module _ (xs : List Sym) (ks : List ℕ) (e : codes xs ≡ ks) (R : Result) wher
     where
       by-test : (b : Bool) → eqb (kindAt ks p) 10 ≡ b → EndsAs xs R K (cond b (Value false (p + 1) (n + 1)) (Value true p n)) (cond b (set A n 10) A)
       by-test true q =
-          let k : kindAt ks p ≡ 10 = eqb-true (kindAt ks p) 10 q in
-          let l : p < length ks = kind-inside ks p (omega arith) in (
+          let kind : kindAt ks p ≡ 10 = eqb-true (kindAt ks p) 10 q in
+          let here : p < length ks = kind-inside ks p (omega arith) in (
             g .0 ++ isZero ∷ [],
             holds-one A n (g .0) isZero (g .1) (omega arith),
             g .2
-                ∙ at-sign xs ks e p 10 (have true K (g .0)) k (omega arith)
+                ∙ at-sign xs ks e p 10 (have true K (g .0)) kind (omega arith)
                 ∙ ap (λ (z : Popped). run (drop (p + 1) xs) (p + 1) (zeroed z p)) (pop-keep 4 K (g .0) h)
                 ∙ ap (λ (b : Bool). run (drop (p + 1) xs) (p + 1) (guard b (have false K (g .0 ++ isZero ∷ [])) p)) a,
           )
@@ -208,8 +208,8 @@ expected-within ks c a m (Value t p n) h w = by-test (eqb (kindAt ks p) c) refl
   where
     by-test : (b : Bool) → eqb (kindAt ks p) c ≡ b → Within (length ks) a m (cond b (Value t (p + 1) n) (Refused p))
     by-test true q =
-        let k : kindAt ks p ≡ c = eqb-true (kindAt ks p) c q in
-        let l : p < length ks = kind-inside ks p (omega arith) in
+        let kind : kindAt ks p ≡ c = eqb-true (kindAt ks p) c q in
+        let here : p < length ks = kind-inside ks p (omega arith) in
         (omega arith, omega arith, omega arith)
     by-test false q = tt
 expected-within ks c a m (Refused p) h w = tt
@@ -219,8 +219,8 @@ zeroed-within ks a m (Value true p n) w = by-test (eqb (kindAt ks p) 10) refl
   where
     by-test : (b : Bool) → eqb (kindAt ks p) 10 ≡ b → Within (length ks) a m (cond b (Value false (p + 1) (n + 1)) (Value true p n))
     by-test true q =
-        let k : kindAt ks p ≡ 10 = eqb-true (kindAt ks p) 10 q in
-        let l : p < length ks = kind-inside ks p (omega arith) in
+        let kind : kindAt ks p ≡ 10 = eqb-true (kindAt ks p) 10 q in
+        let here : p < length ks = kind-inside ks p (omega arith) in
         (omega arith, omega arith, omega arith)
     by-test false q = w
 zeroed-within ks a m (Value false p n) w = w
@@ -228,7 +228,7 @@ zeroed-within ks a m (Refused p) w = tt
 
 below-five : (m : ℕ) → (0 < m → 5 ≤ m) → m ≤ 4 → m ≤ 3
 below-five ℕ.zero h l = omega arith
-below-five (suc m) h l = absurd (let z : 5 ≤ suc m = h (omega arith) in let y : ⊥ = omega arith in y)
+below-five (suc m) h l = absurd (let z : 5 ≤ suc m = h (omega arith) in omega arith)
 
 -- a term on which neither =0 nor a binary sign of terms goes
 goes-no-zero : (c : ℕ) → (c ≡ 10 → ⊥) → goesAt true c ≤ 4 → goesAt true c ≤ 3

@@ -1,4 +1,4 @@
--- The three stores stand behind the atoms, where the arrays have room. Assumes nothing.
+-- `compile::added` meets its contract: the three stores stand behind the atoms, where the arrays have room. Assumes nothing.
 use mathlib.Core.Path.{_≡_, refl}
 use native.Mathlib.Omega.{arith}
 use lib.ListN.{length, length-map}
@@ -28,9 +28,9 @@ add-grown c = search needs
 returns : tie.Need-returns
 returns c =
     let s = c .args .sheet in
-    let l : length (s .contact) ≡ 16 = simp length-map at (c .good .0 .1 .1 .1 .1 .0 .1 .0 .1) in
-    let m : length (s .xs) ≡ 16 = simp length-map at (c .good .0 .1 .1 .1 .1 .1 .0 .1 .0 .1) in
-    let n : length (s .ys) ≡ 16 = simp length-map at (c .good .0 .1 .1 .1 .1 .1 .1 .0 .1 .0 .1) in
+    let contacts : length (s .contact) ≡ 16 = simp length-map at (c .good .0 .1 .1 .1 .1 .0 .1 .0 .1) in
+    let firsts : length (s .xs) ≡ 16 = simp length-map at (c .good .0 .1 .1 .1 .1 .1 .0 .1 .0 .1) in
+    let seconds : length (s .ys) ≡ 16 = simp length-map at (c .good .0 .1 .1 .1 .1 .1 .1 .0 .1 .0 .1) in
     record {
       names-kept = refl;
       one-more = omega arith;

@@ -1,4 +1,4 @@
--- The arrays are of one value, and there is no atom. Assumes nothing.
+-- `compile::blank_sheet` meets its contract: the arrays are of one value, and there is no atom. Assumes nothing.
 use mathlib.Core.Path.{refl}
 use borrow.Author.Needs.{needs}
 use Rattle.compile.proofs.Sheets.{compiled-none}

@@ -1,10 +1,12 @@
--- The loop follows the machine, symbol by symbol (Follow.antt). Assumes nothing.
+-- `compile::compile_rule` meets its contract: the loop follows the machine, symbol by symbol (Follow.antt), and the symbols that are left
+-- fall. Assumes nothing.
 use Prim.Native.Nat.{ℕ, _-_, _≤_, _<_}
 use native.Mathlib.Omega.{arith}
-use mathlib.Core.Path.{sym, ap, _∙_}
+use mathlib.Core.Path.{_≡_, sym, ap, _∙_}
 use lib.ListN.{length, getD}
 use borrow.Author.Needs.{needs}
 use Rattle.evalset.specs.Sets.{memAt}
+use Rattle.compile.specs.Kinds.{takenBy}
 use Rattle.compile.proofs.Follow.{Inv, begins, low, lower, fits, few-names, few-atoms, enough, space, term-again, atom-again, sign-again, finished}
 use Rattle.compile.proofs.Steps.{one-at-most}
 use Rattle.compile.proofs.compile_rule.Statement.{statement}
@@ -23,12 +25,17 @@ module _ (c : tie.After-taken Inv-loop μ-loop) where
 
   height-low : c .before .before .before .loop .height < 171
   height-low =
-      omega (
-        arith,
-        low (c .before .before .before .before .before .before .before .pre) (c .before .before .before .loop .inv),
-        lower (c .before .before .before .before .before .before .before .pre) (c .before .before .before .loop .inv),
-        c .before .before .before .before .before .before .before .pre .short,
-      )
+      let asked = c .before .before .before .before .before .before .before .pre in
+      let inv = c .before .before .before .loop .inv in
+      omega (arith, low asked inv, lower asked inv, asked .short)
+
+  -- the height without what the symbol takes
+  height-left : let at = c .before .before .before .loop in at .height - c .taken .result ≡ at .height - takenBy (getD (c .before .before .before .before .before .before .before .args .order .now) (at .i) 0)
+  height-left = ap (λ (n : ℕ). c .before .before .before .loop .height - n) (c .taken .ensures)
+
+  -- the array has a place for one number more
+  code-fits : c .before .before .before .loop .end < 4096
+  code-fits = omega (arith, fits (c .before .before .before .before .before .before .before .pre) (c .before .before .before .loop .inv), c .before .before .before .before .before .before .before .pre .fits)
 
 empty-stack-requires : tie.Need-empty-stack-requires Inv-loop μ-loop
 empty-stack-requires c κs = search needs
@@ -86,8 +93,9 @@ names-of-kind-requires c κs = search needs
 
 add-used : tie.Need-add-used Inv-loop μ-loop
 add-used c =
-    let f = few-names (c .before .before .before .before .before .before .before .before .before .before .before .before .before .before .pre) (c .before .before .before .before .before .before .before .before .before .before .loop .inv) in
-    omega (arith, c .before .before .before .before .before .before .before .before .before .before .before .before .before .before .pre .short, c .names-of-kind .ensures, one-at-most (getD (c .before .before .before .before .before .before .before .before .before .before .before .before .before .before .args .order .now) (c .before .before .before .before .before .before .before .before .before .before .loop .i) 0))
+    let start = c .before .before .before .before .before .before .before .before .before .before .before .before .before .before in
+    let at = c .before .before .before .before .before .before .before .before .before .before .loop in
+    omega (arith, few-names (start .pre) (at .inv), start .pre .short, c .names-of-kind .ensures, one-at-most (getD (start .args .order .now) (at .i) 0))
 
 loop-less : tie.Need-loop-less Inv-loop μ-loop
 loop-less c = omega arith
@@ -95,19 +103,18 @@ loop-less c = omega arith
 loop-again : tie.Need-loop-again Inv-loop μ-loop
 unfolding memAt
 loop-again c =
-    let k = c .before .before .before .before .before .before .before .before .before .before .loop in
-    term-again (c .before .before .before .before .before .before .before .before .before .before .before .before .before .before .pre) (k .inv) (omega arith) (k .height - c .before .before .before .before .before .before .before .taken .result) (ap (λ (n : ℕ). k .height - n) (c .before .before .before .before .before .before .before .taken .ensures))
-    (c .before .term-set .result) (c .before .before .number-at .result) (c .names-of-kind .result) (omega (arith, height-low (c .before .before .before .before .before .before .before))) (sym (c .before .before .before .before .is-term .ensures) ∙ c .before .before .before .if1 .taken)
-    (c .before .before .number-at .ensures) (c .names-of-kind .ensures) (c .before .term-set .ensures)
+    let read = c .before .before .before .before .before .before .before in
+    term-again (read .before .before .before .before .before .before .before .pre) (read .before .before .before .loop .inv) (omega arith) _ (height-left read) (c .before .term-set .result) _ _ (omega (arith, height-low read))
+    (sym (c .before .before .before .before .is-term .ensures) ∙ c .before .before .before .if1 .taken) (c .before .before .number-at .ensures) (c .names-of-kind .ensures) (c .before .term-set .ensures)
 
 sign-code-requires : tie.Need-sign-code-requires Inv-loop μ-loop
 sign-code-requires c κs = few-atoms (c .before .before .before .before .before .before .before .before .before .before .before .pre) (c .before .before .before .before .before .before .before .loop .inv)
 
 element-write-code : tie.Need-element-write-code Inv-loop μ-loop
-element-write-code c = omega (arith, fits (c .before .before .before .before .before .before .before .before .before .before .before .before .pre) (c .before .before .before .before .before .before .before .before .loop .inv), c .before .before .before .before .before .before .before .before .before .before .before .before .pre .fits)
+element-write-code c = code-fits (c .before .before .before .before .before)
 
 add-end : tie.Need-add-end Inv-loop μ-loop
-add-end c = omega (arith, fits (c .before .before .before .before .before .before .before .before .before .before .before .before .pre) (c .before .before .before .before .before .before .before .before .loop .inv), c .before .before .before .before .before .before .before .before .before .before .before .before .pre .fits)
+add-end c = omega (arith, code-fits (c .before .before .before .before .before))
 
 is-atom-requires : tie.Need-is-atom-requires Inv-loop μ-loop
 is-atom-requires c κs = search needs
@@ -121,19 +128,17 @@ loop-less-2 c = omega arith
 loop-again-2 : tie.Need-loop-again-2 Inv-loop μ-loop
 unfolding memAt
 loop-again-2 c =
-    let k = c .before .before .before .before .before .before .before .before .before .before .before .loop in
-    atom-again (c .before .before .before .before .before .before .before .before .before .before .before .before .before .before .before .pre) (k .inv) (omega arith) (k .height - c .before .before .before .before .before .before .before .before .taken .result) (ap (λ (n : ℕ). k .height - n) (c .before .before .before .before .before .before .before .before .taken .ensures))
-    (c .before .before .before .sign-code .result) (c .before .before .before .sign-code .ensures) (sym (c .before .before .before .before .before .is-term .ensures) ∙ c .before .before .before .before .if1 .left)
-    (c .with-atom .result) (sym (c .before .before .is-atom .ensures) ∙ c .before .if2 .taken) (c .with-atom .ensures)
+    let read = c .before .before .before .before .before .before .before .before in
+    atom-again (read .before .before .before .before .before .before .before .pre) (read .before .before .before .loop .inv) (omega arith) _ (height-left read) _ (c .before .before .before .sign-code .ensures) (sym (c .before .before .before .before .before .is-term .ensures) ∙ c .before .before .before .before .if1 .left)
+    _ (sym (c .before .before .is-atom .ensures) ∙ c .before .if2 .taken) (c .with-atom .ensures)
 
 loop-less-3 : tie.Need-loop-less-3 Inv-loop μ-loop
 loop-less-3 c = omega arith
 
 loop-again-3 : tie.Need-loop-again-3 Inv-loop μ-loop
 loop-again-3 c =
-    let k = c .before .before .before .before .before .before .before .before .before .before .loop in
-    sign-again (c .before .before .before .before .before .before .before .before .before .before .before .before .before .before .pre) (k .inv) (omega arith) (k .height - c .before .before .before .before .before .before .before .taken .result) (ap (λ (n : ℕ). k .height - n) (c .before .before .before .before .before .before .before .taken .ensures))
-    (c .before .before .sign-code .result) (c .before .before .sign-code .ensures) (sym (c .before .before .before .before .is-term .ensures) ∙ c .before .before .before .if1 .left)
+    let read = c .before .before .before .before .before .before .before in
+    sign-again (read .before .before .before .before .before .before .before .pre) (read .before .before .before .loop .inv) (omega arith) _ (height-left read) _ (c .before .before .sign-code .ensures) (sym (c .before .before .before .before .is-term .ensures) ∙ c .before .before .before .if1 .left)
     (sym (c .before .is-atom .ensures) ∙ c .if2 .left)
 
 returns : tie.Need-returns Inv-loop μ-loop

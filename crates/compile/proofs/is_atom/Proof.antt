@@ -1,5 +1,5 @@
--- The kind decides. Assumes nothing.
-use mathlib.Core.Path.{sym, ap}
+-- `compile::is_atom` meets its contract: the kind is =0 or C, or the test for <= decides. Assumes nothing.
+use mathlib.Core.Path.{sym}
 use borrow.Author.Tests.{ne-eqb}
 use Rattle.compile.specs.Kinds.{atomKind}
 use Rattle.compile.proofs.is_atom.Statement.{statement}
@@ -7,11 +7,11 @@ use Rattle.compile.proofs.is_atom.Tie as tie
 
 returns : tie.Need-returns
 unfolding atomKind
-returns c = sym (ap atomKind (c .match .keys1))
+returns c = rw (c .match .keys1)
 
 returns-2 : tie.Need-returns-2
 unfolding atomKind
-returns-2 c = sym (ap atomKind (c .match .keys2))
+returns-2 c = rw (c .match .keys2)
 
 returns-3 : tie.Need-returns-3
 unfolding atomKind

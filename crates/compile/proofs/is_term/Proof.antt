@@ -1,5 +1,5 @@
--- The kind decides; of any other the number does. Assumes nothing.
-use mathlib.Core.Path.{sym, ap}
+-- `compile::is_term` meets its contract: the kind is +, * or -, or its number says whether it is 0, 1 or a name. Assumes nothing.
+use mathlib.Core.Path.{sym}
 use borrow.Author.Tests.{ne-eqb}
 use Rattle.compile.specs.Kinds.{termKind}
 use Rattle.compile.proofs.is_term.Statement.{statement}
@@ -7,15 +7,15 @@ use Rattle.compile.proofs.is_term.Tie as tie
 
 returns : tie.Need-returns
 unfolding termKind
-returns c = sym (ap termKind (c .match .keys1))
+returns c = rw (c .match .keys1)
 
 returns-2 : tie.Need-returns-2
 unfolding termKind
-returns-2 c = sym (ap termKind (c .match .keys2))
+returns-2 c = rw (c .match .keys2)
 
 returns-3 : tie.Need-returns-3
 unfolding termKind
-returns-3 c = sym (ap termKind (c .match .keys3))
+returns-3 c = rw (c .match .keys3)
 
 returns-4 : tie.Need-returns-4
 unfolding termKind

@@ -1,5 +1,5 @@
--- The kind decides. Assumes nothing.
-use mathlib.Core.Path.{sym, ap}
+-- `compile::names_of_kind` meets its contract: only the kind of a name brings one. Assumes nothing.
+use mathlib.Core.Path.{sym}
 use borrow.Author.Tests.{ne-eqb}
 use Rattle.compile.specs.Kinds.{namesBy}
 use Rattle.compile.proofs.names_of_kind.Statement.{statement}
@@ -7,7 +7,7 @@ use Rattle.compile.proofs.names_of_kind.Tie as tie
 
 returns : tie.Need-returns
 unfolding namesBy
-returns c = sym (ap namesBy (c .if1 .taken))
+returns c = rw (c .if1 .taken)
 
 returns-2 : tie.Need-returns-2
 unfolding namesBy

@@ -1,4 +1,4 @@
--- A byte fits, and past the last one stands 0. Assumes nothing.
+-- `compile::number_at` meets its contract: a name's number is a byte, which fits, and past the last one stands 0. Assumes nothing.
 use mathlib.Core.Path.{sym}
 use native.Mathlib.Omega.{arith}
 use lib.ListN.{List·getD-eq-default}

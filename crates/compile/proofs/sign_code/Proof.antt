@@ -1,7 +1,6 @@
--- The kind picks the code; any other kind is an atom's, whose number is small. Assumes nothing.
-use Prim.Native.Nat.{ℕ}
+-- `compile::sign_code` meets its contract: the kind picks the code; any other kind is an atom's, whose number is small. Assumes nothing.
 use native.Mathlib.Omega.{arith}
-use mathlib.Core.Path.{sym, ap}
+use mathlib.Core.Path.{sym}
 use borrow.Author.Needs.{needs}
 use borrow.Author.Tests.{ne-eqb}
 use Rattle.compile.specs.Kinds.{signBy}
@@ -16,31 +15,31 @@ add-result c = search needs
 
 returns : tie.Need-returns
 unfolding signBy
-returns c = sym (ap (λ (k : ℕ). signBy k (c .before .args .atoms)) (c .match .keys1))
+returns c = rw (c .match .keys1)
 
 returns-2 : tie.Need-returns-2
 unfolding signBy
-returns-2 c = sym (ap (λ (k : ℕ). signBy k (c .before .args .atoms)) (c .match .keys2))
+returns-2 c = rw (c .match .keys2)
 
 returns-3 : tie.Need-returns-3
 unfolding signBy
-returns-3 c = sym (ap (λ (k : ℕ). signBy k (c .before .args .atoms)) (c .match .keys3))
+returns-3 c = rw (c .match .keys3)
 
 returns-4 : tie.Need-returns-4
 unfolding signBy
-returns-4 c = sym (ap (λ (k : ℕ). signBy k (c .before .args .atoms)) (c .match .keys4))
+returns-4 c = rw (c .match .keys4)
 
 returns-5 : tie.Need-returns-5
 unfolding signBy
-returns-5 c = sym (ap (λ (k : ℕ). signBy k (c .before .args .atoms)) (c .match .keys5))
+returns-5 c = rw (c .match .keys5)
 
 returns-6 : tie.Need-returns-6
 unfolding signBy
-returns-6 c = sym (ap (λ (k : ℕ). signBy k (c .before .args .atoms)) (c .match .keys6))
+returns-6 c = rw (c .match .keys6)
 
 returns-7 : tie.Need-returns-7
 unfolding signBy
-returns-7 c = sym (ap (λ (k : ℕ). signBy k (c .before .args .atoms)) (c .match .keys7))
+returns-7 c = rw (c .match .keys7)
 
 returns-8 : tie.Need-returns-8
 unfolding signBy

@@ -1,4 +1,4 @@
--- The kind picks the set; any other kind is +. Assumes nothing.
+-- `compile::term_set` meets its contract: the kind picks the set, and any other kind is +. Assumes nothing.
 use Prim.Native.Nat.{ℕ}
 use mathlib.Core.Bool.{Bool}
 use mathlib.Core.Path.{sym, ap, _∙_}
@@ -32,23 +32,23 @@ join-requires c κs = search needs
 
 returns : tie.Need-returns
 unfolding setBy
-returns c = c .empty .ensures ∙ sym (ap (λ (k : ℕ). setBy k (c .before .before .args .number) (mem (c .before .before .args .x)) (mem (c .before .before .args .y))) (c .before .match .keys1))
+returns c = rw (c .before .match .keys1) (c .empty .ensures)
 
 returns-2 : tie.Need-returns-2
 unfolding setBy
-returns-2 c = c .full .ensures ∙ sym (ap (λ (k : ℕ). setBy k (c .before .before .args .number) (mem (c .before .before .args .x)) (mem (c .before .before .args .y))) (c .before .match .keys2))
+returns-2 c = rw (c .before .match .keys2) (c .full .ensures)
 
 returns-3 : tie.Need-returns-3
 unfolding setBy
-returns-3 c = c .name-set .ensures ∙ sym (ap (λ (k : ℕ). setBy k (c .before .before .args .number) (mem (c .before .before .args .x)) (mem (c .before .before .args .y))) (c .before .match .keys3))
+returns-3 c = rw (c .before .match .keys3) (c .name-set .ensures)
 
 returns-4 : tie.Need-returns-4
 unfolding setBy
-returns-4 c = c .minus .ensures ∙ ap (λ (p : ℕ → Bool). minusOf p (mem (c .before .before .before .args .x))) (c .before .full2 .ensures) ∙ sym (ap (λ (k : ℕ). setBy k (c .before .before .before .args .number) (mem (c .before .before .before .args .x)) (mem (c .before .before .before .args .y))) (c .before .before .match .keys4))
+returns-4 c = rw (c .before .before .match .keys4) (c .minus .ensures ∙ ap (λ (p : ℕ → Bool). minusOf p (mem (c .before .before .before .args .x))) (c .before .full2 .ensures))
 
 returns-5 : tie.Need-returns-5
 unfolding setBy
-returns-5 c = c .meet .ensures ∙ sym (ap (λ (k : ℕ). setBy k (c .before .before .args .number) (mem (c .before .before .args .x)) (mem (c .before .before .args .y))) (c .before .match .keys5))
+returns-5 c = rw (c .before .match .keys5) (c .meet .ensures)
 
 returns-6 : tie.Need-returns-6
 unfolding setBy

@@ -1,4 +1,4 @@
--- Past the end the default of `getD` is 0. Assumes nothing.
+-- `lexer::byte` meets its contract: past the end the default of `getD` is 0. Assumes nothing.
 use mathlib.Core.Path.{sym}
 use lib.ListN.{List·getD-eq-default}
 use borrow.Author.Needs.{needs}

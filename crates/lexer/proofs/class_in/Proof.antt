@@ -1,4 +1,4 @@
--- The lent table has the number of each class, and a class is known by its number. Assumes nothing.
+-- `lexer::class_in` meets its contract: the lent table has the number of each class, and a class is known by its number. Assumes nothing.
 use mathlib.Core.Path.{sym, _∙_}
 use Rattle.lexer.proofs.Classes.{blank, alphanumeric, sign, foreign}
 use borrow.Author.Needs.{needs}

@@ -1,4 +1,4 @@
--- Each arm knows its variant, whose number the definition gives. Assumes nothing.
+-- `lexer::code_of` meets its contract: each arm knows its variant, whose number the definition gives. Assumes nothing.
 use mathlib.Core.Path.{sym, ap}
 use Rattle.lexer.specs.Arrays.{codeOf}
 use borrow.Author.Needs.{needs}

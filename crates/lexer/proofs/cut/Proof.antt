@@ -1,8 +1,8 @@
--- The invariant: the tokens that are in the arrays and the cutting of the rest of the text give the answer for the whole text. The
--- measure is what is left of the text. Assumes nothing.
+-- `lexer::cut` meets its contract: the tokens that are in the arrays and the cutting of the rest of the text give the answer for the
+-- whole text (the invariant); what is left of the text falls. Assumes nothing.
 use mathlib.Core.Path.{_≡_, sym, ap, _∙_}
 use mathlib.Core.List.{[]}
-use Prim.Native.Nat.{_≤_, _-_}
+use Prim.Native.Nat.{_+_, _-_, _≤_}
 use native.Mathlib.Omega.{arith}
 use lib.ListN.{length, drop}
 use Rattle.lexer.specs.ClassTable.{ClassTable}
@@ -59,11 +59,9 @@ loop-less c = omega arith
 
 loop-again : tie.Need-loop-again Inv-loop μ-loop
 loop-again c =
-    let s = c .before .before .before .before .before .before .before .before .before .before .before .args .text .now in
-    let l = c .before .before .before .before .before .loop in
-    let h = c .before .before .before .before .loop-test .taken in
-    let found = c .before .before .piece-at .ensures in
-    (omega arith, l .inv .1, omega arith, l .inv .3, at-blank s (l .at) h (arrays (l .kinds) (l .starts) (l .lens) (l .n)) (sym (c .enum-told .given .1) ∙ found) ∙ l .inv .4)
+    let here = c .before .before in
+    let known = here .before .before .before .loop .inv in
+    (omega arith, known .1, omega arith, known .3, at-blank _ _ (here .before .before .loop-test .taken) _ (sym (c .enum-told .given .1) ∙ here .piece-at .ensures) ∙ known .4)
 
 enum-known-p : tie.Need-enum-known-p Inv-loop μ-loop
 enum-known-p c = search needs
@@ -89,40 +87,29 @@ add-n c = omega arith
 wide-requires : tie.Need-wide-requires Inv-loop μ-loop
 wide-requires c κs = search needs
 
+-- the token has at least one byte and ends within the text
+token-fits : (c : tie.After-wide Inv-loop μ-loop) → let at = c .before .before .before .before .before .before .before .before .loop .at in
+    (1 ≤ c .wide .result) × (at + c .wide .result ≤ length (c .before .before .before .before .before .before .before .before .before .before .before .before .before .before .args .text .now))
+token-fits c =
+    let here = c .before .before .before .before .before in
+    let sized = token-sized _ _ (here .before .before .loop-test .taken) _ _ (sym (here .piece-at .ensures) ∙ c .before .before .before .p .given .1) in
+    (omega (arith, sized .0, c .wide .ensures), omega (arith, sized .1, c .wide .ensures))
+
 add-at-2 : tie.Need-add-at-2 Inv-loop μ-loop
-add-at-2 c =
-    let s = c .before .before .before .before .before .before .before .before .before .before .before .before .before .before .args .text .now in
-    let l = c .before .before .before .before .before .before .before .before .loop in
-    let h = c .before .before .before .before .before .before .before .loop-test .taken in
-    let found = c .before .before .before .before .before .piece-at .ensures in
-    let told = c .before .before .before .p .given in
-    let z = token-sized s (l .at) h _ _ (sym found ∙ told .1) in
-    omega (arith, z .1, c .wide .ensures)
+add-at-2 c = omega (arith, token-fits c)
 
 loop-less-2 : tie.Need-loop-less-2 Inv-loop μ-loop
-loop-less-2 c =
-    let s = c .before .before .before .before .before .before .before .before .before .before .before .before .before .before .args .text .now in
-    let l = c .before .before .before .before .before .before .before .before .loop in
-    let h = c .before .before .before .before .before .before .before .loop-test .taken in
-    let found = c .before .before .before .before .before .piece-at .ensures in
-    let told = c .before .before .before .p .given in
-    let z = token-sized s (l .at) h _ _ (sym found ∙ told .1) in
-    omega (arith, z .0, z .1, c .wide .ensures)
+loop-less-2 c = omega (arith, token-fits c)
 
 loop-again-2 : tie.Need-loop-again-2 Inv-loop μ-loop
 loop-again-2 c =
-    let s = c .before .before .before .before .before .before .before .before .before .before .before .before .before .before .args .text .now in
-    let l = c .before .before .before .before .before .before .before .before .loop in
-    let h = c .before .before .before .before .before .before .before .loop-test .taken in
-    let found = c .before .before .before .before .before .piece-at .ensures in
-    let told = c .before .before .before .p .given in
-    let z = token-sized s (l .at) h _ _ (sym found ∙ told .1) in
-    let w : c .wide .result ≡ told .0 .1 .0 = omega (arith, c .wide .ensures) in (
-      omega (arith, z .1),
-      l .inv .1,
-      omega (arith, z .0),
-      l .inv .3,
-      at-token s (l .at) h (l .kinds) (l .starts) (l .lens) (l .n) _ _ _ _ (c .before .code-of .ensures) w (sym (told .1) ∙ found) ∙ l .inv .4,
+    let here = c .before .before .before .before .before in
+    let known = here .before .before .before .loop .inv in (
+      omega (arith, token-fits c),
+      known .1,
+      omega (arith, token-fits c),
+      known .3,
+      at-token _ _ (here .before .before .loop-test .taken) _ _ _ _ _ _ _ _ (c .before .code-of .ensures) (c .wide .ensures) (sym (c .before .before .before .p .given .1) ∙ here .piece-at .ensures) ∙ known .4,
     )
 
 enum-told-2 : tie.Need-enum-told-2 Inv-loop μ-loop
@@ -133,11 +120,8 @@ refused-requires c κs = search needs
 
 returns : tie.Need-returns Inv-loop μ-loop
 returns c =
-    let s = c .before .before .before .before .before .before .before .before .before .before .before .before .args .text .now in
-    let l = c .before .before .before .before .before .before .loop in
-    let h = c .before .before .before .before .before .loop-test .taken in
-    let found = c .before .before .before .piece-at .ensures in
-    c .refused .ensures ∙ at-foreign s (l .at) h (arrays (l .kinds) (l .starts) (l .lens) (l .n)) (sym (c .before .enum-told2 .given .1) ∙ found) ∙ l .inv .4
+    let here = c .before .before .before in
+    c .refused .ensures ∙ at-foreign _ _ (here .before .before .loop-test .taken) _ (sym (c .before .enum-told2 .given .1) ∙ here .piece-at .ensures) ∙ here .before .before .before .loop .inv .4
 
 enum-told-3 : tie.Need-enum-told-3 Inv-loop μ-loop
 enum-told-3 c = search needs
@@ -147,11 +131,8 @@ refused-requires-2 c κs = search needs
 
 returns-2 : tie.Need-returns-2 Inv-loop μ-loop
 returns-2 c =
-    let s = c .before .before .before .before .before .before .before .before .before .before .before .before .args .text .now in
-    let l = c .before .before .before .before .before .before .loop in
-    let h = c .before .before .before .before .before .loop-test .taken in
-    let found = c .before .before .before .piece-at .ensures in
-    c .refused2 .ensures ∙ at-long s (l .at) h (arrays (l .kinds) (l .starts) (l .lens) (l .n)) (sym (c .before .enum-told3 .given .1) ∙ found) ∙ l .inv .4
+    let here = c .before .before .before in
+    c .refused2 .ensures ∙ at-long _ _ (here .before .before .loop-test .taken) _ (sym (c .before .enum-told3 .given .1) ∙ here .piece-at .ensures) ∙ here .before .before .before .loop .inv .4
 
 enum-told-4 : tie.Need-enum-told-4 Inv-loop μ-loop
 enum-told-4 c = search needs
@@ -161,11 +142,8 @@ refused-requires-3 c κs = search needs
 
 returns-3 : tie.Need-returns-3 Inv-loop μ-loop
 returns-3 c =
-    let s = c .before .before .before .before .before .before .before .before .before .before .before .before .args .text .now in
-    let l = c .before .before .before .before .before .before .loop in
-    let h = c .before .before .before .before .before .loop-test .taken in
-    let found = c .before .before .before .piece-at .ensures in
-    c .refused3 .ensures ∙ at-measured s (l .at) h (arrays (l .kinds) (l .starts) (l .lens) (l .n)) (sym (c .before .enum-told4 .given .1) ∙ found) ∙ l .inv .4
+    let here = c .before .before .before in
+    c .refused3 .ensures ∙ at-measured _ _ (here .before .before .loop-test .taken) _ (sym (c .before .enum-told4 .given .1) ∙ here .piece-at .ensures) ∙ here .before .before .before .loop .inv .4
 
 finished-requires : tie.Need-finished-requires Inv-loop μ-loop
 finished-requires c κs = search needs

@@ -1,4 +1,4 @@
--- The definition tests the bytes as the code does. Assumes nothing.
+-- `lexer::equals_sign` meets its contract: the definition tests the bytes as the code does. Assumes nothing.
 use borrow.Author.Tests.{eq-eqb, ne-eqb}
 use Rattle.lexer.proofs.equals_sign.Statement.{statement}
 use Rattle.lexer.proofs.equals_sign.Tie as tie

@@ -1,4 +1,4 @@
--- The definition tests the number of tokens as the code does. Assumes nothing.
+-- `lexer::finished` meets its contract: the definition tests the number of tokens as the code does. Assumes nothing.
 use borrow.Author.Tests.{eq-eqb, ne-eqb}
 use Rattle.lexer.specs.Steps.{finish}
 use Rattle.lexer.proofs.finished.Statement.{statement}

@@ -1,4 +1,4 @@
--- Each arm knows the class. Assumes nothing.
+-- `lexer::in_run` meets its contract: each arm knows the class. Assumes nothing.
 use mathlib.Core.Path.{sym, ap, _∙_}
 use Rattle.lexer.specs.Cutter.{inRun}
 use borrow.Author.Needs.{needs}

@@ -1,4 +1,4 @@
--- The definition tests the bytes as the code does. Assumes nothing.
+-- `lexer::less_sign` meets its contract: the definition tests the bytes as the code does. Assumes nothing.
 use borrow.Author.Tests.{eq-eqb, ne-eqb}
 use Rattle.lexer.proofs.less_sign.Statement.{statement}
 use Rattle.lexer.proofs.less_sign.Tie as tie

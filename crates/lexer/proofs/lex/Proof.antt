@@ -1,4 +1,4 @@
--- A text of more than 256 bytes is refused, and the others are cut. Assumes nothing.
+-- `lexer::lex` meets its contract: a text of more than 256 bytes is refused, and the others are cut. Assumes nothing.
 use mathlib.Core.Path.{_∙_}
 use Rattle.lexer.proofs.Filling.{too-long, not-too-long}
 use borrow.Author.Needs.{needs}

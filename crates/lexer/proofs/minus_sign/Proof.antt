@@ -1,4 +1,4 @@
--- The definition tests the byte as the code does. Assumes nothing.
+-- `lexer::minus_sign` meets its contract: the definition tests the byte as the code does. Assumes nothing.
 use borrow.Author.Tests.{eq-eqb, ne-eqb}
 use Rattle.lexer.proofs.minus_sign.Statement.{statement}
 use Rattle.lexer.proofs.minus_sign.Tie as tie

@@ -1,4 +1,4 @@
--- Each arm knows the class of the first byte, which decides what stands there. Assumes nothing.
+-- `lexer::piece_at` meets its contract: each arm knows the class of the first byte, which decides what stands there. Assumes nothing.
 use mathlib.Core.Path.{refl, sym, _∙_}
 use Rattle.lexer.specs.declared.Class.the-variants as Class
 use Rattle.lexer.proofs.Pieces.{by-class, sign-here}

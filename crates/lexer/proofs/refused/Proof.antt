@@ -1,4 +1,4 @@
--- Each array is 256 zeros, as in the arrays of no token. Assumes nothing.
+-- `lexer::refused` meets its contract: each array is 256 zeros, as in the arrays of no token. Assumes nothing.
 use Rattle.lists.specs.Padded.{pad}
 use Rattle.lexer.specs.Arrays.{tokensOf}
 use Rattle.lexer.specs.Steps.{refusal}
@@ -17,7 +17,7 @@ zeros-requires-3 c κs = search needs
 
 returns : tie.Need-returns
 unfolding refusal tokensOf pad
-returns c = let a = c .before .before .zeros .ensures in let b = c .before .zeros2 .ensures in let d = c .zeros3 .ensures in cc
+returns c = cc (c .before .before .zeros .ensures, c .before .zeros2 .ensures, c .zeros3 .ensures)
 
 pub refused-spec : {M : Type 1} → statement M
 refused-spec = tie.close (tie.spec zeros-requires zeros-requires-2 zeros-requires-3 returns)

@@ -1,4 +1,4 @@
--- The run at the place is its first byte, which is known to be a letter or digit, and the run from the next place on. Assumes nothing.
+-- `lexer::run` meets its contract: the run at the place is its first byte, a letter or digit, and the run from the next place on. Assumes nothing.
 use mathlib.Core.Path.{sym, ap, _∙_}
 use native.Mathlib.Omega.{arith}
 use Rattle.lexer.specs.Class.{classOf}

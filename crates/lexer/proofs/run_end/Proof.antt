@@ -1,5 +1,5 @@
--- The invariant: what is left of the run at the start is what has been passed and what is left from here on. The measure is what is
--- left of the text. Assumes nothing.
+-- `lexer::run_end` meets its contract: what is left of the run at the start is what has been passed and what is left from here on (the
+-- invariant); what is left of the text falls. Assumes nothing.
 use mathlib.Core.Path.{_≡_, sym, _∙_}
 use Prim.Native.Nat.{_≤_, _+_, _-_}
 use native.Mathlib.Omega.{arith}

@@ -1,4 +1,4 @@
--- Each arm knows the byte that opens the sign, or that it is none that does. Assumes nothing.
+-- `lexer::sign` meets its contract: each arm knows the byte that opens the sign, or that it is none that does. Assumes nothing.
 use mathlib.Core.Path.{sym, ap, ap₂, _∙_}
 use borrow.Author.Tests.{ne-eqb}
 use Rattle.lexer.specs.Steps.{minusSign, lessSign, equalsSign, signOf}

@@ -1,4 +1,5 @@
--- The invariant: the bytes up to i are copied over the zeros. The measure is what is left of the name. Assumes nothing.
+-- `names::name_of` meets its contract: the bytes up to i are copied over the zeros (the invariant); what is left of the name falls.
+-- Assumes nothing.
 use Prim.Native.Nat.{ℕ, _-_, _≤_}
 use mathlib.Core.Path.{_≡_, refl, ap, _∙_}
 use mathlib.Core.List.{List, _++_}

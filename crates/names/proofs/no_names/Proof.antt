@@ -1,4 +1,4 @@
--- Six empty entries are what no name is padded with. Assumes nothing.
+-- `names::no_names` meets its contract: six empty entries are what no name is padded with. Assumes nothing.
 use mathlib.Core.Path.{refl}
 use Rattle.names.specs.Gather.{nameOf, arraysOf}
 use Rattle.names.proofs.no_names.Statement.{statement}

@@ -1,10 +1,12 @@
--- The invariant: what is left of the two names decides whether they are the same. The measure is what is left of them. Assumes nothing.
+-- `names::same` meets its contract: what is left of the two names decides whether they are the same (the invariant); the bytes that are
+-- left fall. Assumes nothing.
 use Prim.Native.Nat.{_-_, _≤_}
 use mathlib.Core.Path.{_≡_, refl, sym, _∙_}
 use native.Mathlib.Omega.{arith}
 use borrow.Author.Needs.{needs}
 use lib.ListN.{length, take, length-map}
 use Rattle.contact.specs.Numbering.{sameName}
+use Rattle.names.specs.Steps.{sameKept}
 use Rattle.names.proofs.Scans.{lengths-differ, lengths-agree, sameFrom, byte-same, byte-differs, bytes-end}
 use Rattle.names.proofs.same.Statement.{statement}
 use Rattle.names.proofs.same.Tie as tie
@@ -15,6 +17,10 @@ Inv-loop w n bytes i₀ i = (i ≤ length w) × (full : length bytes ≡ 16) × 
 abbrev μ-loop : tie.MeasureT-loop
 μ-loop w n bytes i₀ i = length w - i
 
+-- where the lengths agree the bytes decide
+bytes-decide : (c : tie.Else1 Inv-loop μ-loop) → let a = c .before .before .before .args in sameName (take (length (a .w .now)) (a .k .bytes)) (a .w .now) ≡ sameKept (a .k) (a .w .now)
+bytes-decide c = lengths-agree (c .before .before .before .args .k) (c .before .before .before .args .w .now) (omega (arith, c .before .wide .ensures, c .if1 .left))
+
 wide-requires : tie.Need-wide-requires Inv-loop μ-loop
 wide-requires c κs = search needs
 
@@ -24,7 +30,7 @@ returns c = lengths-differ _ _ (λ e. omega (arith, c .before .wide .ensures))
 loop-holds : tie.Need-loop-holds Inv-loop μ-loop
 loop-holds c =
     let start = c .before .before .before .before in
-    (omega arith, sym (length-map (start .args .k .bytes) (λ v. v)) ∙ start .good .0 .1 .1 .0 .1 .0 .1, start .pre, refl)
+    (omega arith, simp length-map at (start .good .0 .1 .1 .0 .1 .0 .1), start .pre, refl)
 
 array-read-if2 : tie.Need-array-read-if2 Inv-loop μ-loop
 array-read-if2 c = omega arith
@@ -34,11 +40,9 @@ shared-slice-read-if2 c = omega arith
 
 returns-2 : tie.Need-returns-2 Inv-loop μ-loop
 returns-2 c =
-    let start = c .before .before .before .before .before .before .before .before in
-    let at = c .before .before .before .loop in
-    let agree : start .args .k .len ≡ length (start .args .w .now) = omega (arith, c .before .before .before .before .before .before .wide .ensures, c .before .before .before .before .before .if1 .left) in
-    sym (byte-differs (start .args .k .bytes) (start .args .w .now) (at .i) (at .inv .1) (at .inv .2) (c .before .before .loop-test .taken) (c .if2 .taken))
-    ∙ at .inv .3 ∙ lengths-agree (start .args .k) (start .args .w .now) agree
+    let a = c .before .before .before .before .before .before .before .before .args in
+    let known = c .before .before .before .loop .inv in
+    sym (byte-differs (a .k .bytes) (a .w .now) _ (known .1) (known .2) (c .before .before .loop-test .taken) (c .if2 .taken)) ∙ known .3 ∙ bytes-decide (c .before .before .before .before .before)
 
 add-i : tie.Need-add-i Inv-loop μ-loop
 add-i c = omega arith
@@ -48,17 +52,15 @@ loop-less c = omega arith
 
 loop-again : tie.Need-loop-again Inv-loop μ-loop
 loop-again c =
-    let start = c .before .before .before .before .before .before .before .before in
-    let at = c .before .before .before .loop in
-    (omega arith, at .inv .1, at .inv .2, sym (byte-same (start .args .k .bytes) (start .args .w .now) (at .i) (at .inv .1) (at .inv .2) (c .before .before .loop-test .taken) (c .if2 .left)) ∙ at .inv .3)
+    let a = c .before .before .before .before .before .before .before .before .args in
+    let known = c .before .before .before .loop .inv in
+    (omega arith, known .1, known .2, sym (byte-same (a .k .bytes) (a .w .now) _ (known .1) (known .2) (c .before .before .loop-test .taken) (c .if2 .left)) ∙ known .3)
 
 returns-3 : tie.Need-returns-3 Inv-loop μ-loop
 returns-3 c =
-    let start = c .before .before .before .before .before .before in
-    let at = c .before .loop in
-    let agree : start .args .k .len ≡ length (start .args .w .now) = omega (arith, c .before .before .before .before .wide .ensures, c .before .before .before .if1 .left) in
-    sym (bytes-end (start .args .k .bytes) (start .args .w .now) (at .i) (at .inv .1) (at .inv .2) (c .loop-test .left))
-    ∙ at .inv .3 ∙ lengths-agree (start .args .k) (start .args .w .now) agree
+    let a = c .before .before .before .before .before .before .args in
+    let known = c .before .loop .inv in
+    sym (bytes-end (a .k .bytes) (a .w .now) _ (known .1) (known .2) (c .loop-test .left)) ∙ known .3 ∙ bytes-decide (c .before .before .before)
 
 pub same-spec : {M : Type 1} → statement M
 same-spec =

@@ -1,4 +1,5 @@
--- A name whose number is that of a known one is there already; another is stored behind them. Assumes nothing.
+-- `names::with_name` meets its contract: a name whose number is that of a known one is there already, and another is stored behind
+-- them. Assumes nothing.
 use borrow.Author.Needs.{needs}
 use Rattle.names.specs.Steps.{push}
 use Rattle.names.proofs.Scans.{name-there, name-new}

@@ -1,4 +1,4 @@
--- `every_byte` is safe and ends: below 255 one more fits a byte, and 255 - b falls.
+-- `rule_places::every_byte` is safe and ends: below 255 one more fits a byte, and 255 - b falls.
 -- Nothing has to hold from turn to turn, so the invariant is `Unit {0}`. Assumes nothing.
 use borrow.Author.Needs.{needs}
 use Prim.Native.Nat.{_-_}

@@ -1,4 +1,5 @@
--- `name_from` is safe and ends: the place is tested against 256, and 256 - t falls. Assumes nothing.
+-- `rule_places::name_from` is safe and ends: each turn reads the kind at a place below 256, and the places that are left fall.
+-- Nothing has to hold from turn to turn, so the invariant is `Unit {0}`. Assumes nothing.
 use borrow.Author.Needs.{needs}
 use Prim.Native.Nat.{_-_}
 use Rattle.rule_places.proofs.name_from.Statement.{statement}

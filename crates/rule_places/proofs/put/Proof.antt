@@ -1,4 +1,4 @@
--- `put` is safe and ends: each turn reads a byte below the length, and the bytes that are left fall.
+-- `rule_places::put` is safe and ends: each turn reads a byte below the length, and the bytes that are left fall.
 -- Nothing has to hold from turn to turn, so the invariant is `Unit {0}`. Assumes nothing.
 use borrow.Author.Needs.{needs}
 use lib.ListN.{length}

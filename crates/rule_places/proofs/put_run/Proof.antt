@@ -1,4 +1,4 @@
--- `put_run` is safe and ends: the turns that are left fall, and `put_byte` keeps to the buffer by itself.
+-- `rule_places::put_run` is safe and ends: the turns that are left fall, and `put_byte` keeps to the buffer by itself.
 -- Nothing has to hold from turn to turn, so the invariant is `Unit {0}`. Assumes nothing.
 use borrow.Author.Needs.{needs}
 use Prim.Native.Nat.{_-_}

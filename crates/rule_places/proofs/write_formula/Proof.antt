@@ -1,4 +1,5 @@
--- `write_formula` is safe and ends: each index is tested against 256, whatever the rule holds, and 256 - i falls. Assumes nothing.
+-- `rule_places::write_formula` is safe and ends: each turn reads the order at a place below 256, and the places that are left fall;
+-- the functions that it calls test their own places. Nothing has to hold from turn to turn, so the invariant is `Unit {0}`. Assumes nothing.
 use borrow.Author.Needs.{needs}
 use Prim.Native.Nat.{_-_}
 use Rattle.rule_places.proofs.write_formula.Statement.{statement}

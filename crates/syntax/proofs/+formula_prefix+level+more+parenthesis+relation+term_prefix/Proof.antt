@@ -159,7 +159,7 @@ formula-prefix-relation-requires : (t : ℕ) → formula-prefix-lts.Need-relatio
 formula-prefix-relation-requires t c κs = relation-asked _ _ _ (c .before .before .before .before .before .before .before .pre .1) _ _ (c .before .before .before .before .before .before .before .pre .0) (c .before .before .before .before .before .kind-at .ensures) (c .before .if4 .taken)
 
 formula-prefix-level-requires : (t : ℕ) → formula-prefix-lts.Need-level-requires (formula-prefix-calls t) (formula-prefix-at t) formula-prefix.Post
-formula-prefix-level-requires t c κs = plain-asked _ _ _ (c .before .before .before .before .before .pre .1) _ _ (c .before .before .before .before .before .pre .0) (c .before .before .before .kind-at .ensures) (c .before .before .match .rest .0 .1) (λ h. ⊎-elim (λ l. absurd (let y : ⊥ = omega (arith, h, l .taken) in y)) (λ l. l .2 .left) (c .before .if2 .came))
+formula-prefix-level-requires t c κs = plain-asked _ _ _ (c .before .before .before .before .before .pre .1) _ _ (c .before .before .before .before .before .pre .0) (c .before .before .before .kind-at .ensures) (c .before .before .match .rest .0 .1) (λ h. ⊎-elim (λ l. absurd (omega (arith, h, l .taken))) (λ l. l .2 .left) (c .before .if2 .came))
 
 formula-prefix-zeroed-requires-3 : (t : ℕ) → formula-prefix-lts.Need-zeroed-requires-3 (formula-prefix-calls t) (formula-prefix-at t) formula-prefix.Post
 formula-prefix-zeroed-requires-3 t c κs = said-inside _ _ _ _ _ _ _ _ _ _ (c .before .before .before .before .before .before .before .pre .1) (c .before .level .ensures)

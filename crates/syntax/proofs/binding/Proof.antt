@@ -1,5 +1,4 @@
--- The kind picks the sign; any other kind is none of the six. Assumes nothing.
-use mathlib.Core.Path.{sym, ap, _∙_}
+-- `syntax::binding` meets its contract: the kind picks the sign, and any other kind is none of the six. Assumes nothing.
 use Rattle.syntax.specs.Reader.{bindingOf}
 use Rattle.syntax.proofs.Returns.{binding-none}
 use borrow.Author.Needs.{needs}
@@ -26,27 +25,27 @@ goes-on-requires-6 c κs = search needs
 
 returns : tie.Need-returns
 unfolding bindingOf
-returns c = c .goes-on .ensures ∙ ap (bindingOf (c .before .before .args .term)) (sym (c .before .match .keys1))
+returns c = rw (c .before .match .keys1) (c .goes-on .ensures)
 
 returns-2 : tie.Need-returns-2
 unfolding bindingOf
-returns-2 c = c .goes-on2 .ensures ∙ ap (bindingOf (c .before .before .args .term)) (sym (c .before .match .keys2))
+returns-2 c = rw (c .before .match .keys2) (c .goes-on2 .ensures)
 
 returns-3 : tie.Need-returns-3
 unfolding bindingOf
-returns-3 c = c .goes-on3 .ensures ∙ ap (bindingOf (c .before .before .args .term)) (sym (c .before .match .keys3))
+returns-3 c = rw (c .before .match .keys3) (c .goes-on3 .ensures)
 
 returns-4 : tie.Need-returns-4
 unfolding bindingOf
-returns-4 c = c .goes-on4 .ensures ∙ ap (bindingOf (c .before .before .args .term)) (sym (c .before .match .keys4))
+returns-4 c = rw (c .before .match .keys4) (c .goes-on4 .ensures)
 
 returns-5 : tie.Need-returns-5
 unfolding bindingOf
-returns-5 c = c .goes-on5 .ensures ∙ ap (bindingOf (c .before .before .args .term)) (sym (c .before .match .keys5))
+returns-5 c = rw (c .before .match .keys5) (c .goes-on5 .ensures)
 
 returns-6 : tie.Need-returns-6
 unfolding bindingOf
-returns-6 c = c .goes-on6 .ensures ∙ ap (bindingOf (c .before .before .args .term)) (sym (c .before .match .keys6))
+returns-6 c = rw (c .before .match .keys6) (c .goes-on6 .ensures)
 
 returns-7 : tie.Need-returns-7
 returns-7 c = binding-none (c .before .args .term) (c .before .args .kind) (c .match .rest)

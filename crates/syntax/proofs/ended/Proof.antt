@@ -1,4 +1,4 @@
--- The sort of the value decides, and there is room for one number more. Assumes nothing.
+-- `syntax::ended` meets its contract: the sort of the value decides, and there is room for one number more. Assumes nothing.
 use native.Mathlib.Omega.{arith}
 use Rattle.syntax.proofs.Returns.{room-value, ended-yes, ended-no, ended-refused}
 use borrow.Author.Needs.{needs}

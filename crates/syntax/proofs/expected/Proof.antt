@@ -1,4 +1,4 @@
--- The kind at the place of the value decides. Assumes nothing.
+-- `syntax::expected` meets its contract: the kind of the token after the value decides, and a refusal stays. Assumes nothing.
 use native.Mathlib.Omega.{arith}
 use mathlib.Core.Path.{sym, _∙_}
 use Rattle.syntax.proofs.Returns.{inside-value, expected-yes, expected-no, expected-refused}

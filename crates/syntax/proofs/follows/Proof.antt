@@ -1,4 +1,5 @@
--- The sign at the place of the value decides; a refusal has none. Assumes nothing.
+-- `syntax::follows` meets its contract: a value's sort and the kind of the token after it give the binding, and a refusal has no token
+-- after it. Assumes nothing.
 use Rattle.syntax.proofs.Returns.{follows-value}
 use borrow.Author.Needs.{needs}
 use Rattle.syntax.proofs.follows.Statement.{statement}

@@ -1,4 +1,4 @@
--- The level of a binary sign is counted from 4 for terms and from 1 for formulas: one equation a sign. Assumes nothing.
+-- `syntax::goes_on` meets its contract: the level of a binary sign is counted from 4 for terms and from 1 for formulas. Assumes nothing.
 use native.Mathlib.Omega.{arith}
 use mathlib.Core.Path.{sym, _∙_}
 use mathlib.Core.Bool.{true≢false}

@@ -1,4 +1,4 @@
--- Inside the slice the default of `getD` does not matter; past its end the default is 19. Assumes nothing.
+-- `syntax::kind_at` meets its contract: inside the slice the default of `getD` does not matter, and past its end the default is 19. Assumes nothing.
 use mathlib.Core.Path.{sym}
 use lib.ListN.{List·getD-eq-default}
 use Rattle.lists.proofs.Lists.{default-unread}

@@ -1,4 +1,5 @@
--- No frame waits around all the tokens, so that the answer of `level` is the reading; what stands after it decides. Assumes nothing.
+-- `syntax::parse` meets its contract: no frame waits around all the tokens, so that the answer of `level` is the reading, and what
+-- stands after it decides. Assumes nothing.
 use borrow.Author.Needs.{needs}
 use Rattle.syntax.proofs.Readers.{whole-term, whole-longer, whole-formula, whole-refused}
 use Rattle.syntax.proofs.parse.Statement.{statement}

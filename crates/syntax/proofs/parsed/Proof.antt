@@ -1,28 +1,28 @@
--- `parsed` meets its contract: what is read is the kinds of the text's symbols. Assumes nothing.
+-- `syntax::parsed` meets its contract: the kinds that are parsed are those of the text's symbols. Assumes nothing.
 use borrow.Author.Needs.{needs}
 use native.Mathlib.Omega.{arith}
-use mathlib.Core.Path.{_≡_, sym, _∙_}
+use mathlib.Core.Path.{_≡_, _∙_}
 use lib.ListN.{length, length-map, length-take}
 use Rattle.syntax.specs.RuleText.{symbolsOf}
 use Rattle.syntax.proofs.Rules.{kinds-read, read-value, read-refused}
 use Rattle.syntax.proofs.parsed.Statement.{statement}
 use Rattle.syntax.proofs.parsed.Tie as tie
 
+-- the array is as long as its type says
+kinds-long : (c : tie.Start) → length (c .args .t .kinds) ≡ 256
+kinds-long c = simp length-map at (c .good .0 .1 .1 .0 .1 .0 .1)
+
 zeros-requires : tie.Need-zeros-requires
 zeros-requires c κs = search needs
 
 array-share-prefix-kinds : tie.Need-array-share-prefix-kinds
-array-share-prefix-kinds c =
-    let full : length (c .before .before .args .t .kinds) ≡ 256 = sym (length-map (c .before .before .args .t .kinds) (λ v. v)) ∙ c .before .before .good .0 .1 .1 .0 .1 .0 .1 in
-    omega arith
+array-share-prefix-kinds c = omega (arith, kinds-long (c .before .before))
 
 slice-aggregate-parse : tie.Need-slice-aggregate-parse
-slice-aggregate-parse c =
-    let full : length (c .before .before .before .args .t .kinds) ≡ 256 = sym (length-map (c .before .before .before .args .t .kinds) (λ v. v)) ∙ c .before .before .before .good .0 .1 .1 .0 .1 .0 .1 in
-    omega (arith, length-take (c .before .before .before .args .t .n) (c .before .before .before .args .t .kinds))
+slice-aggregate-parse c = simp length-take (omega (arith, kinds-long (c .before .before .before)))
 
 parse-requires : tie.Need-parse-requires
-parse-requires c κs = omega (arith, length-take (c .before .before .before .before .args .t .n) (c .before .before .before .before .args .t .kinds))
+parse-requires c κs = simp length-take (omega arith)
 
 enum-known-r : tie.Need-enum-known-r
 enum-known-r c = search needs

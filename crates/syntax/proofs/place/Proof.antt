@@ -1,4 +1,4 @@
--- `place` meets its contract: the array of starts holds those of the tokens. Assumes nothing.
+-- `syntax::place` meets its contract: the array of starts holds those of the tokens. Assumes nothing.
 use borrow.Author.Needs.{needs}
 use mathlib.Core.Path.{_∙_}
 use Rattle.syntax.proofs.Rules.{place-in, place-out}

@@ -1,4 +1,4 @@
--- `read_rule` meets its contract: the lexer's answer decides, and its tokens are parsed. Assumes nothing.
+-- `syntax::read_rule` meets its contract: the lexer's answer decides, and its tokens are parsed. Assumes nothing.
 use borrow.Author.Needs.{needs}
 use mathlib.Core.Path.{refl, sym, _∙_}
 use Rattle.lexer.specs.declared.LexAnswer.the-variants as LexAnswer

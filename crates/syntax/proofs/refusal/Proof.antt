@@ -1,4 +1,4 @@
--- `refusal` meets its contract: its arrays are zeros. Assumes nothing.
+-- `syntax::refusal` meets its contract: its arrays are zeros. Assumes nothing.
 use borrow.Author.Needs.{needs}
 use Rattle.syntax.proofs.Rules.{empty-rule}
 use Rattle.syntax.proofs.refusal.Statement.{statement}

@@ -1,4 +1,4 @@
--- A value gets its sign, for which there is room; a refusal stays. Assumes nothing.
+-- `syntax::related` meets its contract: a value gets its sign, for which there is room, and a refusal stays. Assumes nothing.
 use native.Mathlib.Omega.{arith}
 use Rattle.syntax.proofs.Returns.{room-value, related-value, related-refused}
 use borrow.Author.Needs.{needs}
