@@ -1,6 +1,6 @@
 // The program: it reads one sheet from standard input and writes the text for it, which `report` makes (document 01, 'Worked sheets').
 // A read that fails, or a standard output that does not take the text, is said on standard error and never as an answer.
-ghost use Prim.Native.Nat.{_+_, _≤_, _<_};
+ghost use Prim.Native.Nat.{_≤_, _<_};
 ghost use mathlib.Core.Path.{_≡_};
 ghost use lib.ListN.{length};
 ghost use Rattle.floorplan.specs.Reading.{Within};
