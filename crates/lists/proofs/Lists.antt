@@ -1,12 +1,12 @@
--- Lists read at a place, cut at a place and mapped: each law by recursion on the list, or by the library's for the next number.
+-- Lists read at a place, cut at a place, mapped, and filled up with one value: each law by recursion on the list, or from the library's.
 -- Assumes nothing.
-use mathlib.Core.Path.{_≡_, refl, ap, _∙_}
+use mathlib.Core.Path.{_≡_, refl, sym, ap, _∙_}
 use mathlib.Core.List.{List, [], _∷_, _++_, map}
-use Prim.Native.Nat.{ℕ, zero, suc, _+_, _<_}
+use Prim.Native.Nat.{ℕ, zero, suc, _+_, _-_, _<_}
 use native.Mathlib.Omega.{arith}
 use native.Mathlib.Numerals.{add-one}
-use lib.ListN.{length, take, drop, getD, replicate, length-map, List·getD-map}
-use lib.Seq.{drop-cons, take-suc}
+use lib.ListN.{length, take, drop, getD, set, replicate, length-map, List·getD-map, List·getD-append}
+use lib.Seq.{drop-cons, take-suc, append-snoc, set-at}
 
 -- the rest from a place on: its element and the rest from the next
 pub rest : {A : Type 0} (s : List A) (i : ℕ) (d : A) → i < length s → drop i s ≡ getD s i d ∷ drop (i + 1) s
@@ -25,6 +25,9 @@ module _ {A B : Type 0} (f : A → B) where
   pub map-at : (l : List A) (i : ℕ) (d : A) (e : B) → i < length l → getD (map f l) i e ≡ f (getD l i d)
   map-at l i d e h = default-unread (map f l) i e (f d) (rw (length-map l f) h) ∙ List·getD-map f l i d
 
+  pub map-before : (l : List A) (more : List B) (i : ℕ) (d : A) (e : B) → i < length l → getD (map f l ++ more) i e ≡ f (getD l i d)
+  map-before l more i d e h = List·getD-append (map f l) more e i (simp length-map h) ∙ map-at l i d e h
+
   pub map-take : (n : ℕ) (l : List A) → map f (take n l) ≡ take n (map f l)
   map-take zero l = refl
   map-take (suc n) [] = refl
@@ -40,3 +43,9 @@ pub every-at : {A : Type 0} (P : A → Type 0) {a d : A} → P a → P d → (n 
 every-at P h k zero i = k
 every-at P h k (suc n) zero = h
 every-at P h k (suc n) (suc i) = every-at P h k n i
+
+-- one value behind a list, k times: what is stored at the first of its places makes the list longer
+pub set-behind : {A : Type 0} (l : List A) (z a : A) (k n : ℕ) → length l ≡ n → 0 < k → set (l ++ replicate k z) n a ≡ l ++ a ∷ [] ++ replicate (k - 1) z
+set-behind l z a k n e h =
+    let f : k ≡ suc (k - 1) = omega arith in
+    ap (λ (j : ℕ). set (l ++ replicate j z) n a) f ∙ set-at l z (replicate (k - 1) z) a n e ∙ sym (append-snoc l a (replicate (k - 1) z))

@@ -1,12 +1,13 @@
 -- A list in an array: an element stored behind the last one makes the list longer, and its own elements are read back.
 -- Assumes nothing.
-use mathlib.Core.Path.{_≡_, sym, ap, _∙_}
-use mathlib.Core.List.{List, [], _∷_, _++_, append-assoc}
-use Prim.Native.Nat.{ℕ, suc, _-_, _≤_, _<_}
+use mathlib.Core.Path.{_≡_, sym, ap, ap₂, _∙_}
+use mathlib.Core.List.{List, [], _∷_, _++_}
+use Prim.Native.Nat.{ℕ, _+_, _-_, _≤_, _<_}
 use native.Mathlib.Omega.{arith}
 use lib.ListN.{length, take, getD, set, replicate, length-append, List·getD-append}
-use lib.Seq.{set-at, take-at}
+use lib.Seq.{take-at, length-take-le}
 use Rattle.lists.specs.Padded.{pad}
+use Rattle.lists.proofs.Lists.{take-next, set-behind}
 
 pub pad-none : (n : ℕ) → replicate n 0 ≡ pad n []
 unfolding pad
@@ -15,10 +16,16 @@ pad-none n = let e : n ≡ n - 0 = omega arith in ap (λ (k : ℕ). replicate k 
 pub pad-set : (n : ℕ) (xs : List ℕ) (i x : ℕ) → length xs ≡ i → i < n → set (pad n xs) i x ≡ pad n (xs ++ x ∷ [])
 unfolding pad
 pad-set n xs i x e h =
-    let m : n - length xs ≡ suc (n - length (xs ++ x ∷ [])) = omega (arith, length-append xs (x ∷ [])) in
-    ap (λ (k : ℕ). set (xs ++ replicate k 0) i x) m
-    ∙ set-at xs 0 (replicate (n - length (xs ++ x ∷ [])) 0) x i e
-    ∙ sym (append-assoc xs (x ∷ []) (replicate (n - length (xs ++ x ∷ [])) 0))
+    let m : n - length xs - 1 ≡ n - length (xs ++ x ∷ []) = omega (arith, length-append xs (x ∷ [])) in
+    set-behind xs 0 x (n - length xs) i e (omega arith) ∙ ap (λ (k : ℕ). xs ++ x ∷ [] ++ replicate k 0) m
+
+-- the first i elements copied, and one more
+pub copy-next : (n : ℕ) (s : List ℕ) (i : ℕ) → i < length s → i < n
+    → set (take i s ++ replicate (n - i) 0) i (getD s i 0) ≡ take (i + 1) s ++ replicate (n - (i + 1)) 0
+copy-next n s i h k =
+    let m : n - i - 1 ≡ n - (i + 1) = omega arith in
+    set-behind (take i s) 0 (getD s i 0) (n - i) i (length-take-le i s (omega arith)) (omega arith)
+    ∙ ap₂ (λ (l : List ℕ) (j : ℕ). l ++ replicate j 0) (sym (take-next s i 0 h)) m
 
 pub pad-at : (n : ℕ) (xs : List ℕ) (i : ℕ) → i < length xs → getD (pad n xs) i 0 ≡ getD xs i 0
 unfolding pad

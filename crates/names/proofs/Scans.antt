@@ -2,14 +2,14 @@
 -- Assumes nothing.
 use mathlib.Core.Path.{_≡_, sym, ap, _∙_}
 use mathlib.Core.Bool.{Bool, true, false, _&&_, cond}
-use mathlib.Core.List.{List, [], _∷_, _++_}
-use Prim.Native.Nat.{ℕ, suc, _+_, _-_, _≤_, _<_}
+use mathlib.Core.List.{List, [], _∷_}
+use Prim.Native.Nat.{ℕ, suc, _+_, _≤_, _<_}
 use native.Mathlib.Omega.{arith}
 use native.Mathlib.Numerals.{add-one}
-use lib.ListN.{length, take, drop, getD, set, replicate, drop-of-length-le, length-take}
-use lib.Seq.{set-at, append-snoc, length-take-le, slice-cons}
+use lib.ListN.{length, take, drop, getD, drop-of-length-le, length-take}
+use lib.Seq.{slice-cons}
 use borrow.Author.Tests.{eq-eqb, ne-eqb, lt-ltb, le-ltb}
-use Rattle.lists.proofs.Lists.{take-next, rest}
+use Rattle.lists.proofs.Lists.{rest}
 use Rattle.formula.specs.Formula.{Name}
 use Rattle.contact.specs.Numbering.{sameName}
 use Rattle.names.specs.declared.KeptName.{KeptName}
@@ -76,19 +76,6 @@ module _ (w : Name) (list : List KeptName) (count i : ℕ) (fits : count ≤ len
       let past : length (take count list) ≤ i = omega (arith, length-take count list) in
       let z : placeIn w (drop i (take count list)) ≡ 0 = rw (drop-of-length-le (take count list) past) in
       omega arith
-
--- ---- name_of: one byte more over the zeros, m places in all
-
-pub copy-next : (m : ℕ) (s : List ℕ) (i : ℕ) → i < length s → i < m
-    → set (take i s ++ replicate (m - i) 0) i (getD s i 0) ≡ take (i + 1) s ++ replicate (m - (i + 1)) 0
-copy-next m s i h k =
-    let e : m - i ≡ suc (m - (i + 1)) = omega arith in
-    let f : set (take i s ++ 0 ∷ replicate (m - (i + 1)) 0) i (getD s i 0) ≡ take i s ++ getD s i 0 ∷ replicate (m - (i + 1)) 0
-    = set-at (take i s) 0 (replicate (m - (i + 1)) 0) (getD s i 0) i (length-take-le i s (omega arith)) in
-    ap (λ (n : ℕ). set (take i s ++ replicate n 0) i (getD s i 0)) e
-    ∙ f
-    ∙ sym (append-snoc (take i s) (getD s i 0) (replicate (m - (i + 1)) 0))
-    ∙ ap (λ (l : List ℕ). l ++ replicate (m - (i + 1)) 0) (sym (take-next s i 0 h))
 
 -- ---- with_name
 

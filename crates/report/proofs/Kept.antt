@@ -1,13 +1,14 @@
 -- A name that is kept in an array is the one of its number. Assumes nothing.
-use mathlib.Core.Path.{_≡_, refl, sym, ap, _∙_}
+use mathlib.Core.Path.{_≡_, sym, ap, _∙_}
 use mathlib.Core.Bool.{true, false}
-use mathlib.Core.List.{List, [], _∷_, _++_, map, append-nil}
-use Prim.Native.Nat.{ℕ, zero, suc, _-_, _<_}
+use mathlib.Core.List.{List, [], append-nil}
+use Prim.Native.Nat.{ℕ, _<_}
 use native.Mathlib.Omega.{arith}
-use lib.ListN.{length, getD, replicate}
+use lib.ListN.{length, getD}
 use Rattle.formula.specs.Formula.{Name}
 use Rattle.evalset.specs.Bit.{bit}
 use Rattle.lists.specs.Search.{gather, below}
+use Rattle.lists.proofs.Lists.{map-before}
 use Rattle.names.specs.Gather.{nameOf, arraysOf, bytesIn, knownOf, Kept}
 use Rattle.names.specs.declared.KeptName.{KeptName}
 use Rattle.names.specs.declared.Names.{Names}
@@ -15,11 +16,6 @@ use Rattle.names.proofs.Arrays.{bytes-back, size-back}
 use Rattle.names.proofs.Scans.{empty}
 use Rattle.report.specs.Output.{nameIf, pointNames, blanked}
 use Rattle.report.proofs.Parts.{names-parts}
-
-name-at : (ws : List Name) (rest : List KeptName) (i : ℕ) → i < length ws → getD (map nameOf ws ++ rest) i empty ≡ nameOf (getD ws i [])
-name-at [] rest i h = absurd (omega arith)
-name-at (w ∷ ws) rest zero h = refl
-name-at (w ∷ ws) rest (suc i) h = name-at ws rest i (omega arith)
 
 module _ (names : Names) (kept : Kept names) where
   known-count : names .count ≡ length (knownOf names)
@@ -37,7 +33,7 @@ module _ (names : Names) (kept : Kept names) where
     unfolding arraysOf
     known-at =
         ap (λ (n : Names). getD (n .list) i empty) (kept .canonical)
-        ∙ name-at (knownOf names) (replicate (6 - length (knownOf names)) (nameOf [])) i (omega (arith, known-count))
+        ∙ map-before nameOf (knownOf names) _ i [] empty (omega (arith, known-count))
 
     known-name : bytesIn (getD (names .list) i empty) ≡ getD (knownOf names) i []
     known-name = ap bytesIn known-at ∙ bytes-back (getD (knownOf names) i [])

@@ -1,11 +1,10 @@
 -- What a table from us holds, by its number of rules and by line, and a line put last: its lines are those of its texts, then empty ones. Assumes nothing.
-use Prim.Native.Nat.{ℕ, suc, _+_, _-_, _≤_, _<_}
+use Prim.Native.Nat.{ℕ, _+_, _-_, _≤_, _<_}
 use mathlib.Core.Path.{_≡_, sym, ap, _∙_}
 use mathlib.Core.List.{List, [], _∷_, _++_, map, map-append}
 use native.Mathlib.Omega.{arith}
-use lib.ListN.{length, getD, set, replicate, length-map, drop-of-length-le, List·getD-append, length-append}
-use lib.Seq.{set-at, append-snoc}
-use Rattle.lists.proofs.Lists.{map-at}
+use lib.ListN.{length, getD, set, replicate, length-map, drop-of-length-le, length-append}
+use Rattle.lists.proofs.Lists.{map-before, set-behind}
 use Rattle.table.specs.declared.Line.{Line}
 use Rattle.table.specs.declared.Table.{Table}
 use Rattle.table.specs.Store.{Text, tableOf, rulesOf, lineOf}
@@ -39,22 +38,10 @@ module _ (t : Table) (v : FromUs t) where
 
 -- the i-th line of such a table
 line-at : (rs : List Text) (i : ℕ) → i < length rs → getD (linesWith rs) i none ≡ lineOf (getD rs i [])
-line-at rs i h =
-    List·getD-append (map lineOf rs) _ none i (simp length-map h)
-    ∙ map-at lineOf rs i [] none h
+line-at rs i h = map-before lineOf rs _ i [] none h
 
 pub line-is : {t : Table} {i : ℕ} → FromUs t → i < t .count → getD (t .lines) i none ≡ lineOf (getD (rulesOf t) i [])
 line-is {t} {i} v h = ap (λ (ls : List Line). getD ls i none) (lines-are t v) ∙ line-at (rulesOf t) i (omega (arith, count-is t v))
-
--- lists with a padded end
-module _ {A : Type 0} where
-  -- a store at the first place of the padding
-  set-pad : (p : List A) (z a : A) (k n : ℕ) → length p ≡ n → 0 < k → set (p ++ replicate k z) n a ≡ p ++ a ∷ [] ++ replicate (k - 1) z
-  set-pad p z a k n e h =
-      let f : k ≡ suc (k - 1) = omega arith in
-      ap (λ (j : ℕ). set (p ++ replicate j z) n a) f
-      ∙ set-at p z (replicate (k - 1) z) a n e
-      ∙ sym (append-snoc p a (replicate (k - 1) z))
 
 -- a text put last
 abbrev pub tableWith : List Line → ℕ → Table
@@ -66,7 +53,7 @@ put-last rs s h =
     let n : length (rs ++ s ∷ []) ≡ length rs + 1 = length-append rs (s ∷ []) in
     let m : 16 - length rs - 1 ≡ 16 - length (rs ++ s ∷ []) = omega (arith, n) in
     let e : set (linesWith rs) (length rs) (lineOf s) ≡ linesWith (rs ++ s ∷ [])
-    = set-pad (map lineOf rs) (lineOf []) (lineOf s) (16 - length rs) (length rs) (length-map rs lineOf) (omega arith)
+    = set-behind (map lineOf rs) (lineOf []) (lineOf s) (16 - length rs) (length rs) (length-map rs lineOf) (omega arith)
     ∙ ap (λ (k : ℕ). map lineOf rs ++ lineOf s ∷ [] ++ replicate k (lineOf [])) m
     ∙ ap (λ (ls : List Line). ls ++ replicate (16 - length (rs ++ s ∷ [])) (lineOf [])) (sym (map-append lineOf rs (s ∷ []))) in
     ap (λ (ls : List Line). tableWith ls (length rs + 1)) e ∙ ap (λ (k : ℕ). tableWith (linesWith (rs ++ s ∷ [])) k) (sym n)

@@ -9,7 +9,7 @@ use lib.Seq.{take-length}
 use borrow.Author.Needs.{needs}
 use Rattle.names.specs.declared.KeptName.{KeptName}
 use Rattle.names.specs.Gather.{nameOf}
-use Rattle.names.proofs.Scans.{copy-next}
+use Rattle.lists.proofs.Padded.{copy-next}
 use Rattle.names.proofs.name_of.Statement.{statement}
 use Rattle.names.proofs.name_of.Tie as tie
 

@@ -6,7 +6,7 @@ use mathlib.Core.List.{List, _++_}
 use lib.ListN.{length, take, getD, set, replicate}
 use lib.Seq.{take-length}
 use Rattle.table.specs.Store.{lineOf}
-use Rattle.names.proofs.Scans.{copy-next}
+use Rattle.lists.proofs.Padded.{copy-next}
 use Rattle.table.proofs.Lines.{lineWith}
 use native.Mathlib.Omega.{arith}
 use Rattle.table.proofs.line_of.Statement.{statement}
