@@ -1,4 +1,4 @@
--- `plan::blank` meets its contract: nothing is stored, and no row has a position.
+-- `plan::blank` meets its contract: nothing is stored, and no row has a position. Assumes nothing.
 use mathlib.Core.Path.{refl}
 use borrow.Author.Needs.{needs}
 use Rattle.lists.proofs.Padded.{pad-none}

@@ -1,4 +1,4 @@
--- `plan::contact` meets its contract: each kind of word has its function.
+-- `plan::contact` meets its contract: each kind of word has its function. Assumes nothing.
 use Prim.Native.Nat.{_+_}
 use mathlib.Core.Path.{sym, subst}
 use Rattle.plan.specs.declared.Word.{Word}

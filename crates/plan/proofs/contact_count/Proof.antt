@@ -1,4 +1,4 @@
--- `plan::contact_count` meets its contract: the contacts are the rows' one after the other.
+-- `plan::contact_count` meets its contract: the contacts are the rows' one after the other. Assumes nothing.
 use native.Mathlib.Omega.{arith}
 use Prim.Native.Nat.{ℕ, _+_, _-_, _≤_}
 use mathlib.Core.Path.{_≡_, sym, ap, ap₂, _∙_}

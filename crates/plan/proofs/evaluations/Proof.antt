@@ -1,13 +1,14 @@
--- `plan::evaluations` meets its contract: the seven powers are written out.
+-- `plan::evaluations` meets its contract: the seven powers are written out. Assumes nothing.
 use native.Mathlib.Omega.{arith}
-use Prim.Native.Nat.{ℕ, suc, _^_, _≤_}
+use Prim.Native.Nat.{ℕ, _^_, _≤_, _<_}
 use native.Mathlib.Nat.{le-antisymm}
+use lib.Arith.{lt-of-le-ne}
 use mathlib.Core.Path.{_≡_, sym, ap}
 use Rattle.plan.proofs.evaluations.Statement.{statement}
 use Rattle.plan.proofs.evaluations.Tie as tie
 
-above : (k n : ℕ) → k ≤ n → (n ≡ k → ⊥) → suc k ≤ n
-above k n h d = omega arith
+above : {k n : ℕ} → k ≤ n → (n ≡ k → ⊥) → k < n
+above l d = lt-of-le-ne l (λ e. d (sym e))
 
 returns : tie.Need-returns
 returns c = ap (λ (x : ℕ). 2 ^ x) (sym (c .match .keys1))
@@ -31,10 +32,8 @@ returns-7 : tie.Need-returns-7
 returns-7 c =
     let n = c .before .args .names in
     let r = c .match .rest in
-    let low : 6 ≤ n = above 5 n (above 4 n
-    (above 3 n (above 2 n (above 1 n (above 0 n (omega arith) (r .0 .0 .0 .0 .0 .1)) (r .0 .0 .0 .0 .1)) (r .0 .0 .0 .1))
-    (r .0 .0 .1)) (r .0 .1)) (r .1) in
-    let six : 6 ≡ n = le-antisymm low (c .before .pre) in ap (λ (x : ℕ). 2 ^ x) six
+    let low : 6 ≤ n = above (above (above (above (above (above (omega arith) (r .0 .0 .0 .0 .0 .1)) (r .0 .0 .0 .0 .1)) (r .0 .0 .0 .1)) (r .0 .0 .1)) (r .0 .1)) (r .1) in
+    ap (λ (x : ℕ). 2 ^ x) (le-antisymm low (c .before .pre))
 
 pub evaluations-spec : {M : Type 1} → statement M
 evaluations-spec =

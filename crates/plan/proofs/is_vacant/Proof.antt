@@ -1,4 +1,4 @@
--- `plan::is_vacant` meets its contract: no position lies in t.
+-- `plan::is_vacant` meets its contract: no position lies in t. Assumes nothing.
 use native.Mathlib.Omega.{arith}
 use mathlib.Core.Path.{ap, _∙_}
 use mathlib.Core.Bool.{Bool, not}

@@ -1,4 +1,4 @@
--- `plan::join` meets its contract: two rows change, one position each.
+-- `plan::join` meets its contract: two rows change, one position each. Assumes nothing.
 use native.Mathlib.Omega.{arith}
 use Prim.Native.Nat.{ℕ}
 use mathlib.Core.Path.{_≡_, ap, _∙_}

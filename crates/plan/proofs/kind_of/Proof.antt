@@ -1,4 +1,4 @@
--- `plan::kind_of` meets its contract, by the laws of Spelling.
+-- `plan::kind_of` meets its contract, by the laws of Spelling. Assumes nothing.
 use mathlib.Core.Path.{sym}
 use native.Mathlib.Omega.{arith}
 use Rattle.plan.proofs.Spelling.{is-first, no-first, is-point, no-point, is-contact, no-contact, is-last, no-kind}

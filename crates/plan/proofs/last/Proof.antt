@@ -1,4 +1,4 @@
--- `plan::last` meets its contract: the words before it are 1, the points and the contacts.
+-- `plan::last` meets its contract: the words before it are 1, the points and the contacts. Assumes nothing.
 use native.Mathlib.Omega.{arith}
 use mathlib.Core.Path.{refl}
 use Rattle.plan.proofs.Steps.{dead-holds, last-good, last-bad}

@@ -1,4 +1,4 @@
--- `plan::link` meets its contract: each test that fails is the machine's, and what passes them all is its state.
+-- `plan::link` meets its contract: each test that fails is the machine's, and what passes them all is its state. Assumes nothing.
 use native.Mathlib.Omega.{arith}
 use mathlib.Core.Path.{refl}
 use Rattle.plan.proofs.Steps.{dead-holds, link-equal, link-far, link-late, link-good}

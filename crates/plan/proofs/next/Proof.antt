@@ -1,4 +1,4 @@
--- `plan::next` meets its contract: the phase tells which state the machine is in.
+-- `plan::next` meets its contract: the phase tells which state the machine is in. Assumes nothing.
 use mathlib.Core.Path.{subst}
 use Rattle.plan.proofs.Steps.{some-points, some-links, next-start, next-points, next-links, next-over, Next}
 use borrow.Author.Needs.{needs}

@@ -1,4 +1,4 @@
--- `plan::open` meets its contract: each test that fails is the machine's, and what passes them all is its state.
+-- `plan::open` meets its contract: each test that fails is the machine's, and what passes them all is its state. Assumes nothing.
 use native.Mathlib.Omega.{arith}
 use mathlib.Core.Path.{refl}
 use Rattle.plan.proofs.Steps.{dead-holds, not-first, open-many, open-none, open-over, open-good}

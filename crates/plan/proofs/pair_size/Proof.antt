@@ -1,4 +1,4 @@
--- `plan::pair_size` meets its contract: each branch is a case of the pair.
+-- `plan::pair_size` meets its contract: each branch is a case of the pair. Assumes nothing.
 use native.Mathlib.Omega.{arith}
 use mathlib.Core.Path.{sym, ap, _∙_}
 use lib.ListN.{length}

@@ -1,4 +1,4 @@
--- `plan::places` meets its contract: what has been found so far is what lies below j.
+-- `plan::places` meets its contract: what has been found so far is what lies below j. Assumes nothing.
 use native.Mathlib.Omega.{arith}
 use Prim.Native.Nat.{ℕ, _-_, _≤_}
 use mathlib.Core.Path.{_≡_, ap, ap₂, _∙_}

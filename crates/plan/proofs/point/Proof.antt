@@ -1,4 +1,4 @@
--- `plan::point` meets its contract: each test that fails is the machine's, and what passes them all is its state.
+-- `plan::point` meets its contract: each test that fails is the machine's, and what passes them all is its state. Assumes nothing.
 use native.Mathlib.Omega.{arith}
 use lib.Pow.{pow-mono}
 use Prim.Native.Nat.{ℕ, _^_}

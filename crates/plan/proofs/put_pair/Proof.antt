@@ -1,4 +1,4 @@
--- `plan::put_pair` meets its contract: each branch is a case of the pair.
+-- `plan::put_pair` meets its contract: each branch is a case of the pair. Assumes nothing.
 use native.Mathlib.Omega.{arith}
 use Prim.Native.Nat.{ℕ, _+_, _*_}
 use mathlib.Core.Path.{sym, ap, _∙_, subst}

@@ -1,4 +1,4 @@
--- `plan::put_points` meets its contract: so far the first i points are written.
+-- `plan::put_points` meets its contract: so far the first i points are written. Assumes nothing.
 use native.Mathlib.Omega.{arith}
 use Prim.Native.Nat.{ℕ, _+_, _-_, _≤_}
 use mathlib.Core.Path.{_≡_, refl, ap, ap₂, _∙_}

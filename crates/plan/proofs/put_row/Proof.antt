@@ -1,4 +1,4 @@
--- `plan::put_row` meets its contract: so far the pairs below j are written.
+-- `plan::put_row` meets its contract: so far the pairs below j are written. Assumes nothing.
 use native.Mathlib.Omega.{arith}
 use Prim.Native.Nat.{ℕ, _+_, _-_, _≤_}
 use mathlib.Core.Path.{_≡_, sym, ap, _∙_, subst}

@@ -1,4 +1,4 @@
--- `plan::put_rows` meets its contract: so far the rows below i are written.
+-- `plan::put_rows` meets its contract: so far the rows below i are written. Assumes nothing.
 use native.Mathlib.Omega.{arith}
 use Prim.Native.Nat.{ℕ, _+_, _-_, _≤_}
 use mathlib.Core.Path.{_≡_, sym, ap, _∙_, subst}

@@ -1,4 +1,4 @@
--- `plan::reached` meets its contract: no row so far reaches ys.
+-- `plan::reached` meets its contract: no row so far reaches ys. Assumes nothing.
 use native.Mathlib.Omega.{arith}
 use Prim.Native.Nat.{ℕ, _-_, _≤_}
 use mathlib.Core.Path.{_≡_, sym, ap, _∙_}

@@ -1,4 +1,4 @@
--- `plan::reaches` meets its contract: a set is not empty exactly if some number is in it.
+-- `plan::reaches` meets its contract: a set is not empty exactly if some number is in it. Assumes nothing.
 use mathlib.Core.Path.{sym, ap, _∙_}
 use mathlib.Core.Bool.{Bool, not, _&&_, Bool·not-not}
 use Prim.Native.Nat.{ℕ}

@@ -1,4 +1,4 @@
--- `plan::read_plan` meets its contract: reading the rest from the state so far is reading the whole.
+-- `plan::read_plan` meets its contract: reading the rest from the state so far is reading the whole. Assumes nothing.
 use native.Mathlib.Omega.{arith}
 use Prim.Native.Nat.{_-_}
 use mathlib.Core.Path.{refl}

@@ -1,4 +1,4 @@
--- `plan::row_size` meets its contract: a row is its pairs one after the other.
+-- `plan::row_size` meets its contract: a row is its pairs one after the other. Assumes nothing.
 use native.Mathlib.Omega.{arith}
 use Prim.Native.Nat.{ℕ, _+_, _-_, _≤_}
 use mathlib.Core.Path.{_≡_, sym, ap, ap₂, _∙_}

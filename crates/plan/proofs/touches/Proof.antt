@@ -1,4 +1,4 @@
--- `plan::touches` meets its contract: some row of a point in x meets the positions that lie in y.
+-- `plan::touches` meets its contract: some row of a point in x meets the positions that lie in y. Assumes nothing.
 use native.Mathlib.Omega.{arith}
 use mathlib.Core.Path.{ap, _∙_}
 use Rattle.evalset.specs.Sets.{room, mem, memAt}

@@ -1,4 +1,4 @@
--- `plan::with_place` meets its contract: the two branches are the two cases.
+-- `plan::with_place` meets its contract: the two branches are the two cases. Assumes nothing.
 use mathlib.Core.Path.{sym, ap, _∙_}
 use mathlib.Core.Bool.{Bool, cond}
 use Rattle.evalset.specs.Sets.{mem, addOf}

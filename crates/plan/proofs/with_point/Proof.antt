@@ -1,4 +1,4 @@
--- `plan::with_point` meets its contract: the first free place gets the evaluation, and the point's own bit is set.
+-- `plan::with_point` meets its contract: the first free place gets the evaluation, and the point's own bit is set. Assumes nothing.
 use native.Mathlib.Omega.{arith}
 use Prim.Native.Nat.{ℕ}
 use mathlib.Core.Path.{refl, ap, _∙_}

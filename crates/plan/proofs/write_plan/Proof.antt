@@ -1,4 +1,4 @@
--- `plan::write_plan` meets its contract: the pieces one after the other are the plan's words, and all of them fit.
+-- `plan::write_plan` meets its contract: the pieces one after the other are the plan's words, and all of them fit. Assumes nothing.
 use native.Mathlib.Omega.{arith}
 use Prim.Native.Nat.{min}
 use mathlib.Core.Path.{_≡_}
