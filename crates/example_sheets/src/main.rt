@@ -1,5 +1,5 @@
-// The test program of the output: the text for each sheet of the folder examples, for a contact, for no plan, for each refusal, and for
-// the longest sheets. The file `stdout` has the texts that document 01 asks for, worked out by hand.
+// The test program of the output: the text for each sheet of the folder examples, for a contact, for no plan, for each refusal that
+// a sheet can get, and for the longest sheets. The file `stdout` has the texts that document 01 asks for, worked out by hand.
 ghost use mathlib.Core.Path.{_≡_};
 ghost use lib.ListN.{length};
 

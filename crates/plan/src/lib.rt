@@ -35,7 +35,8 @@ pub struct PlanRead {
     pub plan: PlanArrays,
 }
 
-// What may come next: the first word, a point, a contact or the last word, or nothing after a whole plan.
+// What may come next: the first word, a point, a contact or the last word, nothing after a whole plan, or nothing since no plan
+// begins so.
 enum Phase {
     Start,
     Points,

@@ -1311,7 +1311,7 @@ fn check(code: &[u8], names: usize, answer: Answer, words: &[u32; 530]) -> Findi
 // ---- the checks: counts
 
 // What is counted, after the sheets: sheets of 0 to 3 names, answers, words, and sheets with a sign, by the signs' numbers, with
-// parentheses that group, with a comma.
+// parentheses that group, with a comma. `<=m` has no count: a rule with it is refused.
 const NAMES: usize = 1;
 
 const PLANS: usize = 5;
