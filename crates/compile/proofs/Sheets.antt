@@ -9,7 +9,7 @@ use lib.Dec.{eqb, eqb·zero-suc, eqb·suc-zero, eqb·suc-suc}
 use lib.ListN.{length, getD, set, replicate, length-append}
 use lib.Seq.{getD-set-same, getD-set-other}
 use borrow.Author.Tests.{eqb-true, eqb-false}
-use Rattle.lists.proofs.Lists.{every-at}
+use Rattle.lists.proofs.Lists.{repeated-at}
 use Rattle.formula.specs.Formula.{Atom}
 use Rattle.evalset.specs.declared.EvalSet.{EvalSet}
 use Rattle.evalset.specs.Sets.{mem, memAt, noneOf}
@@ -78,7 +78,7 @@ module _ (sheet : Sheet) (none : EvalSet) (h : mem none ≡ noneOf) where
       record {
         counted = z;
         few = omega arith;
-        contacts = λ i. ap (λ (l : List Bool). getD l i false) b ∙ every-at (λ (t : Bool). t ≡ false) refl refl 16 i;
+        contacts = λ i. ap (λ (l : List Bool). getD l i false) b ∙ repeated-at (λ (t : Bool). t ≡ false) refl refl 16 i;
         firsts = λ i. ap (λ (l : List EvalSet). memAt l i) x ∙ fun-ext (λ e. empty-rows 16 i e none h) ∙ of-zero;
         seconds = λ i. ap (λ (l : List EvalSet). memAt l i) y ∙ fun-ext (λ e. empty-rows 16 i e none h);
       }

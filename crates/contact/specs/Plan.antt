@@ -58,6 +58,7 @@ parts e f (apart x y) = (at x e && at y f) || (at x f && at y e)
 parts e f (vacant t) = false
 parts e f (inhabited t) = false
 
+-- some mark separates them
 unfoldable pub separated : List Mark → ℕ → ℕ → Bool
 separated ms e f = any (parts e f) ms
 
@@ -107,10 +108,11 @@ gives names ms (apart x y) = []
 gives names ms (vacant t) = []
 gives names ms (inhabited t) = first (fills names ms t) (evaluations names)
 
--- "The points are these evaluations, ascending, each once; if there are none, the least allowed evaluation."
+-- what the marks give, or the least allowed evaluation where that is none
 unfoldable pub given : ℕ → List Mark → List ℕ
 given names ms = orElse (gather (gives names ms) ms) (first (allowed names ms) (evaluations names))
 
+-- "The points are these evaluations, ascending, each once; if there are none, the least allowed evaluation."
 unfoldable pub pointsFor : ℕ → List Mark → List ℕ
 pointsFor names ms = keep (λ e. elem e (given names ms)) (evaluations names)
 

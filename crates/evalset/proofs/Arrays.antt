@@ -16,14 +16,14 @@ use Rattle.lists.proofs.Truth.{side}
 use Rattle.evalset.specs.declared.EvalSet.{EvalSet}
 use Rattle.evalset.specs.Sets.{room, mem, memAt, noneOf, addOf}
 use Rattle.evalset.specs.Arrays.{positionsOf}
-use Rattle.lists.proofs.Lists.{every-at}
+use Rattle.lists.proofs.Lists.{repeated-at}
 use Rattle.evalset.proofs.Bits.{bit-none}
 use Rattle.evalset.proofs.Members.{add-in}
 
 -- an array of empty sets
 pub empty-rows : (n i e : ℕ) (x : EvalSet) → mem x ≡ noneOf → memAt (replicate n x) i e ≡ false
 unfolding memAt mem
-empty-rows n i e x h = every-at (λ (s : EvalSet). mem s e ≡ false) (congr-fun h e) (bit-none e) n i
+empty-rows n i e x h = repeated-at (λ (s : EvalSet). mem s e ≡ false) (congr-fun h e) (bit-none e) n i
 
 -- ---- a set stored
 pub mem-at-same : (xs : List EvalSet) (i : ℕ) (s : EvalSet) → i < length xs → memAt (set xs i s) i ≡ mem s

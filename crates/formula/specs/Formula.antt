@@ -28,6 +28,7 @@ pub data Form (A : Type 0) : Type 0 where
   implication : Form A → Form A → Form A
   equivalence : Form A → Form A → Form A
 
+-- a formula as read: its atoms are over names
 abbrev pub Formula : Type 0 → Type 0
 Formula N = Form (Atom N)
 

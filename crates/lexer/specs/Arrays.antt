@@ -37,7 +37,7 @@ codeOf Kind.Zero = 16
 codeOf Kind.One = 17
 codeOf Kind.Name = 18
 
--- an array's length is fixed: what is past the list is 0
+-- the tokens as arrays of 256 places; what is past the list is 0
 unfoldable pub tokensOf : List Token → Tokens
 tokensOf ts =
     record {
@@ -52,6 +52,7 @@ abbrev pub answerOf : List Token → LexAnswer
 answerOf [] = LexAnswer.NoToken
 answerOf (t ∷ ts) = LexAnswer.Tokens
 
+-- the answer for what was cut; a refusal comes with no token
 abbrev pub lexedOf : Cutting → Lexed
 lexedOf (tokens ts) = record { answer = answerOf ts; tokens = tokensOf ts }
 lexedOf (refused a) = record { answer = a; tokens = tokensOf [] }

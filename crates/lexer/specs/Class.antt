@@ -7,6 +7,7 @@ use Rattle.lexer.specs.Text.{bytes}
 use Rattle.lexer.specs.declared.Class.{Class}
 use Rattle.lexer.specs.declared.Class.the-variants as Class
 
+-- b is from a to z
 abbrev pub within : ℕ → ℕ → ℕ → Bool
 within a z b = leb a b && leb b z
 

@@ -33,6 +33,7 @@ abbrev pub matchPiece : Match → Piece
 matchPiece nothing = Piece.Foreign
 matchPiece (match x) = meaningPiece (x .means) (length (x .bytes))
 
+-- the sign that stands first
 unfoldable pub signPiece : List ℕ → Piece
 signPiece s = matchPiece (longest signs s)
 
@@ -49,6 +50,7 @@ unfoldable pub runLength : List ℕ → ℕ
 runLength [] = 0
 runLength (b ∷ s) = cond (inRun (classOf b)) (suc (runLength s)) 0
 
+-- the run that stands first; over 16 bytes it is refusal 4
 unfoldable pub runPiece : List ℕ → Piece
 runPiece s = cond (ltb 16 (runLength s)) Piece.LongName (Piece.Token (runKind (take (runLength s) s)) (runLength s))
 
@@ -87,5 +89,6 @@ cutFrom i k [] = tokens []
 cutFrom i (suc k) (b ∷ s) = cutFrom (i + 1) k s
 cutFrom i ℕ.zero (b ∷ s) = let r = cutFrom (i + 1) (more (pieceOf (b ∷ s))) s in put (pieceOf (b ∷ s)) i r
 
+-- "Tokens are cut from the left, the longest match taken"
 abbrev pub cutting : List ℕ → Cutting
 cutting s = cutFrom 0 0 s

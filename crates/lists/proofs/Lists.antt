@@ -39,10 +39,10 @@ module _ {A B : Type 0} (f : A → B) where
   map-drop (suc n) (x ∷ l) = map-drop n l
 
 -- one value everywhere, and another past the end
-pub every-at : {A : Type 0} (P : A → Type 0) {a d : A} → P a → P d → (n i : ℕ) → P (getD (replicate n a) i d)
-every-at P h k zero i = k
-every-at P h k (suc n) zero = h
-every-at P h k (suc n) (suc i) = every-at P h k n i
+pub repeated-at : {A : Type 0} (P : A → Type 0) {a d : A} → P a → P d → (n i : ℕ) → P (getD (replicate n a) i d)
+repeated-at P h k zero i = k
+repeated-at P h k (suc n) zero = h
+repeated-at P h k (suc n) (suc i) = repeated-at P h k n i
 
 -- one value behind a list, k times: what is stored at the first of its places makes the list longer
 pub set-behind : {A : Type 0} (l : List A) (z a : A) (k n : ℕ) → length l ≡ n → 0 < k → set (l ++ replicate k z) n a ≡ l ++ a ∷ [] ++ replicate (k - 1) z

@@ -54,7 +54,7 @@ abbrev pub empty : KeptName
 empty = record { bytes = []; len = 0 }
 
 module _ (w : Name) (list : List KeptName) (count i : ℕ) (fits : count ≤ length list) where
-  -- the name's place among the first ones, counted from i
+  -- the name's place among the first `count`, searched from j on
   abbrev placeFrom : ℕ → ℕ
   placeFrom j = j + placeIn w (drop j (take count list))
 

@@ -50,6 +50,7 @@ ifRead (RuleAnswer.LongName i) ts = []
 ifRead (RuleAnswer.Measured i) ts = []
 ifRead (RuleAnswer.GrammarAt i) ts = []
 
+-- the tokens of a text that is a rule; none of another
 unfoldable pub ruleTokens : List ℕ → List Token
 ruleTokens s = ifRead (ruleOf s .answer) (tokensIn (cutting s))
 
@@ -106,6 +107,7 @@ bytesIn k = take (k .len) (k .bytes)
 unfoldable pub knownOf : Names → List Name
 knownOf ns = map bytesIn (take (ns .count) (ns .list))
 
+-- names and numbers as arrays
 unfoldable pub gatheredOf : Numbered → Gathered
 gatheredOf r = record { names = arraysOf (r .names); numbers = pad 256 (r .numbers); answer = r .answer }
 

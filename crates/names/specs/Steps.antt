@@ -19,6 +19,7 @@ unfoldable pub placeIn : Name → List KeptName → ℕ
 placeIn w [] = 0
 placeIn w (k ∷ ks) = let r = suc (placeIn w ks) in cond (sameKept k w) 0 r
 
+-- one name more, behind those that are kept
 unfoldable pub push : Names → KeptName → Names
 push ns k = record { list = set (ns .list) (ns .count) k; count = ns .count + 1 }
 

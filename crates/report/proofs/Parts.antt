@@ -1,5 +1,4 @@
--- The text of what is gathered is gathered part by part, so a loop that puts a part a turn has put the text of the turns so far.
--- Assumes nothing.
+-- The text of a plan is gathered part by part: names, points, rows and pairs, each as the text of its turns. Assumes nothing.
 use mathlib.Core.Path.{_≡_, refl, sym, ap, _∙_}
 use mathlib.Core.Bool.{Bool, true}
 use mathlib.Core.List.{List, [], _∷_, _++_, append-nil}

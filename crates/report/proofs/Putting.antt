@@ -1,4 +1,4 @@
--- Texts put one after the other are their list put at once. Assumes nothing.
+-- Texts put one after the other are their list put at once, and so are those that a loop puts turn by turn. Assumes nothing.
 use mathlib.Core.Path.{_≡_, sym, ap, ap₂, _∙_, subst}
 use mathlib.Core.List.{List, [], _∷_, _++_}
 use Prim.Native.Nat.{ℕ, _+_, _≤_, _<_}

@@ -62,6 +62,7 @@ blanked word = bytes " " ++ word
 unfoldable pub pointLine : List Name → ℕ → ℕ → List ℕ
 pointLine names i e = ended (labelled (bytes "point ") i ++ bytes ":" ++ gather blanked (namesOrNone names e))
 
+-- the lines of all points, in order of position
 unfoldable pub pointLines : List Name → List ℕ → List ℕ
 pointLines names points = gather (λ i. pointLine names i (getD points i 0)) (below (length points))
 
@@ -78,6 +79,7 @@ abbrev pub plansText : List Name → List Plan → List ℕ
 plansText names [] = ended (bytes "NO PLAN")
 plansText names (p ∷ ps) = planText names p
 
+-- the text of the plan given for these rules, or of none
 unfoldable pub rulesText : List (Formula Name) → List ℕ
 rulesText rules = plansText (namesOf rules) (plansOf rules)
 

@@ -21,6 +21,7 @@ use Rattle.search.specs.Compiled.{Compiled, Fit}
 abbrev pub marksIn : Sheet → List (Atom ℕ) → ℕ → List Mark
 marksIn sheet atoms row = rowMarks atoms (rowBits (sheet .atoms) row)
 
+-- the state is that of the row's marks
 unfoldable pub StateSays : Sheet → ℕ → State → Type 0
 StateSays sheet row s = (atoms : List (Atom ℕ)) → Compiled sheet atoms → Fit (sheet .names) s (marksIn sheet atoms row)
 
@@ -30,6 +31,7 @@ GatheredSays sheet s row r =
     (atoms : List (Atom ℕ)) → Compiled sheet atoms → (ms : List Mark) → Fit (sheet .names) s ms
     → (e : ℕ) → mem r e ≡ elem e (gather (gives (sheet .names) ms) (marksIn sheet atoms row))
 
+-- the evaluations that the row gives
 unfoldable pub GivenSays : Sheet → State → ℕ → EvalSet → Type 0
 GivenSays sheet s row r =
     (atoms : List (Atom ℕ)) → Compiled sheet atoms → Fit (sheet .names) s (marksIn sheet atoms row)
@@ -47,5 +49,6 @@ pub record PlanOf (names : ℕ) (ms : List Mark) (r : RowPlan) : Type 0 where
   pub contacts : (i j : ℕ) → memAt (r .rows) i j
       ≡ ((ltb i (r .count) && ltb j (r .count)) && not (separated ms (getD (r .points) i 0) (getD (r .points) j 0)))
 
+-- the plan is that of the row
 unfoldable pub PlanSays : Sheet → ℕ → RowPlan → Type 0
 PlanSays sheet row r = (atoms : List (Atom ℕ)) → Compiled sheet atoms → PlanOf (sheet .names) (marksIn sheet atoms row) r

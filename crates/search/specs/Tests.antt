@@ -17,6 +17,7 @@ Separates sep x y r = (p q : ℕ) → p < room → r p q ≡ (sep p q || (x p &&
 unfoldable pub crossed : (ℕ → Bool) → (ℕ → Bool) → ℕ → ℕ → Bool
 crossed x y p q = (x p && y q) || (y p && x q)
 
+-- what a false contact separates is added
 abbrev pub Parts : (ℕ → ℕ → Bool) → (ℕ → Bool) → (ℕ → Bool) → (ℕ → ℕ → Bool) → Type 0
 Parts sep x y r = (p q : ℕ) → p < room → r p q ≡ (sep p q || crossed x y p q)
 

@@ -15,8 +15,8 @@ use table::Table;
 
 // ---- the signs of a sheet's form
 
-// Each stands before its operands: those with none, with one, with two, then the first of the names and what stands before each
-// rule. `= 0` is a sign beside `=0`, so that each is counted.
+// Each stands before its operands: those with none, with one, with two, then the first and the second name and what stands
+// before each rule. `= 0` is a sign beside `=0`, so that each is counted.
 const NOTHING: u8 = 0;
 
 const ALL: u8 = 1;
@@ -62,14 +62,15 @@ const RULE: u8 = 19;
 // Where parentheses are put, no sign is.
 const NO_SIGN: u8 = 20;
 
+// The two sorts.
 const FORMULA: u64 = 0;
 
 const TERM: u64 = 1;
 
-// What is being made: items still to be written, the next one on top; the names so far, and how many there may be; the style of
-// spelling; the last sign; how far text and form have come; and whether there was room for all of it. An item is a byte of text, a name
-// (from 192 on), or a formula or a term with so many leaves in a place of some level (from 128 on). Levels are document 01's, loosest
-// first: 0 -> and <->, 1 | and +, 2 & and *, 3 ~ and -.
+// What is being made: items still to be written, the next one on top; the seed that numbers are drawn from; the names so far, and how
+// many there may be; the style of spelling; the last sign; how far text and form have come; and whether there was room for all of it.
+// An item is a byte of text, a name (from 192 on), or a formula or a term with so many leaves in a place of some level (from 128 on).
+// Levels are document 01's, loosest first: 0 -> and <->, 1 | and +, 2 & and *, 3 ~ and -.
 struct Maker {
     items: [u8; 64],
     height: usize,
@@ -83,6 +84,7 @@ struct Maker {
     whole: bool,
 }
 
+// The next number of a fixed sequence.
 fn next_seed(seed: u64) -> u64 {
     (seed % 0x8000_0000 * 1103515245 + 12345) % 0x8000_0000
 }
@@ -104,6 +106,7 @@ fn sheet_maker(k: u64) -> Maker {
     }
 }
 
+// A formula or term still to be made, as an item.
 fn item(sort: u64, level: u64, leaves: u64) -> u8 {
     (128 + sort % 2 * 32 + level % 4 * 8 + leaves % 8) as u8
 }
@@ -257,6 +260,7 @@ impl Maker {
         first.push_if(own < level, b'(')
     }
 
+    // A sign with two operands, which share the leaves.
     fn push_binary(self, sort: u64, level: u64, leaves: u64) -> Maker
         requires { ⌜ 1 < leaves ⌝ }
     {
@@ -391,6 +395,7 @@ fn put_name(m: Maker, text: &mut [u8; 1100], k: u8) -> Maker {
     next
 }
 
+// A sign at the form's end; parentheses have none.
 fn put_sign(m: Maker, form: &mut [u8; 512], sign: u8) -> Maker {
     if sign == NO_SIGN {
         return m;
@@ -1110,7 +1115,7 @@ fn with_read_word(r: Reading, word: u32) -> Reading {
     }
 }
 
-// The floor that the first n words have. Words that are no plan show where they are compared.
+// The floor that the first n words have. Words that are no plan are found out where words are compared.
 fn floor_in(words: &[u32; 530], n: usize) -> Floor {
     let order = [0u8; 8];
     let mut r = Reading {
@@ -1147,6 +1152,7 @@ fn same_words(words: &[u32; 530], expected: Words) -> bool {
 
 // ---- the checks: what the table answers
 
+// What the table answers.
 enum Answer {
     Plan(usize),
     NoPlan,
@@ -1169,6 +1175,7 @@ fn with_text(table: Table, text: &[u8], refused: &mut bool) -> Table
     r.table
 }
 
+// A table with the rule in file[start..end].
 fn with_part(table: Table, file: &[u8], start: usize, end: usize, refused: &mut bool) -> Table
     requires { ⌜ FromUs table ⌝ }
     ensures { λ r. ⌜ FromUs r ⌝ }
@@ -1233,6 +1240,7 @@ fn asked(file: &[u8], k: usize, words: &mut [u32; 530]) -> Answer {
 
 // ---- the checks: ask's answer held to the search
 
+// What a check finds.
 enum Finding {
     Plan(usize),
     NoPlan,
@@ -1296,6 +1304,7 @@ fn check_no_plan(found: Found, words: &[u32; 530]) -> Finding {
     disagree(b"no plan, but words are written")
 }
 
+// Holds ask's answer to the search.
 fn check(code: &[u8], names: usize, answer: Answer, words: &[u32; 530]) -> Finding {
     let found = search(code, names);
     if !found.whole {

@@ -11,7 +11,7 @@ use lib.Dec.{eqb, ltb}
 use lib.ListN.{length, getD, replicate, length-append, length-map, List·getD-append, List·getD-eq-default}
 use lib.Seq.{getD-append-add}
 use borrow.Author.Tests.{lt-ltb, le-ltb}
-use Rattle.lists.proofs.Lists.{every-at}
+use Rattle.lists.proofs.Lists.{repeated-at}
 use Rattle.lists.proofs.Truth.{side}
 use Rattle.formula.specs.Formula.{Form}
 use Rattle.evalset.specs.declared.EvalSet.{EvalSet}
@@ -64,7 +64,7 @@ module _ (k d row e i : ℕ) where
 
 pub nil-at : (n i : ℕ) (x : Two) (e : ℕ) → duoAt x e ≡ duo false false → twoAt (replicate n x) i e ≡ duo false false
 unfolding twoAt duoAt mem
-nil-at n i x e h = every-at (λ (s : Two). duoAt s e ≡ duo false false) h (ap₂ duo (bit-none e) (bit-none e)) n i
+nil-at n i x e h = repeated-at (λ (s : Two). duoAt s e ≡ duo false false) h (ap₂ duo (bit-none e) (bit-none e)) n i
 
 -- ---- the halves
 

@@ -156,6 +156,7 @@ module _ (code ends : List ℕ) (sheet : Sheet) (s : State) (row k j : ℕ) (unr
         → mem unrefuted ≡ candidatesOf rules (rowBits k row) j
         → rowsOf (sheet .atoms) r ≡ first (good (sheet .names) atoms rules) (under (rowBits k row ++ value ∷ []) rest)
 
+    -- what the search finds below the next atom with this value
     branch : (value : Bool) (next : ℕ) (t : State) (half : EvalSet) → rowBits (k + 1) next ≡ rowBits k row ++ value ∷ [] → next / 2 ≡ row
         → ((atoms : List (Atom ℕ)) → Compiled sheet atoms → Fit (sheet .names) s (rowMarks atoms (rowBits k row))
         → Fit (sheet .names) t (rowMarks atoms (rowBits (k + 1) next)))
@@ -174,7 +175,7 @@ module _ (code ends : List ℕ) (sheet : Sheet) (s : State) (row k j : ℕ) (unr
         ∙ ap (λ (z : List Bool). candidatesOf rules z levels) (sym e))
         ∙ ap₂ (λ (z : List Bool) (i : ℕ). first (good (sheet .names) atoms rules) (under z i)) e y
 
-    -- and that of the left one, else that of the right one, is the first below
+    -- the first good row of the left branch, else that of the right one, is the first below
     both-sides : (p : List Bool → Bool)
         → orElse (first p (under (rowBits k row ++ true ∷ []) rest)) (first p (under (rowBits k row ++ false ∷ []) rest))
         ≡ first p (under (rowBits k row) (sheet .atoms - k))

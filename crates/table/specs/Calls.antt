@@ -90,6 +90,7 @@ judgeAtoms rs s = cond (ltb 16 (atomsIn (rs ++ s ∷ []))) AddAnswer.TooManyAtom
 unfoldable pub judgeRoom : List Text → Text → AddAnswer
 judgeRoom rs s = cond (leb 16 (length rs)) AddAnswer.TableFull (firstRefusal (judgeNames rs s) (judgeAtoms rs s))
 
+-- refusals 2, 1 and 3 to 6: the reader's
 unfoldable pub judgeText : Text → AddAnswer
 judgeText s = readAnswer (ruleOf s .answer)
 
@@ -101,6 +102,7 @@ judgeAdd rs s = firstRefusal (judgeText s) (judgeRoom rs s)
 unfoldable pub addRules : List Text → Text → List Text
 addRules rs s = ifAdded (judgeAdd rs s) (rs ++ s ∷ []) rs
 
+-- the table that add hands back, with its answer
 unfoldable pub added : List Text → Text → AddResult
 added rs s = record { table = tableOf (addRules rs s); answer = judgeAdd rs s }
 
@@ -123,6 +125,7 @@ ifWithdrawn (WithdrawAnswer.NoSuchRule k) a b = b
 unfoldable pub withdrawRules : List Text → ℕ → List Text
 withdrawRules rs k = ifWithdrawn (judgeWithdraw rs k) (without rs (k - 1)) rs
 
+-- the table that withdraw hands back, with its answer
 unfoldable pub withdrawn : List Text → ℕ → WithdrawResult
 withdrawn rs k = record { table = tableOf (withdrawRules rs k); answer = judgeWithdraw rs k }
 
@@ -186,6 +189,7 @@ ifLoaded (LoadAnswer.Line n r) a b = b
 unfoldable pub loadRules : List Text → Text → List Text
 loadRules rs f = ifLoaded (judgeLoad f) (filled (linesOf f)) rs
 
+-- the table that load hands back, with its answer
 unfoldable pub loaded : List Text → Text → LoadResult
 loaded rs f = record { table = tableOf (loadRules rs f); answer = judgeLoad f }
 
@@ -205,14 +209,17 @@ pub record FromUs (t : Table) : Type 0 where
 
 -- ---- the contracts
 
+-- what add answers of the table t
 pub record Adds (t : Table) (s : Text) (r : AddResult) : Type 0 where
   pub result : r ≡ added (rulesOf t) s
   pub from-us : FromUs (r .table)
 
+-- what withdraw answers of it
 pub record Withdraws (t : Table) (k : ℕ) (r : WithdrawResult) : Type 0 where
   pub result : r ≡ withdrawn (rulesOf t) k
   pub from-us : FromUs (r .table)
 
+-- what load answers of it
 pub record Loads (t : Table) (f : Text) (r : LoadResult) : Type 0 where
   pub result : r ≡ loaded (rulesOf t) f
   pub from-us : FromUs (r .table)

@@ -1,4 +1,5 @@
--- `compile::with_atom` meets its contract: a kind that is neither C nor <= makes a zero atom of its own set. Assumes nothing.
+-- `compile::with_atom` meets its contract: C makes a contact of the two sets, <= a zero atom of their difference, and
+-- any other kind a zero atom of its own set. Assumes nothing.
 use mathlib.Core.Path.{refl, sym, _∙_}
 use borrow.Author.Needs.{needs}
 use borrow.Author.Tests.{ne-eqb}

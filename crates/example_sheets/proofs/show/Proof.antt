@@ -1,4 +1,4 @@
--- The text is a part of its buffer. Assumes nothing.
+-- `example_sheets::show` is safe: the text is a part of its buffer. Assumes nothing.
 use borrow.Author.Needs.{needs}
 use mathlib.Core.Path.{sym}
 use lib.Seq.{length-take-le}

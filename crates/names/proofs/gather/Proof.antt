@@ -19,8 +19,8 @@ abbrev μ-loop : tie.MeasureT-loop
 
 module _ (c : tie.After-wide2 Inv-loop μ-loop) where
   -- the token lies in the text
-  token-within : c .before .wide .result + c .wide2 .result ≤ length (c .before .before .before .before .before .before .before .before .before .before .before .args .text .now)
-  token-within =
+  name-within : c .before .wide .result + c .wide2 .result ≤ length (c .before .before .before .before .before .before .before .before .before .before .before .args .text .now)
+  name-within =
       omega (
         arith,
         token-inside (c .before .before .before .before .loop .inv) (c .before .before .before .loop-test .taken),
@@ -78,16 +78,16 @@ wide-requires-2 : tie.Need-wide-requires-2 Inv-loop μ-loop
 wide-requires-2 c κs = search needs
 
 add-end : tie.Need-add-end Inv-loop μ-loop
-add-end c = omega (arith, token-within c)
+add-end c = omega (arith, name-within c)
 
 sub-number-of : tie.Need-sub-number-of Inv-loop μ-loop
 sub-number-of c = omega arith
 
 part-number-of-start : tie.Need-part-number-of-start Inv-loop μ-loop
-part-number-of-start c = omega (arith, token-within c)
+part-number-of-start c = omega (arith, name-within c)
 
 part-number-of-end : tie.Need-part-number-of-end Inv-loop μ-loop
-part-number-of-end c = omega (arith, token-within c)
+part-number-of-end c = omega (arith, name-within c)
 
 number-of-requires : tie.Need-number-of-requires Inv-loop μ-loop
 number-of-requires c κs = (few-names (c .before .before .before .before .before .loop .inv), lent-short (c .before))
@@ -101,10 +101,10 @@ sub-with-name : tie.Need-sub-with-name Inv-loop μ-loop
 sub-with-name c = omega arith
 
 part-with-name-start : tie.Need-part-with-name-start Inv-loop μ-loop
-part-with-name-start c = omega (arith, token-within (c .before .before .before))
+part-with-name-start c = omega (arith, name-within (c .before .before .before))
 
 part-with-name-end : tie.Need-part-with-name-end Inv-loop μ-loop
-part-with-name-end c = omega (arith, token-within (c .before .before .before))
+part-with-name-end c = omega (arith, name-within (c .before .before .before))
 
 with-name-requires : tie.Need-with-name-requires Inv-loop μ-loop
 with-name-requires c κs =

@@ -1,4 +1,4 @@
--- `put_row` is safe and ends: each index is tested, and the number of turns left falls. Assumes nothing.
+-- `plan_words::put_row` is safe and ends: each index is tested, and the number of turns left falls. Assumes nothing.
 use borrow.Author.Needs.{needs}
 use Prim.Native.Nat.{_-_}
 use Rattle.plan_words.proofs.put_row.Statement.{statement}

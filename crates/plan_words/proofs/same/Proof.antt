@@ -1,4 +1,4 @@
--- `same` is safe and ends: each index is tested, and the number of turns left falls. Assumes nothing.
+-- `plan_words::same` is safe and ends: each index is tested, and the number of turns left falls. Assumes nothing.
 use borrow.Author.Needs.{needs}
 use Prim.Native.Nat.{_-_}
 use lib.ListN.{length}

@@ -1,4 +1,4 @@
--- `show_long` is safe: the part is as long as it is asked for. Assumes nothing.
+-- `plan_words::show_long` is safe: the part is as long as it is asked for. Assumes nothing.
 use native.Mathlib.Omega.{arith}
 use lib.ListN.{length-take}
 use borrow.Author.Needs.{needs}

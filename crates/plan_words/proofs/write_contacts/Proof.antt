@@ -1,4 +1,4 @@
--- `write_contacts` is safe and ends: each index is tested, and the number of turns left falls. Assumes nothing.
+-- `plan_words::write_contacts` is safe and ends: each index is tested, and the number of turns left falls. Assumes nothing.
 use borrow.Author.Needs.{needs}
 use Prim.Native.Nat.{_-_}
 use Rattle.plan_words.proofs.write_contacts.Statement.{statement}

@@ -12,6 +12,7 @@ use borrow.Author.Needs.{needs}
 use Rattle.report.proofs.put_contact.Statement.{statement}
 use Rattle.report.proofs.put_contact.Tie as tie
 
+-- the line's parts fit where the line does
 fits : (s : tie.Start) → s .args .at + length (ended (labelled (bytes "contact ") (s .args .i) ++ labelled (bytes " ") (s .args .j))) ≤ length (s .args .out .now)
 fits s = omega (arith, s .pre .1, ap length (contact-text (s .args .i) (s .args .j) (s .pre .0)))
 

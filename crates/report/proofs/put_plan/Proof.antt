@@ -14,29 +14,30 @@ use borrow.Author.Needs.{needs}
 use Rattle.report.proofs.put_plan.Statement.{statement}
 use Rattle.report.proofs.put_plan.Tie as tie
 
-same : (s : tie.Start) → let p = s .args .plan in planText (knownOf (s .args .names)) (planBy p) ≡ headLine (p .names) (p .count)
+-- the plan's text is its head, its points and its contacts
+text-parts : (s : tie.Start) → let p = s .args .plan in planText (knownOf (s .args .names)) (planBy p) ≡ headLine (p .names) (p .count)
     ++ pointLines (knownOf (s .args .names)) (take (p .count) (p .points)) ++ gather contactLine (linksTo (p .count) (p .count) (memAt (p .rows)))
-same s = plan-parts (knownOf (s .args .names)) (s .args .plan) (s .pre .1) (search needs)
+text-parts s = plan-parts (knownOf (s .args .names)) (s .args .plan) (s .pre .1) (search needs)
 
 put-head-requires : tie.Need-put-head-requires
-put-head-requires c κs = let s = c .before .before .before .before in omega (arith, s .pre .2, simp length-append at (ap length (same s)))
+put-head-requires c κs = let s = c .before .before .before .before in omega (arith, s .pre .2, simp length-append at (ap length (text-parts s)))
 
 put-points-requires : tie.Need-put-points-requires
 put-points-requires c κs =
     let s = c .before .before .before .before .before .before .before .before in
-    (s .pre .0, s .pre .1, fits-next (c .before .before .before .put-head .ensures) _ (omega (arith, s .pre .2, simp length-append at (ap length (same s)))))
+    (s .pre .0, s .pre .1, fits-next (c .before .before .before .put-head .ensures) _ (omega (arith, s .pre .2, simp length-append at (ap length (text-parts s)))))
 
 put-rows-requires : tie.Need-put-rows-requires
 put-rows-requires c κs =
     let s = c .before .before .before .before .before .before .before .before .before .before .before .before in
-    (s .pre .1, fits-next (puts-more (c .before .before .before .before .before .before .before .put-head .ensures) (c .before .before .before .put-points .ensures)) _ (simp length-append (omega (arith, s .pre .2, simp length-append at (ap length (same s))))))
+    (s .pre .1, fits-next (puts-more (c .before .before .before .before .before .before .before .put-head .ensures) (c .before .before .before .put-points .ensures)) _ (simp length-append (omega (arith, s .pre .2, simp length-append at (ap length (text-parts s))))))
 
 same-length : tie.Need-same-length
 same-length c = search needs
 
 returns : tie.Need-returns
 returns c =
-    puts-text (sym (same (c .before .before .before .before .before .before .before .before .before .before .before .before .before .before .before))) (puts-more (puts-more (c .before .before .before .before .before .before .before .before .before .before .put-head .ensures) (c .before .before .before .before .before .before .put-points .ensures)) (c .before .before .put-rows .ensures))
+    puts-text (sym (text-parts (c .before .before .before .before .before .before .before .before .before .before .before .before .before .before .before))) (puts-more (puts-more (c .before .before .before .before .before .before .before .before .before .before .put-head .ensures) (c .before .before .before .before .before .before .put-points .ensures)) (c .before .before .put-rows .ensures))
 
 pub put-plan-spec : {M : Type 1} → statement M
 put-plan-spec =

@@ -61,10 +61,10 @@ loop-again : tie.Need-loop-again Inv-loop μ-loop
 unfolding memAt room
 loop-again c =
     let loop = c .before .before .before .loop in
-    let long : loop .i < length (loop .out) = omega (arith, loop .inv .1, c .before .before .before .before .before .pre .fits) in (
+    let within : loop .i < length (loop .out) = omega (arith, loop .inv .1, c .before .before .before .before .before .pre .fits) in (
       omega arith,
       length-set (loop .out) _ _ ∙ loop .inv .1,
-      filled-more _ (loop .i) (memAt (loop .out)) _ (loop .inv .2) (mem-at-same (loop .out) (loop .i) _ long ∙ c .contact-row .ensures)
+      filled-more _ (loop .i) (memAt (loop .out)) _ (loop .inv .2) (mem-at-same (loop .out) (loop .i) _ within ∙ c .contact-row .ensures)
           (λ i ne. mem-at-other (loop .out) (loop .i) i _ ne),
     )
 

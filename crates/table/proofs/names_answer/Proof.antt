@@ -1,4 +1,4 @@
--- `table::names_answer` meets its contract: each arm knows the answer for the names, whose own the definition gives. Assumes nothing.
+-- `table::names_answer` meets its contract: each arm knows the answer for the names, and the definition gives add's answer to it. Assumes nothing.
 use borrow.Author.Needs.{needs}
 use mathlib.Core.Path.{sym, ap}
 use Rattle.table.specs.Calls.{namesAnswer}

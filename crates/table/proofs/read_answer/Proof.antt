@@ -1,4 +1,4 @@
--- `table::read_answer` meets its contract: each arm knows the reader's answer, whose own the definition gives. Assumes nothing.
+-- `table::read_answer` meets its contract: each arm knows the reader's answer, and the definition gives add's answer to it. Assumes nothing.
 use borrow.Author.Needs.{needs}
 use mathlib.Core.Path.{sym, ap}
 use Rattle.table.specs.Calls.{readAnswer}

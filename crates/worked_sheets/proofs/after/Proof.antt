@@ -1,4 +1,4 @@
--- `after` meets its contract: the place is never before the given one, which is below the length, and the bytes left fall. Assumes nothing.
+-- `worked_sheets::after` meets its contract: the place is never before the given one, which is below the length, and the bytes left fall. Assumes nothing.
 use borrow.Author.Needs.{needs}
 use Prim.Native.Nat.{_-_, _≤_}
 use lib.ListN.{length}

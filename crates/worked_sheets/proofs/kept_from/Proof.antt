@@ -1,4 +1,4 @@
--- `kept_from` is safe and ends: each index is tested, and the words left fall. Assumes nothing.
+-- `worked_sheets::kept_from` is safe and ends: each index is tested, and the words left fall. Assumes nothing.
 use borrow.Author.Needs.{needs}
 use Prim.Native.Nat.{_-_}
 use Rattle.worked_sheets.proofs.kept_from.Statement.{statement}

@@ -1,4 +1,4 @@
--- `marked` meets its contract: a store keeps the number of words, each index is tested, and the words left fall. Assumes nothing.
+-- `worked_sheets::marked` meets its contract: a store keeps the number of words, each index is tested, and the words left fall. Assumes nothing.
 use borrow.Author.Needs.{needs}
 use Prim.Native.Nat.{_-_}
 use lib.ListN.{length}

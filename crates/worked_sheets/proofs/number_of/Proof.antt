@@ -1,4 +1,4 @@
--- `number_of` is safe and ends: what is taken for a digit is one, and the bytes left fall. Assumes nothing.
+-- `worked_sheets::number_of` is safe and ends: what is taken for a digit is one, and the bytes left fall. Assumes nothing.
 use borrow.Author.Needs.{needs}
 use Prim.Native.Nat.{_-_}
 use lib.ListN.{length}

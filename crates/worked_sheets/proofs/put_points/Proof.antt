@@ -1,4 +1,4 @@
--- `put_points` meets its contract: `put_word` stays within the words, an evaluation is below 64 and so fits, and the evaluations left fall. Assumes nothing.
+-- `worked_sheets::put_points` meets its contract: `put_word` stays within the words, an evaluation is below 64 and so fits, and the evaluations left fall. Assumes nothing.
 use borrow.Author.Needs.{needs}
 use Prim.Native.Nat.{_-_, _≤_}
 use Rattle.worked_sheets.proofs.put_points.Statement.{statement}

@@ -1,4 +1,4 @@
--- `put_row` meets its contract: `put_word` stays within the words, both positions are below 64 and so fit, and the positions left fall. Assumes nothing.
+-- `worked_sheets::put_row` meets its contract: `put_word` stays within the words, both positions are below 64 and so fit, and the positions left fall. Assumes nothing.
 use borrow.Author.Needs.{needs}
 use Prim.Native.Nat.{_-_, _≤_, _<_}
 use Rattle.worked_sheets.proofs.put_row.Statement.{statement}

@@ -1,4 +1,4 @@
--- `put_rows` meets its contract: `put_row` stays within the words, each position is below 64, and the positions left fall. Assumes nothing.
+-- `worked_sheets::put_rows` meets its contract: `put_row` stays within the words, each position is below 64, and the positions left fall. Assumes nothing.
 use borrow.Author.Needs.{needs}
 use Prim.Native.Nat.{_-_, _≤_}
 use Rattle.worked_sheets.proofs.put_rows.Statement.{statement}

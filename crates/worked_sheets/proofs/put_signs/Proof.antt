@@ -1,4 +1,4 @@
--- `put_signs` meets its contract: `put_byte` stays within the text, and a sign is at least one byte, so the bytes left fall. Assumes nothing.
+-- `worked_sheets::put_signs` meets its contract: `put_byte` stays within the text, and a sign is at least one byte, so the bytes left fall. Assumes nothing.
 use borrow.Author.Needs.{needs}
 use Prim.Native.Nat.{_-_, _≤_}
 use lib.ListN.{length}

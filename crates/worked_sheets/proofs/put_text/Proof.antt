@@ -1,4 +1,4 @@
--- `put_text` meets its contract: `put_part` stays within the text, and a part is at least one byte, so the bytes left fall. Assumes nothing.
+-- `worked_sheets::put_text` meets its contract: `put_part` stays within the text, and a part is at least one byte, so the bytes left fall. Assumes nothing.
 use borrow.Author.Needs.{needs}
 use Prim.Native.Nat.{_-_, _≤_}
 use lib.ListN.{length}

@@ -1,4 +1,4 @@
--- `put_times` meets its contract: `put_signs` stays within the text, and the turns left fall. Assumes nothing.
+-- `worked_sheets::put_times` meets its contract: `put_signs` stays within the text, and the turns left fall. Assumes nothing.
 use borrow.Author.Needs.{needs}
 use Prim.Native.Nat.{_-_, _≤_}
 use Rattle.worked_sheets.proofs.put_times.Statement.{statement}

@@ -1,4 +1,4 @@
--- `put_words` meets its contract: `put_word` stays within the words, and each turn takes at least one byte, so the bytes left fall. Assumes nothing.
+-- `worked_sheets::put_words` meets its contract: `put_word` stays within the words, and each turn takes at least one byte, so the bytes left fall. Assumes nothing.
 use borrow.Author.Needs.{needs}
 use Prim.Native.Nat.{_-_, _≤_}
 use lib.ListN.{length}

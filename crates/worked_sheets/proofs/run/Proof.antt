@@ -1,4 +1,4 @@
--- `run` is safe and ends: the table came from us, by the call before, and the bytes left fall. Assumes nothing.
+-- `worked_sheets::run` is safe and ends: the table came from us, by the call before, and the bytes left fall. Assumes nothing.
 use borrow.Author.Needs.{needs}
 use Prim.Native.Nat.{_-_}
 use lib.ListN.{length}

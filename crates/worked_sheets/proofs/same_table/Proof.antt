@@ -1,4 +1,4 @@
--- `same_table` is safe and ends: both tables came from us, each by the withdrawal before, and the turns left fall. Assumes nothing.
+-- `worked_sheets::same_table` is safe and ends: both tables came from us, each by the withdrawal before, and the turns left fall. Assumes nothing.
 use borrow.Author.Needs.{needs}
 use Prim.Native.Nat.{_-_}
 use Rattle.table.specs.Calls.{FromUs}

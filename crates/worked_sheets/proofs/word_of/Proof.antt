@@ -1,4 +1,4 @@
--- `word_of` is safe and ends: the digits before are cut to seven, so a word has room for one more, and the bytes left fall. Assumes nothing.
+-- `worked_sheets::word_of` is safe and ends: the digits before are cut to seven, so a word has room for one more, and the bytes left fall. Assumes nothing.
 use borrow.Author.Needs.{needs}
 use Prim.Native.Nat.{_-_}
 use lib.ListN.{length}
