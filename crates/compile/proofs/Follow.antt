@@ -34,7 +34,7 @@ unfolding codes
 code-at xs i l = map-at code xs i opening 0 l
 
 -- how many names stand before a place
-abbrev pub passed : List Sym → ℕ → ℕ
+abbrev passed : List Sym → ℕ → ℕ
 passed xs i = length (namesIn (take i xs))
 
 passed-next : (xs : List Sym) (i : ℕ) → i < length xs → passed xs (i + 1) ≡ passed xs i + namesBy (code (symbolAt xs i))
@@ -73,7 +73,7 @@ sets-more (w ∷ ws) from v buf end e = sets-more ws (suc from) v (set buf from 
 -- ---- the state
 
 -- the machine after i symbols of the formula's order
-abbrev pub reached : Formula Name → (Name → ℕ) → List (Atom ℕ) → ℕ → State
+abbrev reached : Formula Name → (Name → ℕ) → List (Atom ℕ) → ℕ → State
 reached f g atoms i = run g (take i (postfix f)) (start atoms)
 
 module _ (f : Formula Name) (g : Name → ℕ) (atoms : List (Atom ℕ)) where

@@ -39,7 +39,7 @@ module _ (g : Name → ℕ) (s : State) where
     pub proper : Proper x
     pub enough : takenBy (code x) ≤ length (run g o s .terms)
 
-  abbrev pub Fine : List Sym → Type 0
+  abbrev Fine : List Sym → Type 0
   Fine o = (i : ℕ) → i < length o → Finds (take i o) (symbolAt o i)
 
   fine-last : (o : List Sym) (x : Sym) → Fine o → Finds o x → Fine (o ++ x ∷ [])

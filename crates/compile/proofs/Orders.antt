@@ -28,7 +28,7 @@ module _ {N : Type 0} (g : N → ℕ) where
   run-last o x s = run-append o (x ∷ []) s
 
   -- a term more
-  abbrev pub pushed : Term N → State → State
+  abbrev pushed : Term N → State → State
   pushed t s = withTerms (mapTerm g t ∷ s .terms) s
 
   -- a formula more

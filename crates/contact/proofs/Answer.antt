@@ -122,7 +122,7 @@ module _ (n : ℕ) (atoms : List (Atom ℕ)) (nums : List (Form ℕ)) where
 
   module _ (rules : List (Formula ℕ)) (faithful : Faithful rules atoms nums) where
     -- the plan of a good row meets every rule
-    pub good-meets : (row : Row) (g : Good row) → meetsAll (marksFloor n (rowMarks atoms row) (g .checked)) rules ≡ true
+    good-meets : (row : Row) (g : Good row) → meetsAll (marksFloor n (rowMarks atoms row) (g .checked)) rules ≡ true
     good-meets row g =
         sym (faithful (marksFloor n (rowMarks atoms row) (g .checked)))
         ∙ ap (rulesTrue nums) (plan-row n atoms row (g .whole) (g .checked)) ∙ g .makes
@@ -134,7 +134,7 @@ module _ (n : ℕ) (atoms : List (Atom ℕ)) (nums : List (Form ℕ)) where
     realised-good row F h k = and-intro k (row-check n atoms names row F h)
 
     -- no realisable row before the first makes the rules true
-    pub first-earliest : (row other : Row) → firstRow n atoms nums ≡ row ∷ [] → Realisable atoms other → rulesTrue nums other ≡ true
+    first-earliest : (row other : Row) → firstRow n atoms nums ≡ row ∷ [] → Realisable atoms other → rulesTrue nums other ≡ true
         → Before other row → ⊥
     unfolding firstRow
     first-earliest row other e real k b =
@@ -151,7 +151,7 @@ module _ (n : ℕ) (atoms : List (Atom ℕ)) (nums : List (Form ℕ)) where
           (realised-good row F refl (faithful F ∙ h))
 
       -- no row is found exactly where no floor meets every rule
-      pub none-exactly : (firstRow n atoms nums ≡ []) ↔ ((F : Floor ℕ) → meetsAll F rules ≡ true → ⊥)
+      none-exactly : (firstRow n atoms nums ≡ []) ↔ ((F : Floor ℕ) → meetsAll F rules ≡ true → ⊥)
       unfolding firstRow
       none-exactly = (
         λ e F h. let r = first-some (good n atoms nums) (rows (length atoms)) (some-good F h) in nil≢cons (sym e ∙ r .1),

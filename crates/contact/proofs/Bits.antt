@@ -12,7 +12,7 @@ use Rattle.evalset.proofs.Bits.{bit-zero, bit-suc}
 use Rattle.contact.specs.Meaning.{holds}
 use Rattle.contact.specs.Numbering.{TermBelow}
 
-abbrev pub digit : Bool → ℕ
+abbrev digit : Bool → ℕ
 digit true = 1
 digit false = 0
 

@@ -31,7 +31,7 @@ markOn F (apart x y) = touches F x y
 markOn F (vacant t) = isEmpty F t
 markOn F (inhabited t) = isEmpty F t
 
-abbrev pub signOf : Mark → Bool
+abbrev signOf : Mark → Bool
 signOf (touching x y) = true
 signOf (apart x y) = false
 signOf (vacant t) = true
@@ -268,7 +268,7 @@ module _ (n : ℕ) (ms : List Mark) where
         let r = first-some (fills n ms t) es (all-witnessed (inhabited t) i) in
         ap not (any-intro (at t) (gives-point i (subst (In (r .0)) (sym (r .1)) here)) (fills-elim n ms t (r .0) (r .3) .1))
 
-    pub plan-realises : RealisesMarks marksFloor ms
+    plan-realises : RealisesMarks marksFloor ms
     unfolding marksFloor
     plan-realises m i = floor-mark ms (pointsFor n ms) _ _ m ∙ on-plan m i
 
@@ -455,7 +455,7 @@ module _ (n : ℕ) (atoms : List (Atom ℕ)) where
       extends-whole (map (atomOn F) atoms) row (l ∙ sym (length-map atoms (atomOn F))) (plan-part (map is row) whole checked)
 
   module _ (names : (a : Atom ℕ) → In a atoms → AtomBelow n a) where
-    pub part-check : (part : PartialRow) (F : Floor ℕ) → RealisesPart F atoms part → check n (marksOf atoms part) ≡ true
+    part-check : (part : PartialRow) (F : Floor ℕ) → RealisesPart F atoms part → check n (marksOf atoms part) ≡ true
     part-check part F h = floor-check n (marksOf atoms part) (marks-below n atoms part names) F (part-marks F atoms part h)
 
     pub row-check : (row : Row) (F : Floor ℕ) → Realises F atoms row → check n (rowMarks atoms row) ≡ true

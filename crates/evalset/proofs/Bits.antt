@@ -161,7 +161,7 @@ tz-even : (k a : ℕ) → a % 2 ≡ 0 → trailingZeros (suc k) a ≡ suc (trail
 unfolding trailingZeros
 tz-even k a h = ap (λ (d : ℕ). under d (trailingZeros k (a / 2))) h
 
-pub lowest : (k a : ℕ) → 0 < a → a < 2 ^ k → Least k (trailingZeros k a) (bit a)
+lowest : (k a : ℕ) → 0 < a → a < 2 ^ k → Least k (trailingZeros k a) (bit a)
 lowest zero a p h = absurd (omega arith)
 lowest (suc k) a p h = go (λ q. lowest k (a / 2) q (half k a h)) (two a)
   where

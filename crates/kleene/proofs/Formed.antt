@@ -51,7 +51,7 @@ abbrev Under : ℕ → List ℕ → Type 0
 Under many xs = (i : ℕ) → In i xs → i < many
 
 -- the places of atoms and constants in a formula
-abbrev pub leaves : Form ℕ → ℕ
+abbrev leaves : Form ℕ → ℕ
 leaves Form.truth = 1
 leaves Form.falsity = 1
 leaves (Form.atom i) = 1

@@ -66,7 +66,7 @@ implies-three s t = implies-or (duoOf s) (duoOf t) ∙ ap (λ (d : Duo). orD d (
 
 module _ (v : ℕ → Duo) (w : ℕ → Three) where
   -- the atoms in a list have the same values
-  abbrev pub Alike : List ℕ → Type 0
+  abbrev Alike : List ℕ → Type 0
   Alike xs = (i : ℕ) → In i xs → v i ≡ duoOf (w i)
 
   pub value-three : (f : Form ℕ) → Alike (atomsOf f) → valueD v f ≡ duoOf (kleeneValue w f)

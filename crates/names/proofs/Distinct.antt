@@ -79,14 +79,14 @@ module _ {N : Type 0} (same : N → N → Bool) where
 
   module _ (decides : Decides same) where
     -- an element is there once it is put
-    pub put-in : (ks : List N) (w : N) → isIn same (put same ks w) w ≡ true
+    put-in : (ks : List N) (w : N) → isIn same (put same ks w) w ≡ true
     put-in ks w = go (isIn same ks w) refl
       where
         go : (b : Bool) → isIn same ks w ≡ b → isIn same (cond b ks (ks ++ w ∷ [])) w ≡ true
         go true e = e
         go false e = any-intro (λ k. same k w) (in-right ks here) (decides w w .1 refl)
 
-    pub put-position : (ks : List N) (w : N) → position same (put same ks w) w ≡ position same ks w
+    put-position : (ks : List N) (w : N) → position same (put same ks w) w ≡ position same ks w
     put-position ks w = go (isIn same ks w) refl
       where
         last : (ls : List N) → isIn same ls w ≡ false → position same (ls ++ w ∷ []) w ≡ length ls
@@ -158,7 +158,7 @@ module _ {N : Type 0} (same : N → N → Bool) where
         ∙ distinct-append (xs ++ w ∷ []) ws
         ∙ ap (λ (l : List N). putAll l ws) (distinct-last xs w)
 
-    pub distinct-grows : (xs ws : List N) → (more : List N) × (distinct same (xs ++ ws) ≡ distinct same xs ++ more)
+    distinct-grows : (xs ws : List N) → (more : List N) × (distinct same (xs ++ ws) ≡ distinct same xs ++ more)
     distinct-grows xs ws =
         let r = put-all-grows (distinct same xs) ws in
         (r .0, distinct-append xs ws ∙ r .1)

@@ -21,7 +21,7 @@ use Rattle.names.proofs.Distinct.{distinct-append, in-distinct, distinc
 use Rattle.names.proofs.Outcome.{allOf, numbersIn, Fits, Stops, outcome, seventh-answered, stops-many}
 
 -- the different names of earlier texts and of those at their places
-abbrev pub different : List Name → List NameAt → List Name
+abbrev different : List Name → List NameAt → List Name
 different earlier xs = distinct sameName (earlier ++ namesAt xs)
 
 different-is : (earlier : List Name) (xs : List NameAt) → different earlier xs ≡ allOf (distinct sameName earlier) xs
@@ -58,7 +58,7 @@ module _ (earlier : List Name) (xs : List NameAt) where
       }
 
   -- and the seventh different one is answered, with the names and numbers before it
-  pub seventh-result : {p : ℕ} (h : SeventhAt earlier xs p)
+  seventh-result : {p : ℕ} (h : SeventhAt earlier xs p)
       → result ≡ numbered (different earlier (h .before)) (numbersIn (different earlier (h .before)) (h .before)) (NamesAnswer.SeventhName p)
   seventh-result {p} h =
       let six : different earlier (h .before) ≡ allOf known (h .before) = different-is earlier (h .before) in

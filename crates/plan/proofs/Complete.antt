@@ -57,7 +57,7 @@ run-points n few low pts e (f ∷ fs) ws a =
     ∙ ap (λ (l : List ℕ). run (linking n l [] 0) ws) (append-assoc pts (e ∷ []) (f ∷ fs))
 
 -- the least contact that may come after these
-abbrev pub after : ℕ → List ℕ → ℕ
+abbrev after : ℕ → List ℕ → ℕ
 after low [] = low
 after low (k ∷ ks) = after (suc k) ks
 

@@ -188,7 +188,7 @@ unfolding readOf run
 exact ws = read-says [] start ws refl (λ x. x)
 
 -- the words of a plan are its own
-pub unique : (p q : Plan) → IsPlan p → IsPlan q → wordsOf p ≡ wordsOf q → p ≡ q
+unique : (p q : Plan) → IsPlan p → IsPlan q → wordsOf p ≡ wordsOf q → p ≡ q
 unique p q h k e = from-whole (sym (complete p h) ∙ ap (run start) e ∙ complete q k)
   where
     planOr : State → Plan

@@ -208,7 +208,7 @@ not-link n pts ks low (Last c) h = absurd (miss (0 ∷ 1 ∷ 4 ∷ []) 3 tt h)
 not-link n pts ks low Other h = refl
 
 -- ---- which state it is, by the phase
-abbrev pub phaseOf : State → Phase
+abbrev phaseOf : State → Phase
 phaseOf start = phase.Start
 phaseOf (pointing n m pts low) = phase.Points
 phaseOf (linking n pts ks low) = phase.Contacts

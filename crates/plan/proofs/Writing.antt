@@ -80,7 +80,7 @@ module _ (p : PlanArrays) (n : ℕ) (full : length (p .points) ≡ 64) (m : n �
       pub late-length : length late ≡ length buf
       late-length = wrote-length (1 + n) (linksTo n n (memAt (p .rows))) mid late end (omega (arith, mid-length)) b ∙ mid-length
 
-      pub end-is : end ≡ length (before (planBy p))
+      end-is : end ≡ length (before (planBy p))
       end-is = b .place ∙ sym before-size
 
       late-is : late ≡ written 0 (before (planBy p)) buf
@@ -92,7 +92,7 @@ module _ (p : PlanArrays) (n : ℕ) (full : length (p .points) ≡ 64) (m : n �
           ∙ written-more 0 pts (map contactWord (linksTo n n (memAt (p .rows)))) buf (omega (arith, pts-size))
           ∙ ap (λ (l : List ℕ). written 0 l buf) before-is
 
-      pub all-is : set late end (lastWord end) ≡ over (wordsOf (planBy p)) buf
+      all-is : set late end (lastWord end) ≡ over (wordsOf (planBy p)) buf
       unfolding wordsOf
       all-is =
           let ws = before (planBy p) in

@@ -116,7 +116,7 @@ module _ (text : List ℕ) (c : Compiling) (code : List ℕ) (rules : List (Form
       ap (gathered text) (known-from (c .names) (namesOf rules) (m .so-far .names-are))
       ∙ rule-gathered rules few text f (m .is-rule) (rule-enough rules few text f (m .is-rule) .1 (m .room .names-fit))
 
-  pub order-is : (rule : Rule) → rule ≡ ruleOf text → take (rule .len) (rule .order) ≡ codes (postfix f)
+  order-is : (rule : Rule) → rule ≡ ruleOf text → take (rule .len) (rule .order) ≡ codes (postfix f)
   order-is rule e = ap (λ (r : Rule). take (r .len) (r .order)) e ∙ order-read text f (m .is-rule)
 
   used-is : (rule : Rule) → rule ≡ ruleOf text → nameCount (take (rule .len) (rule .order)) ≡ length (formulaNames f)

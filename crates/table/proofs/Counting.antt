@@ -72,7 +72,7 @@ names-are rs s a e = ap namesAnswer e
 pub text-judged : (s : Text) (rule : Rule) (a : AddAnswer) → rule ≡ ruleOf s → a ≡ readAnswer (rule .answer) → judgeText s ≡ a
 text-judged s rule a e f = text-is s (rule .answer) (sym (ap (λ (x : Rule). x .answer) e)) ∙ sym f
 
-pub names-judged : (rs : List Text) (s : Text) (g : Gathered) (a : AddAnswer) → g ≡ gathered s (namesIn rs) → a ≡ namesAnswer (g .answer) → judgeNames rs s ≡ a
+names-judged : (rs : List Text) (s : Text) (g : Gathered) (a : AddAnswer) → g ≡ gathered s (namesIn rs) → a ≡ namesAnswer (g .answer) → judgeNames rs s ≡ a
 names-judged rs s g a e f = names-are rs s (g .answer) (sym (ap (λ (x : Gathered). x .answer) e)) ∙ sym f
 
 pub text-formula : (s : Text) → judgeText s ≡ AddAnswer.Added → ruleOf s .answer ≡ RuleAnswer.Formula

@@ -47,7 +47,7 @@ line-is {t} {i} v h = ap (λ (ls : List Line). getD ls i none) (lines-are t v) �
 abbrev pub tableWith : List Line → ℕ → Table
 tableWith ls n = record { lines = ls; count = n }
 
-pub put-last : (rs : List Text) (s : Text) → length rs < 16 → tableWith (set (linesWith rs) (length rs) (lineOf s)) (length rs + 1) ≡ tableOf (rs ++ s ∷ [])
+put-last : (rs : List Text) (s : Text) → length rs < 16 → tableWith (set (linesWith rs) (length rs) (lineOf s)) (length rs + 1) ≡ tableOf (rs ++ s ∷ [])
 unfolding tableOf
 put-last rs s h =
     let n : length (rs ++ s ∷ []) ≡ length rs + 1 = length-append rs (s ∷ []) in

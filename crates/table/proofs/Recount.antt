@@ -41,13 +41,13 @@ counted-all t ns n i v p h =
 
 -- the i-th line
 module _ {t : Table} {i : ℕ} (v : FromUs t) (h : i < t .count) where
-  abbrev pub line : Line
+  abbrev line : Line
   line = getD (t .lines) i none
 
   abbrev pub text : Text
   text = take (line .len) (line .bytes)
 
-  pub text-is : text ≡ getD (rulesOf t) i []
+  text-is : text ≡ getD (rulesOf t) i []
   unfolding textOf
   text-is = ap textOf (line-is v h) ∙ text-line (getD (rulesOf t) i [])
 
