@@ -8,7 +8,8 @@ use Prim.Native.Nat.{ℕ, zero, suc, _+_, _-_, _≤_, _<_}
 use native.Mathlib.Omega.{arith}
 use native.Mathlib.Numerals.{add-one}
 use lib.ListN.{length, getD, set, drop, length-set, drop-of-length-le}
-use lib.Seq.{drop-cons, getD-set-same, getD-set-other}
+use lib.Seq.{getD-set-same, getD-set-other}
+use Rattle.lists.proofs.Lists.{rest}
 use Rattle.evalset.specs.declared.EvalSet.{EvalSet}
 use Rattle.evalset.specs.Sets.{room, mem}
 use Rattle.kleene.specs.declared.Two.{Two}
@@ -89,16 +90,12 @@ pub record Running (deep : ℕ) (code : List ℕ) (leaves stack : List Two) (hei
 exec-next : (v : ℕ → Duo) (code : List ℕ) (i : ℕ) (st : List Duo) → i < length code
     → exec v (drop i code) st ≡ exec v (drop (i + 1) code) (step v (getD code i 0) st)
 unfolding exec
-exec-next v code i st l =
-    ap (λ (k : List ℕ). exec v k st) (drop-cons code i 0 l)
-    ∙ ap (λ (k : ℕ). exec v (drop k code) (step v (getD code i 0) st)) (sym (add-one i))
+exec-next v code i st l = ap (λ (k : List ℕ). exec v k st) (rest code i 0 l)
 
 safe-next : (deep many : ℕ) (code : List ℕ) (i n : ℕ) → i < length code → Safe deep many (drop i code) n
     → Takes deep many (classOf (getD code i 0)) (getD code i 0) n × Safe deep many (drop (i + 1) code) (after (classOf (getD code i 0)) n)
 unfolding Safe
-safe-next deep many code i n l s =
-    let t = subst (λ (k : List ℕ). Safe deep many k n) (drop-cons code i 0 l) s in
-    (t .0, subst (λ (k : ℕ). Safe deep many (drop k code) (after (classOf (getD code i 0)) n)) (sym (add-one i)) (t .1))
+safe-next deep many code i n l s = subst (λ (k : List ℕ). Safe deep many k n) (rest code i 0 l) s
 
 module _ {deep : ℕ} {code : List ℕ} {leaves stack : List Two} {height i : ℕ} (inv : Running deep code leaves stack height i) (l : i < length code) where
   abbrev c : ℕ

@@ -3,9 +3,8 @@ use mathlib.Core.Path.{_≡_, refl, sym, ap, ap₂, _∙_}
 use mathlib.Core.List.{List, [], _∷_}
 use Prim.Native.Nat.{ℕ, _+_, _≤_, _<_}
 use native.Mathlib.Omega.{arith}
-use native.Mathlib.Numerals.{add-one}
 use lib.ListN.{length, getD, drop, length-append, drop-of-length-le}
-use lib.Seq.{drop-cons}
+use Rattle.lists.proofs.Lists.{rest}
 use Rattle.formula.specs.Formula.{Formula, Name}
 use Rattle.formula.specs.Names.{formulaNames}
 use Rattle.syntax.specs.Postfix.{postfix, symbolNames, namesIn}
@@ -25,7 +24,7 @@ count-few (k ∷ ks) = omega (arith, one-at-most k, count-few ks)
 -- the token at a place, and those after it
 pub count-step : (kinds : List ℕ) (i : ℕ) → i < length kinds → nameCount (drop i kinds) ≡ namesBy (getD kinds i 0) + nameCount (drop (i + 1) kinds)
 unfolding nameCount
-count-step kinds i l = ap nameCount (drop-cons kinds i 0 l) ∙ ap (λ (k : ℕ). namesBy (getD kinds i 0) + nameCount (drop k kinds)) (sym (add-one i))
+count-step kinds i l = ap nameCount (rest kinds i 0 l)
 
 -- none after the last
 pub count-end : (kinds : List ℕ) (i : ℕ) → length kinds ≤ i → nameCount (drop i kinds) ≡ 0
