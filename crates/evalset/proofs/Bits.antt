@@ -13,10 +13,10 @@ use lib.Pow.{shr-shr, pow-pos, pow-lt, ones-lt}
 use lib.Bits.{bitAnd, bitOr, and-step, or-step, and-shr, or-shr}
 use lib.Count.{trailingZeros, under}
 use borrow.Author.Tests.{eq-eqb, ne-eqb, lt-ltb, le-ltb}
+use Rattle.lists.proofs.Below.{Least, first-at, first-none-below, any-none, any-at}
 use Rattle.lists.proofs.Truth.{side}
 use Rattle.evalset.specs.Bit.{bit}
 use Rattle.lists.specs.Search.{any, first, below}
-use Rattle.evalset.proofs.Bounded.{Least, first-at, first-none-below, any-none, any-at}
 
 -- ---- a digit is 0 or 1
 two : (n : ℕ) → (n % 2 ≡ 0) ⊎ (n % 2 ≡ 1)

@@ -1,4 +1,3 @@
-pub mod Bounded
 pub mod Bits
 pub mod Walk
 pub mod Members

@@ -9,11 +9,11 @@ use native.Mathlib.Omega.{arith}
 use lib.Dec.{ltb, eqb}
 use lib.Pow.{pow-mono, pow-lt}
 use borrow.Author.Tests.{lt-ltb, le-ltb, eqb-true}
+use Rattle.lists.proofs.Below.{any-cut, first-cut, keep-cut}
 use Rattle.evalset.specs.declared.EvalSet.{EvalSet}
 use Rattle.evalset.specs.Bit.{bit}
 use Rattle.lists.specs.Search.{any, first, keep, below}
 use Rattle.evalset.specs.Sets.{most, room, mem, noneOf, fullOf, nameSet, belowOf, dropOf, addOf, shiftOf}
-use Rattle.evalset.proofs.Bounded.{any-cut, first-cut, keep-cut}
 use Rattle.lists.proofs.Truth.{clash, side}
 use Rattle.evalset.proofs.Bits.{bit-above, same-bits}
 

@@ -8,10 +8,10 @@ use Prim.Native.Nat.{ℕ, _^_, _≤_, _<_}
 use lib.Dec.{ltb}
 use lib.ListN.{length, getD}
 use borrow.Author.Tests.{ltb-true, lt-ltb, le-ltb}
+use Rattle.lists.proofs.Below.{all-at}
 use Rattle.evalset.specs.Bit.{bit}
 use Rattle.lists.specs.Search.{all, below}
 use Rattle.evalset.specs.Sets.{room, nameSet}
-use Rattle.evalset.proofs.Bounded.{all-at}
 use Rattle.lists.proofs.Truth.{beq-same, side}
 use Rattle.lists.proofs.Entries.{every, at}
 use Rattle.evalset.proofs.Bits.{bit-above}

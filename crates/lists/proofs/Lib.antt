@@ -3,3 +3,4 @@ pub mod Search
 pub mod Lists
 pub mod Padded
 pub mod Entries
+pub mod Below

@@ -8,12 +8,12 @@ use native.Mathlib.Omega.{arith}
 use lib.Dec.{ltb}
 use lib.ListN.{length, take, length-take}
 use borrow.Author.Tests.{ltb-true, lt-ltb, le-ltb}
+use Rattle.lists.proofs.Below.{gather-more, gather-within, gather-small}
 use Rattle.lists.specs.Search.{gather, from}
 use Rattle.evalset.specs.Sets.{memAt, most}
 use Rattle.plan.specs.declared.PlanArrays.{PlanArrays}
 use Rattle.plan.specs.Words.{Ascends, Rises, IsPlan}
 use Rattle.plan.specs.Arrays.{countOf, pairOf, rowTo, linksTo, planBy}
-use Rattle.evalset.proofs.Bounded.{gather-more, gather-within, gather-small}
 
 -- ---- the contacts that rows give
 pub pair-early : (i j : ℕ) (t : ℕ → Bool) → j ≤ i → pairOf i j t ≡ []

@@ -10,10 +10,10 @@ use native.Mathlib.Omega.{arith}
 use native.Mathlib.Nat.{mul-suc, suc-mul, mul-le-mul}
 use lib.ListN.{length, getD, length-append, length-map}
 use lib.Pow.{pow-mono}
+use Rattle.lists.proofs.Below.{keep-length, gather-small}
 use Rattle.lists.proofs.Truth.{side}
 use Rattle.formula.specs.Formula.{Formula, Name}
 use Rattle.lists.specs.Search.{keep, gather, from, elem}
-use Rattle.evalset.proofs.Bounded.{keep-length, gather-small}
 use Rattle.contact.specs.Meaning.{Floor, meetsAll}
 use Rattle.contact.specs.Numbering.{allAtoms, namesOf, mapAtom, numberedNames, numberedAtoms, numberOf}
 use Rattle.contact.specs.Row.{Row, Realises, is}

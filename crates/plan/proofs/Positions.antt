@@ -5,10 +5,10 @@ use mathlib.Core.List.{List}
 use Prim.Native.Nat.{ℕ, _+_, _≤_, _<_}
 use lib.ListN.{getD}
 use borrow.Author.Tests.{lt-ltb, le-ltb}
+use Rattle.lists.proofs.Below.{any-at, any-more, any-cut}
 use Rattle.lists.specs.Search.{any, below}
 use Rattle.evalset.specs.Sets.{room, memAt, meetOf}
 use Rattle.evalset.specs.Arrays.{positionsOf}
-use Rattle.evalset.proofs.Bounded.{any-at, any-more, any-cut}
 use Rattle.lists.proofs.Search.{any-same, below-elim}
 use Rattle.plan.specs.declared.PlanArrays.{PlanArrays}
 use Rattle.plan.specs.Arrays.{countOf, pointAt, touchesOf, vacantOf}

@@ -6,6 +6,7 @@ use mathlib.Core.List.{List, [], _∷_}
 use Prim.Native.Nat.{ℕ, suc, _*_, _/_, _%_, _^_, _≤_, _<_}
 use native.Mathlib.Omega.{arith}
 use lib.ListN.{length, getD, length-append}
+use Rattle.lists.proofs.Below.{gather-small}
 use Rattle.formula.specs.Formula.{Name}
 use Rattle.lexer.specs.Text.{bytes}
 use Rattle.evalset.specs.Bit.{bit}
@@ -13,7 +14,6 @@ use Rattle.lists.specs.Search.{gather, below, orElse}
 use Rattle.plan.specs.Words.{Plan, Rises, IsPlan, before, lastWord, wordsOf}
 use Rattle.plan.proofs.Complete.{before-length}
 use Rattle.lists.proofs.Search.{gather-few, from-length, below-elim}
-use Rattle.evalset.proofs.Bounded.{gather-small}
 use Rattle.report.specs.Output.{headLine, blanked, nameIf, pointNames, namesOrNone, pointLine, pointLines, contactLine, planText, refusedText}
 use Rattle.report.proofs.Digits.{decimal-few}
 use Rattle.report.proofs.Parts.{names-parts}

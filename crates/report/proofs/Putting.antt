@@ -5,8 +5,8 @@ use Prim.Native.Nat.{ℕ, _+_, _≤_, _<_}
 use native.Mathlib.Omega.{arith}
 use native.Mathlib.Nat.{add-zero}
 use lib.ListN.{length, set, length-append}
+use Rattle.lists.proofs.Below.{gather-more, gather-within}
 use Rattle.lists.specs.Search.{gather, below}
-use Rattle.evalset.proofs.Bounded.{gather-more, gather-within}
 use Rattle.plan.specs.Private.{written}
 use Rattle.plan.proofs.Buffer.{written-none, written-set, written-more, written-length}
 use Rattle.report.specs.Putting.{Puts}

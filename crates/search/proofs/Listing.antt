@@ -11,13 +11,13 @@ use lib.Dec.{ltb}
 use lib.ListN.{length, getD}
 use borrow.Author.Count.{below-none, below-more}
 use borrow.Author.Tests.{lt-ltb, le-ltb}
+use Rattle.lists.proofs.Below.{keep-length}
 use Rattle.lists.specs.Padded.{pad}
 use Rattle.lists.proofs.Padded.{pad-at}
 use Rattle.lists.proofs.Truth.{side}
 use Rattle.evalset.specs.declared.EvalSet.{EvalSet}
 use Rattle.lists.specs.Search.{keep, below, elem}
 use Rattle.evalset.specs.Sets.{most, room, mem, memAt, noneOf, addOf}
-use Rattle.evalset.proofs.Bounded.{keep-length}
 use Rattle.evalset.proofs.Arrays.{positions-none, positions-more}
 use Rattle.evalset.proofs.Members.{keep-names}
 use Rattle.lists.proofs.Search.{placed, keep-elim, below-elim}

@@ -8,10 +8,10 @@ use Prim.Native.Nat.{ℕ, _+_, _≤_, _<_}
 use native.Mathlib.Omega.{arith}
 use lib.Dec.{eqb}
 use borrow.Author.Count.{below-more}
+use Rattle.lists.proofs.Below.{Least, first-at, first-none-below}
 use Rattle.lists.proofs.Truth.{side}
 use Rattle.lists.specs.Search.{any, first, gather, below, elem}
 use Rattle.evalset.specs.Sets.{room, noneOf, minusOf, addOf}
-use Rattle.evalset.proofs.Bounded.{Least, first-at, first-none-below}
 use Rattle.evalset.proofs.Members.{add-in}
 use Rattle.evalset.proofs.Walk.{Step}
 use Rattle.search.specs.Tests.{Separates, startsOf, pairFrom, pairOf}

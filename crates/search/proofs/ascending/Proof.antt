@@ -6,12 +6,12 @@ use Prim.Native.Nat.{ℕ, _+_, _-_, _≤_, _<_}
 use native.Mathlib.Omega.{arith}
 use lib.ListN.{length, set}
 use borrow.Author.Needs.{needs}
+use Rattle.lists.proofs.Below.{keep-length, keep-cut, keep-step, count-step}
 use Rattle.lists.proofs.Padded.{pad-set}
 use Rattle.lists.specs.Padded.{pad}
 use Rattle.lists.specs.Search.{keep, below}
 use Rattle.evalset.specs.Sets.{room, mem, fromOf}
-use Rattle.evalset.proofs.Bounded.{keep-length, keep-cut}
-use Rattle.evalset.proofs.Walk.{from-zero, Step, step, stop, keep-step, count-step}
+use Rattle.evalset.proofs.Walk.{from-zero, Step, step, stop}
 use Rattle.search.proofs.ascending.Statement.{statement}
 use Rattle.search.proofs.ascending.Tie as tie
 

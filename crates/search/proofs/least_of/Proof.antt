@@ -4,8 +4,8 @@ use mathlib.Core.Path.{sym, ap, _∙_}
 use mathlib.Mathlib.Logic.Function.Defs.{congr-fun}
 use Prim.Native.Nat.{ℕ}
 use borrow.Author.Needs.{needs}
+use Rattle.evalset.proofs.Walk.{found-least, found-nothing}
 use Rattle.evalset.specs.Sets.{room, addOf}
-use Rattle.evalset.proofs.Bounded.{found-least, found-nothing}
 use Rattle.search.proofs.Walks.{one-found, none-found}
 use Rattle.search.proofs.least_of.Statement.{statement}
 use Rattle.search.proofs.least_of.Tie as tie

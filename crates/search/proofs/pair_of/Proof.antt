@@ -7,10 +7,10 @@ use Prim.Native.Nat.{ℕ, _-_, _≤_}
 use native.Mathlib.Omega.{arith}
 use borrow.Author.Count.{below-none}
 use borrow.Author.Needs.{needs}
+use Rattle.lists.proofs.Below.{any-at, any-none}
 use Rattle.lists.specs.Search.{first, below}
 use Rattle.evalset.specs.Sets.{room, mem, memAt, minusOf, addOf, fromOf, foundOf}
-use Rattle.evalset.proofs.Bounded.{found-least, found-nothing, any-at, any-none}
-use Rattle.evalset.proofs.Walk.{from-zero, Step, step, stop}
+use Rattle.evalset.proofs.Walk.{from-zero, Step, step, stop, found-least, found-nothing}
 use Rattle.search.proofs.Walks.{Passed, starts-alone, starts-yes, walk-on, walk-found, walk-ends, pair-found, pair-none}
 use Rattle.search.proofs.pair_of.Statement.{statement}
 use Rattle.search.proofs.pair_of.Tie as tie

@@ -7,9 +7,9 @@ use native.Mathlib.Omega.{arith}
 use borrow.Author.Count.{below-none}
 use borrow.Author.Needs.{needs}
 use borrow.Author.Tests.{not-true, not-false}
+use Rattle.lists.proofs.Below.{any-at, any-none}
 use Rattle.lists.specs.Search.{any, below}
 use Rattle.evalset.specs.Sets.{room, mem, memAt, minusOf, fromOf}
-use Rattle.evalset.proofs.Bounded.{any-at, any-none}
 use Rattle.evalset.proofs.Walk.{from-zero, Step, step, stop}
 use Rattle.search.specs.Tests.{startsOf, witnessedOf}
 use Rattle.search.proofs.Walks.{Passed, starts-alone, starts-yes, walk-on, walk-ends}

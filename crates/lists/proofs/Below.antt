@@ -8,11 +8,9 @@ use Prim.Native.Nat.{ℕ, zero, suc, _+_, _-_, _*_, _≤_, _<_}
 use native.Mathlib.Nat.{zero-add, eq-or-lt-of-le}
 use native.Mathlib.Omega.{arith}
 use lib.ListN.{length, length-append}
-use Rattle.evalset.specs.declared.Found.the-variants.{At, Nothing}
 use Rattle.lists.specs.Search.{In, any, all, first, keep, orElse, gather, from, below}
-use Rattle.evalset.specs.Sets.{foundOf}
 use Rattle.lists.proofs.Truth.{clash}
 use Rattle.lists.proofs.Search.{any-intro, none-intro, any-append, any-last, all-elim, first-none, first-append, keep-nothing, keep-append, gather-append, gather-last, gather-few, from-length, from-elim, from-append, below-intro}
 
 -- ---- the numbers in two parts
 below-add : (m n : ℕ) → below (m + n) ≡ below m ++ from m n
@@ -77,11 +75,11 @@ pub record Least (n e : ℕ) (p : ℕ → Bool) : Type 0 where
   pub before : (d : ℕ) → d < e → p d ≡ false
 
 -- what the answer of a search among n numbers from k up says
-abbrev FirstSays : (ℕ → Bool) → ℕ → ℕ → List ℕ → Type 0
+abbrev pub FirstSays : (ℕ → Bool) → ℕ → ℕ → List ℕ → Type 0
 FirstSays p k n [] = (d : ℕ) → k ≤ d → d < k + n → p d ≡ false
 FirstSays p k n (e ∷ es) = (k ≤ e) × (e < k + n) × (p e ≡ true) × ((d : ℕ) → k ≤ d → d < e → p d ≡ false)
 
-first-says : (p : ℕ → Bool) (k n : ℕ) → FirstSays p k n (first p (from k n))
+pub first-says : (p : ℕ → Bool) (k n : ℕ) → FirstSays p k n (first p (from k n))
 first-says p k zero = λ d a b. absurd (omega arith)
 first-says p k (suc n) = go (p k) refl (first p (from (suc k) n)) (first-says p (suc k) n)
   where
@@ -91,7 +89,7 @@ first-says p k (suc n) = go (p k) refl (first p (from (suc k) n)) (first-says p 
     go false q (e ∷ es) s =
         (omega (arith, s .0), omega (arith, s .1), s .2, λ d a b. ⊎-elim (λ z. ap p (sym z) ∙ q) (λ l. s .3 d l b) (eq-or-lt-of-le a))
 
-first-says-least : (p : ℕ → Bool) (n e : ℕ) (es : List ℕ) → FirstSays p 0 n (e ∷ es) → Least n e p
+pub first-says-least : (p : ℕ → Bool) (n e : ℕ) (es : List ℕ) → FirstSays p 0 n (e ∷ es) → Least n e p
 first-says-least p n e es s = record { within = omega (arith, s .1); passes = s .2; before = λ d l. s .3 d (omega arith) l }
 
 module _ (p : ℕ → Bool) (n : ℕ) where
@@ -102,21 +100,6 @@ module _ (p : ℕ → Bool) (n : ℕ) where
       ∙ first-append p (below e) (from e (suc (n - e - 1)))
       ∙ ap₂ (λ (xs : List ℕ) (b : Bool). orElse xs (cond b (e ∷ []) (first p (from (suc e) (n - e - 1)))))
       (first-none-below p e (h .before)) (h .passes)
-
-  -- the same, as the code answers it
-  pub found-least : (e : ℕ) → foundOf (first p (below n)) ≡ At e → Least n e p
-  found-least e h = go (first p (below n)) (first-says p 0 n) h
-    where
-      go : (r : List ℕ) → FirstSays p 0 n r → foundOf r ≡ At e → Least n e p
-      go [] s q = absurd (let z : _≡_ {A = ℕ} 0 1 = cc in omega arith)
-      go (x ∷ xs) s q = let z : x ≡ e = cc in subst (λ (y : ℕ). Least n y p) z (first-says-least p n x xs s)
-
-  pub found-nothing : foundOf (first p (below n)) ≡ Nothing → (d : ℕ) → d < n → p d ≡ false
-  found-nothing h = go (first p (below n)) (first-says p 0 n) h
-    where
-      go : (r : List ℕ) → FirstSays p 0 n r → foundOf r ≡ Nothing → (d : ℕ) → d < n → p d ≡ false
-      go [] s q d l = s d (omega arith) (omega arith)
-      go (x ∷ xs) s q d l = absurd (let z : _≡_ {A = ℕ} 0 1 = cc in omega arith)
 
   -- ---- some number passes, every number passes
   pub any-at : (e : ℕ) → e < n → p e ≡ true → any p (below n) ≡ true
@@ -154,3 +137,12 @@ module _ (f : ℕ → List ℕ) where
   pub gather-small : (c : ℕ) → ((x : ℕ) → length (f x) ≤ c) → (k n : ℕ) → length (gather f (from k n)) ≤ n * c
   gather-small c h k n =
       subst (λ (m : ℕ). length (gather f (from k n)) ≤ m * c) (from-length k n) (gather-few f c (from k n) (λ x i. h x))
+
+-- ---- what the members met so far, and their number, grow by
+module _ (i e : ℕ) (p : ℕ → Bool) (l : i ≤ e) (passes : p e ≡ true) (between : (d : ℕ) → i ≤ d → d < e → p d ≡ false) where
+  pub keep-step : keep p (below (e + 1)) ≡ keep p (below i) ++ (e ∷ [])
+  keep-step =
+      keep-more p e ∙ ap₂ (λ (xs : List ℕ) (b : Bool). xs ++ cond b (e ∷ []) []) (keep-cut p i e l between) passes
+
+  pub count-step : length (keep p (below (e + 1))) ≡ length (keep p (below i)) + 1
+  count-step = ap length keep-step ∙ length-append (keep p (below i)) (e ∷ [])
