@@ -4,7 +4,7 @@ use mathlib.Core.Path.{_≡_, refl, sym, ap, ap₂, _∙_, subst}
 use mathlib.Core.Bool.{Bool, true, false, _&&_, _||_, cond, or-comm, and-eq-true-iff}
 use mathlib.Core.List.{List, [], _∷_}
 use mathlib.Core.Logic.{inr, ⊎-elim}
-use mathlib.Mathlib.Data.Bool.Basic.{or-inl, or-inr}
+use mathlib.Mathlib.Data.Bool.Basic.{or-inl, or-inr, partialOrderLaws}
 use Prim.Native.Nat.{ℕ, suc, _+_, _-_, _*_, _/_, _%_, _≤_, _<_}
 use native.Mathlib.Omega.{arith}
 use native.Mathlib.Nat.{le-antisymm}
@@ -24,7 +24,7 @@ use Rattle.plan.proofs.Squares.{Related, square-elim, square-intro}
 use Rattle.plan.proofs.Contacts.{links-rise}
 use Rattle.plan.proofs.Judged.{few-points, count-is}
 use Rattle.lists.proofs.Search.{none-in, in-one, any-intro, any-elim, gather-intro, gather-elim, below-intro, below-elim}
-use Rattle.lists.proofs.Truth.{or-cases, bool-ext, side}
+use Rattle.lists.proofs.Truth.{or-cases, side}
 
 -- ---- rising lists
 in-tail : (k x : ℕ) (xs : List ℕ) → In k (x ∷ xs) → (k ≡ x → ⊥) → In k xs
@@ -152,7 +152,7 @@ module _ (n : ℕ) (few : n ≤ 256) (rows : ℕ → ℕ → Bool) (self : (a : 
 
   pub links-kept : (p : Plan) → p .contacts ≡ linksTo n n rows → (a b : ℕ) → a < n → b < n → touching p a b ≡ rows a b
   unfolding touching
-  links-kept p c a b l m = ap (λ (ks : List ℕ). eqb a b || any (between a b) ks) c ∙ bool-ext _ _ there back
+  links-kept p c a b l m = ap (λ (ks : List ℕ). eqb a b || any (between a b) ks) c ∙ partialOrderLaws .le-antisymm _ _ there back
     where
       links : List ℕ
       links = linksTo n n rows
