@@ -31,7 +31,7 @@ in-tail : (k x : ℕ) (xs : List ℕ) → In k (x ∷ xs) → (k ≡ x → ⊥) 
 in-tail k x xs here h = absurd (h refl)
 in-tail k x xs (next i) h = i
 
-in-rises : (k low n : ℕ) (ks : List ℕ) → Rises low n ks → In k ks → (low ≤ k) × (k / 256 < k % 256) × (k % 256 < n)
+pub in-rises : (k low n : ℕ) (ks : List ℕ) → Rises low n ks → In k ks → (low ≤ k) × (k / 256 < k % 256) × (k % 256 < n)
 in-rises k low n (x ∷ xs) r here = (r .0, r .1, r .2)
 in-rises k low n (x ∷ xs) r (next i) = let w = in-rises k (suc x) n xs (r .3) i in (omega (arith, w .0, r .0), w .1, w .2)
 
