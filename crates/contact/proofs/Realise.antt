@@ -5,7 +5,7 @@ use mathlib.Core.Bool.{Bool, true, false, not, _&&_, or-comm, Bool-set, and-eq-t
 use mathlib.Core.Path.{_≡_, refl, sym, ap, ap₂, _∙_, subst, fun-ext}
 use mathlib.Core.Logic.{⊎-elim, _↔_, ∥∥₁-elim}
 use mathlib.Core.List.{List, [], _∷_, map}
-use mathlib.Mathlib.Data.Bool.Basic.{and-intro, eq-false-of-not-eq-true, or-inl}
+use mathlib.Mathlib.Data.Bool.Basic.{and-intro, eq-false-of-not-eq-true, or-inl, partialOrderLaws}
 use Prim.Native.Nat.{ℕ, _^_, _≤_, _<_}
 use native.Mathlib.Omega.{arith}
 use lib.ListN.{length, getD, length-map}
@@ -15,7 +15,7 @@ use Rattle.formula.specs.Formula.{Term, Atom}
 use Rattle.lists.specs.Search.{In, here, next, any, all, first, gather, below, elem}
 use Rattle.evalset.specs.Bit.{bit}
 use Rattle.lists.proofs.Search.{any-intro, any-elim, none-elim, none-intro, all-elim, all-intro, first-some, first-in, keep-intro, keep-elim, uncons, none-in, place, placed, gather-intro, gather-elim, below-intro, below-elim, elem-intro, elem-elim, or-else-left, or-else-cases, or-else-some}
-use Rattle.lists.proofs.Truth.{clash, bool-ext, or-cases}
+use Rattle.lists.proofs.Truth.{clash, or-cases}
 use Rattle.contact.specs.Meaning.{Floor, within, isEmpty, touches, atomOn}
 use Rattle.contact.specs.Numbering.{TermBelow, AtomBelow}
 use Rattle.contact.specs.Row.{Row, Realises, Realisable, is, unknown, PartialRow, Extends, RealisesPart}
@@ -53,7 +53,7 @@ MarkBelow n (inhabited t) = TermBelow n t
 -- a search over places is one over elements
 any-places : (P : ℕ → Bool) (xs : List ℕ) → any (λ i. P (getD xs i 0)) (below (length xs)) ≡ any P xs
 any-places P xs =
-    bool-ext (any (λ i. P (getD xs i 0)) (below (length xs))) (any P xs)
+    partialOrderLaws .le-antisymm (any (λ i. P (getD xs i 0)) (below (length xs))) (any P xs)
     (λ h. let r = any-elim (λ i. P (getD xs i 0)) (below (length xs)) h in
     any-intro P (placed 0 xs (r .0) (below-elim (length xs) (r .0) (r .1))) (r .2))
     (λ h. let r = any-elim P xs h in

@@ -14,11 +14,6 @@ pub cases : {P : Type 0} (b : Bool) → (b ≡ true → P) → (b ≡ false → 
 cases true f g = f refl
 cases false f g = g refl
 
-pub bool-ext : (a b : Bool) → (a ≡ true → b ≡ true) → (b ≡ true → a ≡ true) → a ≡ b
-bool-ext true b f g = sym (f refl)
-bool-ext false true f g = g refl
-bool-ext false false f g = refl
-
 pub or-cases : (a b : Bool) → (a || b) ≡ true → (a ≡ true) ⊎ (b ≡ true)
 or-cases true b p = inl refl
 or-cases false b p = inr p

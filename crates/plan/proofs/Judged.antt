@@ -3,16 +3,16 @@
 use mathlib.Core.Path.{_≡_, ap, ap₂, _∙_}
 use mathlib.Core.Bool.{Bool, not, _&&_}
 use mathlib.Core.List.{List, [], _∷_}
-use Prim.Native.Nat.{ℕ, zero, suc, _-_, _^_, _≤_, _<_}
+use Prim.Native.Nat.{ℕ, zero, suc, _^_, _≤_, _<_}
 use native.Mathlib.Omega.{arith}
-use lib.ListN.{length, getD, replicate, List·getD-append}
+use lib.ListN.{length, getD}
 use lib.Pow.{pow-mono}
 use borrow.Author.Tests.{lt-ltb}
-use Rattle.lists.specs.Padded.{pad}
 use Rattle.formula.specs.Formula.{Term}
 use Rattle.lists.specs.Search.{any, below}
 use Rattle.evalset.specs.Sets.{memAt}
 use Rattle.lists.proofs.Search.{any-same, below-elim}
+use Rattle.lists.proofs.Padded.{pad-at}
 use Rattle.contact.specs.Meaning.{within, isEmpty, touches}
 use Rattle.plan.specs.declared.PlanArrays.{PlanArrays}
 use Rattle.plan.specs.Words.{Plan, Ascends, IsPlan}
@@ -33,9 +33,7 @@ module _ (p : Plan) (h : IsPlan p) (r : PlanArrays) (s : Stored r p) where
   count-is = omega (arith, s .count, few-points p h)
 
   point-is : (a : ℕ) → a < length (p .points) → pointAt r a ≡ getD (p .points) a 0
-  unfolding pad
-  point-is a l =
-      ap (λ (pts : List ℕ). getD pts a 0) (s .points) ∙ List·getD-append (p .points) (replicate (64 - length (p .points)) 0) 0 a l
+  point-is a l = ap (λ (pts : List ℕ). getD pts a 0) (s .points) ∙ pad-at 64 (p .points) a l
 
   row-is : (a b : ℕ) → a < length (p .points) → b < length (p .points) → memAt (r .rows) a b ≡ touching p a b
   unfolding square

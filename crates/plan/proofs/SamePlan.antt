@@ -4,7 +4,7 @@ use mathlib.Core.Path.{_≡_, refl, sym, ap, ap₂, _∙_, subst}
 use mathlib.Core.Bool.{Bool, true, false, _&&_, _||_, cond, or-comm, and-eq-true-iff}
 use mathlib.Core.List.{List, [], _∷_}
 use mathlib.Core.Logic.{inr, ⊎-elim}
-use mathlib.Mathlib.Data.Bool.Basic.{or-inl, or-inr}
+use mathlib.Mathlib.Data.Bool.Basic.{or-inl, or-inr, partialOrderLaws}
 use Prim.Native.Nat.{ℕ, suc, _+_, _-_, _*_, _/_, _%_, _≤_, _<_}
 use native.Mathlib.Omega.{arith}
 use native.Mathlib.Nat.{le-antisymm}
@@ -24,14 +24,14 @@ use Rattle.plan.proofs.Squares.{Related, square-elim, square-intro}
 use Rattle.plan.proofs.Contacts.{links-rise}
 use Rattle.plan.proofs.Judged.{few-points, count-is}
 use Rattle.lists.proofs.Search.{none-in, in-one, any-intro, any-elim, gather-intro, gather-elim, below-intro, below-elim}
-use Rattle.lists.proofs.Truth.{or-cases, bool-ext, side}
+use Rattle.lists.proofs.Truth.{or-cases, side}
 
 -- ---- rising lists
 in-tail : (k x : ℕ) (xs : List ℕ) → In k (x ∷ xs) → (k ≡ x → ⊥) → In k xs
 in-tail k x xs here h = absurd (h refl)
 in-tail k x xs (next i) h = i
 
-in-rises : (k low n : ℕ) (ks : List ℕ) → Rises low n ks → In k ks → (low ≤ k) × (k / 256 < k % 256) × (k % 256 < n)
+pub in-rises : (k low n : ℕ) (ks : List ℕ) → Rises low n ks → In k ks → (low ≤ k) × (k / 256 < k % 256) × (k % 256 < n)
 in-rises k low n (x ∷ xs) r here = (r .0, r .1, r .2)
 in-rises k low n (x ∷ xs) r (next i) = let w = in-rises k (suc x) n xs (r .3) i in (omega (arith, w .0, r .0), w .1, w .2)
 
@@ -152,7 +152,7 @@ module _ (n : ℕ) (few : n ≤ 256) (rows : ℕ → ℕ → Bool) (self : (a : 
 
   pub links-kept : (p : Plan) → p .contacts ≡ linksTo n n rows → (a b : ℕ) → a < n → b < n → touching p a b ≡ rows a b
   unfolding touching
-  links-kept p c a b l m = ap (λ (ks : List ℕ). eqb a b || any (between a b) ks) c ∙ bool-ext _ _ there back
+  links-kept p c a b l m = ap (λ (ks : List ℕ). eqb a b || any (between a b) ks) c ∙ partialOrderLaws .le-antisymm _ _ there back
     where
       links : List ℕ
       links = linksTo n n rows

@@ -3,7 +3,7 @@ use mathlib.Core.Path.{_≡_, sym, ap, ap₂, _∙_, fun-ext}
 use mathlib.Core.Bool.{Bool, true, _&&_, _||_, or-false, and-eq-true-iff}
 use mathlib.Core.List.{List, [], _∷_, _++_}
 use mathlib.Core.Logic.{_⊎_, inl, inr, ⊎-elim}
-use mathlib.Mathlib.Data.Bool.Basic.{and-intro, eq-false-of-not-eq-true, or-inl, or-inr}
+use mathlib.Mathlib.Data.Bool.Basic.{and-intro, eq-false-of-not-eq-true, or-inl, or-inr, partialOrderLaws}
 use mathlib.Mathlib.Logic.Function.Defs.{congr-fun}
 use Prim.Native.Nat.{ℕ, _+_, _*_, _≤_, _<_}
 use native.Mathlib.Omega.{arith}
@@ -21,7 +21,7 @@ use Rattle.plan.specs.Floor.{between, touching}
 use Rattle.plan.specs.Arrays.{square}
 use Rattle.plan.specs.Private.{planOf, addAt, joinedOf}
 use Rattle.lists.proofs.Search.{any-last}
-use Rattle.lists.proofs.Truth.{or-cases, bool-ext}
+use Rattle.lists.proofs.Truth.{or-cases}
 
 -- ---- what a square says
 pub record Related (p : Plan) (a b : ℕ) : Type 0 where
@@ -103,7 +103,7 @@ row-set rows i j v h l e = fun-ext (λ a. fun-ext (λ b. go a b (decEq a i)))
 -- ---- one point more
 module _ (n : ℕ) (pts : List ℕ) (e : ℕ) where
   pub square-point : joinedOf (square (planOf n pts [])) (length pts) (length pts) ≡ square (planOf n (pts ++ (e ∷ [])) [])
-  square-point = fun-ext (λ a. fun-ext (λ b. bool-ext _ _ (there a b) (back a b (decEq a (length pts)))))
+  square-point = fun-ext (λ a. fun-ext (λ b. partialOrderLaws .le-antisymm _ _ (there a b) (back a b (decEq a (length pts)))))
     where
       size : length (pts ++ (e ∷ [])) ≡ length pts + 1
       size = length-append pts (e ∷ [])
@@ -138,7 +138,7 @@ module _ (n : ℕ) (pts : List ℕ) (e : ℕ) where
 -- ---- one contact more
 module _ (n : ℕ) (pts ks : List ℕ) (i j : ℕ) (later : i < j) (within : j < length pts) (few : length pts ≤ 256) where
   pub square-link : joinedOf (square (planOf n pts ks)) i j ≡ square (planOf n pts (ks ++ ((i * 256 + j) ∷ [])))
-  square-link = fun-ext (λ a. fun-ext (λ b. bool-ext _ _ (there a b) (back a b)))
+  square-link = fun-ext (λ a. fun-ext (λ b. partialOrderLaws .le-antisymm _ _ (there a b) (back a b)))
     where
       k : ℕ
       k = i * 256 + j

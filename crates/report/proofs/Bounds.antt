@@ -3,7 +3,7 @@
 use mathlib.Core.Path.{ap}
 use mathlib.Core.Bool.{Bool, true, false, cond}
 use mathlib.Core.List.{List, [], _∷_}
-use Prim.Native.Nat.{ℕ, suc, _*_, _/_, _%_, _^_, _≤_, _<_}
+use Prim.Native.Nat.{ℕ, _*_, _/_, _%_, _^_, _≤_, _<_}
 use native.Mathlib.Omega.{arith}
 use lib.ListN.{length, getD, length-append}
 use Rattle.lists.proofs.Below.{gather-small}
@@ -13,6 +13,7 @@ use Rattle.evalset.specs.Bit.{bit}
 use Rattle.lists.specs.Search.{gather, below, orElse}
 use Rattle.plan.specs.Words.{Plan, Rises, IsPlan, before, lastWord, wordsOf}
 use Rattle.plan.proofs.Complete.{before-length}
+use Rattle.plan.proofs.SamePlan.{in-rises}
 use Rattle.lists.proofs.Search.{gather-few, from-length, below-elim}
 use Rattle.report.specs.Output.{headLine, blanked, nameIf, pointNames, namesOrNone, pointLine, pointLines, contactLine, planText, refusedText}
 use Rattle.report.proofs.Digits.{decimal-few}
@@ -63,9 +64,7 @@ contact-few k n h a b =
     simp length-append (omega (arith, decimal-few 1 (k / 256) (omega arith), decimal-few 1 (k % 256) (omega arith)))
 
 contacts-few : (low n : ℕ) (ks : List ℕ) → n ≤ 32 → Rises low n ks → length (gather contactLine ks) ≤ length ks * 14
-contacts-few low n [] h r = omega arith
-contacts-few low n (k ∷ ks) h r =
-    omega (arith, length-append (contactLine k) (gather contactLine ks), contact-few k n h (r .1) (r .2), contacts-few (suc k) n ks h (r .3))
+contacts-few low n ks h r = gather-few contactLine 14 ks (λ k i. let w = in-rises k low n ks r i in contact-few k n h (w .1) (w .2))
 
 -- a plan of at most 32 points and 530 words
 pub plan-few : (names : List Name) → length names ≤ 6 → ((i : ℕ) → length (getD names i []) ≤ 16) → (p : Plan) → IsPlan p

@@ -1,7 +1,7 @@
 -- Load is answered by the row of the table of calls that applies first, and by no other: the lines before one that is refused are
 -- passed, each added behind those before it. Assumes nothing.
 use Prim.Native.Nat.{ℕ, suc, _+_, _≤_}
-use mathlib.Core.Path.{_≡_, refl, sym, ap, subst, _∙_}
+use mathlib.Core.Path.{_≡_, refl, sym, ap, subst, subst⁻¹, _∙_}
 use mathlib.Core.Logic.{_⊎_, inl, inr, ⊎-elim}
 use mathlib.Core.Bool.{Bool, true, false, cond, not}
 use mathlib.Core.List.{List, [], _∷_, _++_, cons≢nil, append-assoc, append-nil}
@@ -117,8 +117,8 @@ some-or [] = inl (refl, refl)
 some-or (l ∷ ls) = inr (refl, cons≢nil)
 
 module _ (f : Text) where
-  gives : {a : LoadAnswer} → judgeLoad f ≡ a → LoadRow f (loadOutcome a) → LoadRow f (loadOutcome (judgeLoad f))
-  gives e r = subst (λ (a : LoadAnswer). LoadRow f (loadOutcome a)) (sym e) r
+  abbrev Holds : LoadAnswer → Type 0
+  Holds a = LoadRow f (loadOutcome a)
 
   first-lines : judgeLines 1 (filled []) (linesOf f) ≡ judgeLines 1 [] (linesOf f)
   first-lines = ap (λ (rs : List Text). judgeLines 1 rs (linesOf f)) no-lines
@@ -126,16 +126,16 @@ module _ (f : Text) where
   load-lines : length f ≤ 8192 → isNone (filled (linesOf f)) ≡ false → (filled (linesOf f) ≡ [] → ⊥) → LoadRow f (loadOutcome (judgeLoad f))
   load-lines h e n =
       ⊎-elim
-      (λ r. gives (by-lines f h e ∙ sym first-lines ∙ r .0) (loads h n (r .1)))
+      (λ r. subst⁻¹ Holds (by-lines f h e ∙ sym first-lines ∙ r .0) (loads h n (r .1)))
       (λ r. subst (LoadRow f) (sym (ap loadOutcome (by-lines f h e ∙ sym first-lines) ∙ r .3)) (line h (r .4)))
       (lines-judged (linesOf f) [] (subst CanStand (sym no-lines) stand-none))
 
   pub load-row : LoadRow f (loadOutcome (judgeLoad f))
   load-row =
       cases (ltb 8192 (length f))
-      (λ t. gives (too-long f (ltb-true _ _ t)) (long (ltb-true _ _ t)))
+      (λ t. subst⁻¹ Holds (too-long f (ltb-true _ _ t)) (long (ltb-true _ _ t)))
       (λ t. ⊎-elim
-      (λ e. gives (all-blank f (ltb-false _ _ t) (e .0)) (blank (ltb-false _ _ t) (e .1)))
+      (λ e. subst⁻¹ Holds (all-blank f (ltb-false _ _ t) (e .0)) (blank (ltb-false _ _ t) (e .1)))
       (λ e. load-lines (ltb-false _ _ t) (e .0) (e .1))
       (some-or (filled (linesOf f))))
 

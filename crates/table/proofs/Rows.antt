@@ -1,7 +1,7 @@
 -- Add and withdraw are answered by the row of the table of calls that applies first, and by no other: the judgement tests the rows in
 -- their order, and each test decides what its row says. Assumes nothing.
 use Prim.Native.Nat.{ℕ, _≤_, _<_}
-use mathlib.Core.Path.{_≡_, refl, sym, ap, subst, _∙_}
+use mathlib.Core.Path.{_≡_, refl, sym, ap, subst, subst⁻¹, _∙_}
 use mathlib.Core.Logic.{_⊎_, inl, inr, ⊎-elim}
 use mathlib.Core.List.{List, [], _∷_, _++_}
 use native.Mathlib.Omega.{arith}
@@ -65,9 +65,6 @@ module _ (rs : List Text) (s : Text) (h : CanStand rs) where
   unread-row (RuleAnswer.Measured i) r n = AddRow.measured r
   unread-row (RuleAnswer.GrammarAt i) r n = AddRow.grammar r
 
-  by : (a : AddAnswer) → judgeAdd rs s ≡ a → Holds a → Holds (judgeAdd rs s)
-  by a e r = subst Holds (sym e) r
-
   -- a rule, with room for one more
   module _ (e : ruleOf s .answer ≡ RuleAnswer.Formula) (few : length rs < 16) where
     rule : IsRule s (meaningOf s)
@@ -88,13 +85,13 @@ module _ (rs : List Text) (s : Text) (h : CanStand rs) where
         let names = enough rs s (h .names) e .0 f in
         let fine = names-are rs s NamesAnswer.Enough f in
         cases (ltb 16 (atomsIn (rs ++ s ∷ [])))
-        (λ t. by AddAnswer.TooManyAtoms (judge-atoms rs s read few fine (ltb-true _ _ t)) (many rule few names (ltb-true _ _ t)))
-        (λ t. by AddAnswer.Added (judge-added rs s read few fine (ltb-false _ _ t)) (stands rule few names (ltb-false _ _ t)))
+        (λ t. subst⁻¹ Holds (judge-atoms rs s read few fine (ltb-true _ _ t)) (many rule few names (ltb-true _ _ t)))
+        (λ t. subst⁻¹ Holds (judge-added rs s read few fine (ltb-false _ _ t)) (stands rule few names (ltb-false _ _ t)))
 
     named : (a : NamesAnswer) → gathered s (namesIn rs) .answer ≡ a → Holds (judgeAdd rs s)
     named NamesAnswer.Enough f = counted f
     named (NamesAnswer.SeventhName p) f =
-        by (AddAnswer.SeventhName p) (judge-names rs s read few (AddAnswer.SeventhName p) (names-are rs s (NamesAnswer.SeventhName p) f) (not-seventh p)) (seventh-row p f)
+        subst⁻¹ Holds (judge-names rs s read few (AddAnswer.SeventhName p) (names-are rs s (NamesAnswer.SeventhName p) f) (not-seventh p)) (seventh-row p f)
 
   -- the answer is that of a row
   pub add-row : AddRow rs s (addOutcome (judgeAdd rs s))
@@ -103,12 +100,12 @@ module _ (rs : List Text) (s : Text) (h : CanStand rs) where
       of-rule : ruleOf s .answer ≡ RuleAnswer.Formula → Holds (judgeAdd rs s)
       of-rule e =
           cases (leb 16 (length rs))
-          (λ t. by AddAnswer.TableFull (judge-full rs s (text-is s RuleAnswer.Formula e) (leb-true _ _ t)) (full (is-rule s e) (leb-true _ _ t)))
+          (λ t. subst⁻¹ Holds (judge-full rs s (text-is s RuleAnswer.Formula e) (leb-true _ _ t)) (full (is-rule s e) (leb-true _ _ t)))
           (λ t. named e (leb-false _ _ t) (gathered s (namesIn rs) .answer) refl)
 
       of-other : (ruleOf s .answer ≡ RuleAnswer.Formula → ⊥) → Holds (judgeAdd rs s)
       of-other n =
-          by (readAnswer (ruleOf s .answer)) (judge-text rs s (readAnswer (ruleOf s .answer)) (text-is s (ruleOf s .answer) refl) (λ k. n (read-formula (ruleOf s .answer) k)))
+          subst⁻¹ Holds (judge-text rs s (readAnswer (ruleOf s .answer)) (text-is s (ruleOf s .answer) refl) (λ k. n (read-formula (ruleOf s .answer) k)))
           (unread-row (ruleOf s .answer) (text-answered s) n)
 
   of-formula : {f : Formula Name} → IsRule s f → ruleOf s .answer ≡ RuleAnswer.Formula
@@ -157,16 +154,16 @@ text-refused rs s k p e =
 -- ---- withdraw
 
 module _ (rs : List Text) (k : ℕ) where
-  gives : {a : WithdrawAnswer} → judgeWithdraw rs k ≡ a → WithdrawRow rs k (withdrawOutcome a) → WithdrawRow rs k (withdrawOutcome (judgeWithdraw rs k))
-  gives e r = subst (λ (a : WithdrawAnswer). WithdrawRow rs k (withdrawOutcome a)) (sym e) r
+  abbrev WithdrawHolds : WithdrawAnswer → Type 0
+  WithdrawHolds a = WithdrawRow rs k (withdrawOutcome a)
 
   pub withdraw-row : WithdrawRow rs k (withdrawOutcome (judgeWithdraw rs k))
   withdraw-row =
       cases (leb k 0)
-      (λ t. gives (withdraw-zero rs k (leb-true _ _ t)) (none (inl (let z : k ≤ 0 = leb-true _ _ t in omega arith))))
+      (λ t. subst⁻¹ WithdrawHolds (withdraw-zero rs k (leb-true _ _ t)) (none (inl (let z : k ≤ 0 = leb-true _ _ t in omega arith))))
       (λ t. cases (ltb (length rs) k)
-      (λ u. gives (withdraw-high rs k (leb-false _ _ t) (ltb-true _ _ u)) (none (inr (ltb-true _ _ u))))
-      (λ u. gives (withdraw-good rs k (leb-false _ _ t) (ltb-false _ _ u)) (taken (leb-false _ _ t) (ltb-false _ _ u))))
+      (λ u. subst⁻¹ WithdrawHolds (withdraw-high rs k (leb-false _ _ t) (ltb-true _ _ u)) (none (inr (ltb-true _ _ u))))
+      (λ u. subst⁻¹ WithdrawHolds (withdraw-good rs k (leb-false _ _ t) (ltb-false _ _ u)) (taken (leb-false _ _ t) (ltb-false _ _ u))))
 
   pub withdraw-row-only : (o : Outcome) → WithdrawRow rs k o → o ≡ withdrawOutcome (judgeWithdraw rs k)
   withdraw-row-only o (none (inl e)) = sym (ap withdrawOutcome (withdraw-zero rs k (omega arith)))

@@ -1,7 +1,8 @@
 -- A table gives back the list that it was made of: a line holds its text and its length, and a table its lines and their number.
 -- Assumes nothing.
-use mathlib.Core.Path.{_≡_, refl}
-use mathlib.Core.List.{List, [], _∷_, map}
+use mathlib.Core.Path.{_≡_}
+use mathlib.Core.List.{List, map}
+use mathlib.Mathlib.Data.List.Basic.{Function·LeftInverse·list-map}
 use lib.ListN.{length, length-map}
 use lib.Seq.{take-at, take-append-seam}
 use Rattle.table.specs.Store.{Text, tableOf, rulesOf, lineOf, textOf}
@@ -11,13 +12,9 @@ pub text-line : (s : Text) → textOf (lineOf s) ≡ s
 unfolding textOf lineOf
 text-line s = take-append-seam s _
 
-texts-lines : (rs : List Text) → map textOf (map lineOf rs) ≡ rs
-texts-lines [] = refl
-texts-lines (s ∷ rs) = rw (text-line, texts-lines rs)
-
 pub rules-table : (rs : List Text) → rulesOf (tableOf rs) ≡ rs
 unfolding rulesOf tableOf
-rules-table rs = rw (take-at (map lineOf rs) _ (length rs) (length-map rs lineOf)) (texts-lines rs)
+rules-table rs = rw (take-at (map lineOf rs) _ (length rs) (length-map rs lineOf)) (Function·LeftInverse·list-map textOf lineOf text-line rs)
 
 -- the table of a list that can stand came from us
 pub from-us-table : (rs : List Text) → CanStand rs → FromUs (tableOf rs)
