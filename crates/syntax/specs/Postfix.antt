@@ -1,6 +1,7 @@
 -- Postfix order: each sign after what it is put on. A formula is found again from it. Assumes nothing.
 use mathlib.Core.Bool.{true, false}
 use mathlib.Core.List.{List, [], _∷_, _++_, tail}
+use Rattle.lists.specs.Search.{gather}
 use Rattle.formula.specs.declared.Sign.the-variants.{Implies, Iff, Or, And, Plus, Times}
 use Rattle.formula.specs.Formula.{Term, Atom, Form, Formula}
 use Rattle.syntax.specs.Grammar.{leafTerm}
@@ -106,5 +107,4 @@ module _ {N : Type 0} where
   symbolNames (relation c) = []
 
   unfoldable pub namesIn : List (Symbol N) → List N
-  namesIn [] = []
-  namesIn (x ∷ xs) = symbolNames x ++ namesIn xs
+  namesIn xs = gather symbolNames xs
