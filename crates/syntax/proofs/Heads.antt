@@ -5,11 +5,12 @@ use Prim.Native.Nat.{ℕ, suc, _+_, _≤_, _<_}
 use native.Mathlib.Numerals.{add-one}
 use native.Mathlib.Omega.{arith}
 use mathlib.Core.Path.{_≡_, refl, sym, ap, _∙_}
-use mathlib.Core.List.{List, [], _∷_, _++_, tail}
+use mathlib.Core.List.{List, [], _∷_, _++_, tail, map-append}
 use mathlib.Core.Bool.{Bool, true, false, cond, Bool·beq}
 use mathlib.Mathlib.Data.Bool.Basic.{eq-false-of-not-eq-true}
 use lib.Dec.{eqb}
 use lib.ListN.{length, getD, drop, length-map}
+use Rattle.lists.proofs.Lists.{map-at}
 use Rattle.formula.specs.declared.Sign.{Sign}
 use Rattle.formula.specs.declared.Sign.the-variants.{Implies, Iff, Or, And, Plus, Times}
 use Rattle.formula.specs.Sign.{joinsTerms}
@@ -40,6 +41,14 @@ tail-drop (x ∷ xs) (suc p) = tail-drop xs p
 pub length-codes : (xs : List Sym) → length (codes xs) ≡ length xs
 unfolding codes
 length-codes xs = length-map xs code
+
+pub codes-append : (a b : List Sym) → codes (a ++ b) ≡ codes a ++ codes b
+unfolding codes
+codes-append a b = map-append code a b
+
+pub code-at : (xs : List Sym) (i : ℕ) → i < length xs → getD (codes xs) i 0 ≡ code (getD xs i opening)
+unfolding codes
+code-at xs i l = map-at code xs i opening 0 l
 
 -- ---- which symbol
 
