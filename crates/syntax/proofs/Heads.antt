@@ -6,10 +6,11 @@ use native.Mathlib.Numerals.{add-one}
 use native.Mathlib.Omega.{arith}
 use mathlib.Core.Path.{_≡_, refl, sym, ap, _∙_}
 use mathlib.Core.List.{List, [], _∷_, _++_, tail, map-append}
-use mathlib.Core.Bool.{Bool, true, false, cond, Bool·beq}
+use mathlib.Core.Bool.{Bool, true, false, Bool·beq}
 use mathlib.Mathlib.Data.Bool.Basic.{eq-false-of-not-eq-true}
 use lib.Dec.{eqb}
 use lib.ListN.{length, getD, drop, length-map}
+use Rattle.lists.proofs.Truth.{cond-holds}
 use Rattle.lists.proofs.Lists.{map-at}
 use Rattle.formula.specs.declared.Sign.{Sign}
 use Rattle.formula.specs.declared.Sign.the-variants.{Implies, Iff, Or, And, Plus, Times}
@@ -177,10 +178,6 @@ binary-first t (x ∷ l) h =
     (r .0, r .1, ap (λ (z : Sym). z ∷ l) (r .2))
 
 -- ---- what goes on a value, by its kind alone
-
-cond-holds : (P : ℕ → Type 0) (b : Bool) (x y : ℕ) → P x → P y → P (cond b x y)
-cond-holds P true x y h k = h
-cond-holds P false x y h k = k
 
 binding-holds : (P : ℕ → Type 0) (t : Bool) (c : ℕ) → ((b : Sign) → P (goes t (binary b))) → P 0 → P (bindingOf t c)
 unfolding bindingOf
