@@ -8,14 +8,15 @@ use native.Mathlib.Omega.{arith}
 use lib.Dec.{eqb}
 use lib.ListN.{length, getD, take, drop, set, length-append, length-drop, length-set, take-append-drop}
 use lib.Seq.{sets, length-take-le, take-length}
-use Rattle.lists.proofs.Lists.{take-next, map-at}
+use Rattle.lists.proofs.Search.{gather-last}
+use Rattle.lists.proofs.Lists.{take-next}
 use Rattle.formula.specs.Formula.{Atom, Formula, Name}
 use Rattle.syntax.specs.Symbol.{Leaf, leaf, opening}
 use Rattle.syntax.specs.Postfix.{postfix, symbolNames, namesIn}
 use Rattle.syntax.specs.Machine.{Sym}
-use Rattle.syntax.specs.Reader.{code, codes}
+use Rattle.syntax.specs.Reader.{code}
+use Rattle.syntax.proofs.Heads.{code-at}
 use Rattle.syntax.proofs.Claims.{length-codes, order-names}
-use Rattle.syntax.proofs.Names.{names-last}
 use Rattle.evalset.specs.declared.EvalSet.{EvalSet}
 use Rattle.evalset.specs.Sets.{mem, memAt}
 use Rattle.search.specs.declared.Sheet.{Sheet}
@@ -27,11 +28,7 @@ use Rattle.compile.proofs.Orders.{compiled, run-last, run-append, formu
 use Rattle.compile.proofs.Heights.{symbolAt, order-fine}
 use Rattle.compile.proofs.Steps.{Stacked, Put, term-step, Made, atom-step, sign-step, atom-grows, names-by, no-name, one-at-most}
 
--- ---- the kinds and the names of an order
-
-code-at : (xs : List Sym) (i : ℕ) → i < length xs → getD (codes xs) i 0 ≡ code (symbolAt xs i)
-unfolding codes
-code-at xs i l = map-at code xs i opening 0 l
+-- ---- the names of an order
 
 -- how many names stand before a place
 abbrev passed : List Sym → ℕ → ℕ
@@ -40,7 +37,7 @@ passed xs i = length (namesIn (take i xs))
 passed-next : (xs : List Sym) (i : ℕ) → i < length xs → passed xs (i + 1) ≡ passed xs i + namesBy (code (symbolAt xs i))
 unfolding namesIn
 passed-next xs i l =
-    ap (λ (p : List Sym). length (namesIn p)) (take-next xs i opening l) ∙ ap length (names-last (take i xs) (symbolAt xs i))
+    ap (λ (p : List Sym). length (namesIn p)) (take-next xs i opening l) ∙ ap length (gather-last symbolNames (take i xs) (symbolAt xs i))
     ∙ length-append (namesIn (take i xs)) (symbolNames (symbolAt xs i)) ∙ ap (λ (k : ℕ). passed xs i + k) (names-by (symbolAt xs i))
 
 passed-few : (xs : List Sym) (i : ℕ) → i ≤ length xs → passed xs i ≤ i

@@ -2,7 +2,7 @@
 -- stands behind what it is put on. Assumes nothing.
 use mathlib.Core.Bool.{true, false}
 use mathlib.Core.Path.{_≡_, refl, sym, ap, ap₂, _∙_}
-use mathlib.Core.List.{List, [], _∷_, _++_, append-assoc, append-nil}
+use mathlib.Core.List.{List, [], _∷_, _++_, append-assoc, append-nil, tail}
 use Prim.Native.Nat.{ℕ, _+_, _*_, _≤_}
 use native.Mathlib.Omega.{arith}
 use lib.ListN.{length, length-append}
@@ -14,7 +14,7 @@ use Rattle.syntax.specs.Postfix.{termAfter, formulaAfter}
 use Rattle.contact.specs.Numbering.{mapTerm, mapAtom, mapForm, numberForm}
 use Rattle.contact.proofs.Numbered.{count-map}
 use Rattle.kleene.specs.Code.{atomSign, postfix as postfixCode}
-use Rattle.compile.specs.Machine.{State, below, withTerms, withAtom, withSign, step, run}
+use Rattle.compile.specs.Machine.{State, withTerms, withAtom, withSign, step, run}
 
 module _ {N : Type 0} (g : N → ℕ) where
   pub run-append : (a b : List (Symbol N)) (s : State) → run g (a ++ b) s ≡ run g b (run g a s)
@@ -122,12 +122,12 @@ module _ {N : Type 0} (g : N → ℕ) where
   by-none : (s : State) → Bounds 1 s s
   by-none s = record { high = omega arith; low = omega arith; long = omega arith; more = omega arith }
 
-  fewer : (ts : List (Term ℕ)) → (length (below ts) ≤ length ts) × (length ts ≤ length (below ts) + 1)
+  fewer : (ts : List (Term ℕ)) → (length (tail ts) ≤ length ts) × (length ts ≤ length (tail ts) + 1)
   fewer [] = (omega arith, omega arith)
   fewer (t ∷ ts) = (omega arith, omega arith)
 
-  fewer-two : (ts : List (Term ℕ)) → (length (below (below ts)) ≤ length ts) × (length ts ≤ length (below (below ts)) + 2)
-  fewer-two ts = (omega (arith, fewer ts, fewer (below ts)), omega (arith, fewer ts, fewer (below ts)))
+  fewer-two : (ts : List (Term ℕ)) → (length (tail (tail ts)) ≤ length ts) × (length ts ≤ length (tail (tail ts)) + 2)
+  fewer-two ts = (omega (arith, fewer ts, fewer (tail ts)), omega (arith, fewer ts, fewer (tail ts)))
 
   step-bounds : (x : Symbol N) (s : State) → Bounds 1 s (step g x s)
   step-bounds (leaf x) s = by-terms _ s (omega arith) (omega arith)

@@ -1,25 +1,14 @@
 -- The set of a term is made of the sets of its parts: at each evaluation below room the signs are the connectives. Assumes nothing.
-use mathlib.Core.Bool.{Bool, true, false, not, _&&_, and-true, and-false, and-or-distrib-left}
+use mathlib.Core.Bool.{and-true, and-false, and-or-distrib-left}
 use mathlib.Core.Path.{_≡_, refl, sym, fun-ext}
 use Prim.Native.Nat.{ℕ}
 use lib.Dec.{ltb}
+use Rattle.lists.proofs.Truth.{cut-not, cut-and, cut-less}
 use Rattle.formula.specs.Formula.{Term}
 use Rattle.evalset.specs.Sets.{room, noneOf, fullOf, nameSet, meetOf, joinOf, minusOf}
 use Rattle.contact.specs.Meaning.{partTerm}
 use Rattle.contact.specs.Plan.{at}
 use Rattle.compile.specs.Sheet.{setOf}
-
-cut-not : (r a : Bool) → (r && not (r && a)) ≡ (r && not a)
-cut-not true a = refl
-cut-not false a = refl
-
-cut-and : (r a b : Bool) → ((r && a) && (r && b)) ≡ (r && (a && b))
-cut-and true a b = refl
-cut-and false a b = refl
-
-cut-less : (r a b : Bool) → ((r && a) && not (r && b)) ≡ (r && (a && not b))
-cut-less true a b = refl
-cut-less false a b = refl
 
 pub of-zero : noneOf ≡ setOf Term.zero
 unfolding setOf

@@ -1,6 +1,6 @@
 -- A sheet holds one atom more once it is stored behind the others: at its own place it is found, elsewhere what stood there.
 -- Assumes nothing.
-use mathlib.Core.Bool.{Bool, true, false, cond}
+use mathlib.Core.Bool.{Bool, false, cond}
 use mathlib.Core.Path.{_≡_, refl, sym, ap, subst, _∙_, fun-ext}
 use mathlib.Core.List.{List, [], _∷_, _++_}
 use Prim.Native.Nat.{ℕ, zero, suc, _<_}
@@ -13,7 +13,7 @@ use Rattle.lists.proofs.Lists.{repeated-at}
 use Rattle.formula.specs.Formula.{Atom}
 use Rattle.evalset.specs.declared.EvalSet.{EvalSet}
 use Rattle.evalset.specs.Sets.{mem, memAt, noneOf}
-use Rattle.lists.proofs.Truth.{cases}
+use Rattle.lists.proofs.Truth.{cases, of-cond}
 use Rattle.evalset.proofs.Arrays.{empty-rows}
 use Rattle.search.specs.declared.Sheet.{Sheet}
 use Rattle.search.specs.Compiled.{noAtom, atomAt}
@@ -25,11 +25,6 @@ grows-same {sheet} {r} {b} {c} {x} {y} {z} {w} h e p q =
     subst (λ (d : Bool). Grows sheet r d z w) e (subst (λ (u : ℕ → Bool). Grows sheet r b u w) p (subst (λ (u : ℕ → Bool). Grows sheet r b x u) q h))
 
 -- ---- an array with one place stored
-
--- a function of what was picked
-of-cond : {A B : Type 0} (f : A → B) (b : Bool) (x y : A) → cond b (f x) (f y) ≡ f (cond b x y)
-of-cond f true x y = refl
-of-cond f false x y = refl
 
 module _ {A : Type 0} (xs : List A) (n : ℕ) (a d : A) (h : n < length xs) where
   pub stored : (i : ℕ) → getD (set xs n a) i d ≡ cond (eqb i n) a (getD xs i d)

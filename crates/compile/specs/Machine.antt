@@ -2,7 +2,7 @@
 -- left to right. The terms that are whole wait on a stack, its top first; the atoms and the code are written behind those before.
 -- Assumes nothing.
 use mathlib.Core.Bool.{true, false}
-use mathlib.Core.List.{List, [], _∷_, _++_}
+use mathlib.Core.List.{List, [], _∷_, _++_, tail}
 use Prim.Native.Nat.{ℕ}
 use lib.ListN.{length}
 use Rattle.formula.specs.declared.Sign.the-variants.{Implies, Iff, Or, And, Plus, Times}
@@ -15,14 +15,10 @@ pub record State : Type 0 where
   pub atoms : List (Atom ℕ)
   pub code : List ℕ
 
--- the top of the stack, and what is below; only the order of no formula finds the stack empty
+-- the top of the stack; only the order of no formula finds the stack empty
 abbrev pub top : List (Term ℕ) → Term ℕ
 top [] = Term.zero
 top (t ∷ ts) = t
-
-abbrev pub below : List (Term ℕ) → List (Term ℕ)
-below [] = []
-below (t ∷ ts) = ts
 
 -- the state with other terms; with an atom more, whose number is that of the atoms before it; with a sign more
 abbrev pub withTerms : List (Term ℕ) → State → State
@@ -48,12 +44,12 @@ module _ {N : Type 0} (g : N → ℕ) where
   -- one symbol
   abbrev pub step : Symbol N → State → State
   step (leaf x) s = withTerms (leafTerm x ∷ s .terms) s
-  step minus s = withTerms (Term.complement (top (s .terms)) ∷ below (s .terms)) s
-  step (binary Times) s = withTerms (Term.intersection (top (below (s .terms))) (top (s .terms)) ∷ below (below (s .terms))) s
-  step (binary Plus) s = withTerms (Term.union (top (below (s .terms))) (top (s .terms)) ∷ below (below (s .terms))) s
-  step isZero s = withAtom (Atom.empty (top (s .terms))) (below (s .terms)) s
-  step (relation contact) s = withAtom (Atom.contact (top (below (s .terms))) (top (s .terms))) (below (below (s .terms))) s
-  step (relation part) s = withAtom (Atom.part (top (below (s .terms))) (top (s .terms))) (below (below (s .terms))) s
+  step minus s = withTerms (Term.complement (top (s .terms)) ∷ tail (s .terms)) s
+  step (binary Times) s = withTerms (Term.intersection (top (tail (s .terms))) (top (s .terms)) ∷ tail (tail (s .terms))) s
+  step (binary Plus) s = withTerms (Term.union (top (tail (s .terms))) (top (s .terms)) ∷ tail (tail (s .terms))) s
+  step isZero s = withAtom (Atom.empty (top (s .terms))) (tail (s .terms)) s
+  step (relation contact) s = withAtom (Atom.contact (top (tail (s .terms))) (top (s .terms))) (tail (tail (s .terms))) s
+  step (relation part) s = withAtom (Atom.part (top (tail (s .terms))) (top (s .terms))) (tail (tail (s .terms))) s
   step tilde s = withSign 0 s
   step (binary And) s = withSign 1 s
   step (binary Or) s = withSign 2 s

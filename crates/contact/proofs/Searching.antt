@@ -14,7 +14,7 @@ use borrow.Author.Tests.{not-true, not-false}
 use Rattle.formula.specs.Formula.{Atom, Form, Formula}
 use Rattle.lists.specs.Search.{In, here, next, any, all, first, orElse}
 use Rattle.lists.proofs.Search.{none-in, uncons, at-head, in-left, in-right, map-elim, any-elim, none-intro, all-elim, first-none, first-append}
-use Rattle.lists.proofs.Truth.{clash, cases, or-cases}
+use Rattle.lists.proofs.Truth.{clash, cases, or-cases, beq-true, beq-false, or-as, morgan}
 use Rattle.contact.specs.Meaning.{value}
 use Rattle.formula.specs.Atoms.{atomsOf}
 use Rattle.contact.specs.Numbering.{allAtoms, numberedAtoms}
@@ -93,24 +93,11 @@ fits-and unknown (is false) true c h k = k
 fits-and unknown (is false) false c h k = refl
 fits-and unknown unknown b c h k = tt
 
-or-as : (b c : Bool) → not (not b && not c) ≡ (b || c)
-or-as true c = refl
-or-as false true = refl
-or-as false false = refl
-
 fits-or : (s t : Three) (b c : Bool) → Fits s b → Fits t c → Fits (kleeneOr s t) (b || c)
 fits-or s t b c h k =
     subst (Fits (kleeneOr s t)) (or-as b c)
     (fits-not (kleeneAnd (kleeneNot s) (kleeneNot t)) (not b && not c)
     (fits-and (kleeneNot s) (kleeneNot t) (not b) (not c) (fits-not s b h) (fits-not t c k)))
-
-beq-true : (c : Bool) → Bool·beq true c ≡ c
-beq-true true = refl
-beq-true false = refl
-
-beq-false : (c : Bool) → Bool·beq false c ≡ not c
-beq-false true = refl
-beq-false false = refl
 
 fits-iff : (s t : Three) (b c : Bool) → Fits s b → Fits t c → Fits (kleeneIff s t) (Bool·beq b c)
 fits-iff (is true) t true c h k = subst (Fits t) (sym (beq-true c)) k
@@ -178,10 +165,6 @@ iff-known true true = refl
 iff-known true false = refl
 iff-known false true = refl
 iff-known false false = refl
-
-morgan : (b c : Bool) → (not b || not c) ≡ not (b && c)
-morgan true c = refl
-morgan false c = refl
 
 -- where the atoms of a formula are decided, its value is known
 module _ (part : ℕ → Three) (row : ℕ → Bool) where

@@ -1,8 +1,8 @@
--- Lists read at a place, cut at a place, mapped, and filled up with one value: each law by recursion on the list, or from the library's.
+-- Lists read at a place, cut at a place, begun in two ways, mapped, and filled up with one value: each law by recursion on the list, or from the library's.
 -- Assumes nothing.
-use mathlib.Core.Path.{_≡_, refl, sym, ap, _∙_}
-use mathlib.Core.List.{List, [], _∷_, _++_, map}
-use Prim.Native.Nat.{ℕ, zero, suc, _+_, _-_, _<_}
+use mathlib.Core.Path.{_≡_, refl, sym, ap, ap₂, _∙_}
+use mathlib.Core.List.{List, [], _∷_, _++_, map, head-eq-of-cons-eq, tail-eq-of-cons-eq}
+use Prim.Native.Nat.{ℕ, zero, suc, _+_, _-_, _≤_, _<_}
 use native.Mathlib.Omega.{arith}
 use native.Mathlib.Numerals.{add-one}
 use lib.ListN.{length, take, drop, getD, set, replicate, length-map, List·getD-map, List·getD-append}
@@ -37,6 +37,14 @@ module _ {A B : Type 0} (f : A → B) where
   map-drop zero l = refl
   map-drop (suc n) [] = refl
   map-drop (suc n) (x ∷ l) = map-drop n l
+
+-- of two beginnings of one list the shorter begins the longer
+pub prefix : {A : Type 0} (p a q b : List A) → p ++ a ≡ q ++ b → length p ≤ length q → (m : List A) × (p ++ m ≡ q) × (a ≡ m ++ b)
+prefix [] a q b e h = (q, refl, e)
+prefix (x ∷ p) a [] b e h = absurd (omega arith)
+prefix (x ∷ p) a (y ∷ q) b e h =
+    let r = prefix p a q b (tail-eq-of-cons-eq e) (omega arith) in
+    (r .0, ap₂ _∷_ (head-eq-of-cons-eq e) (r .1), r .2)
 
 -- one value everywhere, and another past the end
 pub repeated-at : {A : Type 0} (P : A → Type 0) {a d : A} → P a → P d → (n i : ℕ) → P (getD (replicate n a) i d)

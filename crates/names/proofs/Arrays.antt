@@ -4,6 +4,7 @@ use mathlib.Core.Bool.{Bool, true, false, _&&_, cond}
 use mathlib.Core.Path.{_≡_, refl, sym, ap, ap₂, _∙_}
 use mathlib.Core.List.{List, [], _∷_, _++_, map, map-append, append-assoc}
 use mathlib.Mathlib.Data.Bool.Basic.{eq-false-of-not-eq-true}
+use mathlib.Mathlib.Data.List.Basic.{Function·LeftInverse·list-map}
 use Prim.Native.Nat.{ℕ, suc, _+_, _-_, _≤_, _<_}
 use native.Mathlib.Omega.{arith}
 use native.Mathlib.Decide.{ℕ-discrete}
@@ -65,11 +66,7 @@ kept-count ks = refl
 -- the names that arrays hold are those that were put into them
 pub known-back : (ks : List Name) → knownOf (arraysOf ks) ≡ ks
 unfolding knownOf
-known-back ks = ap (map bytesIn) (kept-list ks) ∙ each ks
-  where
-    each : (ls : List Name) → map bytesIn (map nameOf ls) ≡ ls
-    each [] = refl
-    each (l ∷ ls) = ap₂ _∷_ (bytes-back l) (each ls)
+known-back ks = ap (map bytesIn) (kept-list ks) ∙ Function·LeftInverse·list-map bytesIn nameOf bytes-back ks
 
 pub kept-names : (ks : List Name) → length ks ≤ most → Kept (arraysOf ks)
 kept-names ks h = record { canonical = ap arraysOf (sym (known-back ks)); few = omega (arith, kept-count ks) }

@@ -4,7 +4,7 @@
 use mathlib.Core.Bool.{Bool, true, false, not, _||_, cond}
 use mathlib.Core.Path.{_≡_, refl, sym, ap, subst, _∙_}
 use mathlib.Core.Logic.{⊎-elim}
-use mathlib.Core.List.{List, [], _∷_, _++_, append-assoc, append-nil}
+use mathlib.Core.List.{List, [], _∷_, _++_, foldl, append-assoc, append-nil}
 use Prim.Native.Nat.{suc, _≤_, _<_}
 use native.Mathlib.Omega.{arith}
 use lib.ListN.{length, length-append}
@@ -16,11 +16,6 @@ use Rattle.contact.proofs.Naming.{Decides, distinct-in}
 use Rattle.names.specs.Gather.{isIn, put}
 
 module _ {N : Type 0} (same : N → N → Bool) where
-  -- one after the other
-  abbrev pub putAll : List N → List N → List N
-  putAll ks [] = ks
-  putAll ks (w ∷ ws) = putAll (put same ks w) ws
-
   -- ---- places
 
   pub position-in : (ks : List N) (w : N) → isIn same ks w ≡ true → position same ks w < length ks
@@ -60,14 +55,14 @@ module _ {N : Type 0} (same : N → N → Bool) where
       go true = ([], sym (append-nil ks))
       go false = (w ∷ [], refl)
 
-  put-all-grows : (ks ws : List N) → (more : List N) × (putAll ks ws ≡ ks ++ more)
+  put-all-grows : (ks ws : List N) → (more : List N) × (foldl (put same) ks ws ≡ ks ++ more)
   put-all-grows ks [] = ([], sym (append-nil ks))
   put-all-grows ks (w ∷ ws) =
       let p = put-grows ks w in
       let r = put-all-grows (put same ks w) ws in
       (p .0 ++ r .0, r .1 ∙ ap (λ (l : List N). l ++ r .0) (p .1) ∙ append-assoc ks (p .0) (r .0))
 
-  pub put-all-longer : (ks ws : List N) → length ks ≤ length (putAll ks ws)
+  pub put-all-longer : (ks ws : List N) → length ks ≤ length (foldl (put same) ks ws)
   put-all-longer ks ws = let r = put-all-grows ks ws in omega (arith, ap length (r .1), length-append ks (r .0))
 
   -- ---- distinct elements
@@ -103,7 +98,7 @@ module _ {N : Type 0} (same : N → N → Bool) where
         go false e = last ks e ∙ sym (position-out ks w e)
 
     -- the number that an element gets is its place in the list of all
-    pub put-all-position : (ks ws : List N) (w : N) → position same (putAll ks (w ∷ ws)) w ≡ position same ks w
+    pub put-all-position : (ks ws : List N) (w : N) → position same (foldl (put same) ks (w ∷ ws)) w ≡ position same ks w
     put-all-position ks ws w =
         let r = put-all-grows (put same ks w) ws in
         ap (λ (l : List N). position same l w) (r .1) ∙ position-stays (put same ks w) (r .0) w (put-in ks w) ∙ put-position ks w
@@ -151,12 +146,12 @@ module _ {N : Type 0} (same : N → N → Bool) where
     distinct-last (x ∷ xs) w = ap (λ (l : List N). x ∷ keep (λ y. not (same x y)) l) (distinct-last xs w) ∙ put-kept x w (distinct same xs)
 
     -- the distinct elements of a list and more
-    pub distinct-append : (xs ws : List N) → distinct same (xs ++ ws) ≡ putAll (distinct same xs) ws
+    pub distinct-append : (xs ws : List N) → distinct same (xs ++ ws) ≡ foldl (put same) (distinct same xs) ws
     distinct-append xs [] = ap (distinct same) (append-nil xs)
     distinct-append xs (w ∷ ws) =
         ap (distinct same) (sym (append-assoc xs (w ∷ []) ws))
         ∙ distinct-append (xs ++ w ∷ []) ws
-        ∙ ap (λ (l : List N). putAll l ws) (distinct-last xs w)
+        ∙ ap (λ (l : List N). foldl (put same) l ws) (distinct-last xs w)
 
     distinct-grows : (xs ws : List N) → (more : List N) × (distinct same (xs ++ ws) ≡ distinct same xs ++ more)
     distinct-grows xs ws =

@@ -3,7 +3,7 @@
 use mathlib.Core.Bool.{Bool, true, false, cond}
 use mathlib.Core.Path.{_≡_, refl, sym, ap, _∙_}
 use mathlib.Core.Logic.{_⊎_, inl, inr, ⊎-elim}
-use mathlib.Core.List.{List, [], _∷_, _++_, map}
+use mathlib.Core.List.{List, [], _∷_, _++_, map, foldl}
 use Prim.Native.Nat.{ℕ, _≤_, _<_}
 use native.Mathlib.Omega.{arith}
 use lib.Dec.{ltb}
@@ -17,11 +17,11 @@ use Rattle.names.specs.declared.NamesAnswer.{NamesAnswer}
 use Rattle.names.specs.declared.NamesAnswer.the-variants as NamesAnswer
 use Rattle.names.specs.Gather.{NameAt, nameAt, withName, Numbered, numbered, behind, namesAfter, isIn, put}
 use Rattle.names.specs.Seventh.{namesAt}
-use Rattle.names.proofs.Distinct.{putAll, put-all-longer, put-all-position}
+use Rattle.names.proofs.Distinct.{put-all-longer, put-all-position}
 
 -- all the different names, and where each stands among them
 abbrev pub allOf : List Name → List NameAt → List Name
-allOf ks xs = putAll sameName ks (namesAt xs)
+allOf ks xs = foldl (put sameName) ks (namesAt xs)
 
 abbrev pub numbersIn : List Name → List NameAt → List ℕ
 numbersIn ns xs = map (position sameName ns) (namesAt xs)

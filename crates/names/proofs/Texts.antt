@@ -2,6 +2,7 @@
 -- a token that is a name is a symbol that is one, and the names of the atoms are the names of the formula. Assumes nothing.
 use mathlib.Core.Path.{_≡_, refl, ap, ap₂, _∙_}
 use mathlib.Core.List.{List, [], _∷_, _++_, map, map-append, append-nil}
+use mathlib.Mathlib.Data.List.Basic.{Function·LeftInverse·list-map}
 use Prim.Native.Nat.{ℕ}
 use Rattle.formula.specs.Formula.{Form, Formula, Name}
 use Rattle.formula.specs.Atoms.{atomsOf}
@@ -20,16 +21,12 @@ use Rattle.names.proofs.Tokens.{tokens-of-rule}
 
 -- ---- the names of a text
 
-placed-names : (p : ℕ) (ws : List Name) → namesAt (map (nameAt p) ws) ≡ ws
-placed-names p [] = refl
-placed-names p (w ∷ ws) = ap (λ (l : List Name). w ∷ l) (placed-names p ws)
-
 names-of-places : (s : List ℕ) (ts : List Token) → namesAt (placesOf s ts) ≡ namesIn (symbolsOf s ts)
 unfolding placesOf namesIn
 names-of-places s [] = refl
 names-of-places s (t ∷ ts) =
     map-append (λ (x : NameAt). x .name) (map (nameAt (t .start)) (symbolNames (symbolOf (t .kind) (bytesOf s t)))) (placesOf s ts)
-    ∙ ap₂ _++_ (placed-names (t .start) (symbolNames (symbolOf (t .kind) (bytesOf s t)))) (names-of-places s ts)
+    ∙ ap₂ _++_ (Function·LeftInverse·list-map (λ (x : NameAt). x .name) (nameAt (t .start)) (λ w. refl) (symbolNames (symbolOf (t .kind) (bytesOf s t)))) (names-of-places s ts)
 
 pub names-of-rule : (s : List ℕ) (f : Formula Name) → IsRule s f → namesAt (placesOf s (ruleTokens s)) ≡ formulaNames f
 names-of-rule s f h =

@@ -2,11 +2,12 @@
 -- plan, and a dead one stays dead. Assumes nothing.
 use mathlib.Core.Path.{_≡_, refl, sym, ap, ap₂, _∙_, subst}
 use mathlib.Core.Logic.{⊎-elim}
-use mathlib.Core.List.{List, [], _∷_, _++_, map, append-nil, append-assoc, map-append, head-eq-of-cons-eq, tail-eq-of-cons-eq}
+use mathlib.Core.List.{List, [], _∷_, _++_, map, append-nil, append-assoc, map-append}
 use Prim.Native.Nat.{ℕ, zero, suc, _+_, _^_, _≤_, _<_}
 use native.Mathlib.Omega.{arith}
 use lib.ListN.{length, length-append}
 use Rattle.lists.proofs.Truth.{side}
+use Rattle.lists.proofs.Lists.{prefix}
 use Rattle.plan.specs.Words.{Plan, Ascends, Rises, IsPlan, firstWord, pointWord, lastWord, before, wordsOf, Begins, Stops, Refusal}
 use Rattle.plan.specs.Reader.{kindOf, State, start, pointing, linking, whole, dead, step, run, Reading, plan, refused, ended, unless, readFrom, readOf}
 use Rattle.lists.specs.Search.{from}
@@ -209,14 +210,6 @@ refusal-no-plan ws j p h e r = go (r .post) (r .parts) (r .stops)
     go [] q s = s p h (e ∙ sym q ∙ append-nil (r .pre))
     go (w ∷ post) q s = s (record { plan = p; is = h; rest = post; words = append-assoc (r .pre) (w ∷ []) post ∙ q ∙ sym e })
 
--- of two beginnings of a list the shorter begins the longer
-prefix : (xs ys us vs : List ℕ) → xs ++ us ≡ ys ++ vs → length xs ≤ length ys → (zs : List ℕ) × (xs ++ zs ≡ ys)
-prefix [] ys us vs e l = (ys, refl)
-prefix (x ∷ xs) [] us vs e l = absurd (omega arith)
-prefix (x ∷ xs) (y ∷ ys) us vs e l =
-    let r = prefix xs ys us vs (tail-eq-of-cons-eq e) (omega arith) in
-    (r .0, ap₂ (λ (z : ℕ) (zs : List ℕ). z ∷ zs) (head-eq-of-cons-eq e) (r .1))
-
 not-before : (ws : List ℕ) (i j : ℕ) → Refusal ws i → Refusal ws j → i < j → ⊥
 not-before ws i j r t l = go (r .post) (r .parts) (r .stops)
   where
@@ -226,7 +219,7 @@ not-before ws i j r t l = go (r .post) (r .parts) (r .stops)
         omega (arith, r .place, t .place, size, ap length (t .parts ∙ sym q ∙ append-nil (r .pre)))
     go (w ∷ post) q s =
         let longer : length (r .pre ++ (w ∷ [])) ≡ length (r .pre) + 1 = length-append (r .pre) (w ∷ []) in
-        let z = prefix (r .pre ++ (w ∷ [])) (t .pre) post (t .post) (append-assoc (r .pre) (w ∷ []) post ∙ q ∙ sym (t .parts))
+        let z = prefix (r .pre ++ (w ∷ [])) post (t .pre) (t .post) (append-assoc (r .pre) (w ∷ []) post ∙ q ∙ sym (t .parts))
         (omega (arith, longer, r .place, t .place)) in
         s (begins-less (r .pre ++ (w ∷ [])) (z .0) (subst Begins (sym (z .1)) (t .begins)))
 

@@ -1,6 +1,6 @@
 -- The state carries what the marks say. A mark more forbids and separates what its atom's sets say, so a step keeps the state that of
 -- the marks; and the tests on the state are those on the marks, as nothing from 2 ^ names up is allowed. Assumes nothing.
-use mathlib.Core.Bool.{Bool, true, false, not, _&&_, _||_, and-comm, and-true, and-false, or-self, or-false}
+use mathlib.Core.Bool.{Bool, true, false, not, _&&_, _||_, and-comm, and-true, or-self, or-false}
 use mathlib.Core.Path.{_≡_, refl, sym, ap, ap₂, _∙_, subst, fun-ext}
 use mathlib.Core.Logic.{⊎-elim}
 use mathlib.Core.List.{List, [], _∷_, _++_}
@@ -9,7 +9,7 @@ use mathlib.Mathlib.Logic.Function.Defs.{congr-fun}
 use Prim.Native.Nat.{ℕ, _^_, _≤_, _<_}
 use native.Mathlib.Omega.{arith}
 use lib.Dec.{ltb}
-use Rattle.lists.proofs.Truth.{side}
+use Rattle.lists.proofs.Truth.{side, regroup, guarded}
 use Rattle.formula.specs.Formula.{Term, Atom}
 use Rattle.lists.specs.Search.{any, all, below}
 use Rattle.evalset.specs.Sets.{most, room, mem, memAt, belowOf, meetOf, minusOf}
@@ -21,12 +21,6 @@ use Rattle.search.specs.declared.State.{State}
 use Rattle.search.specs.Tests.{crossed, lessOf, partOf, startsOf, witnessedOf}
 use Rattle.search.specs.Compiled.{Stands, AtomIs, Fit, Follows}
 use Rattle.lists.proofs.Search.{any-last, all-last}
-
--- where one side of an `and` is false from the bound on, the other counts below it alone
-pub guarded : (e bound : ℕ) (guard x y : Bool) → (bound ≤ e → guard ≡ false) → (e < bound → x ≡ y) → (guard && x) ≡ (guard && y)
-guarded e bound guard x y out same =
-    ⊎-elim (λ l. ap (λ (b : Bool). guard && b) (same l))
-    (λ l. ap (λ (b : Bool). b && x) (out l) ∙ sym (ap (λ (b : Bool). b && y) (out l))) (side e bound)
 
 -- ---- what is allowed, and all that is taken from it, is below 2 ^ n
 
@@ -93,13 +87,6 @@ module _ (n : ℕ) (contact : Bool) (x y : ℕ → Bool) where
       ∙ ap₂ _||_ (ap₂ _&&_ (h .1 p lp) (h .2 q lq)) (ap₂ _&&_ (h .2 p lp) (h .1 q lq) ∙ and-comm (at t p) (at s q))
   part-is value (Atom.part s t) h p q lp lq = zero-part value (partTerm s t) (h .0) p q
   part-is value (Atom.empty t) h p q lp lq = zero-part value t (h .0) p q
-
-regroup : (l e s f r : Bool) → ((l && (not e && not s)) && not (f || r)) ≡ (l && (not (e || f) && not (s || r)))
-regroup false e s f r = refl
-regroup true true s f r = refl
-regroup true false true f r = sym (and-false (not f))
-regroup true false false true r = refl
-regroup true false false false r = refl
 
 module _ (n : ℕ) (l : n ≤ most) (contact value : Bool) (x y : ℕ → Bool) (a : Atom ℕ) (h : AtomIs n contact x y a) (ms : List Mark) where
   forbids : (e : ℕ) → minusOf (allowed n ms) (lessOf contact value x y) e ≡ allowed n (ms ++ mark a value ∷ []) e

@@ -14,7 +14,7 @@ use borrow.Author.Tests.{lt-ltb, le-ltb}
 use Rattle.lists.proofs.Below.{keep-length}
 use Rattle.lists.specs.Padded.{pad}
 use Rattle.lists.proofs.Padded.{pad-at}
-use Rattle.lists.proofs.Truth.{side}
+use Rattle.lists.proofs.Truth.{side, guarded}
 use Rattle.evalset.specs.declared.EvalSet.{EvalSet}
 use Rattle.lists.specs.Search.{keep, below, elem}
 use Rattle.evalset.specs.Sets.{most, room, mem, memAt, noneOf, addOf}
@@ -29,7 +29,7 @@ use Rattle.search.specs.Tests.{pickOf, rowOf, rowsOf, Filled}
 use Rattle.search.specs.Compiled.{Fit}
 use Rattle.search.specs.Planned.{Positions, PlanOf}
 use Rattle.evalset.specs.Arrays.{positionsOf}
-use Rattle.search.proofs.Fitting.{guarded, allowed-low}
+use Rattle.search.proofs.Fitting.{allowed-low}
 use Rattle.search.proofs.Giving.{given-low}
 
 -- the members of a set in an array

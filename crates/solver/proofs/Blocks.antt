@@ -12,7 +12,7 @@ use lib.ListN.{length, getD, replicate, length-append, length-map, List·getD-ap
 use lib.Seq.{getD-append-add}
 use borrow.Author.Tests.{lt-ltb, le-ltb}
 use Rattle.lists.proofs.Lists.{repeated-at}
-use Rattle.lists.proofs.Truth.{side}
+use Rattle.lists.proofs.Truth.{side, guarded}
 use Rattle.formula.specs.Formula.{Form}
 use Rattle.evalset.specs.declared.EvalSet.{EvalSet}
 use Rattle.evalset.specs.Bit.{bit}
@@ -26,7 +26,6 @@ use Rattle.kleene.specs.declared.Two.{Two}
 use Rattle.kleene.specs.Rails.{duo, sure, duoOf, duoAt, twoAt}
 use Rattle.search.specs.Rows.{rowBits}
 use Rattle.search.proofs.Rows.{row-length, row-at}
-use Rattle.search.proofs.Fitting.{guarded}
 use Rattle.solver.specs.Coded.{Coded, RefutedSays}
 use Rattle.solver.specs.Tree.{extended, decidedAt, candidatesOf}
 

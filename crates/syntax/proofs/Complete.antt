@@ -5,6 +5,7 @@ use native.Mathlib.Omega.{arith}
 use mathlib.Core.Path.{_≡_, refl, sym, ap, _∙_}
 use mathlib.Core.List.{List, [], _∷_, _++_, append-assoc, append-nil}
 use mathlib.Core.Bool.{Bool, true, false, not, true≢false, Bool·beq}
+use Rattle.lists.proofs.Truth.{beq-self}
 use Rattle.formula.specs.declared.Sign.{Sign}
 use Rattle.formula.specs.declared.Sign.the-variants.{Implies, Iff, Or, And, Plus, Times}
 use Rattle.formula.specs.Sign.{joinsTerms}
@@ -26,10 +27,6 @@ past-append : (i : ℕ) (l m : List Sym) → past i (l ++ m) ≡ past (past i l)
 unfolding past
 past-append i [] m = refl
 past-append i (x ∷ l) m = past-append (i + 1) l m
-
-same-self : (b : Bool) → Bool·beq b b ≡ true
-same-self true = refl
-same-self false = refl
 
 goes-self : (b : Sign) → goes (joinsTerms b) (binary b) ≤ suc (rankOf b)
 goes-self Implies = omega arith
@@ -100,7 +97,7 @@ comes-binary b ts us t u g h K o rest i a d c =
     ap (λ (l : List Sym). run l i (want K o)) (append-assoc ts (binary b ∷ us) rest)
     ∙ g K o (binary b ∷ us ++ rest) i a d (goes-self b)
     ∙ ap (λ (q : Popped). run (us ++ rest) (past i ts + 1) (guard (Bool·beq (joinsTerms b) (joinsTerms b)) (join b q) (past i ts))) (pop-keep (rankOf b) K (after (joinsTerms b) t o) d)
-    ∙ ap (λ (w : Bool). run (us ++ rest) (past i ts + 1) (guard w (want (afterBinary b ∷ K) (after (joinsTerms b) t o)) (past i ts))) (same-self (joinsTerms b))
+    ∙ ap (λ (w : Bool). run (us ++ rest) (past i ts + 1) (guard w (want (afterBinary b ∷ K) (after (joinsTerms b) t o)) (past i ts))) (beq-self (joinsTerms b))
     ∙ h (afterBinary b ∷ K) (after (joinsTerms b) t o) rest (past i ts + 1) (λ e. ap not e) (omega arith) (omega (arith, c))
     ∙ feed rest (past (past i ts + 1) us) (joinsTerms b) (afterBinary b) K (after (joinsTerms b) u (after (joinsTerms b) t o)) refl c
     ∙ ap (λ (q : List Sym). run rest (past (past i ts + 1) us) (have (joinsTerms b) K q)) (sym (after-joined b t u o))

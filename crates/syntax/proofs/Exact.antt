@@ -8,6 +8,7 @@ use mathlib.Core.List.{List, [], _∷_, _++_, append-assoc, append-nil}
 use mathlib.Core.Bool.{Bool, true, false, true≢false, Bool·beq}
 use lib.ListN.{length}
 use borrow.Author.Tests.{not-true}
+use Rattle.lists.proofs.Lists.{prefix}
 use Rattle.formula.specs.declared.Sign.{Sign}
 use Rattle.formula.specs.declared.Sign.the-variants.{Implies, Iff, Or, And, Plus, Times}
 use Rattle.formula.specs.Sign.{joinsTerms}
@@ -357,24 +358,21 @@ stops-underived pre (x ∷ post) h f g = h (post, f, subst (λ (l : List Sym). D
 refusal-underived : (xs : List Sym) (j : ℕ) → Refusal xs j → (f : Formula Name) → Derives xs f → ⊥
 refusal-underived xs j r f g = stops-underived (r .pre) (r .post) (r .stops) f (subst (λ (l : List Sym). Derives l f) (sym (r .parts)) g)
 
--- of two beginnings of one list the shorter is the beginning of the longer
-longer : (p a q b : List Sym) → p ++ a ≡ q ++ b → length p < length q → (x : Sym) × (m : List Sym) × (p ++ x ∷ m ≡ q) × (a ≡ x ∷ (m ++ b))
-longer [] a [] b e h = absurd (omega arith)
-longer [] a (y ∷ q) b e h = (y, q, refl, e)
-longer (x ∷ p) a [] b e h = absurd (omega arith)
-longer (x ∷ p) a (y ∷ q) b e h =
-    let t : p ++ a ≡ q ++ b = cc in
-    let r : (z : Sym) × (m : List Sym) × (p ++ z ∷ m ≡ q) × (a ≡ z ∷ (m ++ b)) = longer p a q b t (omega arith) in
-    let d : p ++ r .0 ∷ r .1 ≡ q = r .2 in
-    (r .0, r .1, (cc), r .3)
-
 -- no place of refusal stands before another: what stands there would begin a formula after all
 not-before : (xs : List Sym) (j k : ℕ) → Refusal xs j → Refusal xs k → j < k → ⊥
-not-before xs j k r t h =
-    let b : Begins (t .pre) = t .begins in
-    let l : (x : Sym) × (m : List Sym) × (r .pre ++ x ∷ m ≡ t .pre) × (r .post ≡ x ∷ (m ++ t .post)) = longer (r .pre) (r .post) (t .pre) (t .post) (r .parts ∙ sym (t .parts)) (omega (arith, r .place, t .place)) in
-    let n : Begins (r .pre ++ l .0 ∷ []) → ⊥ = subst (λ (q : List Sym). Stops (r .pre) q) (l .3) (r .stops) in
-    n (l .1 ++ b .0, b .1, subst (λ (q : List Sym). Derives q (b .1)) (ap (λ (q : List Sym). q ++ b .0) (sym (l .2)) ∙ simp append-assoc) (b .2))
+not-before xs j k r t h = go (l .0) (l .1) (l .2)
+  where
+    b : Begins (t .pre)
+    b = t .begins
+
+    l : (m : List Sym) × (r .pre ++ m ≡ t .pre) × (r .post ≡ m ++ t .post)
+    l = prefix (r .pre) (r .post) (t .pre) (t .post) (r .parts ∙ sym (t .parts)) (omega (arith, r .place, t .place))
+
+    go : (m : List Sym) → r .pre ++ m ≡ t .pre → r .post ≡ m ++ t .post → ⊥
+    go [] e f = omega (arith, r .place, t .place, ap length (append-nil (r .pre)), ap length e)
+    go (x ∷ m) e f =
+        let n : Begins (r .pre ++ x ∷ []) → ⊥ = subst (λ (q : List Sym). Stops (r .pre) q) f (r .stops) in
+        n (m ++ b .0, b .1, subst (λ (q : List Sym). Derives q (b .1)) (ap (λ (q : List Sym). q ++ b .0) (sym e) ∙ simp append-assoc) (b .2))
 
 one-place : (xs : List Sym) (j k : ℕ) → Refusal xs j → Refusal xs k → j ≡ k
 one-place xs j k r t = omega (arith, not-before xs j k r t, not-before xs k j t r)

@@ -5,11 +5,13 @@ use Prim.Native.Nat.{ℕ, suc, _+_, _≤_, _<_}
 use native.Mathlib.Numerals.{add-one}
 use native.Mathlib.Omega.{arith}
 use mathlib.Core.Path.{_≡_, refl, sym, ap, _∙_}
-use mathlib.Core.List.{List, [], _∷_, _++_}
-use mathlib.Core.Bool.{Bool, true, false, cond, Bool·beq}
+use mathlib.Core.List.{List, [], _∷_, _++_, tail, map-append}
+use mathlib.Core.Bool.{Bool, true, false, Bool·beq}
 use mathlib.Mathlib.Data.Bool.Basic.{eq-false-of-not-eq-true}
 use lib.Dec.{eqb}
 use lib.ListN.{length, getD, drop, length-map}
+use Rattle.lists.proofs.Truth.{cond-holds}
+use Rattle.lists.proofs.Lists.{map-at}
 use Rattle.formula.specs.declared.Sign.{Sign}
 use Rattle.formula.specs.declared.Sign.the-variants.{Implies, Iff, Or, And, Plus, Times}
 use Rattle.formula.specs.Sign.{joinsTerms}
@@ -19,14 +21,10 @@ use Rattle.syntax.specs.Machine.{Sym, Frame, rankOf, allow, loosest, Sta
 use Rattle.syntax.specs.Reader.{code, codes, kindAt, top, goes, goesOn, bindingOf, goesAt}
 use Rattle.syntax.proofs.MachineLaws.{run-dead, pop-keep, goes-formula}
 
--- the kind of what stands first, and what stands after it
+-- the kind of what stands first
 abbrev pub kindOn : List Sym → ℕ
 kindOn [] = 19
 kindOn (x ∷ l) = code x
-
-abbrev later : List Sym → List Sym
-later [] = []
-later (x ∷ l) = l
 
 kind-on : (xs : List Sym) (p : ℕ) → kindAt (codes xs) p ≡ kindOn (drop p xs)
 unfolding codes
@@ -35,15 +33,23 @@ kind-on [] (suc p) = refl
 kind-on (x ∷ xs) ℕ.zero = refl
 kind-on (x ∷ xs) (suc p) = kind-on xs p
 
-later-drop : (xs : List Sym) (p : ℕ) → later (drop p xs) ≡ drop (suc p) xs
-later-drop [] ℕ.zero = refl
-later-drop [] (suc p) = refl
-later-drop (x ∷ xs) ℕ.zero = refl
-later-drop (x ∷ xs) (suc p) = later-drop xs p
+tail-drop : (xs : List Sym) (p : ℕ) → tail (drop p xs) ≡ drop (suc p) xs
+tail-drop [] ℕ.zero = refl
+tail-drop [] (suc p) = refl
+tail-drop (x ∷ xs) ℕ.zero = refl
+tail-drop (x ∷ xs) (suc p) = tail-drop xs p
 
 pub length-codes : (xs : List Sym) → length (codes xs) ≡ length xs
 unfolding codes
 length-codes xs = length-map xs code
+
+pub codes-append : (a b : List Sym) → codes (a ++ b) ≡ codes a ++ codes b
+unfolding codes
+codes-append a b = map-append code a b
+
+pub code-at : (xs : List Sym) (i : ℕ) → i < length xs → getD (codes xs) i 0 ≡ code (getD xs i opening)
+unfolding codes
+code-at xs i l = map-at code xs i opening 0 l
 
 -- ---- which symbol
 
@@ -75,7 +81,7 @@ sign-code (constant false) h = refl
 sign-code (relation contact) h = refl
 sign-code (relation part) h = refl
 
-sign-first : (l : List Sym) (c : ℕ) → kindOn l ≡ c → c < 16 → l ≡ signAt c ∷ later l
+sign-first : (l : List Sym) (c : ℕ) → kindOn l ≡ c → c < 16 → l ≡ signAt c ∷ tail l
 sign-first [] c e h = absurd (omega arith)
 sign-first (x ∷ l) c e h = ap (λ (y : Sym). y ∷ l) (sym (sign-code x (omega arith)) ∙ ap signAt e)
 
@@ -98,7 +104,7 @@ leaf-code (constant false) h = absurd (omega arith)
 leaf-code (relation contact) h = absurd (omega arith)
 leaf-code (relation part) h = absurd (omega arith)
 
-leaf-first : (l : List Sym) → 16 ≤ kindOn l → kindOn l < 19 → (y : Leaf Name) × (l ≡ leaf y ∷ later l)
+leaf-first : (l : List Sym) → 16 ≤ kindOn l → kindOn l < 19 → (y : Leaf Name) × (l ≡ leaf y ∷ tail l)
 leaf-first [] a b = absurd (omega arith)
 leaf-first (x ∷ l) a b = let r : (y : Leaf Name) × (x ≡ leaf y) = leaf-code x a in (r .0, ap (λ (z : Sym). z ∷ l) (r .1))
 
@@ -164,7 +170,7 @@ binary-code t (constant false) h = absurd (omega arith)
 binary-code t (relation contact) h = absurd (omega arith)
 binary-code t (relation part) h = absurd (omega arith)
 
-binary-first : (t : Bool) (l : List Sym) → 0 < bindingOf t (kindOn l) → (b : Sign) × Joins t b (bindingOf t (kindOn l)) × (l ≡ binary b ∷ later l)
+binary-first : (t : Bool) (l : List Sym) → 0 < bindingOf t (kindOn l) → (b : Sign) × Joins t b (bindingOf t (kindOn l)) × (l ≡ binary b ∷ tail l)
 unfolding bindingOf
 binary-first t [] h = absurd (omega arith)
 binary-first t (x ∷ l) h =
@@ -172,10 +178,6 @@ binary-first t (x ∷ l) h =
     (r .0, r .1, ap (λ (z : Sym). z ∷ l) (r .2))
 
 -- ---- what goes on a value, by its kind alone
-
-cond-holds : (P : ℕ → Type 0) (b : Bool) (x y : ℕ) → P x → P y → P (cond b x y)
-cond-holds P true x y h k = h
-cond-holds P false x y h k = k
 
 binding-holds : (P : ℕ → Type 0) (t : Bool) (c : ℕ) → ((b : Sign) → P (goes t (binary b))) → P 0 → P (bindingOf t c)
 unfolding bindingOf
@@ -291,11 +293,11 @@ module _ (xs : List Sym) (ks : List ℕ) (e : codes xs ≡ ks) (p : ℕ) where
   pub goes-at : (t : Bool) (m : ℕ) → goesAt t (kindAt ks p) ≤ m → goesOn t (drop p xs) ≤ m
   goes-at t m h = rw (← goes-first t (drop p xs), ← kind-at) h
 
-  onward : (x : Sym) (s : State) → drop p xs ≡ x ∷ later (drop p xs) → run (drop p xs) p s ≡ run (drop (p + 1) xs) (p + 1) (step s x p)
+  onward : (x : Sym) (s : State) → drop p xs ≡ x ∷ tail (drop p xs) → run (drop p xs) p s ≡ run (drop (p + 1) xs) (p + 1) (step s x p)
   unfolding run
   onward x s h =
       ap (λ (l : List Sym). run l p s) h
-      ∙ ap (λ (l : List Sym). run l (p + 1) (step s x p)) (later-drop xs p)
+      ∙ ap (λ (l : List Sym). run l (p + 1) (step s x p)) (tail-drop xs p)
       ∙ ap (λ (n : ℕ). run (drop n xs) (p + 1) (step s x p)) (sym (add-one p))
 
   -- one step at a sign, and at a leaf
@@ -304,11 +306,11 @@ module _ (xs : List Sym) (ks : List ℕ) (e : codes xs ≡ ks) (p : ℕ) where
 
   pub at-leaf : 16 ≤ kindAt ks p → kindAt ks p < 19 → (y : Leaf Name) × (code (leaf y) ≡ kindAt ks p) × ((s : State) → run (drop p xs) p s ≡ run (drop (p + 1) xs) (p + 1) (step s (leaf y) p))
   at-leaf a b =
-      let r : (y : Leaf Name) × (drop p xs ≡ leaf y ∷ later (drop p xs)) = leaf-first (drop p xs) (rw kind-at at a) (rw kind-at at b) in
+      let r : (y : Leaf Name) × (drop p xs ≡ leaf y ∷ tail (drop p xs)) = leaf-first (drop p xs) (rw kind-at at a) (rw kind-at at b) in
       (r .0, sym (kind-at ∙ ap kindOn (r .1)), λ s. onward (leaf (r .0)) s (r .1))
 
   -- a binary sign that goes on the value
   pub at-binary : (t : Bool) → 0 < bindingOf t (kindAt ks p) → (b : Sign) × Joins t b (bindingOf t (kindAt ks p)) × (kindAt ks p ≡ code (binary b)) × ((s : State) → run (drop p xs) p s ≡ run (drop (p + 1) xs) (p + 1) (step s (binary b) p))
   at-binary t h =
-      let r : (b : Sign) × Joins t b (bindingOf t (kindOn (drop p xs))) × (drop p xs ≡ binary b ∷ later (drop p xs)) = binary-first t (drop p xs) (rw kind-at at h) in
+      let r : (b : Sign) × Joins t b (bindingOf t (kindOn (drop p xs))) × (drop p xs ≡ binary b ∷ tail (drop p xs)) = binary-first t (drop p xs) (rw kind-at at h) in
       (r .0, rw kind-at (r .1), kind-at ∙ ap kindOn (r .2), λ s. onward (binary (r .0)) s (r .2))

@@ -1,62 +1,57 @@
 -- The names of a formula stand in its tokens and in its postfix order as they stand in the formula, left to right: every rule
 -- of the grammar and every step of the order keeps them so. Assumes nothing.
-use mathlib.Core.Path.{_≡_, refl, sym, ap, ap₂, _∙_}
+use mathlib.Core.Path.{_≡_, refl, ap, ap₂, _∙_}
 use mathlib.Core.List.{List, [], _∷_, _++_, append-assoc, append-nil}
 use Prim.Native.Nat.{ℕ}
+use Rattle.lists.proofs.Search.{gather-append, gather-last}
+use Rattle.formula.specs.declared.Sign.the-variants.{Implies, Iff, Or, And, Plus, Times}
 use Rattle.formula.specs.Formula.{Term, Atom, Form, Formula}
 use Rattle.formula.specs.Names.{termNames, formulaNames}
-use Rattle.syntax.specs.Symbol.{Leaf, Symbol, leaf, opening, closing, comma, contact, part}
+use Rattle.syntax.specs.Symbol.{Leaf, Symbol, leaf, minus, tilde, opening, closing, comma, isZero, binary, relation, contact, part}
 use Rattle.syntax.specs.Grammar.{leafTerm, IsTerm, t-leaf, t-minus, t-times, t-plus, t-parenthesis, t-looser, IsFormula, f-truth, f-falsity, f-contact, f-part, f-empty, f-tilde, f-and, f-or, f-implies, f-iff, f-parenthesis, f-looser, Derives}
 use Rattle.syntax.specs.Postfix.{termAfter, formulaAfter, postfix, symbolNames, namesIn}
 
 module _ {N : Type 0} where
-  names-append : (a b : List (Symbol N)) → namesIn (a ++ b) ≡ namesIn a ++ namesIn b
-  unfolding namesIn
-  names-append [] b = refl
-  names-append (x ∷ a) b = ap (λ (l : List N). symbolNames x ++ l) (names-append a b) ∙ sym (append-assoc (symbolNames x) (namesIn a) (namesIn b))
-
-  -- one symbol more
-  pub names-last : (a : List (Symbol N)) (x : Symbol N) → namesIn (a ++ x ∷ []) ≡ namesIn a ++ symbolNames x
-  unfolding namesIn
-  names-last a x = names-append a (x ∷ []) ∙ ap (λ (l : List N). namesIn a ++ l) (append-nil (symbolNames x))
-
   -- a sign more
   names-sign : (a : List (Symbol N)) (x : Symbol N) → symbolNames x ≡ [] → namesIn (a ++ x ∷ []) ≡ namesIn a
-  names-sign a x e = names-last a x ∙ ap (λ (l : List N). namesIn a ++ l) e ∙ append-nil (namesIn a)
+  unfolding namesIn
+  names-sign a x e = gather-last symbolNames a x ∙ ap (λ (l : List N). namesIn a ++ l) e ∙ append-nil (namesIn a)
 
   -- a sign between two lists
   names-between : (a b : List (Symbol N)) (x : Symbol N) → symbolNames x ≡ [] → namesIn (a ++ x ∷ b) ≡ namesIn a ++ namesIn b
   unfolding namesIn
-  names-between a b x e = names-append a (x ∷ b) ∙ ap (λ (l : List N). namesIn a ++ (l ++ namesIn b)) e
+  names-between a b x e = gather-append symbolNames a (x ∷ b) ∙ ap (λ (l : List N). namesIn a ++ (l ++ namesIn b)) e
 
   -- ---- in the order
 
-  -- a sign after two parts that stand behind o
-  names-two : (o first second : List (Symbol N)) (a b : List N) (x : Symbol N) → symbolNames x ≡ [] → namesIn first ≡ namesIn o ++ a → namesIn second ≡ namesIn first ++ b
-      → namesIn (second ++ x ∷ []) ≡ namesIn o ++ (a ++ b)
-  names-two o first second a b x s e f = names-sign second x s ∙ f ∙ ap (λ (l : List N). l ++ b) e ∙ append-assoc (namesIn o) a b
+  -- a sign after two parts, t and u, that stand behind o
+  names-two : {A : Type 0} (after : A → List (Symbol N) → List (Symbol N)) (names : A → List N) (t u : A) (o : List (Symbol N)) (x : Symbol N) → symbolNames x ≡ []
+      → namesIn (after t o) ≡ namesIn o ++ names t → namesIn (after u (after t o)) ≡ namesIn (after t o) ++ names u
+      → namesIn (after u (after t o) ++ x ∷ []) ≡ namesIn o ++ (names t ++ names u)
+  names-two after names t u o x s e f =
+      names-sign (after u (after t o)) x s ∙ f ∙ ap (λ (l : List N). l ++ names u) e ∙ append-assoc (namesIn o) (names t) (names u)
 
   term-order : (t : Term N) (o : List (Symbol N)) → namesIn (termAfter t o) ≡ namesIn o ++ termNames t
-  unfolding termAfter
-  term-order Term.zero o = names-last o (leaf Leaf.zero)
-  term-order Term.one o = names-last o (leaf Leaf.one)
-  term-order (Term.name x) o = names-last o (leaf (Leaf.name x))
-  term-order (Term.complement t) o = names-sign (termAfter t o) _ refl ∙ term-order t o
-  term-order (Term.intersection t u) o = names-two o _ _ _ _ _ refl (term-order t o) (term-order u (termAfter t o))
-  term-order (Term.union t u) o = names-two o _ _ _ _ _ refl (term-order t o) (term-order u (termAfter t o))
+  unfolding termAfter namesIn
+  term-order Term.zero o = gather-last symbolNames o (leaf Leaf.zero)
+  term-order Term.one o = gather-last symbolNames o (leaf Leaf.one)
+  term-order (Term.name x) o = gather-last symbolNames o (leaf (Leaf.name x))
+  term-order (Term.complement t) o = names-sign (termAfter t o) minus refl ∙ term-order t o
+  term-order (Term.intersection t u) o = names-two termAfter termNames t u o (binary Times) refl (term-order t o) (term-order u (termAfter t o))
+  term-order (Term.union t u) o = names-two termAfter termNames t u o (binary Plus) refl (term-order t o) (term-order u (termAfter t o))
 
   formula-order : (f : Formula N) (o : List (Symbol N)) → namesIn (formulaAfter f o) ≡ namesIn o ++ formulaNames f
-  unfolding formulaAfter
-  formula-order Form.truth o = names-last o _
-  formula-order Form.falsity o = names-last o _
-  formula-order (Form.atom (Atom.contact t u)) o = names-two o _ _ _ _ _ refl (term-order t o) (term-order u (termAfter t o))
-  formula-order (Form.atom (Atom.part t u)) o = names-two o _ _ _ _ _ refl (term-order t o) (term-order u (termAfter t o))
-  formula-order (Form.atom (Atom.empty t)) o = names-sign (termAfter t o) _ refl ∙ term-order t o
-  formula-order (Form.negation f) o = names-sign (formulaAfter f o) _ refl ∙ formula-order f o
-  formula-order (Form.conjunction f g) o = names-two o _ _ _ _ _ refl (formula-order f o) (formula-order g (formulaAfter f o))
-  formula-order (Form.disjunction f g) o = names-two o _ _ _ _ _ refl (formula-order f o) (formula-order g (formulaAfter f o))
-  formula-order (Form.implication f g) o = names-two o _ _ _ _ _ refl (formula-order f o) (formula-order g (formulaAfter f o))
-  formula-order (Form.equivalence f g) o = names-two o _ _ _ _ _ refl (formula-order f o) (formula-order g (formulaAfter f o))
+  unfolding formulaAfter namesIn
+  formula-order Form.truth o = gather-last symbolNames o _
+  formula-order Form.falsity o = gather-last symbolNames o _
+  formula-order (Form.atom (Atom.contact t u)) o = names-two termAfter termNames t u o (relation contact) refl (term-order t o) (term-order u (termAfter t o))
+  formula-order (Form.atom (Atom.part t u)) o = names-two termAfter termNames t u o (relation part) refl (term-order t o) (term-order u (termAfter t o))
+  formula-order (Form.atom (Atom.empty t)) o = names-sign (termAfter t o) isZero refl ∙ term-order t o
+  formula-order (Form.negation f) o = names-sign (formulaAfter f o) tilde refl ∙ formula-order f o
+  formula-order (Form.conjunction f g) o = names-two formulaAfter formulaNames f g o (binary And) refl (formula-order f o) (formula-order g (formulaAfter f o))
+  formula-order (Form.disjunction f g) o = names-two formulaAfter formulaNames f g o (binary Or) refl (formula-order f o) (formula-order g (formulaAfter f o))
+  formula-order (Form.implication f g) o = names-two formulaAfter formulaNames f g o (binary Implies) refl (formula-order f o) (formula-order g (formulaAfter f o))
+  formula-order (Form.equivalence f g) o = names-two formulaAfter formulaNames f g o (binary Iff) refl (formula-order f o) (formula-order g (formulaAfter f o))
 
   -- ---- in the tokens
 

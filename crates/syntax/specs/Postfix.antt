@@ -1,6 +1,7 @@
 -- Postfix order: each sign after what it is put on. A formula is found again from it. Assumes nothing.
 use mathlib.Core.Bool.{true, false}
-use mathlib.Core.List.{List, [], _∷_, _++_}
+use mathlib.Core.List.{List, [], _∷_, _++_, tail}
+use Rattle.lists.specs.Search.{gather}
 use Rattle.formula.specs.declared.Sign.the-variants.{Implies, Iff, Or, And, Plus, Times}
 use Rattle.formula.specs.Formula.{Term, Atom, Form, Formula}
 use Rattle.syntax.specs.Grammar.{leafTerm}
@@ -55,29 +56,25 @@ abbrev pub topFormula : {N : Type 0} → List (Value N) → Formula N
 topFormula [] = Form.falsity
 topFormula (v ∷ s) = asFormula v
 
-abbrev pub below : {N : Type 0} → List (Value N) → List (Value N)
-below [] = []
-below (v ∷ s) = s
-
 -- the stack after one symbol
 abbrev pub put : {N : Type 0} → Symbol N → List (Value N) → List (Value N)
 put (leaf x) s = term (leafTerm x) ∷ s
-put minus s = term (Term.complement (topTerm s)) ∷ below s
-put tilde s = formula (Form.negation (topFormula s)) ∷ below s
+put minus s = term (Term.complement (topTerm s)) ∷ tail s
+put tilde s = formula (Form.negation (topFormula s)) ∷ tail s
 put opening s = s
 put closing s = s
 put comma s = s
-put isZero s = formula (Form.atom (Atom.empty (topTerm s))) ∷ below s
-put (binary Times) s = term (Term.intersection (topTerm (below s)) (topTerm s)) ∷ below (below s)
-put (binary Plus) s = term (Term.union (topTerm (below s)) (topTerm s)) ∷ below (below s)
-put (binary And) s = formula (Form.conjunction (topFormula (below s)) (topFormula s)) ∷ below (below s)
-put (binary Or) s = formula (Form.disjunction (topFormula (below s)) (topFormula s)) ∷ below (below s)
-put (binary Implies) s = formula (Form.implication (topFormula (below s)) (topFormula s)) ∷ below (below s)
-put (binary Iff) s = formula (Form.equivalence (topFormula (below s)) (topFormula s)) ∷ below (below s)
+put isZero s = formula (Form.atom (Atom.empty (topTerm s))) ∷ tail s
+put (binary Times) s = term (Term.intersection (topTerm (tail s)) (topTerm s)) ∷ tail (tail s)
+put (binary Plus) s = term (Term.union (topTerm (tail s)) (topTerm s)) ∷ tail (tail s)
+put (binary And) s = formula (Form.conjunction (topFormula (tail s)) (topFormula s)) ∷ tail (tail s)
+put (binary Or) s = formula (Form.disjunction (topFormula (tail s)) (topFormula s)) ∷ tail (tail s)
+put (binary Implies) s = formula (Form.implication (topFormula (tail s)) (topFormula s)) ∷ tail (tail s)
+put (binary Iff) s = formula (Form.equivalence (topFormula (tail s)) (topFormula s)) ∷ tail (tail s)
 put (constant true) s = formula Form.truth ∷ s
 put (constant false) s = formula Form.falsity ∷ s
-put (relation contact) s = formula (Form.atom (Atom.contact (topTerm (below s)) (topTerm s))) ∷ below (below s)
-put (relation part) s = formula (Form.atom (Atom.part (topTerm (below s)) (topTerm s))) ∷ below (below s)
+put (relation contact) s = formula (Form.atom (Atom.contact (topTerm (tail s)) (topTerm s))) ∷ tail (tail s)
+put (relation part) s = formula (Form.atom (Atom.part (topTerm (tail s)) (topTerm s))) ∷ tail (tail s)
 
 -- the stack after a list of symbols
 unfoldable pub puts : {N : Type 0} → List (Symbol N) → List (Value N) → List (Value N)
@@ -110,5 +107,4 @@ module _ {N : Type 0} where
   symbolNames (relation c) = []
 
   unfoldable pub namesIn : List (Symbol N) → List N
-  namesIn [] = []
-  namesIn (x ∷ xs) = symbolNames x ++ namesIn xs
+  namesIn xs = gather symbolNames xs

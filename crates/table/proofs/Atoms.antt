@@ -3,7 +3,7 @@
 use Prim.Native.Nat.{ℕ, suc, _+_, _≤_}
 use mathlib.Core.Path.{_≡_, refl, sym, ap, _∙_}
 use mathlib.Core.Bool.{Bool, true, false, cond}
-use mathlib.Core.List.{List, [], _∷_, _++_, map-append}
+use mathlib.Core.List.{List, [], _∷_, _++_}
 use native.Mathlib.Omega.{arith}
 use lib.ListN.{length, take, length-append}
 use Rattle.lists.proofs.Padded.{pad-within}
@@ -13,10 +13,11 @@ use Rattle.formula.specs.Atoms.{atomsOf}
 use Rattle.syntax.specs.Symbol.{relation, contact, part, isZero}
 use Rattle.syntax.specs.Postfix.{termAfter, formulaAfter, postfix}
 use Rattle.syntax.specs.Machine.{Sym}
-use Rattle.syntax.specs.Reader.{code, codes}
+use Rattle.syntax.specs.Reader.{codes}
 use Rattle.syntax.specs.Rule.{ruleOf, meaningOf}
 use Rattle.syntax.specs.declared.RuleAnswer.the-variants as RuleAnswer
 use Rattle.syntax.specs.declared.Rule.{Rule}
+use Rattle.syntax.proofs.Heads.{codes-append}
 use Rattle.syntax.proofs.Claims.{length-codes, text-read, is-rule}
 use Rattle.table.specs.Store.{Text}
 use Rattle.compile.specs.Kinds.{atomKind}
@@ -40,10 +41,6 @@ places-most (k ∷ ks) = go (atomKind k) (places-most ks)
     go : (t : Bool) → atomPlaces ks ≤ length ks → cond t (suc (atomPlaces ks)) (atomPlaces ks) ≤ suc (length ks)
     go true h = omega arith
     go false h = omega arith
-
-codes-append : (a b : List Sym) → codes (a ++ b) ≡ codes a ++ codes b
-unfolding codes
-codes-append a b = map-append code a b
 
 -- how many symbols are atoms
 abbrev count : List Sym → ℕ
