@@ -14,6 +14,7 @@ use borrow.Author.Tests.{not-true, not-false}
 use Rattle.formula.specs.Formula.{Atom, Form, Formula}
 use Rattle.lists.specs.Search.{In, here, next, any, all, first, orElse}
 use Rattle.lists.proofs.Search.{none-in, uncons, at-head, in-left, in-right, map-elim, any-elim, none-intro, all-elim, first-none, first-append}
+use Rattle.lists.proofs.Lists.{map-at}
 use Rattle.lists.proofs.Truth.{clash, cases, or-cases}
 use Rattle.contact.specs.Meaning.{value}
 use Rattle.formula.specs.Atoms.{atomsOf}
@@ -159,11 +160,6 @@ refutes-sound nums part h row ext =
 
 -- ---- a whole row decides every rule
 
-pub row-known : (row : Row) (i : ℕ) → i < length row → getD (map is row) i unknown ≡ is (getD row i false)
-row-known [] i h = absurd (omega arith)
-row-known (b ∷ row) zero h = refl
-row-known (b ∷ row) (suc i) h = row-known row i (omega arith)
-
 and-known : (b c : Bool) → kleeneAnd (is b) (is c) ≡ is (b && c)
 and-known true c = refl
 and-known false c = refl
@@ -223,7 +219,7 @@ module _ (row : Row) where
 
   refutes-known : (nums : List (Form ℕ)) → NumbersBelow (length row) nums → refutes nums (map is row) ≡ not (rulesTrue nums row)
   unfolding rulesTrue refutes
-  refutes-known nums h = rules-known nums (λ i k. row-known row i (h i k))
+  refutes-known nums h = rules-known nums (λ i k. map-at is row i false unknown (h i k))
 
 -- ---- the two tests together
 
