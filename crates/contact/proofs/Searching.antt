@@ -223,16 +223,16 @@ module _ (row : Row) where
 
 -- ---- the two tests together
 
--- the marks of a partial row are among those of each row that extends it
-no-marks : {P : Type 0} {m : Mark} (atoms : List (Atom ℕ)) → In m (rowMarks atoms []) → P
-no-marks [] i = none-in i
-no-marks (a ∷ atoms) i = none-in i
+pub no-marks : (atoms : List (Atom ℕ)) → rowMarks atoms [] ≡ []
+no-marks [] = refl
+no-marks (a ∷ atoms) = refl
 
+-- the marks of a partial row are among those of each row that extends it
 marks-extend : (row : Row) (part : PartialRow) (atoms : List (Atom ℕ)) → Extends row part → (m : Mark) → In m (marksOf atoms part)
     → In m (rowMarks atoms row)
 marks-extend row part [] h m i = none-in i
 marks-extend row [] (a ∷ atoms) h m i = none-in i
-marks-extend [] (unknown ∷ part) (a ∷ atoms) h m i = no-marks atoms (marks-extend [] part atoms h m i)
+marks-extend [] (unknown ∷ part) (a ∷ atoms) h m i = none-in (subst (In m) (no-marks atoms) (marks-extend [] part atoms h m i))
 marks-extend [] (is b ∷ part) (a ∷ atoms) h m i = absurd h
 marks-extend (c ∷ row) (unknown ∷ part) (a ∷ atoms) h m i = next (marks-extend row part atoms h m i)
 marks-extend (c ∷ row) (is b ∷ part) (a ∷ atoms) h m i =
