@@ -9,12 +9,9 @@ use lib.Dec.{ltb}
 use borrow.Author.Tests.{not-true}
 use Rattle.formula.specs.Formula.{Term}
 use Rattle.lists.specs.Search.{In, any, all}
-use Rattle.lists.proofs.Search.{any-intro, any-elim, none-intro, all-intro, all-elim}
+use Rattle.lists.proofs.Search.{any-intro, any-wider, none-intro, all-intro, all-elim}
 use Rattle.lists.proofs.Truth.{clash}
 use Rattle.contact.specs.Plan.{at, Mark, touching, apart, vacant, inhabited, evaluations, parts, empties, separated, allowed, fills, partners, leads, witnessed, check}
-
-any-more : {A : Type 0} (p q : A → Bool) (xs : List A) → ((x : A) → p x ≡ true → q x ≡ true) → any p xs ≡ true → any q xs ≡ true
-any-more p q xs h t = let w = any-elim p xs t in any-intro q (w .1) (h (w .0) (w .2))
 
 module _ (n : ℕ) (ms fewer : List Mark) (sub : (m : Mark) → In m fewer → In m ms) where
   none-fewer : (p : Mark → Bool) → not (any p ms) ≡ true → not (any p fewer) ≡ true
@@ -48,18 +45,18 @@ module _ (n : ℕ) (ms fewer : List Mark) (sub : (m : Mark) → In m fewer → I
   leads-fewer x y p h =
       let w = and-eq-true-iff (fills n ms x p) (any (partners n ms y p) (evaluations n)) .0 h in
       and-intro (fills-fewer x p (w .0))
-      (any-more (partners n ms y p) (partners n fewer y p) (evaluations n) (partners-fewer y p) (w .1))
+      (any-wider (partners n ms y p) (partners n fewer y p) (evaluations n) (partners-fewer y p) (w .1))
 
   witnessed-fewer : (m : Mark) → witnessed n ms m ≡ true → witnessed n fewer m ≡ true
-  witnessed-fewer (touching x y) h = any-more (leads n ms x y) (leads n fewer x y) (evaluations n) (leads-fewer x y) h
+  witnessed-fewer (touching x y) h = any-wider (leads n ms x y) (leads n fewer x y) (evaluations n) (leads-fewer x y) h
   witnessed-fewer (apart x y) h = refl
   witnessed-fewer (vacant t) h = refl
-  witnessed-fewer (inhabited t) h = any-more (fills n ms t) (fills n fewer t) (evaluations n) (fills-fewer t) h
+  witnessed-fewer (inhabited t) h = any-wider (fills n ms t) (fills n fewer t) (evaluations n) (fills-fewer t) h
 
   pub check-fewer : check n ms ≡ true → check n fewer ≡ true
   unfolding check
   check-fewer h =
       let w = and-eq-true-iff (any (allowed n ms) (evaluations n)) (all (witnessed n ms) ms) .0 h in
       and-intro
-      (any-more (allowed n ms) (allowed n fewer) (evaluations n) allowed-fewer (w .0))
+      (any-wider (allowed n ms) (allowed n fewer) (evaluations n) allowed-fewer (w .0))
       (all-intro (witnessed n fewer) fewer (λ m i. witnessed-fewer m (all-elim (witnessed n ms) (sub m i) (w .1))))

@@ -8,6 +8,7 @@ use native.Mathlib.Omega.{arith}
 use lib.ListN.{length, getD, length-append, length-map}
 use Rattle.formula.specs.Formula.{Atom, Form, Formula}
 use Rattle.lists.specs.Search.{In, all, from, below}
+use Rattle.lists.proofs.Lists.{map-at}
 use Rattle.lists.proofs.Search.{from-append, below-elim}
 use Rattle.contact.specs.Meaning.{Floor, atomOn, value, meetsAll}
 use Rattle.formula.specs.Atoms.{atomsOf}
@@ -61,13 +62,21 @@ module _ {A : Type 0} (v : A → Bool) where
         ap₂ _&&_ (number-value k f (agrees-left r k (atomsOf f) (allAtoms fs) h))
         (numbers-value (k + length (atomsOf f)) fs (agrees-right r k (atomsOf f) (allAtoms fs) h))
 
-  agrees-later : (r : ℕ → Bool) (k : ℕ) (xs : List A) → Agrees (λ i. r (suc i)) k xs → Agrees r (suc k) xs
-  agrees-later r k [] h = tt
-  agrees-later r k (x ∷ xs) h = (h .0, agrees-later r (suc k) xs (h .1))
+  -- r gives the atoms numbered from k on their values, if it does so at each place
+  pub agrees-places : (none : A) (r : ℕ → Bool) (k : ℕ) (xs : List A) → ((i : ℕ) → i < length xs → r (k + i) ≡ v (getD xs i none))
+      → Agrees r k xs
+  agrees-places none r k [] h = tt
+  agrees-places none r k (x ∷ xs) h =
+      let e : k ≡ k + 0 = omega arith in (
+        ap r e ∙ h 0 (omega arith),
+        agrees-places none r (suc k) xs (λ i l. let f : suc k + i ≡ k + suc i = omega arith in ap r f ∙ h (suc i) (omega arith)),
+      )
 
   agrees-map : (xs : List A) → Agrees (λ i. getD (map v xs) i false) 0 xs
   agrees-map [] = tt
-  agrees-map (x ∷ xs) = (refl, agrees-later (λ i. getD (map v (x ∷ xs)) i false) 0 xs (agrees-map xs))
+  agrees-map (x ∷ xs) =
+      agrees-places x (λ i. getD (map v (x ∷ xs)) i false) 0 (x ∷ xs)
+      (λ i l. let e : 0 + i ≡ i = omega arith in ap (λ (j : ℕ). getD (map v (x ∷ xs)) j false) e ∙ map-at v (x ∷ xs) i x false l)
 
 -- the numbered rules `nums` over the atoms `atoms` say of a floor what the rules say
 abbrev pub Faithful : List (Formula ℕ) → List (Atom ℕ) → List (Form ℕ) → Type 0

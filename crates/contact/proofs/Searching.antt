@@ -7,7 +7,7 @@ use mathlib.Core.Path.{_≡_, refl, sym, ap, ap₂, _∙_, subst, fun-ext}
 use mathlib.Core.Logic.{⊎-elim}
 use mathlib.Core.List.{List, [], _∷_, _++_, map, append-assoc, append-nil, map-map, map-id, map-append}
 use mathlib.Mathlib.Data.Bool.Basic.{eq-false-of-not-eq-true}
-use Prim.Native.Nat.{ℕ, zero, suc, _+_, _<_}
+use Prim.Native.Nat.{ℕ, zero, suc, _+_}
 use native.Mathlib.Omega.{arith}
 use lib.ListN.{length, getD, length-append}
 use borrow.Author.Tests.{not-true, not-false}
@@ -15,6 +15,7 @@ use Rattle.formula.specs.Formula.{Atom, Form, Formula}
 use Rattle.lists.specs.Search.{In, here, next, any, all, first, orElse}
 use Rattle.lists.proofs.Search.{none-in, uncons, at-head, in-left, in-right, map-elim, any-elim, none-intro, all-elim, first-none, first-append}
 use Rattle.lists.proofs.Truth.{clash, cases, or-cases, beq-true, beq-false, or-as, morgan}
+use Rattle.lists.proofs.Lists.{map-at}
 use Rattle.contact.specs.Meaning.{value}
 use Rattle.formula.specs.Atoms.{atomsOf}
 use Rattle.contact.specs.Numbering.{allAtoms, numberedAtoms}
@@ -146,11 +147,6 @@ refutes-sound nums part h row ext =
 
 -- ---- a whole row decides every rule
 
-pub row-known : (row : Row) (i : ℕ) → i < length row → getD (map is row) i unknown ≡ is (getD row i false)
-row-known [] i h = absurd (omega arith)
-row-known (b ∷ row) zero h = refl
-row-known (b ∷ row) (suc i) h = row-known row i (omega arith)
-
 and-known : (b c : Bool) → kleeneAnd (is b) (is c) ≡ is (b && c)
 and-known true c = refl
 and-known false c = refl
@@ -206,20 +202,20 @@ module _ (row : Row) where
 
   refutes-known : (nums : List (Form ℕ)) → NumbersBelow (length row) nums → refutes nums (map is row) ≡ not (rulesTrue nums row)
   unfolding rulesTrue refutes
-  refutes-known nums h = rules-known nums (λ i k. row-known row i (h i k))
+  refutes-known nums h = rules-known nums (λ i k. map-at is row i false unknown (h i k))
 
 -- ---- the two tests together
 
--- the marks of a partial row are among those of each row that extends it
-no-marks : {P : Type 0} {m : Mark} (atoms : List (Atom ℕ)) → In m (rowMarks atoms []) → P
-no-marks [] i = none-in i
-no-marks (a ∷ atoms) i = none-in i
+pub no-marks : (atoms : List (Atom ℕ)) → rowMarks atoms [] ≡ []
+no-marks [] = refl
+no-marks (a ∷ atoms) = refl
 
+-- the marks of a partial row are among those of each row that extends it
 marks-extend : (row : Row) (part : PartialRow) (atoms : List (Atom ℕ)) → Extends row part → (m : Mark) → In m (marksOf atoms part)
     → In m (rowMarks atoms row)
 marks-extend row part [] h m i = none-in i
 marks-extend row [] (a ∷ atoms) h m i = none-in i
-marks-extend [] (unknown ∷ part) (a ∷ atoms) h m i = no-marks atoms (marks-extend [] part atoms h m i)
+marks-extend [] (unknown ∷ part) (a ∷ atoms) h m i = none-in (subst (In m) (no-marks atoms) (marks-extend [] part atoms h m i))
 marks-extend [] (is b ∷ part) (a ∷ atoms) h m i = absurd h
 marks-extend (c ∷ row) (unknown ∷ part) (a ∷ atoms) h m i = next (marks-extend row part atoms h m i)
 marks-extend (c ∷ row) (is b ∷ part) (a ∷ atoms) h m i =

@@ -1,8 +1,9 @@
 -- Document 01, 'The plan that is given', as it is computed: the check of a row, whole or partial, and the points. Rules and
 -- atoms have numbers for names. Facts hold for any number of names. Assumes nothing.
 use mathlib.Core.Bool.{Bool, true, false, not, _&&_, _||_}
+use mathlib.Core.Path.{_≡_}
 use mathlib.Core.List.{List, [], _∷_, _++_, map}
-use Prim.Native.Nat.{ℕ, zero, suc, _^_}
+use Prim.Native.Nat.{ℕ, zero, suc, _^_, _<_}
 use lib.Dec.{ltb}
 use lib.ListN.{length}
 use Rattle.formula.specs.Formula.{Term, Atom, Form, Formula}
@@ -15,6 +16,10 @@ use Rattle.contact.specs.Row.{Row, is, unknown, PartialRow, rulesTrue}
 -- "An evaluation is a number whose bit i is set if the point lies in name i." The term holds there.
 abbrev pub at : Term ℕ → ℕ → Bool
 at t e = holds (λ i. bit e i) t
+
+-- the set holds the term's evaluations, of those over so many names
+abbrev pub Means : ℕ → (ℕ → Bool) → Term ℕ → Type 0
+Means names x t = (e : ℕ) → e < 2 ^ names → x e ≡ at t e
 
 -- all evaluations, ascending
 abbrev pub evaluations : ℕ → List ℕ

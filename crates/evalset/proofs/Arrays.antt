@@ -8,7 +8,7 @@ use mathlib.Mathlib.Logic.Function.Defs.{congr-fun}
 use Prim.Native.Nat.{ℕ, _+_, _≤_, _<_}
 use native.Mathlib.Omega.{arith}
 use native.Mathlib.Decide.{ℕ-discrete as decEq}
-use lib.Dec.{ltb, eqb}
+use lib.Dec.{eqb}
 use lib.ListN.{length, getD, set, replicate}
 use lib.Seq.{getD-set-same, getD-set-other}
 use borrow.Author.Tests.{lt-ltb, le-ltb, eq-eqb, ne-eqb}
@@ -34,40 +34,39 @@ pub mem-at-other : (xs : List EvalSet) (i j : ℕ) (s : EvalSet) → (j ≡ i �
 unfolding memAt
 mem-at-other xs i j s d = ap mem (getD-set-other xs i j s (record { bits = 0 }) d)
 
+-- ---- the positions in a set
+module _ (n : ℕ) (points : List ℕ) (x : ℕ → Bool) where
+  pub outside : (j : ℕ) → n ≤ j → positionsOf n points x j ≡ false
+  unfolding positionsOf
+  outside j h = ap (λ (b : Bool). b && x (getD points j 0)) (le-ltb j n h)
+
+  pub inside : (j : ℕ) → j < n → positionsOf n points x j ≡ x (getD points j 0)
+  unfolding positionsOf
+  inside j h = ap (λ (b : Bool). b && x (getD points j 0)) (lt-ltb j n h)
+
 -- ---- one position more
 pub positions-none : (points : List ℕ) (x : ℕ → Bool) → noneOf ≡ positionsOf 0 points x
-unfolding positionsOf
-positions-none points x = fun-ext (λ j. sym (ap (λ (b : Bool). b && x (getD points j 0)) (le-ltb j 0 (omega arith))))
+positions-none points x = fun-ext (λ j. sym (outside 0 points x j (omega arith)))
 
 module _ (n : ℕ) (points : List ℕ) (x : ℕ → Bool) where
   same : (j : ℕ) → (j ≡ n → ⊥) → positionsOf n points x j ≡ positionsOf (n + 1) points x j
-  unfolding positionsOf
-  same j ne = ap (λ (b : Bool). b && x (getD points j 0)) (⊎-elim low high (side j n))
-    where
-      low : j < n → ltb j n ≡ ltb j (n + 1)
-      low l = lt-ltb j n l ∙ sym (lt-ltb j (n + 1) (omega arith))
-
-      high : n ≤ j → ltb j n ≡ ltb j (n + 1)
-      high l = le-ltb j n l ∙ sym (le-ltb j (n + 1) (omega (arith, ne)))
+  same j ne =
+      ⊎-elim (λ l. inside n points x j l ∙ sym (inside (n + 1) points x j (omega arith)))
+      (λ l. outside n points x j l ∙ sym (outside (n + 1) points x j (omega (arith, ne)))) (side j n)
 
   here : (b : Bool) → x (getD points n 0) ≡ b → (j : ℕ) → j ≡ n → positionsOf (n + 1) points x j ≡ b
-  unfolding positionsOf
-  here b h j e = ap₂ _&&_ (lt-ltb j (n + 1) (omega arith)) (ap (λ (k : ℕ). x (getD points k 0)) e ∙ h)
-
-  at-end : (j : ℕ) → j ≡ n → positionsOf n points x j ≡ false
-  unfolding positionsOf
-  at-end j e = ap (λ (b : Bool). b && x (getD points j 0)) (le-ltb j n (omega arith))
+  here b h j e = inside (n + 1) points x j (omega arith) ∙ ap (λ (k : ℕ). x (getD points k 0)) e ∙ h
 
   pub positions-more : n < room
       → cond (x (getD points n 0)) (addOf (positionsOf n points x) n) (positionsOf n points x) ≡ positionsOf (n + 1) points x
   positions-more l = go (x (getD points n 0)) refl
     where
       add : x (getD points n 0) ≡ true → (j : ℕ) → Dec (j ≡ n) → (positionsOf n points x j || eqb j n) ≡ positionsOf (n + 1) points x j
-      add h j (yes e) = ap₂ _||_ (at-end j e) (eq-eqb j n e) ∙ sym (here true h j e)
+      add h j (yes e) = ap₂ _||_ (outside n points x j (omega arith)) (eq-eqb j n e) ∙ sym (here true h j e)
       add h j (no ne) = ap (λ (b : Bool). positionsOf n points x j || b) (ne-eqb j n ne) ∙ or-false (positionsOf n points x j) ∙ same j ne
 
       skip : x (getD points n 0) ≡ false → (j : ℕ) → Dec (j ≡ n) → positionsOf n points x j ≡ positionsOf (n + 1) points x j
-      skip h j (yes e) = at-end j e ∙ sym (here false h j e)
+      skip h j (yes e) = outside n points x j (omega arith) ∙ sym (here false h j e)
       skip h j (no ne) = same j ne
 
       go : (b : Bool) → x (getD points n 0) ≡ b

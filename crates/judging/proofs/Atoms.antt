@@ -1,44 +1,44 @@
 -- The value of the sheet's atom on the arrays is that of the rules' atom on the floor of the plan that they hold: the sheet's sets are
 -- the atom's terms, below 2 ^ names, and there plan's laws apply. A store of one value more keeps those before it. Assumes nothing.
 use mathlib.Core.Bool.{Bool}
-use mathlib.Core.Path.{_≡_, ap, _∙_, subst}
+use mathlib.Core.Path.{_≡_, sym, ap, _∙_, subst}
 use mathlib.Core.List.{List}
-use Prim.Native.Nat.{ℕ, _+_, _^_, _<_}
+use Prim.Native.Nat.{ℕ, _+_, _<_}
 use native.Mathlib.Omega.{arith}
 use lib.ListN.{length, set}
 use borrow.Author.Count.{below-none, below-more}
-use Rattle.formula.specs.Formula.{Term, Atom}
+use Rattle.formula.specs.Formula.{Atom}
+use Rattle.evalset.specs.Sets.{memAt}
 use Rattle.contact.specs.Meaning.{partTerm, atomOn}
 use Rattle.kleene.specs.declared.Two.{Two}
 use Rattle.kleene.specs.Rails.{sure, duoAt, leafAt}
 use Rattle.kleene.proofs.Turns.{two-same, two-other}
 use Rattle.search.specs.declared.Sheet.{Sheet}
-use Rattle.search.specs.Compiled.{Stands, AtomIs, atomAt, Compiled}
+use Rattle.search.specs.Compiled.{AtomIs, atomAt, contactAt, Compiled}
 use Rattle.plan.specs.declared.PlanArrays.{PlanArrays}
 use Rattle.plan.specs.Words.{Plan, IsPlan}
 use Rattle.plan.specs.Arrays.{Stored}
-use Rattle.plan.specs.Floor.{planFloor, Means}
+use Rattle.plan.specs.Floor.{planFloor}
 use Rattle.plan.proofs.Judged.{touches-meant, vacant-meant}
 use Rattle.judging.specs.Values.{atomOf, valueOf, Sure}
 
 -- ---- on the floor
 
-module _ (p : Plan) (h : IsPlan p) (r : PlanArrays) (s : Stored r p) (n : ℕ) (named : p .names ≡ n) where
-  means : (x : ℕ → Bool) (t : Term ℕ) → Stands n x t → Means (p .names) x t
-  means x t g e l = g e (subst (λ (m : ℕ). e < 2 ^ m) named l)
-
-  atom-is : (contact : Bool) (x y : ℕ → Bool) (a : Atom ℕ) → AtomIs n contact x y a → atomOf r contact x y ≡ atomOn (planFloor p h) a
+module _ (p : Plan) (h : IsPlan p) (r : PlanArrays) (s : Stored r p) where
+  atom-is : (contact : Bool) (x y : ℕ → Bool) (a : Atom ℕ) → AtomIs (p .names) contact x y a → atomOf r contact x y ≡ atomOn (planFloor p h) a
   atom-is contact x y (Atom.contact u t) m =
-      ap (λ (b : Bool). atomOf r b x y) (m .0) ∙ touches-meant p h r s x y u t (means x u (m .1)) (means y t (m .2))
+      ap (λ (b : Bool). atomOf r b x y) (m .0) ∙ touches-meant p h r s x y u t (m .1) (m .2)
   atom-is contact x y (Atom.part u t) m =
-      ap (λ (b : Bool). atomOf r b x y) (m .0) ∙ vacant-meant p h r s x (partTerm u t) (means x (partTerm u t) (m .1))
+      ap (λ (b : Bool). atomOf r b x y) (m .0) ∙ vacant-meant p h r s x (partTerm u t) (m .1)
   atom-is contact x y (Atom.empty t) m =
-      ap (λ (b : Bool). atomOf r b x y) (m .0) ∙ vacant-meant p h r s x t (means x t (m .1))
+      ap (λ (b : Bool). atomOf r b x y) (m .0) ∙ vacant-meant p h r s x t (m .1)
 
 pub value-is : (p : Plan) (h : IsPlan p) (r : PlanArrays) → Stored r p → (sheet : Sheet) (atoms : List (Atom ℕ)) → Compiled sheet atoms
     → p .names ≡ sheet .names → (i : ℕ) → i < length atoms → valueOf r sheet i ≡ atomOn (planFloor p h) (atomAt atoms i)
 unfolding valueOf
-value-is p h r s sheet atoms c q i l = atom-is p h r s (sheet .names) q _ _ _ (atomAt atoms i) (c .atom-is i l)
+value-is p h r s sheet atoms c q i l =
+    atom-is p h r s (contactAt sheet i) (memAt (sheet .xs) i) (memAt (sheet .ys) i) (atomAt atoms i)
+    (subst (λ (n : ℕ). AtomIs n (contactAt sheet i) (memAt (sheet .xs) i) (memAt (sheet .ys) i) (atomAt atoms i)) (sym q) (c .atom-is i l))
 
 -- ---- one value more
 

@@ -1,28 +1,17 @@
 -- Numbered rules are judged as the rules are: each number stands for the atom at its place, so a numbered rule has the value of the rule.
 -- Assumes nothing.
 use mathlib.Core.Bool.{Bool, cond}
-use mathlib.Core.Path.{_≡_, refl, ap, ap₂, _∙_}
+use mathlib.Core.Path.{_≡_, refl, ap₂}
 use mathlib.Core.List.{List, [], _∷_}
 use Prim.Native.Nat.{ℕ, suc, _+_, _<_}
-use native.Mathlib.Omega.{arith}
 use lib.ListN.{length, getD}
 use Rattle.formula.specs.Formula.{Atom, Formula}
 use Rattle.formula.specs.Atoms.{atomsOf}
 use Rattle.contact.specs.Meaning.{Floor, atomOn}
 use Rattle.contact.specs.Numbering.{allAtoms, numberFrom}
-use Rattle.contact.proofs.Numbered.{Agrees, agrees-left, agrees-right, number-value}
+use Rattle.contact.proofs.Numbered.{Agrees, agrees-left, agrees-right, agrees-places, number-value}
 use Rattle.plan.specs.Judging.{Judgement, unmet, judgeFrom}
 use Rattle.judging.specs.Values.{judgeNumbers}
-
--- w gives the atoms numbered from k on their values, if it does so at each place
-agrees-places : {A : Type 0} (v : A → Bool) (none : A) (w : ℕ → Bool) (k : ℕ) (xs : List A) → ((i : ℕ) → i < length xs → w (k + i) ≡ v (getD xs i none))
-    → Agrees v w k xs
-agrees-places v none w k [] h = tt
-agrees-places v none w k (x ∷ xs) h =
-    let e : k ≡ k + 0 = omega arith in (
-      ap w e ∙ h 0 (omega arith),
-      agrees-places v none w (suc k) xs (λ i l. let f : suc k + i ≡ k + suc i = omega arith in ap w f ∙ h (suc i) (omega arith)),
-    )
 
 module _ (F : Floor ℕ) (w : ℕ → Bool) where
   -- the atoms are numbered from k, the rules from `one`

@@ -1,15 +1,15 @@
 -- The laws of search in a list, all by recursion on the list: what passes a test is found, what is found passes it, and a search
--- in two lists, one after the other, goes list by list. Assumes nothing.
+-- in two lists, one after the other, goes list by list; and how many are found, kept or gathered at most. Assumes nothing.
 use mathlib.Core.Bool.{Bool, true, false, _&&_, _||_, cond, or-assoc, or-false, and-true, and-assoc, true≢false, and-eq-true-iff}
 use mathlib.Core.Path.{_≡_, refl, sym, ap, ap₂, _∙_, subst}
 use mathlib.Core.Logic.{_⊎_, inl, inr, ⊎-elim}
 use mathlib.Core.List.{List, [], _∷_, _++_, map, append-nil, append-assoc, nil≢cons, head-eq-of-cons-eq}
 use mathlib.Mathlib.Data.Bool.Basic.{and-intro, eq-false-of-not-eq-true, or-inl, or-inr}
-use Prim.Native.Nat.{ℕ, zero, suc, _+_, _*_, _≤_, _<_}
+use Prim.Native.Nat.{ℕ, zero, suc, _+_, _*_, _≤_, _<_, max}
 use native.Mathlib.Omega.{arith}
 use lib.ListN.{length, getD, take, drop, length-append}
 use lib.Dec.{eqb}
-use borrow.Author.Tests.{eqb-true, eqb-false, eq-eqb}
+use borrow.Author.Tests.{eqb-true, eqb-false, eq-eqb, ne-eqb}
 use Rattle.lists.specs.Search.{In, here, next, any, all, first, keep, orElse, gather, from, below, elem}
 use Rattle.lists.proofs.Truth.{clash, cases, or-cases}
 
@@ -25,6 +25,9 @@ module _ {A : Type 0} where
 
   pub in-one : {x y : A} → In x (y ∷ []) → x ≡ y
   in-one i = ⊎-elim (λ q. q) (λ j. none-in j) (uncons i)
+
+  pub in-tail : {x y : A} {xs : List A} → In x (y ∷ xs) → (x ≡ y → ⊥) → In x xs
+  in-tail i h = ⊎-elim (λ q. absurd (h q)) (λ j. j) (uncons i)
 
   pub at-head : {x y : A} {xs : List A} → x ≡ y → In x (y ∷ xs)
   at-head {y} {xs} q = subst (λ w. In w (y ∷ xs)) (sym q) here
@@ -104,6 +107,10 @@ module _ {A : Type 0} where
   any-same p q [] h = refl
   any-same p q (x ∷ xs) h = ap₂ _||_ (h x here) (any-same p q xs (λ y i. h y (next i)))
 
+  -- or for one that passes more
+  pub any-wider : (p q : A → Bool) (xs : List A) → ((x : A) → p x ≡ true → q x ≡ true) → any p xs ≡ true → any q xs ≡ true
+  any-wider p q xs h t = let w = any-elim p xs t in any-intro q (w .1) (h (w .0) (w .2))
+
   -- one list after the other
   pub any-append : (p : A → Bool) (xs ys : List A) → any p (xs ++ ys) ≡ (any p xs || any p ys)
   any-append p [] ys = refl
@@ -165,6 +172,15 @@ module _ {A : Type 0} where
       pick true h = refl
       pick false h = h
 
+  -- at most one is found
+  pub first-short : (p : A → Bool) (xs : List A) → length (first p xs) ≤ 1
+  first-short p [] = omega arith
+  first-short p (x ∷ xs) = pick (p x) (first-short p xs)
+    where
+      pick : (b : Bool) → length (first p xs) ≤ 1 → length (cond b (x ∷ []) (first p xs)) ≤ 1
+      pick true h = omega arith
+      pick false h = h
+
 pub first-map : {A B : Type 0} (f : A → B) (p : B → Bool) (xs : List A) → first p (map f xs) ≡ map f (first (λ x. p (f x)) xs)
 first-map f p [] = refl
 first-map f p (x ∷ xs) = pick (p (f x)) (first-map f p xs)
@@ -203,6 +219,19 @@ module _ {A : Type 0} where
       go true ih = ap (λ (zs : List A). x ∷ zs) ih
       go false ih = ih
 
+  -- what passes one of two tests
+  keep-or : (p q : A → Bool) (xs : List A) → length (keep (λ x. p x || q x) xs) ≤ length (keep p xs) + length (keep q xs)
+  keep-or p q [] = omega arith
+  keep-or p q (x ∷ xs) = pick (p x) (q x) (keep-or p q xs)
+    where
+      pick : (b c : Bool) → length (keep (λ x. p x || q x) xs) ≤ length (keep p xs) + length (keep q xs)
+          → length (cond (b || c) (x ∷ keep (λ x. p x || q x) xs) (keep (λ x. p x || q x) xs))
+          ≤ length (cond b (x ∷ keep p xs) (keep p xs)) + length (cond c (x ∷ keep q xs) (keep q xs))
+      pick true true h = omega arith
+      pick true false h = omega arith
+      pick false true h = omega arith
+      pick false false h = h
+
   pub or-else-left : {x : A} {xs : List A} (ys : List A) → In x xs → In x (orElse xs ys)
   or-else-left ys here = here
   or-else-left ys (next i) = next i
@@ -214,6 +243,10 @@ module _ {A : Type 0} where
   pub or-else-some : (xs ys : List A) → (x : A) × In x ys → (x : A) × In x (orElse xs ys)
   or-else-some [] ys r = r
   or-else-some (z ∷ xs) ys r = (z, here)
+
+  pub or-else-length : (xs ys : List A) (m : ℕ) → length xs ≤ m → length ys ≤ 1 → length (orElse xs ys) ≤ max 1 m
+  or-else-length [] ys m h k = omega arith
+  or-else-length (x ∷ xs) ys m h k = omega arith
 
 module _ {A B : Type 0} where
   pub gather-intro : (f : A → List B) {xs : List A} {x : A} {y : B} → In x xs → In y (f x) → In y (gather f xs)
@@ -246,6 +279,11 @@ module _ {A B : Type 0} where
   gather-few f c (x ∷ xs) h =
       let z : suc (length xs) * c ≡ c + length xs * c = omega arith in
       omega (arith, length-append (f x) (gather f xs), h x here, gather-few f c xs (λ y i. h y (next i)))
+
+-- what is gathered from gathered lists is gathered list by list
+pub gather-gather : {A B C : Type 0} (g : B → List C) (f : A → List B) (xs : List A) → gather g (gather f xs) ≡ gather (λ x. gather g (f x)) xs
+gather-gather g f [] = refl
+gather-gather {C = C} g f (x ∷ xs) = gather-append g (f x) (gather f xs) ∙ ap (λ (l : List C). gather g (f x) ++ l) (gather-gather g f xs)
 
 -- ---- numbers in rising order
 
@@ -285,3 +323,26 @@ elem-intro e i = any-intro (eqb e) i (eq-eqb e e refl)
 
 pub elem-elim : (e : ℕ) (xs : List ℕ) → elem e xs ≡ true → In e xs
 elem-elim e xs h = let r = any-elim (eqb e) xs h in subst (λ z. In z xs) (sym (eqb-true e (r .0) (r .2))) (r .1)
+
+pub elem-gather-last : {A : Type 0} (f : A → List ℕ) (xs : List A) (x : A) (e : ℕ)
+    → elem e (gather f (xs ++ x ∷ [])) ≡ (elem e (gather f xs) || elem e (f x))
+elem-gather-last f xs x e = ap (elem e) (gather-last f xs x) ∙ any-append (eqb e) (gather f xs) (f x)
+
+-- a number stands once in a rising run
+keep-one : (w k n : ℕ) → length (keep (λ e. eqb e w) (from k n)) ≤ 1
+keep-one w k zero = omega arith
+keep-one w k (suc n) =
+    cases (eqb k w)
+    (λ q. let rest : keep (λ e. eqb e w) (from (suc k) n) ≡ [] =
+    keep-nothing (λ e. eqb e w) (from (suc k) n) (λ e i. other e (from-elim (suc k) n e i .0) (eqb-true k w q)) in
+    rw (q, rest) (omega arith))
+    (λ q. rw q (keep-one w (suc k) n))
+  where
+    other : (e : ℕ) → suc k ≤ e → k ≡ w → eqb e w ≡ false
+    other e h q = ne-eqb e w (λ r. omega arith)
+
+-- so a rising run has no more of a list's numbers than the list is long
+pub keep-elems : (ws : List ℕ) (k n : ℕ) → length (keep (λ e. elem e ws) (from k n)) ≤ length ws
+keep-elems [] k n = rw (keep-nothing (λ e. false) (from k n) (λ e i. refl)) (omega arith)
+keep-elems (w ∷ ws) k n =
+    omega (arith, keep-or (λ e. eqb e w) (λ e. elem e ws) (from k n), keep-one w k n, keep-elems ws k n)

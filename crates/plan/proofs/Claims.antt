@@ -12,12 +12,12 @@ use Rattle.evalset.specs.Sets.{mem, memAt, most}
 use Rattle.contact.specs.Meaning.{Floor, atomOn, meetsAll}
 use Rattle.contact.specs.Numbering.{allAtoms, namesOf, numberedNames}
 use Rattle.contact.specs.Row.{Row, Realises}
-use Rattle.contact.specs.Plan.{firstRowOf}
+use Rattle.contact.specs.Plan.{Means, firstRowOf}
 use Rattle.plan.specs.declared.PlanArrays.{PlanArrays}
 use Rattle.plan.specs.declared.PlanAnswer.the-variants as answer-is
 use Rattle.plan.specs.declared.PlanRead.{PlanRead}
 use Rattle.plan.specs.Words.{Plan, Ascends, IsPlan, wordsOf, Refusal}
-use Rattle.plan.specs.Floor.{touching, planFloor, namedFloor, Means}
+use Rattle.plan.specs.Floor.{touching, planFloor, namedFloor}
 use Rattle.plan.specs.Judging.{yes, unmet, judge}
 use Rattle.plan.specs.Reader.{Reading, plan, refused, readOf}
 use Rattle.plan.specs.Arrays.{Stored, answerOf, planIn, Reads, countOf, planBy, touchesOf, vacantOf}

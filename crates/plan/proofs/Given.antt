@@ -11,6 +11,7 @@ use native.Mathlib.Nat.{mul-suc, suc-mul, mul-le-mul}
 use lib.ListN.{length, getD, length-append, length-map}
 use lib.Pow.{pow-mono}
 use Rattle.lists.proofs.Below.{keep-length, gather-small}
+use Rattle.lists.proofs.Search.{first-short}
 use Rattle.lists.proofs.Truth.{side}
 use Rattle.formula.specs.Formula.{Formula, Name}
 use Rattle.lists.specs.Search.{keep, gather, from, elem}
@@ -22,7 +23,7 @@ use Rattle.contact.proofs.Realise.{marksFloor, points-some, plan-points, plan-t
 use Rattle.contact.proofs.Numbered.{all-atoms-map}
 use Rattle.contact.proofs.Answer.{row-found, rowFloor, plan-gives-row, plan-meets}
 use Rattle.contact.proofs.Naming.{numbers-row, numbers-meet, first-row-named, first-row-only-named, no-plan-named}
-use Rattle.contact.proofs.Count.{first-short, points-at-most}
+use Rattle.contact.proofs.Count.{points-at-most}
 use Rattle.contact.proofs.SameFloor.{SameFloor, row-same, meets-same}
 use Rattle.plan.specs.Words.{Plan, Ascends, IsPlan, lastWord, before, wordsOf}
 use Rattle.evalset.specs.Sets.{most}

@@ -14,9 +14,10 @@ use Rattle.evalset.specs.Sets.{memAt}
 use Rattle.lists.proofs.Search.{any-same, below-elim}
 use Rattle.lists.proofs.Padded.{pad-at}
 use Rattle.contact.specs.Meaning.{within, isEmpty, touches}
+use Rattle.contact.specs.Plan.{Means}
 use Rattle.plan.specs.declared.PlanArrays.{PlanArrays}
 use Rattle.plan.specs.Words.{Plan, Ascends, IsPlan}
-use Rattle.plan.specs.Floor.{touching, liesIn, planFloor, Means}
+use Rattle.plan.specs.Floor.{touching, liesIn, planFloor}
 use Rattle.plan.specs.Arrays.{square, Stored, countOf, pointAt, touchesOf, vacantOf}
 use Rattle.plan.proofs.Complete.{ascends-room}
 

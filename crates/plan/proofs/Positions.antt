@@ -4,11 +4,11 @@ use mathlib.Core.Bool.{Bool, true, false, not, _&&_, _||_, and-comm, and-false}
 use mathlib.Core.List.{List}
 use Prim.Native.Nat.{ℕ, _+_, _≤_, _<_}
 use lib.ListN.{getD}
-use borrow.Author.Tests.{lt-ltb, le-ltb}
 use Rattle.lists.proofs.Below.{any-at, any-more, any-cut}
 use Rattle.lists.specs.Search.{any, below}
 use Rattle.evalset.specs.Sets.{room, memAt, meetOf}
 use Rattle.evalset.specs.Arrays.{positionsOf}
+use Rattle.evalset.proofs.Arrays.{outside, inside}
 use Rattle.lists.proofs.Search.{any-same, below-elim}
 use Rattle.plan.specs.declared.PlanArrays.{PlanArrays}
 use Rattle.plan.specs.Arrays.{countOf, pointAt, touchesOf, vacantOf}
@@ -31,23 +31,15 @@ module _ (pts : List ℕ) (rows : ℕ → ℕ → Bool) (x ys : ℕ → Bool) wh
 
 -- ---- a search among the positions in a set
 module _ (n : ℕ) (pts : List ℕ) (s : ℕ → Bool) (l : n ≤ room) where
-  outside : (j : ℕ) → n ≤ j → positionsOf n pts s j ≡ false
-  unfolding positionsOf
-  outside j h = ap (λ (b : Bool). b && s (getD pts j 0)) (le-ltb j n h)
-
-  inside : (j : ℕ) → j < n → positionsOf n pts s j ≡ s (getD pts j 0)
-  unfolding positionsOf
-  inside j h = ap (λ (b : Bool). b && s (getD pts j 0)) (lt-ltb j n h)
-
   any-positions : any (positionsOf n pts s) (below room) ≡ any (λ j. s (getD pts j 0)) (below n)
-  any-positions = any-cut (positionsOf n pts s) n room l (λ d a b. outside d a)
-      ∙ any-same (positionsOf n pts s) (λ j. s (getD pts j 0)) (below n) (λ j i. inside j (below-elim n j i))
+  any-positions = any-cut (positionsOf n pts s) n room l (λ d a b. outside n pts s d a)
+      ∙ any-same (positionsOf n pts s) (λ j. s (getD pts j 0)) (below n) (λ j i. inside n pts s j (below-elim n j i))
 
   any-met : (row : ℕ → Bool) → any (meetOf row (positionsOf n pts s)) (below room) ≡ any (λ j. s (getD pts j 0) && row j) (below n)
   any-met row =
-      any-cut (meetOf row (positionsOf n pts s)) n room l (λ d a b. ap (λ (v : Bool). row d && v) (outside d a) ∙ and-false (row d))
+      any-cut (meetOf row (positionsOf n pts s)) n room l (λ d a b. ap (λ (v : Bool). row d && v) (outside n pts s d a) ∙ and-false (row d))
       ∙ any-same (meetOf row (positionsOf n pts s)) (λ j. s (getD pts j 0) && row j) (below n)
-      (λ j i. ap (λ (v : Bool). row j && v) (inside j (below-elim n j i)) ∙ and-comm (row j) (s (getD pts j 0)))
+      (λ j i. ap (λ (v : Bool). row j && v) (inside n pts s j (below-elim n j i)) ∙ and-comm (row j) (s (getD pts j 0)))
 
 -- ---- the two atoms
 module _ (r : PlanArrays) (n : ℕ) (m : n ≡ countOf r) (l : n ≤ room) where

@@ -23,14 +23,10 @@ use Rattle.plan.specs.Private.{planOf}
 use Rattle.plan.proofs.Squares.{Related, square-elim, square-intro}
 use Rattle.plan.proofs.Contacts.{links-rise}
 use Rattle.plan.proofs.Judged.{few-points, count-is}
-use Rattle.lists.proofs.Search.{none-in, in-one, any-intro, any-elim, gather-intro, gather-elim, below-intro, below-elim}
+use Rattle.lists.proofs.Search.{none-in, in-one, in-tail, any-intro, any-elim, gather-intro, gather-elim, below-intro, below-elim}
 use Rattle.lists.proofs.Truth.{or-cases, side}
 
 -- ---- rising lists
-in-tail : (k x : ℕ) (xs : List ℕ) → In k (x ∷ xs) → (k ≡ x → ⊥) → In k xs
-in-tail k x xs here h = absurd (h refl)
-in-tail k x xs (next i) h = i
-
 pub in-rises : (k low n : ℕ) (ks : List ℕ) → Rises low n ks → In k ks → (low ≤ k) × (k / 256 < k % 256) × (k % 256 < n)
 in-rises k low n (x ∷ xs) r here = (r .0, r .1, r .2)
 in-rises k low n (x ∷ xs) r (next i) = let w = in-rises k (suc x) n xs (r .3) i in (omega (arith, w .0, r .0), w .1, w .2)
@@ -48,8 +44,8 @@ rises-same low n (x ∷ xs) (y ∷ ys) r s f g =
     let e : x ≡ y = le-antisymm (head-least y x low n xs r (g y here)) (head-least x y low n ys s (f x here)) in
     ap₂ (λ (z : ℕ) (l : List ℕ). z ∷ l) e
     (rises-same (suc x) n xs ys (r .3) (subst (λ (z : ℕ). Rises (suc z) n ys) (sym e) (s .3))
-    (λ k i. in-tail k y ys (f k (next i)) (λ q. omega (arith, in-rises k (suc x) n xs (r .3) i .0)))
-    (λ k i. in-tail k x xs (g k (next i)) (λ q. omega (arith, in-rises k (suc y) n ys (s .3) i .0))))
+    (λ k i. in-tail (f k (next i)) (λ q. omega (arith, in-rises k (suc x) n xs (r .3) i .0)))
+    (λ k i. in-tail (g k (next i)) (λ q. omega (arith, in-rises k (suc y) n ys (s .3) i .0))))
 
 -- ---- what the contacts of rows are
 record Linked (k n i j : ℕ) (row : ℕ → Bool) : Type 0 where

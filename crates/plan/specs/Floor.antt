@@ -5,17 +5,16 @@ use mathlib.Core.Path.{_≡_, refl, sym, ap, ap₂, _∙_, fun-ext}
 use mathlib.Core.Bool.{Bool, true, _||_, or-comm}
 use mathlib.Core.List.{List}
 use mathlib.Mathlib.Data.Bool.Basic.{or-inl}
-use Prim.Native.Nat.{ℕ, _*_, _+_, _^_, _<_}
+use Prim.Native.Nat.{ℕ, _*_, _+_}
 use native.Mathlib.Decide.{ℕ-discrete as decEq}
 use lib.Dec.{eqb}
 use lib.ListN.{length, getD}
 use borrow.Author.Tests.{eq-eqb, ne-eqb}
-use Rattle.formula.specs.Formula.{Term, Formula, Name}
+use Rattle.formula.specs.Formula.{Formula, Name}
 use Rattle.lists.specs.Search.{any}
 use Rattle.evalset.specs.Bit.{bit}
 use Rattle.contact.specs.Meaning.{Floor, renamed}
 use Rattle.contact.specs.Numbering.{numberOf}
-use Rattle.contact.specs.Plan.{at}
 use Rattle.plan.specs.Words.{Plan, IsPlan}
 
 -- the contact k is between the positions a and b
@@ -66,7 +65,3 @@ planFloor p h =
 -- the same over the names of rules, each at its number
 abbrev pub namedFloor : List (Formula Name) → (p : Plan) → IsPlan p → Floor Name
 namedFloor rules p h = renamed (numberOf rules) (planFloor p h)
-
--- the set holds the term's evaluations, of those over so many names
-abbrev pub Means : ℕ → (ℕ → Bool) → Term ℕ → Type 0
-Means names x t = (e : ℕ) → e < 2 ^ names → x e ≡ at t e

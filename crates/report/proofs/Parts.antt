@@ -10,15 +10,11 @@ use Rattle.formula.specs.Formula.{Name}
 use Rattle.lexer.specs.Text.{bytes}
 use Rattle.lists.specs.Search.{gather, below, orElse}
 use Rattle.evalset.specs.Sets.{memAt}
-use Rattle.lists.proofs.Search.{gather-append}
+use Rattle.lists.proofs.Search.{gather-gather}
 use Rattle.plan.specs.Arrays.{pairOf, rowTo, linksTo, planBy}
 use Rattle.plan.specs.declared.PlanArrays.{PlanArrays}
 use Rattle.plan.proofs.Contacts.{pair-there}
 use Rattle.report.specs.Output.{labelled, ended, headLine, blanked, nameIf, pointNames, namesOrNone, pointLine, pointLines, contactLine, planText}
-
-gather-gather : {A B C : Type 0} (g : B → List C) (f : A → List B) (xs : List A) → gather g (gather f xs) ≡ gather (λ x. gather g (f x)) xs
-gather-gather g f [] = refl
-gather-gather {C = C} g f (x ∷ xs) = gather-append g (f x) (gather f xs) ∙ ap (λ (l : List C). gather g (f x) ++ l) (gather-gather g f xs)
 
 pub names-parts : (names : List Name) (e : ℕ)
     → gather blanked (pointNames names e) ≡ gather (λ i. gather blanked (nameIf names e i)) (below (length names))

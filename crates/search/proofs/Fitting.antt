@@ -15,11 +15,11 @@ use Rattle.lists.specs.Search.{any, all, below}
 use Rattle.evalset.specs.Sets.{most, room, mem, memAt, belowOf, meetOf, minusOf}
 use Rattle.evalset.proofs.Members.{names-room, below-few, any-names}
 use Rattle.contact.specs.Meaning.{partTerm}
-use Rattle.contact.specs.Plan.{at, evaluations, Mark, touching, apart, vacant, inhabited, zeroMark, mark, parts, separated, empties, allowed, fills, partners, leads, witnessed, check}
+use Rattle.contact.specs.Plan.{at, Means, evaluations, Mark, touching, apart, vacant, inhabited, zeroMark, mark, parts, separated, empties, allowed, fills, partners, leads, witnessed, check}
 use Rattle.contact.proofs.Realise.{allowed-elim, fills-elim, partners-elim, leads-elim, check-elim}
 use Rattle.search.specs.declared.State.{State}
 use Rattle.search.specs.Tests.{crossed, lessOf, partOf, startsOf, witnessedOf}
-use Rattle.search.specs.Compiled.{Stands, AtomIs, Fit, Follows}
+use Rattle.search.specs.Compiled.{AtomIs, Fit, Follows}
 use Rattle.lists.proofs.Search.{any-last, all-last}
 
 -- ---- what is allowed, and all that is taken from it, is below 2 ^ n
@@ -61,7 +61,7 @@ fit-start n s h g = (
 
 -- what an atom with its value forbids and separates is what its mark does
 module _ (n : ℕ) (contact : Bool) (x y : ℕ → Bool) where
-  zero-less : (value : Bool) (t : Term ℕ) → contact ≡ false → Stands n x t → (e : ℕ) → e < 2 ^ n
+  zero-less : (value : Bool) (t : Term ℕ) → contact ≡ false → Means n x t → (e : ℕ) → e < 2 ^ n
       → lessOf contact value x y e ≡ (empties e (zeroMark value t) || parts e e (zeroMark value t))
   zero-less true t h g e l = ap (λ (b : Bool). lessOf b true x y e) h ∙ g e l ∙ sym (or-false (at t e))
   zero-less false t h g e l = ap (λ (b : Bool). lessOf b false x y e) h
@@ -126,21 +126,21 @@ module _ (n : ℕ) (few : n ≤ most) (s : State) (ms : List Mark) (f : Fit n s 
   pub some-is : any (allowedIn s) (below room) ≡ any (allowed n ms) (evaluations n)
   some-is = ap (λ (p : ℕ → Bool). any p (below room)) (f .allowed-is) ∙ any-names (allowed n ms) n few (allowed-low n ms)
 
-  pub fills-is : (x : ℕ → Bool) (t : Term ℕ) → Stands n x t → meetOf (allowedIn s) x ≡ fills n ms t
+  pub fills-is : (x : ℕ → Bool) (t : Term ℕ) → Means n x t → meetOf (allowedIn s) x ≡ fills n ms t
   unfolding fills
   fills-is x t h =
       fun-ext
       (λ e. ap (λ (b : Bool). b && x e) (congr-fun (f .allowed-is) e)
       ∙ guarded e (2 ^ n) (allowed n ms e) (x e) (at t e) (allowed-out n ms e) (h e))
 
-  pub partners-is : (y : ℕ → Bool) (t : Term ℕ) → Stands n y t → (p : ℕ) → p < 2 ^ n → minusOf (meetOf (allowedIn s) y) (separatedIn s p) ≡ partners n ms t p
+  pub partners-is : (y : ℕ → Bool) (t : Term ℕ) → Means n y t → (p : ℕ) → p < 2 ^ n → minusOf (meetOf (allowedIn s) y) (separatedIn s p) ≡ partners n ms t p
   unfolding partners
   partners-is y t h p lp =
       fun-ext
       (λ q. ap (λ (b : Bool). b && not (separatedIn s p q)) (congr-fun (fills-is y t h) q)
       ∙ guarded q (2 ^ n) (fills n ms t q) _ _ (fills-out n ms t q) (λ l. ap not (f .rows-are p q lp l)))
 
-  pub leads-is : (x y : ℕ → Bool) (u t : Term ℕ) → Stands n x u → Stands n y t
+  pub leads-is : (x y : ℕ → Bool) (u t : Term ℕ) → Means n x u → Means n y t
       → startsOf (meetOf (allowedIn s) x) (meetOf (allowedIn s) y) (separatedIn s) ≡ leads n ms u t
   unfolding startsOf leads
   leads-is x y u t hx hy =
@@ -150,7 +150,7 @@ module _ (n : ℕ) (few : n ≤ most) (s : State) (ms : List Mark) (f : Fit n s 
       (λ l. ap (λ (r : ℕ → Bool). any r (below room)) (partners-is y t hy p l)
       ∙ any-names (partners n ms t p) n few (partners-low n ms t p)))
 
-  zero-witnessed : (contact value : Bool) (x y : ℕ → Bool) (t : Term ℕ) → contact ≡ false → Stands n x t
+  zero-witnessed : (contact value : Bool) (x y : ℕ → Bool) (t : Term ℕ) → contact ≡ false → Means n x t
       → witnessedOf contact value (allowedIn s) (separatedIn s) x y ≡ witnessed n ms (zeroMark value t)
   zero-witnessed contact true x y t h g = ap (λ (b : Bool). witnessedOf b true (allowedIn s) (separatedIn s) x y) h
   zero-witnessed contact false x y t h g =

@@ -13,10 +13,10 @@ use Rattle.evalset.proofs.Members.{first-names}
 use Rattle.lists.proofs.Search.{none-in, uncons, first-in, below-elim, elem-intro, elem-elim, gather-elim, or-else-cases, gather-same}
 use Rattle.lists.proofs.Truth.{clash}
 use Rattle.contact.specs.Meaning.{partTerm}
-use Rattle.contact.specs.Plan.{evaluations, Mark, touching, apart, vacant, inhabited, zeroMark, mark, allowed, fills, partners, leads, withPartner, gives, given}
+use Rattle.contact.specs.Plan.{Means, evaluations, Mark, touching, apart, vacant, inhabited, zeroMark, mark, allowed, fills, partners, leads, withPartner, gives, given}
 use Rattle.search.specs.declared.State.{State}
 use Rattle.search.specs.Tests.{pairFrom, pairOf, givesOf}
-use Rattle.search.specs.Compiled.{Stands, AtomIs, Fit}
+use Rattle.search.specs.Compiled.{AtomIs, Fit}
 use Rattle.search.proofs.Fitting.{allowedIn, separatedIn, allowed-low, fills-low, partners-low, leads-low, fills-is, partners-is, leads-is}
 
 -- ---- what an atom with its value gives
@@ -25,14 +25,14 @@ module _ (n : ℕ) (few : n ≤ most) (s : State) (ms : List Mark) (f : Fit n s 
   pub least-is : first (allowedIn s) (below room) ≡ first (allowed n ms) (evaluations n)
   least-is = ap (λ (p : ℕ → Bool). first p (below room)) (f .allowed-is) ∙ first-names (allowed n ms) n few (allowed-low n ms)
 
-  partner-is : (y : ℕ → Bool) (t : Term ℕ) → Stands n y t → (p : ℕ) → p < 2 ^ n
+  partner-is : (y : ℕ → Bool) (t : Term ℕ) → Means n y t → (p : ℕ) → p < 2 ^ n
       → pairFrom (meetOf (allowedIn s) y) (separatedIn s) p ≡ withPartner n ms t p
   partner-is y t h p l =
       ap (λ (xs : List ℕ). p ∷ xs)
       (ap (λ (q : ℕ → Bool). first q (below room)) (partners-is n few s ms f y t h p l)
       ∙ first-names (partners n ms t p) n few (partners-low n ms t p))
 
-  pair-is : (x y : ℕ → Bool) (u t : Term ℕ) → Stands n x u → Stands n y t
+  pair-is : (x y : ℕ → Bool) (u t : Term ℕ) → Means n x u → Means n y t
       → pairOf (meetOf (allowedIn s) x) (meetOf (allowedIn s) y) (separatedIn s) ≡ gives n ms (touching u t)
   unfolding pairOf
   pair-is x y u t hx hy =
@@ -42,7 +42,7 @@ module _ (n : ℕ) (few : n ≤ most) (s : State) (ms : List Mark) (f : Fit n s 
       ∙ gather-same (pairFrom (meetOf (allowedIn s) y) (separatedIn s)) (withPartner n ms t) (first (leads n ms u t) (evaluations n))
       (λ p i. partner-is y t hy p (leads-low n ms u t p (first-in (leads n ms u t) (evaluations n) i .1)))
 
-  zero-gives : (contact value : Bool) (x y : ℕ → Bool) (t : Term ℕ) → contact ≡ false → Stands n x t
+  zero-gives : (contact value : Bool) (x y : ℕ → Bool) (t : Term ℕ) → contact ≡ false → Means n x t
       → givesOf contact value (allowedIn s) (separatedIn s) x y ≡ gives n ms (zeroMark value t)
   zero-gives contact true x y t h g = ap (λ (b : Bool). givesOf b true (allowedIn s) (separatedIn s) x y) h
   zero-gives contact false x y t h g =

@@ -17,6 +17,7 @@ use Rattle.lists.specs.Search.{In, here, next}
 use Rattle.evalset.proofs.Bits.{bit-zero, bit-suc}
 use Rattle.contact.specs.Row.{Row}
 use Rattle.contact.specs.Plan.{Mark, mark, rowMarks}
+use Rattle.contact.proofs.Searching.{no-marks}
 use Rattle.search.specs.Rows.{rowBits}
 use Rattle.search.specs.Compiled.{atomAt}
 
@@ -80,10 +81,6 @@ pub row-false : (k p : ℕ) → rowBits (k + 1) (p * 2 + 1) ≡ rowBits k p ++ f
 row-false k p = row-child k p 1 (omega arith)
 
 -- ---- the marks of a row
-
-pub no-marks : (atoms : List (Atom ℕ)) → rowMarks atoms [] ≡ []
-no-marks [] = refl
-no-marks (a ∷ atoms) = refl
 
 pub marks-last : (atoms : List (Atom ℕ)) (row : Row) (b : Bool) → length row < length atoms
     → rowMarks atoms (row ++ b ∷ []) ≡ rowMarks atoms row ++ mark (atomAt atoms (length row)) b ∷ []

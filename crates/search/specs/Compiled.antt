@@ -9,7 +9,7 @@ use Rattle.formula.specs.Formula.{Term, Atom}
 use Rattle.lists.specs.Search.{all}
 use Rattle.evalset.specs.Sets.{room, most, mem, memAt, minusOf}
 use Rattle.contact.specs.Meaning.{partTerm}
-use Rattle.contact.specs.Plan.{at, Mark, mark, rowMarks, separated, allowed, witnessed, check}
+use Rattle.contact.specs.Plan.{Means, Mark, mark, rowMarks, separated, allowed, witnessed, check}
 use Rattle.search.specs.declared.Sheet.{Sheet}
 use Rattle.search.specs.declared.State.{State}
 use Rattle.search.specs.Rows.{rowBits}
@@ -19,15 +19,11 @@ use Rattle.search.specs.Tests.{lessOf, partOf}
 abbrev pub limit : ℕ
 limit = 16
 
--- of the evaluations below 2 ^ names, x has those in the term
-abbrev pub Stands : ℕ → (ℕ → Bool) → Term ℕ → Type 0
-Stands names x t = (e : ℕ) → e < 2 ^ names → x e ≡ at t e
-
 -- an atom as the sheet has it: whether it is a contact, and its sets
 abbrev pub AtomIs : ℕ → Bool → (ℕ → Bool) → (ℕ → Bool) → Atom ℕ → Type 0
-AtomIs names contact x y (Atom.contact s t) = (contact ≡ true) × Stands names x s × Stands names y t
-AtomIs names contact x y (Atom.part s t) = (contact ≡ false) × Stands names x (partTerm s t)
-AtomIs names contact x y (Atom.empty t) = (contact ≡ false) × Stands names x t
+AtomIs names contact x y (Atom.contact s t) = (contact ≡ true) × Means names x s × Means names y t
+AtomIs names contact x y (Atom.part s t) = (contact ≡ false) × Means names x (partTerm s t)
+AtomIs names contact x y (Atom.empty t) = (contact ≡ false) × Means names x t
 
 -- what stands past the end of the atoms
 abbrev pub noAtom : Atom ℕ

@@ -17,7 +17,7 @@ use Rattle.syntax.specs.Rule.{ruleOf}
 use Rattle.syntax.specs.declared.Rule.{Rule}
 use Rattle.syntax.proofs.Claims.{length-codes, text-read}
 use Rattle.lists.specs.Search.{In}
-use Rattle.lists.proofs.Search.{in-right}
+use Rattle.lists.proofs.Search.{in-right, gather-last}
 use Rattle.contact.specs.Numbering.{numberOf, allAtoms, namesOf, mapAtom, mapForm, numberForm, numberFrom, numberedNames, numberedAtoms}
 use Rattle.contact.proofs.Numbered.{all-atoms-map, numbered-map, numbers-below}
 use Rattle.names.specs.declared.Gathered.{Gathered}
@@ -35,7 +35,7 @@ use Rattle.sheets.specs.declared.Compiling.{Compiling}
 use Rattle.sheets.specs.Ends.{lastEnd}
 use Rattle.sheets.specs.Counted.{nameCount}
 use Rattle.sheets.specs.Texts.{CompiledRules, OneMore}
-use Rattle.sheets.proofs.Numbers.{numbered-names-with, all-atoms-with, numbered-atoms-with}
+use Rattle.sheets.proofs.Numbers.{numbered-names-with, numbered-atoms-with}
 use Rattle.sheets.proofs.Coding.{last-few, coded-with, sets-first, sets-part}
 use Rattle.sheets.proofs.Counting.{count-few, names-counted}
 
@@ -76,7 +76,7 @@ module _ (rules : List (Formula Name)) (f : Formula Name) where
   last = numberForm (length earlier) f
 
   atoms-after : atomsAfter (numberOf all) f earlier ≡ allAtoms (numberedNames all)
-  atoms-after = sym (ap allAtoms (numbered-names-with rules f) ∙ all-atoms-with (numberedNames rules) (mapForm (mapAtom (numberOf all)) f))
+  atoms-after = sym (ap allAtoms (numbered-names-with rules f) ∙ gather-last atomsOf (numberedNames rules) (mapForm (mapAtom (numberOf all)) f))
 
   numbers-with : numberedAtoms (numberedNames all) ≡ numberedAtoms (numberedNames rules) ++ last ∷ []
   numbers-with =
@@ -88,7 +88,7 @@ module _ (rules : List (Formula Name)) (f : Formula Name) where
   last-below : (i : ℕ) → In i (atomsOf last) → i < length (allAtoms (numberedNames all))
   last-below i h =
       numbers-below (numberedNames all) i
-      (subst (In i) (sym (ap allAtoms numbers-with ∙ all-atoms-with (numberedAtoms (numberedNames rules)) last))
+      (subst (In i) (sym (ap allAtoms numbers-with ∙ gather-last atomsOf (numberedAtoms (numberedNames rules)) last))
       (in-right (allAtoms (numberedAtoms (numberedNames rules))) h))
 
 -- ---- a text behind the texts

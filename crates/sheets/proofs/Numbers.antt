@@ -1,14 +1,14 @@
 -- One rule put last changes no number: the names of the rules before it keep theirs, the atoms before it stand where they stood, and
 -- its own are numbered from there on. Assumes nothing.
 use mathlib.Core.Path.{_≡_, ap, _∙_}
-use mathlib.Core.List.{List, [], _∷_, _++_, append-nil, map-append}
+use mathlib.Core.List.{List, [], _∷_, _++_, map-append}
 use Prim.Native.Nat.{ℕ, _+_}
 use native.Mathlib.Omega.{arith}
 use lib.ListN.{length, length-append}
 use Rattle.formula.specs.Formula.{Form, Formula, Name}
 use Rattle.formula.specs.Atoms.{atomsOf}
 use Rattle.formula.specs.Names.{atomNames}
-use Rattle.lists.proofs.Search.{gather-intro, gather-append}
+use Rattle.lists.proofs.Search.{gather-intro}
 use Rattle.contact.specs.Numbering.{allAtoms, mapAtom, mapForm, numberedNames, numberForm, numberFrom, numberedAtoms, numberOf}
 use Rattle.contact.proofs.Renaming.{atom-same, forms-same}
 use Rattle.names.proofs.Claims.{rules-number-stays}
@@ -26,11 +26,7 @@ numbered-names-with rules f =
     (λ a i. atom-same (numberOf (rules ++ f ∷ [])) (numberOf rules) a (λ x j. rules-number-stays rules (f ∷ []) x (gather-intro atomNames i j))))
 
 module _ {A : Type 0} where
-  -- its atoms stand behind theirs
-  pub all-atoms-with : (rules : List (Form A)) (f : Form A) → allAtoms (rules ++ f ∷ []) ≡ allAtoms rules ++ atomsOf f
-  all-atoms-with rules f = gather-append atomsOf rules (f ∷ []) ∙ ap (λ (l : List A). allAtoms rules ++ l) (append-nil (atomsOf f))
-
-  -- and are numbered from there on
+  -- its atoms are numbered behind theirs
   number-from-with : (k : ℕ) (rules : List (Form A)) (f : Form A)
       → numberFrom k (rules ++ f ∷ []) ≡ numberFrom k rules ++ numberForm (k + length (allAtoms rules)) f ∷ []
   number-from-with k [] f = let e : k ≡ k + 0 = omega arith in ap (λ (j : ℕ). numberForm j f ∷ []) e

@@ -11,7 +11,7 @@ use lib.Dec.{eqb, ltb}
 use lib.ListN.{length, getD, replicate, length-append, length-map, List·getD-append, List·getD-eq-default}
 use lib.Seq.{getD-append-add}
 use borrow.Author.Tests.{lt-ltb, le-ltb}
-use Rattle.lists.proofs.Lists.{repeated-at}
+use Rattle.lists.proofs.Lists.{repeated-at, map-at}
 use Rattle.lists.proofs.Truth.{side, guarded}
 use Rattle.formula.specs.Formula.{Form}
 use Rattle.evalset.specs.declared.EvalSet.{EvalSet}
@@ -21,7 +21,6 @@ use Rattle.evalset.proofs.Bits.{bit-none, bit-zero, bit-suc, bit-above}
 use Rattle.evalset.proofs.Members.{names-room, below-few}
 use Rattle.contact.specs.Row.{is, unknown}
 use Rattle.contact.specs.Tableau.{refutes}
-use Rattle.contact.proofs.Searching.{row-known}
 use Rattle.kleene.specs.declared.Two.{Two}
 use Rattle.kleene.specs.Rails.{duo, sure, duoOf, duoAt, twoAt}
 use Rattle.search.specs.Rows.{rowBits}
@@ -38,7 +37,7 @@ module _ (k d row e i : ℕ) where
   -- of the row itself
   pub leaf-first : i < k → decidedAt k row d e i ≡ sure (getD (rowBits k row) i false)
   leaf-first l =
-      ap duoOf (row-known (rowBits k row ++ rowBits d e) i (omega (arith, block-length)))
+      ap duoOf (map-at is (rowBits k row ++ rowBits d e) i false unknown (omega (arith, block-length)))
       ∙ ap sure (List·getD-append (rowBits k row) (rowBits d e) false i (omega (arith, row-length k row)))
 
   -- of the block
@@ -46,7 +45,7 @@ module _ (k d row e i : ℕ) where
   leaf-second l m =
       let z : i ≡ length (rowBits k row) + (i - k) = omega (arith, row-length k row) in
       let y : d - 1 - (i - k) ≡ k + d - 1 - i = omega arith in
-      ap duoOf (row-known (rowBits k row ++ rowBits d e) i (omega (arith, block-length)))
+      ap duoOf (map-at is (rowBits k row ++ rowBits d e) i false unknown (omega (arith, block-length)))
       ∙ ap sure (ap (λ (x : ℕ). getD (rowBits k row ++ rowBits d e) x false) z
       ∙ getD-append-add (rowBits k row) (rowBits d e) (i - k) false
       ∙ row-at d e (i - k) (omega arith) ∙ ap (λ (x : ℕ). not (bit e x)) y)

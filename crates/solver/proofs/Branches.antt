@@ -27,12 +27,12 @@ use Rattle.contact.specs.Row.{is, Extends, rulesTrue}
 use Rattle.contact.specs.Plan.{rowMarks, check, rows, good, firstRow}
 use Rattle.contact.specs.Tableau.{refutes, closes, under}
 use Rattle.contact.proofs.Answer.{rows-elim}
-use Rattle.contact.proofs.Searching.{refutes-sound, closes-exact, extends-prefix, under-split, check-prefix}
+use Rattle.contact.proofs.Searching.{refutes-sound, closes-exact, extends-prefix, under-split, no-marks, check-prefix}
 use Rattle.search.specs.declared.Sheet.{Sheet}
 use Rattle.search.specs.declared.State.{State}
 use Rattle.search.specs.Rows.{rowBits}
 use Rattle.search.specs.Compiled.{limit, Compiled, Fit, StepSays}
-use Rattle.search.proofs.Rows.{row-length, row-true, row-false, no-marks}
+use Rattle.search.proofs.Rows.{row-length, row-true, row-false}
 use Rattle.search.proofs.Claims.{step-true, step-false}
 use Rattle.solver.specs.declared.Block.{Block}
 use Rattle.solver.specs.declared.RowAnswer.{RowAnswer}

@@ -17,7 +17,8 @@ use Rattle.lists.proofs.Truth.{clash}
 use Rattle.contact.specs.Plan.{Mark, mark, rowMarks, witnessed}
 use Rattle.search.specs.Rows.{rowBits}
 use Rattle.search.specs.Compiled.{atomAt, Compiled, Fit, WitnessedSays}
-use Rattle.search.proofs.Rows.{row-length, no-marks, marks-take, marks-whole, mark-in}
+use Rattle.contact.proofs.Searching.{no-marks}
+use Rattle.search.proofs.Rows.{row-length, marks-take, marks-whole, mark-in}
 use Rattle.search.proofs.Fitting.{witnessed-is}
 use Rattle.search.proofs.all_witnessed.Statement.{statement}
 use Rattle.search.proofs.all_witnessed.Tie as tie

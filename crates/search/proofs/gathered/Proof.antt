@@ -14,8 +14,9 @@ use Rattle.contact.specs.Plan.{Mark, mark, rowMarks, gives}
 use Rattle.search.specs.Rows.{rowBits}
 use Rattle.search.specs.Compiled.{atomAt, Compiled, Fit}
 use Rattle.search.specs.Planned.{GatheredSays}
-use Rattle.search.proofs.Rows.{row-length, no-marks, marks-take, marks-whole}
-use Rattle.search.proofs.Lists.{elem-gather-last}
+use Rattle.contact.proofs.Searching.{no-marks}
+use Rattle.search.proofs.Rows.{row-length, marks-take, marks-whole}
+use Rattle.lists.proofs.Search.{elem-gather-last}
 use Rattle.search.proofs.Giving.{gives-is}
 use Rattle.search.proofs.gathered.Statement.{statement}
 use Rattle.search.proofs.gathered.Tie as tie

@@ -11,7 +11,8 @@ use Rattle.contact.specs.Plan.{mark, rowMarks}
 use Rattle.search.specs.Rows.{rowBits}
 use Rattle.search.specs.Compiled.{atomAt, Compiled, Fit, StepSays}
 use Rattle.search.specs.Planned.{StateSays}
-use Rattle.search.proofs.Rows.{row-length, no-marks, marks-take, marks-whole}
+use Rattle.contact.proofs.Searching.{no-marks}
+use Rattle.search.proofs.Rows.{row-length, marks-take, marks-whole}
 use Rattle.search.proofs.state_of.Statement.{statement}
 use Rattle.search.proofs.state_of.Tie as tie
 
