@@ -1,6 +1,7 @@
 -- Numbers may stand for names: a floor over numbers is one over names, each name at its number, and meets the rules as read
 -- where it meets the numbered ones; the numbered rules with the names put back are the rules as read, so the same holds the
--- other way round. Assumes nothing.
+-- other way round. The distinct elements of a list are its elements, each once, so a part of a list has no more of them.
+-- Assumes nothing.
 use mathlib.Core.Bool.{Bool, true, false, not, _&&_, _||_, Bool·beq, cond, and-eq-true-iff}
 use mathlib.Core.Path.{_≡_, refl, sym, ap, ap₂, _∙_, subst, fun-ext}
 use mathlib.Core.Logic.{⊎-elim, _↔_, ∥∥₁-map}
