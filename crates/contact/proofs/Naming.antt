@@ -1,19 +1,21 @@
 -- Numbers may stand for names: a floor over numbers is one over names, each name at its number, and meets the rules as read
 -- where it meets the numbered ones; the numbered rules with the names put back are the rules as read, so the same holds the
--- other way round. Assumes nothing.
+-- other way round. The distinct elements of a list are its elements, each once, so a part of a list has no more of them.
+-- Assumes nothing.
 use mathlib.Core.Bool.{Bool, true, false, not, _&&_, _||_, Bool·beq, cond, and-eq-true-iff}
 use mathlib.Core.Path.{_≡_, refl, sym, ap, ap₂, _∙_, subst, fun-ext}
 use mathlib.Core.Logic.{⊎-elim, _↔_, ∥∥₁-map}
 use mathlib.Core.List.{List, [], _∷_, _++_, map, map-map, nil≢cons, cons≢nil, head-eq-of-cons-eq, tail-eq-of-cons-eq}
 use mathlib.Mathlib.Data.Bool.Basic.{and-intro}
-use Prim.Native.Nat.{ℕ, zero, suc, _<_}
+use Prim.Native.Nat.{ℕ, zero, suc, _≤_, _<_}
 use native.Mathlib.Omega.{arith}
 use lib.Dec.{eqb}
 use lib.ListN.{length, getD}
 use borrow.Author.Tests.{eqb-true, eq-eqb}
 use Rattle.formula.specs.Formula.{Term, Atom, Form, Formula, Name}
 use Rattle.lists.specs.Search.{In, here, next, any, all, gather, below}
-use Rattle.lists.proofs.Search.{none-in, uncons, at-head, in-left, in-right, map-elim, all-map, keep-intro, gather-intro}
+use Rattle.lists.proofs.Search.{none-in, uncons, at-head, in-left, in-right, map-elim, all-map, keep-intro, keep-elim, gather-intro}
+use Rattle.lists.proofs.Once.{Once, once-fits, once-kept}
 use Rattle.contact.specs.Meaning.{Floor, holds, within, partTerm, atomOn, value, meets, meetsAll, renamed}
 use Rattle.formula.specs.Atoms.{atomsOf}
 use Rattle.formula.specs.Names.{termNames, atomNames}
@@ -155,6 +157,12 @@ same-name (a ∷ v) (b ∷ w) = (
   λ e. and-intro (eq-eqb a b (head-eq-of-cons-eq e)) (same-name v w .1 (tail-eq-of-cons-eq e)),
 )
 
+-- the distinct elements of a list are elements of it
+pub from-distinct : {N : Type 0} (same : N → N → Bool) (xs : List N) {w : N} → In w (distinct same xs) → In w xs
+from-distinct same [] i = i
+from-distinct same (x ∷ xs) i =
+    ⊎-elim (λ e. at-head e) (λ j. next (from-distinct same xs (keep-elim (λ y. not (same x y)) (distinct same xs) j .0))) (uncons i)
+
 module _ {N : Type 0} (same : N → N → Bool) (decides : Decides same) where
   -- every element stands in the list of the distinct ones
   pub distinct-in : {x : N} (xs : List N) → In x xs → In x (distinct same xs)
@@ -164,7 +172,19 @@ module _ {N : Type 0} (same : N → N → Bool) (decides : Decides same) where
       (λ h. ⊎-elim (λ q. clash (decides y x .1 (sym q)) h)
       (λ j. next (keep-intro (λ z. not (same y z)) (distinct-in ys j) (ap not h))) (uncons i))
 
-  -- and is found at its position
+  -- each of them once
+  distinct-once : (xs : List N) → Once (distinct same xs)
+  distinct-once [] = tt
+  distinct-once (x ∷ xs) =
+      let p : N → Bool = λ y. not (same x y) in
+      (λ i. clash (keep-elim p (distinct same xs) i .1) (ap not (decides x x .1 refl)), once-kept p (distinct same xs) (distinct-once xs))
+
+  -- so elements that are all among others have no more distinct ones
+  pub distinct-fewer : (xs ys : List N) → ((z : N) → In z xs → In z ys) → length (distinct same xs) ≤ length (distinct same ys)
+  distinct-fewer xs ys s =
+      once-fits (distinct same xs) (distinct same ys) (distinct-once xs) (λ z i. distinct-in ys (s z (from-distinct same xs i)))
+
+  -- an element is found at its position
   position-found : (d : N) {x : N} (xs : List N) → In x xs
       → (position same xs x < length xs) × (getD xs (position same xs x) d ≡ x)
   position-found d [] i = none-in i

@@ -1,6 +1,6 @@
 -- A list in an array: an element stored behind the last one makes the list longer, and its own elements are read back.
 -- Assumes nothing.
-use mathlib.Core.Path.{_≡_, sym, ap, ap₂, _∙_}
+use mathlib.Core.Path.{_≡_, sym, ap, _∙_}
 use mathlib.Core.List.{List, [], _∷_, _++_}
 use Prim.Native.Nat.{ℕ, _+_, _-_, _≤_, _<_}
 use native.Mathlib.Omega.{arith}
@@ -21,11 +21,8 @@ pad-set n xs i x e h =
 
 -- the first i elements copied, and one more
 pub copy-next : (n : ℕ) (s : List ℕ) (i : ℕ) → i < length s → i < n
-    → set (take i s ++ replicate (n - i) 0) i (getD s i 0) ≡ take (i + 1) s ++ replicate (n - (i + 1)) 0
-copy-next n s i h k =
-    let m : n - i - 1 ≡ n - (i + 1) = omega arith in
-    set-behind (take i s) 0 (getD s i 0) (n - i) i (length-take-le i s (omega arith)) (omega arith)
-    ∙ ap₂ (λ (l : List ℕ) (j : ℕ). l ++ replicate j 0) (sym (take-next s i 0 h)) m
+    → set (pad n (take i s)) i (getD s i 0) ≡ pad n (take (i + 1) s)
+copy-next n s i h k = pad-set n (take i s) i (getD s i 0) (length-take-le i s (omega arith)) k ∙ ap (pad n) (sym (take-next s i 0 h))
 
 pub pad-at : (n : ℕ) (xs : List ℕ) (i : ℕ) → i < length xs → getD (pad n xs) i 0 ≡ getD xs i 0
 unfolding pad

@@ -3,16 +3,15 @@
 -- Assumes nothing.
 use mathlib.Core.Bool.{Bool, true, false, not, _||_, cond}
 use mathlib.Core.Path.{_≡_, refl, sym, ap, subst, _∙_}
-use mathlib.Core.Logic.{⊎-elim}
 use mathlib.Core.List.{List, [], _∷_, _++_, foldl, append-assoc, append-nil}
 use Prim.Native.Nat.{suc, _≤_, _<_}
 use native.Mathlib.Omega.{arith}
 use lib.ListN.{length, length-append}
-use Rattle.lists.specs.Search.{In, here, next, keep}
-use Rattle.lists.proofs.Search.{any-intro, any-elim, uncons, at-head, in-right, keep-elim, keep-append}
+use Rattle.lists.specs.Search.{In, here, keep}
+use Rattle.lists.proofs.Search.{any-intro, any-elim, in-right, keep-append}
 use Rattle.lists.proofs.Truth.{clash, cases}
 use Rattle.contact.specs.Numbering.{distinct, position}
-use Rattle.contact.proofs.Naming.{Decides, distinct-in}
+use Rattle.contact.proofs.Naming.{Decides, from-distinct, distinct-in}
 use Rattle.names.specs.Gather.{isIn, put}
 
 module _ {N : Type 0} (same : N → N → Bool) where
@@ -66,11 +65,6 @@ module _ {N : Type 0} (same : N → N → Bool) where
   put-all-longer ks ws = let r = put-all-grows ks ws in omega (arith, ap length (r .1), length-append ks (r .0))
 
   -- ---- distinct elements
-
-  -- a list's elements are the distinct ones
-  pub from-distinct : (xs : List N) {w : N} → In w (distinct same xs) → In w xs
-  from-distinct [] i = i
-  from-distinct (x ∷ xs) i = ⊎-elim (λ e. at-head e) (λ j. next (from-distinct xs (keep-elim (λ y. not (same x y)) (distinct same xs) j .0))) (uncons i)
 
   module _ (decides : Decides same) where
     -- an element is there once it is put
@@ -161,7 +155,7 @@ module _ {N : Type 0} (same : N → N → Bool) where
     pub distinct-in-list : (xs : List N) (w : N) → isIn same (distinct same xs) w ≡ true → In w xs
     distinct-in-list xs w h =
         let r = any-elim (λ k. same k w) (distinct same xs) h in
-        from-distinct xs (subst (λ (k : N). In k (distinct same xs)) (decides (r .0) w .0 (r .2)) (r .1))
+        from-distinct same xs (subst (λ (k : N). In k (distinct same xs)) (decides (r .0) w .0 (r .2)) (r .1))
 
     pub in-distinct : (xs : List N) (w : N) → In w xs → isIn same (distinct same xs) w ≡ true
     in-distinct xs w i = any-intro (λ k. same k w) (distinct-in same decides xs i) (decides w w .1 refl)

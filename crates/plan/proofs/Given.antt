@@ -4,7 +4,7 @@
 use mathlib.Core.Path.{_≡_, refl, sym, ap, _∙_, subst}
 use mathlib.Core.Bool.{Bool, true, false, not, cond}
 use mathlib.Core.Logic.{_↔_, ⊎-elim}
-use mathlib.Core.List.{List, [], _∷_, map, map-eq-nil-iff, nil≢cons, head-eq-of-cons-eq, tail-eq-of-cons-eq}
+use mathlib.Core.List.{List, [], _∷_, map, map-eq-nil-iff}
 use Prim.Native.Nat.{ℕ, zero, suc, _+_, _-_, _*_, _/_, _^_, _≤_, _<_}
 use native.Mathlib.Omega.{arith}
 use native.Mathlib.Nat.{mul-suc, suc-mul, mul-le-mul}
@@ -13,6 +13,7 @@ use lib.Pow.{pow-mono}
 use Rattle.lists.proofs.Below.{keep-length, gather-small}
 use Rattle.lists.proofs.Search.{first-short}
 use Rattle.lists.proofs.Truth.{side}
+use Rattle.lists.proofs.Once.{map-one}
 use Rattle.formula.specs.Formula.{Formula, Name}
 use Rattle.lists.specs.Search.{keep, gather, from, elem}
 use Rattle.contact.specs.Meaning.{Floor, meetsAll}
@@ -130,12 +131,6 @@ module _ (rules : List (Formula Name)) (row : Row) (found : firstRowOf (length (
         ∙ plan-meets (length (namesOf rules)) (numberedNames rules) row found
 
 -- ---- the plans of rules are none or one
-module _ {A B : Type 0} (f : A → B) where
-  map-one : (xs : List A) (y : B) → map f xs ≡ y ∷ [] → (x : A) × (xs ≡ x ∷ []) × (y ≡ f x)
-  map-one [] y e = absurd (nil≢cons e)
-  map-one (x ∷ xs) y e =
-      (x, ap (λ l. x ∷ l) (map-eq-nil-iff f .0 (tail-eq-of-cons-eq e)), sym (head-eq-of-cons-eq e))
-
 module _ (rules : List (Formula Name)) where
   -- none exactly if no floor meets the rules
   pub no-plan-given : (plansOf rules ≡ []) ↔ ((F : Floor Name) → meetsAll F rules ≡ true → ⊥)

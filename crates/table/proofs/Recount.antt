@@ -1,12 +1,13 @@
 -- The names and atoms of a table's rules, found text by text: a part of a list that can stand can stand, so that each text is a rule and
 -- its names are enough. Assumes nothing.
-use Prim.Native.Nat.{ℕ, _+_, _-_, _≤_, _<_}
+use Prim.Native.Nat.{ℕ, _+_, _≤_, _<_}
 use mathlib.Core.Path.{_≡_, refl, sym, ap, subst, _∙_}
 use mathlib.Core.List.{List, [], _∷_, _++_}
 use native.Mathlib.Omega.{arith}
-use lib.ListN.{length, take, drop, getD, replicate, length-append, take-append-drop}
+use lib.ListN.{length, take, drop, getD, take-append-drop}
 use lib.Seq.{take-all, length-take-le}
 use Rattle.lists.proofs.Lists.{take-next}
+use Rattle.lists.proofs.Padded.{pad-within}
 use Rattle.syntax.specs.Rule.{ruleOf}
 use Rattle.syntax.specs.declared.RuleAnswer.the-variants as RuleAnswer
 use Rattle.syntax.specs.declared.Rule.{Rule}
@@ -55,7 +56,7 @@ module _ {t : Table} {i : ℕ} (v : FromUs t) (h : i < t .count) where
   unfolding lineOf
   text-within =
       let e = line-is v h in
-      omega (arith, ap (λ (l : Line). l .len) e, ap (λ (l : Line). length (l .bytes)) e, length-append (getD (rulesOf t) i []) (replicate (256 - length (getD (rulesOf t) i [])) 0))
+      omega (arith, ap (λ (l : Line). l .len) e, ap (λ (l : Line). length (l .bytes)) e, pad-within 256 (getD (rulesOf t) i []))
 
   pub text-length : line .len ≡ length text
   text-length = sym (length-take-le _ _ text-within)

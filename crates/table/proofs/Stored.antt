@@ -1,16 +1,17 @@
 -- A table gives back the list that it was made of: a line holds its text and its length, and a table its lines and their number.
 -- Assumes nothing.
-use mathlib.Core.Path.{_≡_}
+use mathlib.Core.Path.{_≡_, refl}
 use mathlib.Core.List.{List, map}
 use mathlib.Mathlib.Data.List.Basic.{Function·LeftInverse·list-map}
 use lib.ListN.{length, length-map}
-use lib.Seq.{take-at, take-append-seam}
+use lib.Seq.{take-at}
+use Rattle.lists.proofs.Padded.{pad-taken}
 use Rattle.table.specs.Store.{Text, tableOf, rulesOf, lineOf, textOf}
 use Rattle.table.specs.Calls.{CanStand, FromUs}
 
 pub text-line : (s : Text) → textOf (lineOf s) ≡ s
 unfolding textOf lineOf
-text-line s = take-append-seam s _
+text-line s = pad-taken 256 s (length s) refl
 
 pub rules-table : (rs : List Text) → rulesOf (tableOf rs) ≡ rs
 unfolding rulesOf tableOf

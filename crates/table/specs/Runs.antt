@@ -2,7 +2,7 @@
 -- calls and the list alone. Assumes nothing.
 use Prim.Native.Nat.{ℕ}
 use mathlib.Core.Path.{_≡_}
-use mathlib.Core.List.{List, [], _∷_}
+use mathlib.Core.List.{List, [], _∷_, map}
 use Rattle.table.specs.declared.Table.{Table}
 use Rattle.table.specs.Store.{Text, tableOf, rulesOf}
 use Rattle.table.specs.Calls.{FromUs, addRules, added, withdrawRules, withdrawn, loadRules, loaded}
@@ -46,8 +46,7 @@ standing cs = standingFrom [] cs
 
 -- "The run it is compared with has one add for each standing rule, with that rule's text"
 unfoldable pub adds : List Text → List Call
-adds [] = []
-adds (s ∷ ss) = add s ∷ adds ss
+adds ss = map add ss
 
 -- the claim for tables of demand 3, of one list of calls
 pub record Faithful (cs : List Call) : Type 0 where

@@ -3,6 +3,7 @@
 use Prim.Native.Nat.{ℕ, _-_}
 use mathlib.Core.List.{List, [], _++_, map}
 use lib.ListN.{length, take, replicate}
+use Rattle.lists.specs.Padded.{pad}
 use Rattle.table.specs.declared.Line.{Line}
 use Rattle.table.specs.declared.Table.{Table}
 
@@ -12,7 +13,7 @@ Text = List ℕ
 
 -- a text in a line, zeros after it
 unfoldable pub lineOf : Text → Line
-lineOf s = record { bytes = s ++ replicate (256 - length s) 0; len = length s }
+lineOf s = record { bytes = pad 256 s; len = length s }
 
 -- the lines of the texts, empty ones after them: nothing else is held
 unfoldable pub tableOf : List Text → Table

@@ -2,7 +2,7 @@
 -- table of rows, and what ask gives follows for any buffer. Assumes nothing.
 use mathlib.Core.Path.{_≡_, refl, sym, ap, _∙_, subst}
 use mathlib.Core.Bool.{Bool, true, false, cond}
-use mathlib.Core.List.{List, [], _∷_, map, nil≢cons, cons≢nil, head-eq-of-cons-eq, tail-eq-of-cons-eq}
+use mathlib.Core.List.{List, [], _∷_, map, nil≢cons, cons≢nil, head-eq-of-cons-eq}
 use Prim.Native.Nat.{ℕ}
 use lib.Dec.{leb}
 use lib.ListN.{length}
@@ -14,9 +14,10 @@ use Rattle.lexer.specs.Arrays.{lexed}
 use Rattle.syntax.specs.Machine.{run as runMachine, reading}
 use Rattle.syntax.specs.Postfix.{puts}
 use Rattle.syntax.specs.Rule.{ruleOf, meaningOf}
-use Rattle.lists.specs.Search.{In, here, next}
+use Rattle.lists.specs.Search.{In}
 use Rattle.evalset.specs.Bit.{bit}
 use Rattle.lists.proofs.Truth.{clash}
+use Rattle.lists.proofs.Once.{map-same}
 use Rattle.contact.specs.Row.{rulesTrue}
 use Rattle.contact.specs.Plan.{separated, allowed, fills, partners, leads, check, given, pointsFor, good, firstRow}
 use Rattle.names.specs.Gather.{placesOf, ruleTokens, withName, namesAfter, gatheredOf, gathered}
@@ -90,17 +91,12 @@ asked : (buffer : List ℕ) (a : Answer) (rs : List Text) → isNone rs ≡ fals
 asked buffer a [] h e = clash refl h
 asked buffer a (s ∷ rs) h e = asked-for buffer s rs a (plansOf (formulasOf (s ∷ rs))) refl e
 
--- functions that are equal over a list are equal at each of its elements
-each : {A B : Type 0} (f g : A → B) {xs : List A} {x : A} → In x xs → map f xs ≡ map g xs → f x ≡ g x
-each f g here e = head-eq-of-cons-eq e
-each f g (next i) e = each f g i (tail-eq-of-cons-eq e)
-
 -- ---- the claim
 
 -- "P1 to P12 are shown to follow from the definitions by a single claim over their table."
 pub worked : (row : WorkedSheet) → In row workedSheets → Holds row
 worked row i =
-    let e = each computed written i sheets-computed in
+    let e = map-same computed written i sheets-computed in
     let held = same-table (row .calls) .holds in
     record {
       stand = ap (λ (o : Computed). o .rules) e;

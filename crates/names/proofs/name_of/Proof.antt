@@ -1,15 +1,16 @@
 -- `names::name_of` meets its contract: the bytes up to i are copied over the zeros (the invariant); what is left of the name falls.
 -- Assumes nothing.
 use Prim.Native.Nat.{ℕ, _-_, _≤_}
-use mathlib.Core.Path.{_≡_, refl, ap, _∙_}
-use mathlib.Core.List.{List, _++_}
+use mathlib.Core.Path.{_≡_, ap, _∙_}
+use mathlib.Core.List.{List}
 use native.Mathlib.Omega.{arith}
-use lib.ListN.{length, take, getD, set, replicate}
-use lib.Seq.{take-length}
+use lib.ListN.{length, take, getD, set}
+use lib.Seq.{take-all}
 use borrow.Author.Needs.{needs}
 use Rattle.names.specs.declared.KeptName.{KeptName}
 use Rattle.names.specs.Gather.{nameOf}
-use Rattle.lists.proofs.Padded.{copy-next}
+use Rattle.lists.specs.Padded.{pad}
+use Rattle.lists.proofs.Padded.{pad-none, copy-next}
 use Rattle.names.proofs.name_of.Statement.{statement}
 use Rattle.names.proofs.name_of.Tie as tie
 
@@ -17,13 +18,13 @@ abbrev nameWith : List ℕ → ℕ → KeptName
 nameWith b n = record { bytes = b; len = n }
 
 abbrev Inv-loop : tie.InvT-loop
-Inv-loop w bytes₀ i₀ bytes i = (i ≤ length w) × (length w ≤ 16) × (bytes ≡ take i w ++ replicate (16 - i) 0)
+Inv-loop w bytes₀ i₀ bytes i = (i ≤ length w) × (length w ≤ 16) × (bytes ≡ pad 16 (take i w))
 
 abbrev μ-loop : tie.MeasureT-loop
 μ-loop w bytes₀ i₀ bytes i = length w - i
 
 loop-holds : tie.Need-loop-holds Inv-loop μ-loop
-loop-holds c = (omega arith, c .pre, refl)
+loop-holds c = (omega arith, c .pre, pad-none 16)
 
 shared-slice-read-bytes : tie.Need-shared-slice-read-bytes Inv-loop μ-loop
 shared-slice-read-bytes c = search needs
@@ -51,13 +52,11 @@ cast-len : tie.Need-cast-len Inv-loop μ-loop
 cast-len c = omega arith
 
 returns : tie.Need-returns Inv-loop μ-loop
-unfolding nameOf
+unfolding nameOf pad
 returns c =
     let s = c .before .before .args .w .now in
     let i = c .before .loop .i in
-    let e : i ≡ length s = omega arith in
-    ap (λ (b : List ℕ). nameWith b (length s))
-    (c .before .loop .inv .2 ∙ ap (λ (n : ℕ). take n s ++ replicate (16 - n) 0) e ∙ ap (λ (l : List ℕ). l ++ replicate (16 - length s) 0) (take-length s))
+    ap (λ (b : List ℕ). nameWith b (length s)) (c .before .loop .inv .2 ∙ ap (pad 16) (take-all i s (omega arith)))
 
 pub name-of-spec : {M : Type 1} → statement M
 name-of-spec =

@@ -2,18 +2,19 @@
 use borrow.Author.Needs.{needs}
 use Prim.Native.Nat.{ℕ, _-_, _≤_}
 use mathlib.Core.Path.{_≡_, ap, _∙_}
-use mathlib.Core.List.{List, _++_}
-use lib.ListN.{length, take, getD, set, replicate}
-use lib.Seq.{take-length}
+use mathlib.Core.List.{List}
+use lib.ListN.{length, take, getD, set}
+use lib.Seq.{take-all}
+use Rattle.lists.specs.Padded.{pad}
 use Rattle.table.specs.Store.{lineOf}
-use Rattle.lists.proofs.Padded.{copy-next}
+use Rattle.lists.proofs.Padded.{pad-none, copy-next}
 use Rattle.table.proofs.Lines.{lineWith}
 use native.Mathlib.Omega.{arith}
 use Rattle.table.proofs.line_of.Statement.{statement}
 use Rattle.table.proofs.line_of.Tie as tie
 
 abbrev Inv-loop : tie.InvT-loop
-Inv-loop text bytes₀ i₀ bytes i = (i ≤ length text) × (bytes ≡ take i text ++ replicate (256 - i) 0)
+Inv-loop text bytes₀ i₀ bytes i = (i ≤ length text) × (bytes ≡ pad 256 (take i text))
 
 abbrev μ-loop : tie.MeasureT-loop
 μ-loop text bytes₀ i₀ bytes i = length text - i
@@ -22,7 +23,7 @@ zeros-requires : tie.Need-zeros-requires Inv-loop μ-loop
 zeros-requires c κs = search needs
 
 loop-holds : tie.Need-loop-holds Inv-loop μ-loop
-loop-holds c = (omega arith, c .zeros .ensures)
+loop-holds c = (omega arith, c .zeros .ensures ∙ pad-none 256)
 
 shared-slice-read-bytes : tie.Need-shared-slice-read-bytes Inv-loop μ-loop
 shared-slice-read-bytes c = search needs
@@ -50,9 +51,7 @@ unfolding lineOf
 returns c =
     let s = c .before .before .before .before .args .text .now in
     let i = c .before .loop .i in
-    let e : i ≡ length s = omega arith in
-    ap (λ (b : List ℕ). lineWith b (length s))
-    (c .before .loop .inv .1 ∙ ap (λ (n : ℕ). take n s ++ replicate (256 - n) 0) e ∙ ap (λ (l : List ℕ). l ++ replicate (256 - length s) 0) (take-length s))
+    ap (λ (b : List ℕ). lineWith b (length s)) (c .before .loop .inv .1 ∙ ap (pad 256) (take-all i s (omega arith)))
 
 pub line-of-spec : {M : Type 1} → statement M
 line-of-spec =
