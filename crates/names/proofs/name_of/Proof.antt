@@ -9,6 +9,7 @@ use lib.Seq.{take-length}
 use borrow.Author.Needs.{needs}
 use Rattle.names.specs.declared.KeptName.{KeptName}
 use Rattle.names.specs.Gather.{nameOf}
+use Rattle.lists.specs.Padded.{pad}
 use Rattle.lists.proofs.Padded.{copy-next}
 use Rattle.names.proofs.name_of.Statement.{statement}
 use Rattle.names.proofs.name_of.Tie as tie
@@ -51,7 +52,7 @@ cast-len : tie.Need-cast-len Inv-loop μ-loop
 cast-len c = omega arith
 
 returns : tie.Need-returns Inv-loop μ-loop
-unfolding nameOf
+unfolding nameOf pad
 returns c =
     let s = c .before .before .args .w .now in
     let i = c .before .loop .i in
