@@ -9,7 +9,7 @@ use lib.Dec.{eqb}
 use lib.ListN.{length, getD, take, drop, set, length-append, length-drop, length-set, take-append-drop}
 use lib.Seq.{sets, length-take-le, take-length}
 use Rattle.lists.proofs.Search.{gather-last}
-use Rattle.lists.proofs.Lists.{take-next}
+use Rattle.lists.proofs.Lists.{take-next, map-skip, sets-more}
 use Rattle.formula.specs.Formula.{Atom, Formula, Name}
 use Rattle.syntax.specs.Symbol.{Leaf, leaf, opening}
 use Rattle.syntax.specs.Postfix.{postfix, symbolNames, namesIn}
@@ -48,24 +48,11 @@ passed-few xs (suc i) l =
     omega (arith, ap (passed xs) z, passed-next xs i l, passed-few xs i (omega arith), one-at-most (code (symbolAt xs i)))
 
 module _ (g : Name → ℕ) where
-  -- the first names are skipped
-  skip : (a b c : List Name) → getD (map g (a ++ b)) (length (a ++ c)) 0 ≡ getD (map g b) (length c) 0
-  skip [] b c = refl
-  skip (x ∷ a) b c = skip a b c
-
   name-here : (xs : List Sym) (i : ℕ) (y : Name) → i < length xs → symbolAt xs i ≡ leaf (Leaf.name y) → getD (map g (namesIn xs)) (passed xs i) 0 ≡ g y
   unfolding namesIn
   name-here [] i y l e = absurd (omega arith)
   name-here (x ∷ xs) ℕ.zero y l e = ap (λ (z : Sym). getD (map g (symbolNames z ++ namesIn xs)) 0 0) e
-  name-here (x ∷ xs) (suc i) y l e = skip (symbolNames x) (namesIn xs) (namesIn (take i xs)) ∙ name-here xs i y (omega arith) e
-
--- ---- the array of code
-
--- one number more behind those that are stored
-sets-more : (ws : List ℕ) (from : ℕ) (v : ℕ) (buf : List ℕ) (end : ℕ) → end ≡ from + length ws
-    → set (sets buf from ws) end v ≡ sets buf from (ws ++ v ∷ [])
-sets-more [] from v buf end e = let z : end ≡ from = omega arith in ap (λ (k : ℕ). set buf k v) z
-sets-more (w ∷ ws) from v buf end e = sets-more ws (suc from) v (set buf from w) end (omega arith)
+  name-here (x ∷ xs) (suc i) y l e = map-skip g (symbolNames x) (namesIn xs) (namesIn (take i xs)) 0 ∙ name-here xs i y (omega arith) e
 
 -- ---- the state
 

@@ -7,13 +7,11 @@ use Prim.Native.Nat.{ℕ, zero, suc, _<_}
 use native.Mathlib.Omega.{arith}
 use lib.Dec.{eqb, eqb·zero-suc, eqb·suc-zero, eqb·suc-suc}
 use lib.ListN.{length, getD, set, replicate, length-append}
-use lib.Seq.{getD-set-same, getD-set-other}
-use borrow.Author.Tests.{eqb-true, eqb-false}
-use Rattle.lists.proofs.Lists.{repeated-at}
+use Rattle.lists.proofs.Lists.{repeated-at, stored}
 use Rattle.formula.specs.Formula.{Atom}
 use Rattle.evalset.specs.declared.EvalSet.{EvalSet}
 use Rattle.evalset.specs.Sets.{mem, memAt, noneOf}
-use Rattle.lists.proofs.Truth.{cases, of-cond}
+use Rattle.lists.proofs.Truth.{of-cond}
 use Rattle.evalset.proofs.Arrays.{empty-rows}
 use Rattle.search.specs.declared.Sheet.{Sheet}
 use Rattle.search.specs.Compiled.{noAtom, atomAt}
@@ -25,13 +23,6 @@ grows-same {sheet} {r} {b} {c} {x} {y} {z} {w} h e p q =
     subst (λ (d : Bool). Grows sheet r d z w) e (subst (λ (u : ℕ → Bool). Grows sheet r b u w) p (subst (λ (u : ℕ → Bool). Grows sheet r b x u) q h))
 
 -- ---- an array with one place stored
-
-module _ {A : Type 0} (xs : List A) (n : ℕ) (a d : A) (h : n < length xs) where
-  pub stored : (i : ℕ) → getD (set xs n a) i d ≡ cond (eqb i n) a (getD xs i d)
-  stored i =
-      cases (eqb i n)
-      (λ e. ap (λ (j : ℕ). getD (set xs n a) j d) (eqb-true i n e) ∙ getD-set-same xs n a d h ∙ sym (ap (λ (b : Bool). cond b a (getD xs i d)) e))
-      (λ e. getD-set-other xs n i a d (eqb-false i n e) ∙ sym (ap (λ (b : Bool). cond b a (getD xs i d)) e))
 
 module _ (xs : List EvalSet) (n : ℕ) (s : EvalSet) (h : n < length xs) where
   pub stored-set : (i : ℕ) → memAt (set xs n s) i ≡ cond (eqb i n) (mem s) (memAt xs i)

@@ -1,8 +1,8 @@
 -- What is meant: the class of a byte. Assumes nothing.
-use mathlib.Core.Bool.{Bool, false, _&&_, _||_, cond}
-use mathlib.Core.List.{List, [], _∷_}
+use mathlib.Core.Bool.{Bool, _&&_, _||_, cond}
 use Prim.Native.Nat.{ℕ}
 use lib.Dec.{leb, eqb}
+use Rattle.lists.specs.Search.{elem}
 use Rattle.lexer.specs.Text.{bytes}
 use Rattle.lexer.specs.declared.Class.{Class}
 use Rattle.lexer.specs.declared.Class.the-variants as Class
@@ -10,10 +10,6 @@ use Rattle.lexer.specs.declared.Class.the-variants as Class
 -- b is from a to z
 abbrev pub within : ℕ → ℕ → ℕ → Bool
 within a z b = leb a b && leb b z
-
-abbrev pub oneOf : List ℕ → ℕ → Bool
-oneOf [] b = false
-oneOf (x ∷ xs) b = eqb b x || oneOf xs b
 
 -- "blank (space 32, tab 9)"
 unfoldable pub isBlank : ℕ → Bool
@@ -28,7 +24,7 @@ isAlphanumeric b =
 
 -- "The signs are ( ) , * + - & | ~ < = >."
 unfoldable pub isSign : ℕ → Bool
-isSign b = oneOf (bytes "(),*+-&|~<=>") b
+isSign b = elem b (bytes "(),*+-&|~<=>")
 
 -- "Each of the 256 byte values has one class: blank (space 32, tab 9), letter or digit (A-Z, a-z, 0-9), a sign, or foreign."
 unfoldable pub classOf : ℕ → Class

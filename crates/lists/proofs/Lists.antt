@@ -1,12 +1,16 @@
--- Lists read at a place, cut at a place, begun in two ways, mapped, and filled up with one value: each law by recursion on the list, or from the library's.
--- Assumes nothing.
+-- Lists read at a place, stored at a place, cut at a place, begun in two ways, mapped, and filled up with one value: each law by
+-- recursion on the list, or from the library's. Assumes nothing.
+use mathlib.Core.Bool.{Bool, cond}
 use mathlib.Core.Path.{_≡_, refl, sym, ap, ap₂, _∙_}
 use mathlib.Core.List.{List, [], _∷_, _++_, map, head-eq-of-cons-eq, tail-eq-of-cons-eq}
 use Prim.Native.Nat.{ℕ, zero, suc, _+_, _-_, _≤_, _<_}
 use native.Mathlib.Omega.{arith}
 use native.Mathlib.Numerals.{add-one}
+use lib.Dec.{eqb}
 use lib.ListN.{length, take, drop, getD, set, replicate, length-map, List·getD-map, List·getD-append}
-use lib.Seq.{drop-cons, take-suc, append-snoc, set-at}
+use lib.Seq.{sets, drop-cons, take-suc, append-snoc, set-at, getD-set-same, getD-set-other}
+use borrow.Author.Tests.{eqb-true, eqb-false}
+use Rattle.lists.proofs.Truth.{cases}
 
 -- the rest from a place on: its element and the rest from the next
 pub rest : {A : Type 0} (s : List A) (i : ℕ) (d : A) → i < length s → drop i s ≡ getD s i d ∷ drop (i + 1) s
@@ -38,6 +42,11 @@ module _ {A B : Type 0} (f : A → B) where
   map-drop (suc n) [] = refl
   map-drop (suc n) (x ∷ l) = map-drop n l
 
+  -- the first elements are skipped
+  pub map-skip : (a b c : List A) (d : B) → getD (map f (a ++ b)) (length (a ++ c)) d ≡ getD (map f b) (length c) d
+  map-skip [] b c d = refl
+  map-skip (x ∷ a) b c d = map-skip a b c d
+
 -- of two beginnings of one list the shorter begins the longer
 pub prefix : {A : Type 0} (p a q b : List A) → p ++ a ≡ q ++ b → length p ≤ length q → (m : List A) × (p ++ m ≡ q) × (a ≡ m ++ b)
 prefix [] a q b e h = (q, refl, e)
@@ -57,3 +66,17 @@ pub set-behind : {A : Type 0} (l : List A) (z a : A) (k n : ℕ) → length l �
 set-behind l z a k n e h =
     let f : k ≡ suc (k - 1) = omega arith in
     ap (λ (j : ℕ). set (l ++ replicate j z) n a) f ∙ set-at l z (replicate (k - 1) z) a n e ∙ sym (append-snoc l a (replicate (k - 1) z))
+
+-- one place stored: at its own place the value is found, elsewhere what stood there
+module _ {A : Type 0} (xs : List A) (n : ℕ) (a d : A) (h : n < length xs) where
+  pub stored : (i : ℕ) → getD (set xs n a) i d ≡ cond (eqb i n) a (getD xs i d)
+  stored i =
+      cases (eqb i n)
+      (λ e. ap (λ (j : ℕ). getD (set xs n a) j d) (eqb-true i n e) ∙ getD-set-same xs n a d h ∙ sym (ap (λ (b : Bool). cond b a (getD xs i d)) e))
+      (λ e. getD-set-other xs n i a d (eqb-false i n e) ∙ sym (ap (λ (b : Bool). cond b a (getD xs i d)) e))
+
+-- one value more behind those that are stored
+pub sets-more : {A : Type 0} (ws : List A) (from : ℕ) (v : A) (buf : List A) (end : ℕ) → end ≡ from + length ws
+    → set (sets buf from ws) end v ≡ sets buf from (ws ++ v ∷ [])
+sets-more [] from v buf end e = let z : end ≡ from = omega arith in ap (λ (k : ℕ). set buf k v) z
+sets-more (w ∷ ws) from v buf end e = sets-more ws (suc from) v (set buf from w) end (omega arith)

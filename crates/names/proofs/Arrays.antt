@@ -2,16 +2,19 @@
 -- their bytes are, have the same numbers, and are put last alike. Assumes nothing.
 use mathlib.Core.Bool.{Bool, true, false, _&&_, cond}
 use mathlib.Core.Path.{_≡_, refl, sym, ap, ap₂, _∙_}
-use mathlib.Core.List.{List, [], _∷_, _++_, map, map-append, append-assoc}
+use mathlib.Core.List.{List, [], _∷_, _++_, map, map-append}
 use mathlib.Mathlib.Data.Bool.Basic.{eq-false-of-not-eq-true}
 use mathlib.Mathlib.Data.List.Basic.{Function·LeftInverse·list-map}
 use Prim.Native.Nat.{ℕ, suc, _+_, _-_, _≤_, _<_}
 use native.Mathlib.Omega.{arith}
 use native.Mathlib.Decide.{ℕ-discrete}
 use lib.Dec.{eqb, ltb}
-use lib.ListN.{length, take, set, replicate, length-append, length-map}
-use lib.Seq.{take-at, set-at}
+use lib.ListN.{length, take, replicate, length-append, length-map}
+use lib.Seq.{take-at}
 use borrow.Author.Tests.{eq-eqb, ne-eqb, lt-ltb, le-ltb}
+use Rattle.lists.specs.Padded.{pad}
+use Rattle.lists.proofs.Lists.{set-behind}
+use Rattle.lists.proofs.Padded.{pad-taken}
 use Rattle.formula.specs.Formula.{Name}
 use Rattle.evalset.specs.Sets.{most}
 use Rattle.contact.specs.Numbering.{position, sameName}
@@ -28,21 +31,18 @@ same-kept : (v w : Name) → sameKept (nameOf v) w ≡ sameName v w
 unfolding sameKept nameOf
 same-kept v w = go (ℕ-discrete (length v) (length w))
   where
-    zeros : List ℕ
-    zeros = replicate (16 - length v) 0
-
-    go : Dec (length v ≡ length w) → (eqb (length v) (length w) && sameName (take (length w) (v ++ zeros)) w) ≡ sameName v w
+    go : Dec (length v ≡ length w) → (eqb (length v) (length w) && sameName (take (length w) (pad 16 v)) w) ≡ sameName v w
     go (yes e) =
-        ap (λ (t : Bool). t && sameName (take (length w) (v ++ zeros)) w) (eq-eqb (length v) (length w) e)
-        ∙ ap (λ (x : Name). sameName x w) (take-at v zeros (length w) e)
+        ap (λ (t : Bool). t && sameName (take (length w) (pad 16 v)) w) (eq-eqb (length v) (length w) e)
+        ∙ ap (λ (x : Name). sameName x w) (pad-taken 16 v (length w) e)
     go (no n) =
-        ap (λ (t : Bool). t && sameName (take (length w) (v ++ zeros)) w) (ne-eqb (length v) (length w) n)
+        ap (λ (t : Bool). t && sameName (take (length w) (pad 16 v)) w) (ne-eqb (length v) (length w) n)
         ∙ sym (eq-false-of-not-eq-true (λ h. n (ap length (same-name v w .0 h))))
 
 -- its bytes and its length are found again
 pub bytes-back : (w : Name) → bytesIn (nameOf w) ≡ w
 unfolding nameOf
-bytes-back w = take-at w (replicate (16 - length w) 0) (length w) refl
+bytes-back w = pad-taken 16 w (length w) refl
 
 pub size-back : (w : Name) → nameOf w .len ≡ length w
 unfolding nameOf
@@ -81,16 +81,13 @@ names l n = record { list = l; count = n }
 push-kept : (ks : List Name) (w : Name) → length ks < most → push (arraysOf ks) (nameOf w) ≡ arraysOf (ks ++ w ∷ [])
 unfolding push arraysOf
 push-kept ks w h =
-    let m : ℕ = most - (length ks + 1) in
-    let f : most - length ks ≡ suc m = omega arith in
-    let g : m ≡ most - length (ks ++ w ∷ []) = omega (arith, length-append ks (w ∷ [])) in
+    let n : length (ks ++ w ∷ []) ≡ length ks + 1 = length-append ks (w ∷ []) in
+    let m : most - length ks - 1 ≡ most - length (ks ++ w ∷ []) = omega (arith, n) in
     ap (λ (l : List KeptName). names l (length ks + 1))
-    (ap (λ (n : ℕ). set (map nameOf ks ++ replicate n (nameOf [])) (length ks) (nameOf w)) f
-    ∙ set-at (map nameOf ks) (nameOf []) (replicate m (nameOf [])) (nameOf w) (length ks) (length-map ks nameOf)
-    ∙ sym (append-assoc (map nameOf ks) (nameOf w ∷ []) (replicate m (nameOf [])))
-    ∙ ap (λ (l : List KeptName). l ++ replicate m (nameOf [])) (sym (map-append nameOf ks (w ∷ [])))
-    ∙ ap (λ (n : ℕ). map nameOf (ks ++ w ∷ []) ++ replicate n (nameOf [])) g)
-    ∙ ap (names (map nameOf (ks ++ w ∷ []) ++ replicate (most - length (ks ++ w ∷ [])) (nameOf []))) (sym (length-append ks (w ∷ [])))
+    (set-behind (map nameOf ks) (nameOf []) (nameOf w) (most - length ks) (length ks) (length-map ks nameOf) (omega arith)
+    ∙ ap (λ (k : ℕ). map nameOf ks ++ nameOf w ∷ [] ++ replicate k (nameOf [])) m
+    ∙ ap (λ (l : List KeptName). l ++ replicate (most - length (ks ++ w ∷ [])) (nameOf [])) (sym (map-append nameOf ks (w ∷ []))))
+    ∙ ap (names (map nameOf (ks ++ w ∷ []) ++ replicate (most - length (ks ++ w ∷ [])) (nameOf []))) (sym n)
 
 module _ (ks : List Name) (w : Name) (few : length ks ≤ most) where
   abbrev number : ℕ

@@ -94,7 +94,7 @@ namesAfter ks (x ∷ xs) =
 
 -- a name as it is kept
 unfoldable pub nameOf : Name → KeptName
-nameOf w = record { bytes = w ++ replicate (16 - length w) 0; len = length w }
+nameOf w = record { bytes = pad 16 w; len = length w }
 
 -- names as they are kept
 unfoldable pub arraysOf : List Name → Names

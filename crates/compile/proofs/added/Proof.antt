@@ -3,7 +3,8 @@ use mathlib.Core.Path.{_≡_, refl}
 use native.Mathlib.Omega.{arith}
 use lib.ListN.{length, length-map}
 use borrow.Author.Needs.{needs}
-use Rattle.compile.proofs.Sheets.{stored, stored-set}
+use Rattle.lists.proofs.Lists.{stored}
+use Rattle.compile.proofs.Sheets.{stored-set}
 use Rattle.compile.proofs.added.Statement.{statement}
 use Rattle.compile.proofs.added.Tie as tie
 
