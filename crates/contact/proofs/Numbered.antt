@@ -1,5 +1,6 @@
 -- The numbered rules say what the rules say, and their atoms are the numbers from 0 in order: the numbers that the two sides
--- of a sign get are as many as their atoms, one run after the other. Assumes nothing.
+-- of a sign get are as many as their atoms, one run after the other; so one rule put last changes
+-- no number before it. Assumes nothing.
 use mathlib.Core.Bool.{Bool, false, not, _&&_, _||_, Bool·beq}
 use mathlib.Core.Path.{_≡_, refl, sym, ap, ap₂, _∙_, subst}
 use mathlib.Core.List.{List, [], _∷_, _++_, map, map-append}
@@ -115,6 +116,27 @@ module _ {A : Type 0} where
 
   pub numbered-in-order : (fs : List (Form A)) → allAtoms (numberedAtoms fs) ≡ below (length (allAtoms fs))
   numbered-in-order fs = run-numbers 0 fs
+
+pub numbers-count : {A : Type 0} (k : ℕ) (fs : List (Form A)) → length (numberFrom k fs) ≡ length fs
+numbers-count k [] = refl
+numbers-count k (f ∷ fs) = ap suc (numbers-count (k + length (atomsOf f)) fs)
+
+-- one rule more, put last: the atoms before it keep their numbers, and its own are numbered from there on
+module _ {A : Type 0} where
+  number-from-with : (k : ℕ) (rules : List (Form A)) (f : Form A)
+      → numberFrom k (rules ++ f ∷ []) ≡ numberFrom k rules ++ numberForm (k + length (allAtoms rules)) f ∷ []
+  number-from-with k [] f = let e : k ≡ k + 0 = omega arith in ap (λ (j : ℕ). numberForm j f ∷ []) e
+  number-from-with k (g ∷ rules) f =
+      let m = k + length (atomsOf g) in
+      let e : m + length (allAtoms rules) ≡ k + length (atomsOf g ++ allAtoms rules) = omega (arith, length-append (atomsOf g) (allAtoms rules)) in
+      ap (λ (l : List (Form ℕ)). numberForm k g ∷ l)
+      (number-from-with m rules f ∙ ap (λ (j : ℕ). numberFrom m rules ++ numberForm j f ∷ []) e)
+
+  pub numbered-atoms-with : (rules : List (Form A)) (f : Form A)
+      → numberedAtoms (rules ++ f ∷ []) ≡ numberedAtoms rules ++ numberForm (length (allAtoms rules)) f ∷ []
+  numbered-atoms-with rules f =
+      let e : 0 + length (allAtoms rules) ≡ length (allAtoms rules) = omega arith in
+      number-from-with 0 rules f ∙ ap (λ (j : ℕ). numberedAtoms rules ++ numberForm j f ∷ []) e
 
 -- other atoms in the places of the atoms have the same numbers
 module _ {A B : Type 0} (h : A → B) where

@@ -1,7 +1,7 @@
 -- The bits of a number, and what the operations on words of k bits do to them, for any k. Each law goes by halving: bit 0 is the
 -- digit, and bit suc e is bit e of the half. Assumes nothing.
 use mathlib.Core.Path.{_≡_, refl, sym, ap, ap₂, _∙_}
-use mathlib.Core.Bool.{Bool, false, not, _&&_, _||_, false≢true}
+use mathlib.Core.Bool.{Bool, true, false, not, _&&_, _||_, false≢true}
 use mathlib.Core.List.{[], _∷_}
 use mathlib.Core.Logic.{_⊎_, inl, inr, ⊎-elim}
 use Prim.Native.Nat.{ℕ, zero, suc, _+_, _-_, _*_, _/_, _%_, _^_, _≤_, _<_, min, max}
@@ -93,6 +93,24 @@ pub bit-above : (k a e : ℕ) → a < 2 ^ k → k ≤ e → bit a e ≡ false
 bit-above zero a e h l = ap (λ (x : ℕ). bit x e) (lt-one h) ∙ bit-none e
 bit-above (suc k) a zero h l = absurd (omega arith)
 bit-above (suc k) a (suc e) h l = bit-suc a e ∙ bit-above k (a / 2) e (half k a h) (omega arith)
+
+-- ---- 2 ^ m and a number: the bits below m are the number's, and bit m is set if the number is below 2 ^ m
+pub bit-under : (m e j : ℕ) → j < m → bit (2 ^ m + e) j ≡ bit e j
+bit-under zero e j l = absurd (omega arith)
+bit-under (suc m) e zero l =
+    let z : (2 ^ suc m + e) % 2 ≡ e % 2 = omega (arith, pow-suc 2 m) in
+    bit-zero (2 ^ suc m + e) ∙ ap (λ (x : ℕ). eqb x 1) z ∙ sym (bit-zero e)
+bit-under (suc m) e (suc j) l =
+    let z : (2 ^ suc m + e) / 2 ≡ 2 ^ m + e / 2 = omega (arith, pow-suc 2 m) in
+    bit-suc (2 ^ suc m + e) j ∙ ap (λ (x : ℕ). bit x j) z ∙ bit-under m (e / 2) j (omega arith) ∙ sym (bit-suc e j)
+
+pub bit-top : (m e : ℕ) → e < 2 ^ m → bit (2 ^ m + e) m ≡ true
+bit-top zero e l =
+    let z : (2 ^ 0 + e) % 2 ≡ 1 = omega arith in
+    bit-zero (2 ^ 0 + e) ∙ ap (λ (x : ℕ). eqb x 1) z
+bit-top (suc m) e l =
+    let z : (2 ^ suc m + e) / 2 ≡ 2 ^ m + e / 2 = omega (arith, pow-suc 2 m) in
+    bit-suc (2 ^ suc m + e) m ∙ ap (λ (x : ℕ). bit x m) z ∙ bit-top m (e / 2) (omega (arith, pow-suc 2 m))
 
 -- ---- not: the k bits turned round
 no-odd : (k a : ℕ) → a < 2 ^ suc k → ((2 ^ suc k - 1) - a) % 2 ≡ 1 - a % 2

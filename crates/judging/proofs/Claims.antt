@@ -20,7 +20,7 @@ use Rattle.judging.specs.declared.Judged.{Judged}
 use Rattle.judging.specs.declared.Judged.the-variants.{Yes, Unmet}
 use Rattle.judging.specs.Values.{judgedOf}
 use Rattle.judging.specs.Judges.{JudgesSay}
-use Rattle.judging.proofs.Renamed.{judge-map}
+use Rattle.plan.proofs.Unmet.{judge-map}
 use Rattle.plan.specs.Meant.{FirstUnmet}
 
 -- ---- the answer

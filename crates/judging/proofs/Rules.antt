@@ -81,18 +81,15 @@ rest-none many code from i w rules rest = go (rest .left) (rest .coded) (rest .s
 
 module _ {code ends : List ℕ} {leaves : List Two} {from i : ℕ} (g : Going code ends leaves from i) where
   module _ (l : i < length ends) where
-    abbrev next : drop i ends ≡ getD ends i 0 ∷ drop (suc i) ends
-    next = drop-cons ends i 0 l
-
     safe-next : PartSafe code from (getD ends i 0) × SafeFrom code (getD ends i 0) (drop (suc i) ends)
-    safe-next = subst (SafeFrom code from) next (g .safe)
+    safe-next = subst (SafeFrom code from) (drop-cons ends i 0 l) (g .safe)
 
     pub part-safe : PartSafe code from (getD ends i 0)
     part-safe = safe-next .0
 
     rest-next : (many : ℕ) (rules : List (Form ℕ)) → Coded many code ends rules → (w : ℕ → Bool) → Sure leaves many w
         → Rest many code from (getD ends i 0 ∷ drop (suc i) ends) i w rules
-    rest-next many rules h w s = subst (λ (es : List ℕ). Rest many code from es i w rules) next (g .rest many rules h w s)
+    rest-next many rules h w s = subst (λ (es : List ℕ). Rest many code from es i w rules) (drop-cons ends i 0 l) (g .rest many rules h w s)
 
     pub goes-on : {r : Bool} → RuleSays code from (getD ends i 0) leaves r → r ≡ true → Going code ends leaves (getD ends i 0) (i + 1)
     goes-on says e =

@@ -1,10 +1,11 @@
--- Rows as numbers: bit j of the number is the atom that has j after it, so half the number is the row without its last atom, and
--- the marks of one atom more are those so far and its own. Assumes nothing.
+-- Rows as numbers: bit j of the number is the atom that has j after it, so half the number is the row without its last atom, the
+-- lower half of the numbers has the first atom true and the upper half false, and each row has a number; and the marks of one atom
+-- more are those so far and its own. Assumes nothing.
 use mathlib.Core.Bool.{Bool, true, false, not}
 use mathlib.Core.Path.{_≡_, refl, sym, ap, ap₂, _∙_}
 use mathlib.Core.List.{List, [], _∷_, _++_}
 use Prim.Native.Nat.{ℕ, zero, suc, _+_, _-_, _*_, _/_, _%_, _^_, _≤_, _<_}
-use native.Mathlib.Nat.{mod-lt, zero-lt-suc}
+use native.Mathlib.Nat.{mod-lt, zero-lt-suc, pow-suc}
 use native.Mathlib.Numerals.{add-one}
 use native.Mathlib.Omega.{arith}
 use lib.Dec.{eqb}
@@ -14,7 +15,7 @@ use Rattle.lists.proofs.Lists.{take-next}
 use Rattle.formula.specs.Formula.{Atom}
 use Rattle.evalset.specs.Bit.{bit}
 use Rattle.lists.specs.Search.{In, here, next}
-use Rattle.evalset.proofs.Bits.{bit-zero, bit-suc}
+use Rattle.evalset.proofs.Bits.{bit-zero, bit-suc, bit-above, bit-under, bit-top}
 use Rattle.contact.specs.Row.{Row}
 use Rattle.contact.specs.Plan.{Mark, mark, rowMarks}
 use Rattle.contact.proofs.Searching.{no-marks}
@@ -47,6 +48,34 @@ digit-zero (suc (suc d)) h = absurd (omega arith)
 pub row-read : (k p i : ℕ) → i < k → eqb (p / 2 ^ (k - 1 - i) % 2) 0 ≡ getD (rowBits k p) i false
 unfolding bit
 row-read k p i h = digit-zero (p / 2 ^ (k - 1 - i) % 2) (mod-lt _ (zero-lt-suc 1)) ∙ sym (row-at k p i h)
+
+-- ---- the halves: the rows below 2 ^ j have their first atom true, those from there on false
+
+row-high : (k m e : ℕ) → k ≤ m → rowBits k (2 ^ m + e) ≡ rowBits k e
+unfolding rowBits
+row-high zero m e l = refl
+row-high (suc k) m e l = ap₂ _∷_ (ap not (bit-under m e k (omega arith))) (row-high k m e (omega arith))
+
+pub row-lower : (j e : ℕ) → e < 2 ^ j → rowBits (suc j) e ≡ true ∷ rowBits j e
+unfolding rowBits
+row-lower j e l = ap (λ (b : Bool). not b ∷ rowBits j e) (bit-above j e j l (omega arith))
+
+pub row-upper : (j e : ℕ) → e < 2 ^ j → rowBits (suc j) (2 ^ j + e) ≡ false ∷ rowBits j e
+unfolding rowBits
+row-upper j e l = ap₂ (λ (b : Bool) (r : List Bool). not b ∷ r) (bit-top j e l) (row-high j j e (omega arith))
+
+-- each row of d atoms has a number
+pub number : (d : ℕ) (row : List Bool) → length row ≡ d → (e : ℕ) × (e < 2 ^ d) × (rowBits d e ≡ row)
+unfolding rowBits
+number zero [] l = (0, omega arith, refl)
+number zero (b ∷ row) l = absurd (omega arith)
+number (suc d) [] l = absurd (omega arith)
+number (suc d) (true ∷ row) l =
+    let w = number d row (omega arith) in
+    (w .0, omega (arith, w .1, pow-suc 2 d), row-lower d (w .0) (w .1) ∙ ap (λ (r : List Bool). true ∷ r) (w .2))
+number (suc d) (false ∷ row) l =
+    let w = number d row (omega arith) in
+    (2 ^ d + w .0, omega (arith, w .1, pow-suc 2 d), row-upper d (w .0) (w .1) ∙ ap (λ (r : List Bool). false ∷ r) (w .2))
 
 -- ---- one atom more
 

@@ -1,6 +1,6 @@
 -- What the functions on sets compute, with sets as tests on evaluations: f and g or x and y are sets, al the allowed set, sep p what
 -- is separated from p. Assumes nothing.
-use mathlib.Core.Bool.{Bool, true, false, not, _&&_, _||_}
+use mathlib.Core.Bool.{Bool, true, false, not, _&&_, _||_, cond}
 use mathlib.Core.Path.{_≡_}
 use mathlib.Core.List.{List, [], _∷_}
 use Prim.Native.Nat.{ℕ, _≤_, _<_}
@@ -61,8 +61,7 @@ givesOf false false al sep x y = first (meetOf al x) (below room)
 
 -- the first set, or the second
 abbrev pub pickOf : Bool → (ℕ → Bool) → (ℕ → Bool) → ℕ → Bool
-pickOf true a b = a
-pickOf false a b = b
+pickOf b x y = cond b x y
 
 -- the positions below n of the points that are not in `apart`
 abbrev pub rowOf : ℕ → List ℕ → (ℕ → Bool) → ℕ → Bool

@@ -1,8 +1,8 @@
 -- What a text is compiled to behind the rules before it is what all rules together are compiled to: no number of theirs changes
--- (Numbers.antt), and their code is kept (Coding.antt). Assumes nothing.
-use mathlib.Core.Path.{_≡_, refl, sym, ap, _∙_, subst}
+-- (Numbers.antt, and contact's Numbered), and their code is kept (Coding.antt). Assumes nothing.
+use mathlib.Core.Path.{_≡_, sym, ap, _∙_, subst}
 use mathlib.Core.List.{List, [], _∷_, _++_, map}
-use Prim.Native.Nat.{ℕ, suc, _+_, _*_, _≤_, _<_}
+use Prim.Native.Nat.{ℕ, _+_, _*_, _≤_, _<_}
 use native.Mathlib.Omega.{arith}
 use native.Mathlib.Numerals.{add-one}
 use lib.ListN.{length, take, set, length-append, length-map}
@@ -18,8 +18,8 @@ use Rattle.syntax.specs.declared.Rule.{Rule}
 use Rattle.syntax.proofs.Claims.{length-codes, text-read}
 use Rattle.lists.specs.Search.{In}
 use Rattle.lists.proofs.Search.{in-right, gather-last}
-use Rattle.contact.specs.Numbering.{numberOf, allAtoms, namesOf, mapAtom, mapForm, numberForm, numberFrom, numberedNames, numberedAtoms}
-use Rattle.contact.proofs.Numbered.{all-atoms-map, numbered-map, numbers-below}
+use Rattle.contact.specs.Numbering.{numberOf, allAtoms, namesOf, mapAtom, mapForm, numberForm, numberedNames, numberedAtoms}
+use Rattle.contact.proofs.Numbered.{numbers-count, numbered-atoms-with, all-atoms-map, numbered-map, numbers-below}
 use Rattle.names.specs.declared.Gathered.{Gathered}
 use Rattle.names.specs.Gather.{arraysOf, knownOf, gathered, Gathers}
 use Rattle.names.proofs.Claims.{may-gather, known-from, enoughOf, rule-enough, rule-gathered}
@@ -35,15 +35,11 @@ use Rattle.sheets.specs.declared.Compiling.{Compiling}
 use Rattle.sheets.specs.Ends.{lastEnd}
 use Rattle.sheets.specs.Counted.{nameCount}
 use Rattle.sheets.specs.Texts.{CompiledRules, OneMore}
-use Rattle.sheets.proofs.Numbers.{numbered-names-with, numbered-atoms-with}
+use Rattle.sheets.proofs.Numbers.{numbered-names-with}
 use Rattle.sheets.proofs.Coding.{last-few, coded-with, sets-first, sets-part}
 use Rattle.sheets.proofs.Counting.{count-few, names-counted}
 
 -- ---- counts
-
-numbers-count : {A : Type 0} (k : ℕ) (fs : List (Form A)) → length (numberFrom k fs) ≡ length fs
-numbers-count k [] = refl
-numbers-count k (f ∷ fs) = ap suc (numbers-count (k + length (atomsOf f)) fs)
 
 numbered-count : (rules : List (Formula Name)) → length (numberedAtoms (numberedNames rules)) ≡ length rules
 numbered-count rules = numbers-count 0 (numberedNames rules) ∙ length-map rules (mapForm (mapAtom (numberOf rules)))

@@ -1,34 +1,15 @@
 -- The code of one rule more stands behind that of the rules before it, and the bytes before it are kept, so each part is still the code
 -- of its rule; a part has at most 256 signs, so the code of 16 rules fits into 4096 bytes. Assumes nothing.
-use mathlib.Core.Path.{_≡_, refl, sym, ap, _∙_}
+use mathlib.Core.Path.{_≡_, refl, ap, _∙_}
 use mathlib.Core.List.{List, [], _∷_, _++_, append-assoc}
 use Prim.Native.Nat.{ℕ, zero, suc, _+_, _*_, _-_, _≤_, _<_}
 use native.Mathlib.Omega.{arith}
-use lib.ListN.{length, getD, take, drop, length-drop}
-use lib.Seq.{sets, sets-eq, length-take-le, take-take, take-add, take-at, drop-at}
+use lib.ListN.{length, getD, take, drop}
+use lib.Seq.{sets, sets-eq, length-take-le, take-at, drop-at}
 use Rattle.formula.specs.Formula.{Form}
 use Rattle.solver.specs.Coded.{part, PartIs, CodedFrom}
+use Rattle.solver.proofs.Codes.{part-length, part-kept}
 use Rattle.sheets.specs.Ends.{lastEnd}
-
--- ---- a part
-
-part-first : (code : List ℕ) (from end : ℕ) → from ≤ end → end ≤ length code → part code from end ≡ drop from (take end code)
-part-first code from end h l =
-    let e : from + (end - from) ≡ end = omega arith in
-    sym (drop-at (take from code) (part code from end) from (length-take-le from code (omega arith)))
-    ∙ ap (drop from) (sym (take-add from (end - from) code))
-    ∙ ap (λ (k : ℕ). drop from (take k code)) e
-
-part-length : (code : List ℕ) (from end : ℕ) → from ≤ end → end ≤ length code → length (part code from end) ≡ end - from
-part-length code from end h l = length-take-le (end - from) (drop from code) (omega (arith, length-drop from code))
-
--- it is kept where the bytes up to its end are
-part-kept : (code out : List ℕ) (from end last : ℕ) → from ≤ end → end ≤ last → end ≤ length code → length out ≡ length code
-    → take last out ≡ take last code → part out from end ≡ part code from end
-part-kept code out from end last h k l e s =
-    part-first out from end h (omega arith)
-    ∙ ap (drop from) (sym (take-take end last out k) ∙ ap (take end) s ∙ take-take end last code k)
-    ∙ sym (part-first code from end h l)
 
 -- ---- where the last part ends
 

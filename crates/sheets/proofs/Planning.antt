@@ -1,32 +1,22 @@
 -- The plan that is made for a row is the one that is given: its first points are the given ones, and of its contact rows only the positions
 -- of points are read, where two are in contact exactly if they are not separated. Assumes nothing.
-use mathlib.Core.Bool.{Bool, not, _&&_, cond}
+use mathlib.Core.Bool.{Bool, not, _&&_}
 use mathlib.Core.Path.{_≡_, refl, ap, ap₂, _∙_}
-use mathlib.Core.List.{List, [], _∷_}
-use Prim.Native.Nat.{ℕ, min, _+_, _*_, _≤_, _<_}
+use mathlib.Core.List.{List}
+use Prim.Native.Nat.{ℕ, min, _≤_, _<_}
 use native.Mathlib.Omega.{arith}
-use lib.Dec.{ltb}
 use lib.ListN.{length, getD, take}
 use borrow.Author.Tests.{lt-ltb}
 use Rattle.lists.proofs.Padded.{pad-at, pad-taken}
-use Rattle.lists.specs.Search.{below}
 use Rattle.evalset.specs.Sets.{room, memAt}
-use Rattle.lists.proofs.Search.{below-elim, gather-same}
 use Rattle.contact.specs.Plan.{Mark, separated, pointsFor}
 use Rattle.search.specs.declared.RowPlan.{RowPlan}
 use Rattle.search.specs.Planned.{PlanOf}
 use Rattle.plan.specs.declared.PlanArrays.{PlanArrays}
-use Rattle.plan.specs.Arrays.{pairOf, rowTo, linksTo, planBy}
+use Rattle.plan.specs.Arrays.{linksTo, planBy}
 use Rattle.plan.specs.Private.{planOf}
 use Rattle.plan.specs.Given.{givenPlan}
-
--- rows that agree below n have the same contacts there
-links-same : (n : ℕ) (s t : ℕ → ℕ → Bool) → ((i j : ℕ) → i < n → j < n → s i j ≡ t i j) → linksTo n n s ≡ linksTo n n t
-unfolding linksTo rowTo pairOf
-links-same n s t h =
-    gather-same (λ i. rowTo n i (s i)) (λ i. rowTo n i (t i)) (below n)
-    (λ i a. gather-same (λ j. pairOf i j (s i)) (λ j. pairOf i j (t i)) (below n)
-    (λ j b. ap (λ (x : Bool). cond (ltb i j && x) ((i * 256 + j) ∷ []) []) (h i j (below-elim n i a) (below-elim n j b))))
+use Rattle.plan.proofs.Contacts.{links-same}
 
 -- the plan of a row beside its number of names
 abbrev pub rowArrays : ℕ → RowPlan → PlanArrays

@@ -1,13 +1,13 @@
--- The rows under a row by number: the values of their atoms are the row's and the bits of the number, the lower half has the next atom
--- true and the upper half false, and each row has a number. Assumes nothing.
+-- The rows under a row by number: the values of their atoms are the row's and the bits of the number, and the candidates in the lower
+-- half are those with the next atom true, in the upper half those with it false. Assumes nothing.
 use mathlib.Core.Bool.{Bool, true, false, not, _&&_, and-comm, Bool·not-not}
-use mathlib.Core.Path.{_≡_, refl, sym, ap, ap₂, _∙_, fun-ext}
+use mathlib.Core.Path.{_≡_, sym, ap, ap₂, _∙_, fun-ext}
 use mathlib.Core.Logic.{⊎-elim}
 use mathlib.Core.List.{List, [], _∷_, _++_, map, append-assoc}
-use Prim.Native.Nat.{ℕ, zero, suc, _+_, _-_, _/_, _%_, _^_, _≤_, _<_}
+use Prim.Native.Nat.{ℕ, suc, _+_, _-_, _^_, _≤_, _<_}
 use native.Mathlib.Nat.{pow-suc}
 use native.Mathlib.Omega.{arith}
-use lib.Dec.{eqb, ltb}
+use lib.Dec.{ltb}
 use lib.ListN.{length, getD, replicate, length-append, length-map, List·getD-append, List·getD-eq-default}
 use lib.Seq.{getD-append-add}
 use borrow.Author.Tests.{lt-ltb, le-ltb}
@@ -17,14 +17,14 @@ use Rattle.formula.specs.Formula.{Form}
 use Rattle.evalset.specs.declared.EvalSet.{EvalSet}
 use Rattle.evalset.specs.Bit.{bit}
 use Rattle.evalset.specs.Sets.{most, mem, meetOf, minusOf, belowOf, shiftOf}
-use Rattle.evalset.proofs.Bits.{bit-none, bit-zero, bit-suc, bit-above}
+use Rattle.evalset.proofs.Bits.{bit-none}
 use Rattle.evalset.proofs.Members.{names-room, below-few}
 use Rattle.contact.specs.Row.{is, unknown}
 use Rattle.contact.specs.Tableau.{refutes}
 use Rattle.kleene.specs.declared.Two.{Two}
 use Rattle.kleene.specs.Rails.{duo, sure, duoOf, duoAt, twoAt}
 use Rattle.search.specs.Rows.{rowBits}
-use Rattle.search.proofs.Rows.{row-length, row-at}
+use Rattle.search.proofs.Rows.{row-length, row-at, row-lower, row-upper}
 use Rattle.solver.specs.Coded.{Coded, RefutedSays}
 use Rattle.solver.specs.Tree.{extended, decidedAt, candidatesOf}
 
@@ -65,49 +65,6 @@ unfolding twoAt duoAt mem
 nil-at n i x e h = repeated-at (λ (s : Two). duoAt s e ≡ duo false false) h (ap₂ duo (bit-none e) (bit-none e)) n i
 
 -- ---- the halves
-
-bit-low : (m e j : ℕ) → j < m → bit (2 ^ m + e) j ≡ bit e j
-bit-low zero e j l = absurd (omega arith)
-bit-low (suc m) e zero l =
-    let z : (2 ^ suc m + e) % 2 ≡ e % 2 = omega (arith, pow-suc 2 m) in
-    bit-zero (2 ^ suc m + e) ∙ ap (λ (x : ℕ). eqb x 1) z ∙ sym (bit-zero e)
-bit-low (suc m) e (suc j) l =
-    let z : (2 ^ suc m + e) / 2 ≡ 2 ^ m + e / 2 = omega (arith, pow-suc 2 m) in
-    bit-suc (2 ^ suc m + e) j ∙ ap (λ (x : ℕ). bit x j) z ∙ bit-low m (e / 2) j (omega arith) ∙ sym (bit-suc e j)
-
-bit-top : (m e : ℕ) → e < 2 ^ m → bit (2 ^ m + e) m ≡ true
-bit-top zero e l =
-    let z : (2 ^ 0 + e) % 2 ≡ 1 = omega arith in
-    bit-zero (2 ^ 0 + e) ∙ ap (λ (x : ℕ). eqb x 1) z
-bit-top (suc m) e l =
-    let z : (2 ^ suc m + e) / 2 ≡ 2 ^ m + e / 2 = omega (arith, pow-suc 2 m) in
-    bit-suc (2 ^ suc m + e) m ∙ ap (λ (x : ℕ). bit x m) z ∙ bit-top m (e / 2) (omega (arith, pow-suc 2 m))
-
-row-high : (k m e : ℕ) → k ≤ m → rowBits k (2 ^ m + e) ≡ rowBits k e
-unfolding rowBits
-row-high zero m e l = refl
-row-high (suc k) m e l = ap₂ _∷_ (ap not (bit-low m e k (omega arith))) (row-high k m e (omega arith))
-
-row-lower : (j e : ℕ) → e < 2 ^ j → rowBits (suc j) e ≡ true ∷ rowBits j e
-unfolding rowBits
-row-lower j e l = ap (λ (b : Bool). not b ∷ rowBits j e) (bit-above j e j l (omega arith))
-
-row-upper : (j e : ℕ) → e < 2 ^ j → rowBits (suc j) (2 ^ j + e) ≡ false ∷ rowBits j e
-unfolding rowBits
-row-upper j e l = ap₂ (λ (b : Bool) (r : List Bool). not b ∷ r) (bit-top j e l) (row-high j j e (omega arith))
-
--- each row of d atoms has a number
-pub number : (d : ℕ) (row : List Bool) → length row ≡ d → (e : ℕ) × (e < 2 ^ d) × (rowBits d e ≡ row)
-unfolding rowBits
-number zero [] l = (0, omega arith, refl)
-number zero (b ∷ row) l = absurd (omega arith)
-number (suc d) [] l = absurd (omega arith)
-number (suc d) (true ∷ row) l =
-    let w = number d row (omega arith) in
-    (w .0, omega (arith, w .1, pow-suc 2 d), row-lower d (w .0) (w .1) ∙ ap (λ (r : List Bool). true ∷ r) (w .2))
-number (suc d) (false ∷ row) l =
-    let w = number d row (omega arith) in
-    (2 ^ d + w .0, omega (arith, w .1, pow-suc 2 d), row-upper d (w .0) (w .1) ∙ ap (λ (r : List Bool). false ∷ r) (w .2))
 
 module _ (rules : List (Form ℕ)) (row : List Bool) (j : ℕ) where
   -- not refuted

@@ -32,14 +32,14 @@ use Rattle.search.specs.declared.Sheet.{Sheet}
 use Rattle.search.specs.declared.State.{State}
 use Rattle.search.specs.Rows.{rowBits}
 use Rattle.search.specs.Compiled.{limit, Compiled, Fit, StepSays}
-use Rattle.search.proofs.Rows.{row-length, row-true, row-false}
+use Rattle.search.proofs.Rows.{row-length, number, row-true, row-false}
 use Rattle.search.proofs.Claims.{step-true, step-false}
 use Rattle.solver.specs.declared.Block.{Block}
 use Rattle.solver.specs.declared.RowAnswer.{RowAnswer}
 use Rattle.solver.specs.declared.RowAnswer.the-variants.{At, Nothing}
 use Rattle.solver.specs.Tree.{candidatesOf, CandidatesSay, Filled, ParentPasses, PassesSays, ComesFrom, Runnable, Node, rowsOf, UnderSays, FirstRowSays}
 use Rattle.solver.proofs.Codes.{coded-numbers}
-use Rattle.solver.proofs.Blocks.{number, lower-half, upper-half}
+use Rattle.solver.proofs.Blocks.{lower-half, upper-half}
 
 -- ---- the rows under a row
 
