@@ -25,7 +25,7 @@ use Rattle.contact.specs.Plan.{Mark, separated, given, pointsFor}
 use Rattle.contact.proofs.Realise.{point-allowed}
 use Rattle.search.specs.declared.State.{State}
 use Rattle.search.specs.declared.RowPlan.{RowPlan}
-use Rattle.search.specs.Tests.{pickOf, rowOf, rowsOf, Filled}
+use Rattle.search.specs.Tests.{rowOf, rowsOf, Filled}
 use Rattle.search.specs.Compiled.{Fit}
 use Rattle.search.specs.Planned.{Positions, PlanOf}
 use Rattle.evalset.specs.Arrays.{positionsOf}
@@ -50,10 +50,10 @@ pub row-none : (points : List ℕ) (apart : ℕ → Bool) → noneOf ≡ rowOf 0
 row-none points apart = positions-none points (λ e. not (apart e))
 
 pub row-more : (n : ℕ) (points : List ℕ) (apart : ℕ → Bool) → n < room
-    → pickOf (apart (getD points n 0)) (rowOf n points apart) (addOf (rowOf n points apart) n) ≡ rowOf (n + 1) points apart
+    → cond (apart (getD points n 0)) (rowOf n points apart) (addOf (rowOf n points apart) n) ≡ rowOf (n + 1) points apart
 row-more n points apart l = turned (apart (getD points n 0)) ∙ positions-more n points (λ e. not (apart e)) l
   where
-    turned : (b : Bool) → pickOf b (rowOf n points apart) (addOf (rowOf n points apart) n)
+    turned : (b : Bool) → cond b (rowOf n points apart) (addOf (rowOf n points apart) n)
         ≡ cond (not b) (addOf (rowOf n points apart) n) (rowOf n points apart)
     turned true = refl
     turned false = refl

@@ -1,6 +1,6 @@
 -- What the functions on sets compute, with sets as tests on evaluations: f and g or x and y are sets, al the allowed set, sep p what
 -- is separated from p. Assumes nothing.
-use mathlib.Core.Bool.{Bool, true, false, not, _&&_, _||_, cond}
+use mathlib.Core.Bool.{Bool, true, false, not, _&&_, _||_}
 use mathlib.Core.Path.{_≡_}
 use mathlib.Core.List.{List, [], _∷_}
 use Prim.Native.Nat.{ℕ, _≤_, _<_}
@@ -58,10 +58,6 @@ givesOf true true al sep x y = pairOf (meetOf al x) (meetOf al y) sep
 givesOf true false al sep x y = []
 givesOf false true al sep x y = []
 givesOf false false al sep x y = first (meetOf al x) (below room)
-
--- the first set, or the second
-abbrev pub pickOf : Bool → (ℕ → Bool) → (ℕ → Bool) → ℕ → Bool
-pickOf b x y = cond b x y
 
 -- the positions below n of the points that are not in `apart`
 abbrev pub rowOf : ℕ → List ℕ → (ℕ → Bool) → ℕ → Bool

@@ -4,7 +4,7 @@
 // from (specs/Compiled.antt). A requires asks only that indices are in range: our own crates alone call these functions, with
 // at most 16 atoms, and a test for each call would cost the search time. Assumes nothing.
 ghost use mathlib.Core.Path.{_≡_};
-ghost use mathlib.Core.Bool.{true, false};
+ghost use mathlib.Core.Bool.{true, false, cond};
 ghost use mathlib.Core.List.{[]};
 ghost use Prim.Native.Nat.{ℕ, _≤_, _<_};
 ghost use lib.ListN.{length, getD};
@@ -12,7 +12,7 @@ ghost use Rattle.lists.specs.Padded.{pad};
 ghost use Rattle.lists.specs.Search.{first, keep, below, elem};
 ghost use Rattle.evalset.specs.Sets.{room, most, mem, memAt, belowOf, addOf};
 ghost use Rattle.search.specs.Rows.{rowBits};
-ghost use Rattle.search.specs.Tests.{Separates, Parts, witnessedOf, pairOf, givesOf, pickOf, rowOf, rowsOf, Filled};
+ghost use Rattle.search.specs.Tests.{Separates, Parts, witnessedOf, pairOf, givesOf, rowOf, rowsOf, Filled};
 ghost use Rattle.search.specs.Compiled.{limit, Fit, Follows, StepSays, WitnessedSays, RealisableSays, NextSays};
 ghost use Rattle.search.specs.Planned.{StateSays, GatheredSays, GivenSays, Positions, PlanSays};
 use evalset::EvalSet;
@@ -337,7 +337,7 @@ fn ascending(s: EvalSet) -> Listed
 
 // The set and j, unless it is held apart.
 fn insert_unless(apart: bool, s: EvalSet, j: usize) -> EvalSet
-    ensures { λ r. ⌜ mem r ≡ pickOf apart (mem s) (addOf (mem s) j) ⌝ }
+    ensures { λ r. ⌜ mem r ≡ cond apart (mem s) (addOf (mem s) j) ⌝ }
 {
     if apart { s } else { evalset::insert(s, j) }
 }

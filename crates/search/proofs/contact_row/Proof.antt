@@ -1,11 +1,11 @@
 -- `search::contact_row` meets its contract: the positions passed are in the row unless their points are apart. Assumes nothing.
-use mathlib.Core.Bool.{Bool}
+use mathlib.Core.Bool.{Bool, cond}
 use mathlib.Core.Path.{_≡_, ap, ap₂, _∙_}
 use Prim.Native.Nat.{ℕ, _-_, _≤_}
 use native.Mathlib.Omega.{arith}
 use borrow.Author.Needs.{needs}
 use Rattle.evalset.specs.Sets.{room, mem, addOf}
-use Rattle.search.specs.Tests.{pickOf, rowOf}
+use Rattle.search.specs.Tests.{rowOf}
 use Rattle.search.proofs.Listing.{row-none, row-more}
 use Rattle.search.proofs.contact_row.Statement.{statement}
 use Rattle.search.proofs.contact_row.Tie as tie
@@ -48,7 +48,7 @@ loop-again c =
     let loop = c .before .before .before .loop in (
       omega arith,
       c .insert-unless .ensures
-          ∙ ap₂ (λ (b : Bool) (s : ℕ → Bool). pickOf b s (addOf s (loop .j))) (c .before .contains .ensures) (loop .inv .1)
+          ∙ ap₂ (λ (b : Bool) (s : ℕ → Bool). cond b s (addOf s (loop .j))) (c .before .contains .ensures) (loop .inv .1)
           ∙ row-more (loop .j) (a .t1) (mem (a .apart)) (omega arith),
     )
 
