@@ -2,7 +2,7 @@
 -- recursion on the list, or from the library's. Assumes nothing.
 use mathlib.Core.Bool.{Bool, cond}
 use mathlib.Core.Path.{_≡_, refl, sym, ap, ap₂, _∙_}
-use mathlib.Core.List.{List, [], _∷_, _++_, map, head-eq-of-cons-eq, tail-eq-of-cons-eq}
+use mathlib.Core.List.{List, [], _∷_, _++_, map, head-eq-of-cons-eq, tail-eq-of-cons-eq, nil≢cons, map-eq-nil-iff}
 use Prim.Native.Nat.{ℕ, zero, suc, _+_, _-_, _≤_, _<_}
 use native.Mathlib.Omega.{arith}
 use native.Mathlib.Numerals.{add-one}
@@ -11,6 +11,7 @@ use lib.ListN.{length, take, drop, getD, set, replicate, length-map, List·getD-
 use lib.Seq.{sets, drop-cons, take-suc, append-snoc, set-at, getD-set-same, getD-set-other}
 use borrow.Author.Tests.{eqb-true, eqb-false}
 use Rattle.lists.proofs.Truth.{cases}
+use Rattle.lists.specs.Search.{In, here, next}
 
 -- the rest from a place on: its element and the rest from the next
 pub rest : {A : Type 0} (s : List A) (i : ℕ) (d : A) → i < length s → drop i s ≡ getD s i d ∷ drop (i + 1) s
@@ -54,6 +55,18 @@ prefix (x ∷ p) a [] b e h = absurd (omega arith)
 prefix (x ∷ p) a (y ∷ q) b e h =
     let r = prefix p a q b (tail-eq-of-cons-eq e) (omega arith) in
     (r .0, ap₂ _∷_ (head-eq-of-cons-eq e) (r .1), r .2)
+
+module _ {A B : Type 0} where
+  -- what is mapped to one element is one element
+  pub map-one : (f : A → B) (xs : List A) (y : B) → map f xs ≡ y ∷ [] → (x : A) × (xs ≡ x ∷ []) × (y ≡ f x)
+  map-one f [] y e = absurd (nil≢cons e)
+  map-one f (x ∷ xs) y e =
+      (x, ap (λ l. x ∷ l) (map-eq-nil-iff f .0 (tail-eq-of-cons-eq e)), sym (head-eq-of-cons-eq e))
+
+  -- functions that are equal over a list are equal at each of its elements
+  pub map-same : (f g : A → B) {xs : List A} {x : A} → In x xs → map f xs ≡ map g xs → f x ≡ g x
+  map-same f g here e = head-eq-of-cons-eq e
+  map-same f g (next i) e = map-same f g i (tail-eq-of-cons-eq e)
 
 -- one value everywhere, and another past the end
 pub repeated-at : {A : Type 0} (P : A → Type 0) {a d : A} → P a → P d → (n i : ℕ) → P (getD (replicate n a) i d)

@@ -1,10 +1,9 @@
--- Lists that have each element once: what is there once and among others is no longer than they are. A list mapped: one that has one
--- element, and two functions that agree over a list. Assumes nothing.
+-- Lists that have each element once: what is there once and among others is no longer than they are. Assumes nothing.
 use Prim.Native.Nat.{suc, _≤_}
 use mathlib.Core.Bool.{Bool, true, false, cond}
-use mathlib.Core.Path.{_≡_, refl, sym, ap, subst}
+use mathlib.Core.Path.{_≡_, refl, ap, subst}
 use mathlib.Core.Logic.{⊎-elim}
-use mathlib.Core.List.{List, [], _∷_, map, map-eq-nil-iff, nil≢cons, head-eq-of-cons-eq, tail-eq-of-cons-eq}
+use mathlib.Core.List.{List, [], _∷_}
 use native.Mathlib.Omega.{arith}
 use lib.ListN.{length}
 use Rattle.lists.specs.Search.{In, here, next, keep}
@@ -44,15 +43,3 @@ module _ {A : Type 0} where
       go : (b : Bool) → Once (keep p xs) → Once (cond b (x ∷ keep p xs) (keep p xs))
       go true r = (λ i. d .0 (keep-elim p xs i .0), r)
       go false r = r
-
-module _ {A B : Type 0} where
-  -- what is mapped to one element is one element
-  pub map-one : (f : A → B) (xs : List A) (y : B) → map f xs ≡ y ∷ [] → (x : A) × (xs ≡ x ∷ []) × (y ≡ f x)
-  map-one f [] y e = absurd (nil≢cons e)
-  map-one f (x ∷ xs) y e =
-      (x, ap (λ l. x ∷ l) (map-eq-nil-iff f .0 (tail-eq-of-cons-eq e)), sym (head-eq-of-cons-eq e))
-
-  -- functions that are equal over a list are equal at each of its elements
-  pub map-same : (f g : A → B) {xs : List A} {x : A} → In x xs → map f xs ≡ map g xs → f x ≡ g x
-  map-same f g here e = head-eq-of-cons-eq e
-  map-same f g (next i) e = map-same f g i (tail-eq-of-cons-eq e)

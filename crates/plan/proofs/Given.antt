@@ -13,7 +13,7 @@ use lib.Pow.{pow-mono}
 use Rattle.lists.proofs.Below.{keep-length, gather-small}
 use Rattle.lists.proofs.Search.{first-short}
 use Rattle.lists.proofs.Truth.{side}
-use Rattle.lists.proofs.Once.{map-one}
+use Rattle.lists.proofs.Lists.{map-one}
 use Rattle.formula.specs.Formula.{Formula, Name}
 use Rattle.lists.specs.Search.{keep, gather, from, elem}
 use Rattle.contact.specs.Meaning.{Floor, meetsAll}

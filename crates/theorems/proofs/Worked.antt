@@ -17,7 +17,7 @@ use Rattle.syntax.specs.Rule.{ruleOf, meaningOf}
 use Rattle.lists.specs.Search.{In}
 use Rattle.evalset.specs.Bit.{bit}
 use Rattle.lists.proofs.Truth.{clash}
-use Rattle.lists.proofs.Once.{map-same}
+use Rattle.lists.proofs.Lists.{map-same}
 use Rattle.contact.specs.Row.{rulesTrue}
 use Rattle.contact.specs.Plan.{separated, allowed, fills, partners, leads, check, given, pointsFor, good, firstRow}
 use Rattle.names.specs.Gather.{placesOf, ruleTokens, withName, namesAfter, gatheredOf, gathered}
