@@ -2,7 +2,7 @@
 -- recursion on the list, or from the library's. Assumes nothing.
 use mathlib.Core.Bool.{Bool, cond}
 use mathlib.Core.Path.{_≡_, refl, sym, ap, ap₂, _∙_}
-use mathlib.Core.List.{List, [], _∷_, _++_, map, head-eq-of-cons-eq, tail-eq-of-cons-eq, nil≢cons, map-eq-nil-iff}
+use mathlib.Core.List.{List, [], _∷_, _++_, map, head-eq-of-cons-eq, tail-eq-of-cons-eq, nil≢cons, map-eq-nil-iff, tail}
 use Prim.Native.Nat.{ℕ, zero, suc, _+_, _-_, _≤_, _<_}
 use native.Mathlib.Omega.{arith}
 use native.Mathlib.Numerals.{add-one}
@@ -20,6 +20,12 @@ rest s i d h = rw (add-one, drop-cons s i d)
 -- the first i elements, and one more
 pub take-next : {A : Type 0} (s : List A) (i : ℕ) (d : A) → i < length s → take (i + 1) s ≡ take i s ++ getD s i d ∷ []
 take-next s i d h = rw (add-one, take-suc s i d)
+
+pub tail-drop : {A : Type 0} (xs : List A) (p : ℕ) → tail (drop p xs) ≡ drop (suc p) xs
+tail-drop [] zero = refl
+tail-drop [] (suc p) = refl
+tail-drop (x ∷ xs) zero = refl
+tail-drop (x ∷ xs) (suc p) = tail-drop xs p
 
 pub default-unread : {A : Type 0} (l : List A) (i : ℕ) (d e : A) → i < length l → getD l i d ≡ getD l i e
 default-unread [] i d e h = absurd (omega arith)

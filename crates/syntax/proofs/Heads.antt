@@ -1,6 +1,6 @@
 -- What stands at a place: the kind there says which symbol does, and so how the machine goes on. Symbols of 0 to 15 are
 -- found in a table, and where no sign goes on a value the machine refuses what stands there, by cases on the symbol.
--- Assumes nothing.
+-- The kinds of some symbols are as many, in the same order. Assumes nothing.
 use Prim.Native.Nat.{ℕ, suc, _+_, _≤_, _<_}
 use native.Mathlib.Numerals.{add-one}
 use native.Mathlib.Omega.{arith}
@@ -11,7 +11,7 @@ use mathlib.Mathlib.Data.Bool.Basic.{eq-false-of-not-eq-true}
 use lib.Dec.{eqb}
 use lib.ListN.{length, getD, drop, length-map}
 use Rattle.lists.proofs.Truth.{cond-holds}
-use Rattle.lists.proofs.Lists.{map-at}
+use Rattle.lists.proofs.Lists.{tail-drop, map-at}
 use Rattle.formula.specs.declared.Sign.{Sign}
 use Rattle.formula.specs.declared.Sign.the-variants.{Implies, Iff, Or, And, Plus, Times}
 use Rattle.formula.specs.Sign.{joinsTerms}
@@ -32,12 +32,6 @@ kind-on [] ℕ.zero = refl
 kind-on [] (suc p) = refl
 kind-on (x ∷ xs) ℕ.zero = refl
 kind-on (x ∷ xs) (suc p) = kind-on xs p
-
-tail-drop : (xs : List Sym) (p : ℕ) → tail (drop p xs) ≡ drop (suc p) xs
-tail-drop [] ℕ.zero = refl
-tail-drop [] (suc p) = refl
-tail-drop (x ∷ xs) ℕ.zero = refl
-tail-drop (x ∷ xs) (suc p) = tail-drop xs p
 
 pub length-codes : (xs : List Sym) → length (codes xs) ≡ length xs
 unfolding codes
