@@ -14,9 +14,11 @@ use Rattle.formula.specs.Names.{atomNames}
 use Rattle.contact.specs.Numbering.{allAtoms, sameName, namesOf, numberOf, nameOf, numberedNames, numberedAtoms, AtomBelow, RulesBelow}
 use Rattle.contact.specs.Row.{IsFirstRow, Row, Realises, Realisable, PartialRow, RealisesPart, rulesTrue, Sound, Exact}
 use Rattle.contact.specs.Plan.{Mark, marksOf, rowMarks, separated, check, pointsFor, rows, good, firstRowOf, trueContacts, falseZeros}
+use Rattle.contact.specs.Pairs.{pairCheck}
 use Rattle.contact.specs.Tableau.{refutes, closes, search}
 use Rattle.contact.proofs.Bits
 use Rattle.contact.proofs.Realise
+use Rattle.contact.proofs.Pairs
 use Rattle.contact.proofs.Numbered
 use Rattle.contact.proofs.Answer
 use Rattle.contact.proofs.Naming
@@ -65,6 +67,13 @@ check-exactly = Realise.check-exactly
 pub row-exactly : (n : ℕ) (atoms : List (Atom ℕ)) (row : Row) → ((a : Atom ℕ) → In a atoms → AtomBelow n a) → length row ≡ length atoms
     → (check n (rowMarks atoms row) ≡ true) ↔ Realisable atoms row
 row-exactly = Realise.row-exactly
+
+-- ---- the check by pairs of evaluations (Pairs)
+
+-- the check of a partial row passes exactly if some pair of evaluations serves no restricted atom, and every demanded atom is served by
+-- such a pair; the pair may be an evaluation with itself
+pub pairs-exactly : (n : ℕ) (atoms : List (Atom ℕ)) (part : PartialRow) → check n (marksOf atoms part) ≡ pairCheck n (marksOf atoms part)
+pairs-exactly n atoms part = Pairs.check-pairs n (marksOf atoms part)
 
 -- ---- the plan that is given (Realise, Answer, Naming)
 

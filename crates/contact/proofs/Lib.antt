@@ -1,5 +1,6 @@
 pub mod Bits
 pub mod Realise
+pub mod Pairs
 pub mod Fewer
 pub mod Renaming
 pub mod Numbered

@@ -121,7 +121,7 @@ module _ (n : ℕ) (ms : List Mark) where
       let s = and-eq-true-iff (not (any (empties e) ms)) (not (separated ms e e)) .0 (r .1) in
       (ltb-true e (2 ^ n) (r .0), not-true _ (s .0), not-true _ (s .1))
 
-  allowed-intro : (e : ℕ) → Allowed n ms e → allowed n ms e ≡ true
+  pub allowed-intro : (e : ℕ) → Allowed n ms e → allowed n ms e ≡ true
   unfolding allowed
   allowed-intro e h =
       and-intro (lt-ltb e (2 ^ n) (h .0))
@@ -131,7 +131,7 @@ module _ (n : ℕ) (ms : List Mark) where
   unfolding fills
   fills-elim t e h = and-eq-true-iff (allowed n ms e) (at t e) .0 h
 
-  fills-intro : (t : Term ℕ) (e : ℕ) → allowed n ms e ≡ true → at t e ≡ true → fills n ms t e ≡ true
+  pub fills-intro : (t : Term ℕ) (e : ℕ) → allowed n ms e ≡ true → at t e ≡ true → fills n ms t e ≡ true
   unfolding fills
   fills-intro t e h k = and-intro h k
 
@@ -139,7 +139,7 @@ module _ (n : ℕ) (ms : List Mark) where
   unfolding partners
   partners-elim y p q h = let r = and-eq-true-iff (fills n ms y q) (not (separated ms p q)) .0 h in (r .0, not-true _ (r .1))
 
-  partners-intro : (y : Term ℕ) (p q : ℕ) → fills n ms y q ≡ true → separated ms p q ≡ false → partners n ms y p q ≡ true
+  pub partners-intro : (y : Term ℕ) (p q : ℕ) → fills n ms y q ≡ true → separated ms p q ≡ false → partners n ms y p q ≡ true
   unfolding partners
   partners-intro y p q h k = and-intro h (ap not k)
 
@@ -148,7 +148,7 @@ module _ (n : ℕ) (ms : List Mark) where
   unfolding leads
   leads-elim x y p h = and-eq-true-iff (fills n ms x p) (any (partners n ms y p) (evaluations n)) .0 h
 
-  leads-intro : (x y : Term ℕ) (p : ℕ) → fills n ms x p ≡ true → any (partners n ms y p) (evaluations n) ≡ true
+  pub leads-intro : (x y : Term ℕ) (p : ℕ) → fills n ms x p ≡ true → any (partners n ms y p) (evaluations n) ≡ true
       → leads n ms x y p ≡ true
   unfolding leads
   leads-intro x y p h k = and-intro h k
@@ -157,7 +157,7 @@ module _ (n : ℕ) (ms : List Mark) where
   unfolding check
   check-elim h = and-eq-true-iff (any (allowed n ms) (evaluations n)) (all (witnessed n ms) ms) .0 h
 
-  check-intro : any (allowed n ms) (evaluations n) ≡ true → all (witnessed n ms) ms ≡ true → check n ms ≡ true
+  pub check-intro : any (allowed n ms) (evaluations n) ≡ true → all (witnessed n ms) ms ≡ true → check n ms ≡ true
   unfolding check
   check-intro h k = and-intro h k
 

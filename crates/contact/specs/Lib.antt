@@ -2,4 +2,5 @@ pub mod Meaning
 pub mod Numbering
 pub mod Row
 pub mod Plan
+pub mod Pairs
 pub mod Tableau

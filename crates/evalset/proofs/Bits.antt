@@ -1,7 +1,7 @@
 -- The bits of a number, and what the operations on words of k bits do to them, for any k. Each law goes by halving: bit 0 is the
 -- digit, and bit suc e is bit e of the half. Assumes nothing.
 use mathlib.Core.Path.{_≡_, refl, sym, ap, ap₂, _∙_}
-use mathlib.Core.Bool.{Bool, true, false, not, _&&_, _||_, false≢true}
+use mathlib.Core.Bool.{Bool, true, false, not, _&&_, _||_, Bool·beq, false≢true}
 use mathlib.Core.List.{[], _∷_}
 use mathlib.Core.Logic.{_⊎_, inl, inr, ⊎-elim}
 use Prim.Native.Nat.{ℕ, zero, suc, _+_, _-_, _*_, _/_, _%_, _^_, _≤_, _<_, min, max}
@@ -10,7 +10,7 @@ use native.Mathlib.Omega.{arith}
 use lib.Dec.{eqb, ltb, eqb·suc-suc, eqb·suc-zero, eqb·zero-suc}
 use lib.Arith.{lt-one}
 use lib.Pow.{shr-shr, pow-pos, pow-lt, ones-lt}
-use lib.Bits.{bitAnd, bitOr, and-step, or-step, and-shr, or-shr}
+use lib.Bits.{bitAnd, bitOr, bitXor, differ, and-step, or-step, xor-step, and-shr, or-shr, xor-shr}
 use lib.Count.{trailingZeros, under}
 use borrow.Author.Tests.{eq-eqb, ne-eqb, lt-ltb, le-ltb}
 use Rattle.lists.proofs.Below.{Least, first-at, first-none-below, any-none, any-at}
@@ -42,12 +42,24 @@ bit-suc s e =
     let one : suc e ≡ 1 + e = omega arith in
     ap (λ (x : ℕ). set? (x % 2)) (ap (λ (x : ℕ). s / 2 ^ x) one ∙ sym (shr-shr s 1 e))
 
--- ---- and, or
+-- ---- and, or, exclusive or
 and-odd : (a b : ℕ) → bitAnd a b % 2 ≡ min (a % 2) (b % 2)
 and-odd a b = omega (arith, and-step a b)
 
 or-odd : (a b : ℕ) → bitOr a b % 2 ≡ max (a % 2) (b % 2)
 or-odd a b = omega (arith, or-step a b)
+
+differ-small : (m n : ℕ) → differ (m % 2) (n % 2) < 2
+differ-small m n = go (two m) (two n)
+  where
+    go : (m % 2 ≡ 0) ⊎ (m % 2 ≡ 1) → (n % 2 ≡ 0) ⊎ (n % 2 ≡ 1) → differ (m % 2) (n % 2) < 2
+    go (inl p) (inl q) = rw (p, q) (omega arith)
+    go (inl p) (inr q) = rw (p, q) (omega arith)
+    go (inr p) (inl q) = rw (p, q) (omega arith)
+    go (inr p) (inr q) = rw (p, q) (omega arith)
+
+xor-odd : (a b : ℕ) → bitXor a b % 2 ≡ differ (a % 2) (b % 2)
+xor-odd a b = omega (arith, xor-step a b, differ-small a b)
 
 min-both : (m n : ℕ) → set? (min (m % 2) (n % 2)) ≡ (set? (m % 2) && set? (n % 2))
 min-both m n = go (two m) (two n)
@@ -67,6 +79,15 @@ max-either m n = go (two m) (two n)
     go (inr p) (inl q) = rw (p, q)
     go (inr p) (inr q) = rw (p, q)
 
+differ-one : (m n : ℕ) → set? (differ (m % 2) (n % 2)) ≡ not (Bool·beq (set? (m % 2)) (set? (n % 2)))
+differ-one m n = go (two m) (two n)
+  where
+    go : (m % 2 ≡ 0) ⊎ (m % 2 ≡ 1) → (n % 2 ≡ 0) ⊎ (n % 2 ≡ 1) → set? (differ (m % 2) (n % 2)) ≡ not (Bool·beq (set? (m % 2)) (set? (n % 2)))
+    go (inl p) (inl q) = rw (p, q)
+    go (inl p) (inr q) = rw (p, q)
+    go (inr p) (inl q) = rw (p, q)
+    go (inr p) (inr q) = rw (p, q)
+
 pub bit-and : (a b e : ℕ) → bit (bitAnd a b) e ≡ (bit a e && bit b e)
 bit-and a b zero =
     bit-zero (bitAnd a b) ∙ ap set? (and-odd a b) ∙ min-both a b ∙ sym (ap₂ _&&_ (bit-zero a) (bit-zero b))
@@ -80,6 +101,13 @@ bit-or a b zero =
 bit-or a b (suc e) =
     bit-suc (bitOr a b) e ∙ ap (λ (x : ℕ). bit x e) (or-shr a b 1) ∙ bit-or (a / 2) (b / 2) e
     ∙ sym (ap₂ _||_ (bit-suc a e) (bit-suc b e))
+
+pub bit-xor : (a b e : ℕ) → bit (bitXor a b) e ≡ not (Bool·beq (bit a e) (bit b e))
+bit-xor a b zero =
+    bit-zero (bitXor a b) ∙ ap set? (xor-odd a b) ∙ differ-one a b ∙ sym (ap₂ (λ (x y : Bool). not (Bool·beq x y)) (bit-zero a) (bit-zero b))
+bit-xor a b (suc e) =
+    bit-suc (bitXor a b) e ∙ ap (λ (x : ℕ). bit x e) (xor-shr a b 1) ∙ bit-xor (a / 2) (b / 2) e
+    ∙ sym (ap₂ (λ (x y : Bool). not (Bool·beq x y)) (bit-suc a e) (bit-suc b e))
 
 -- ---- a number below 2 ^ k has no bit from k up
 pub bit-none : (e : ℕ) → bit 0 e ≡ false
@@ -122,7 +150,7 @@ no-half k a h = omega (arith, pow-suc 2 k)
 no-digit : (m : ℕ) → set? (1 - m % 2) ≡ not (set? (m % 2))
 no-digit m = ⊎-elim (λ p. rw p) (λ p. rw p) (two m)
 
-bit-not : (k a e : ℕ) → a < 2 ^ k → e < k → bit ((2 ^ k - 1) - a) e ≡ not (bit a e)
+pub bit-not : (k a e : ℕ) → a < 2 ^ k → e < k → bit ((2 ^ k - 1) - a) e ≡ not (bit a e)
 bit-not zero a e h l = absurd (omega arith)
 bit-not (suc k) a zero h l =
     bit-zero ((2 ^ suc k - 1) - a) ∙ ap set? (no-odd k a h) ∙ no-digit a ∙ sym (ap not (bit-zero a))
@@ -261,7 +289,8 @@ bit-add k a j e hj =
     ap (λ (x : ℕ). bit (bitOr a x) e) (one-up k j hj) ∙ bit-or a (2 ^ j) e ∙ ap (λ (x : Bool). bit a e || x) (bit-one j e)
 
 -- ---- moved down
-bit-shr : (a m e : ℕ) → bit (a / 2 ^ m) e ≡ bit a (m + e)
+
+pub bit-shr : (a m e : ℕ) → bit (a / 2 ^ m) e ≡ bit a (m + e)
 unfolding bit
 bit-shr a m e = ap (λ (x : ℕ). set? (x % 2)) (shr-shr a m e)
 

@@ -1,10 +1,12 @@
 // Sets of evaluations, as words of 64 bits: bit e for evaluation e (document 01, 'Meaning').
 // A set is known by its members, `mem` of specs/Sets.antt, and each contract says which they are. No function has a requires:
 // what is out of range is answered, and the answer stated. No code outside this crate uses that a set is a word: callers go by
-// members and by `room`. Assumes nothing.
+// members and by `room`, and `of_word` and `low_word` go from a word to a set and back. Assumes nothing.
 ghost use mathlib.Core.Path.{_≡_};
 ghost use mathlib.Core.Bool.{not};
+ghost use Prim.Native.Nat.{ℕ, _<_};
 ghost use Rattle.lists.specs.Search.{any, first, below};
+ghost use Rattle.evalset.specs.Bit.{bit};
 ghost use Rattle.evalset.specs.Sets.{room, mem, noneOf, fullOf, nameSet, belowOf, meetOf, joinOf, minusOf, dropOf, addOf, shiftOf, foundOf};
 
 // Evaluations are below this.
@@ -48,6 +50,20 @@ pub fn full() -> EvalSet
     EvalSet {
         bits: 0xFFFF_FFFF_FFFF_FFFF,
     }
+}
+
+// The set whose members are the bits of a word.
+pub fn of_word(bits: u64) -> EvalSet
+    ensures { λ r. ⌜ ((e : ℕ) → mem r e ≡ bit bits e) ⌝ }
+{
+    EvalSet { bits }
+}
+
+// The word whose bits are the members below 64.
+pub fn low_word(s: EvalSet) -> u64
+    ensures { λ r. ⌜ ((e : ℕ) → e < 64 → bit r e ≡ mem s e) ⌝ }
+{
+    s.bits
 }
 
 // The evaluations in which name i holds: none from NAMES up, where there is no such name.

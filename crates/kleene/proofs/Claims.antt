@@ -1,20 +1,21 @@
 -- What the crate proves, each claim with the file that has its proof. Nothing is assumed: any formula over atom numbers, and any
--- pattern of undecided atoms. The contract of `run` is that of src/lib.rt.
-use mathlib.Core.Bool.{Bool}
+-- pattern of undecided atoms. The contracts of `run` and `run_whole` are those of src/lib.rt.
+use mathlib.Core.Bool.{Bool, not}
 use mathlib.Core.Path.{_≡_}
 use mathlib.Core.List.{List, [], _∷_}
 use Prim.Native.Nat.{ℕ, _≤_, _<_}
-use lib.ListN.{length}
+use lib.ListN.{length, getD}
 use Rattle.formula.specs.Formula.{Form}
 use Rattle.formula.specs.Atoms.{atomsOf}
 use Rattle.lists.specs.Search.{In}
+use Rattle.evalset.specs.Bit.{bit}
 use Rattle.evalset.specs.Sets.{mem}
 use Rattle.contact.specs.Meaning.{value}
-use Rattle.contact.specs.Row.{Three}
+use Rattle.contact.specs.Row.{Three, is}
 use Rattle.contact.specs.Tableau.{kleeneValue, refuted}
 use Rattle.kleene.specs.declared.Two.{Two}
 use Rattle.kleene.specs.Code.{postfix, Safe}
-use Rattle.kleene.specs.Rails.{Duo, noOf, sure, duoOf, valueD, exec, duoAt, leafAt}
+use Rattle.kleene.specs.Rails.{Duo, noOf, sure, duoOf, valueD, exec, duoAt, leafAt, wholeAt}
 use Rattle.kleene.proofs.Formed
 use Rattle.kleene.proofs.Three
 
@@ -58,3 +59,8 @@ pub run-value : (f : Form ℕ) (leaves : List Two) (e : ℕ) (r : Two) (w : ℕ 
     → exec (leafAt leaves e) (postfix f) [] ≡ duoAt r e ∷ [] → ((i : ℕ) → In i (atomsOf f) → leafAt leaves e i ≡ sure (w i))
     → mem (r .yes) e ≡ value w f
 run-value = Three.run-value
+
+-- where every atom is decided, the rows that are not in the result of `run_whole` refute the formula
+pub whole-refuted : (f : Form ℕ) (leaves : List ℕ) (e r : ℕ) (w : ℕ → Three) → exec (wholeAt leaves e) (postfix f) [] ≡ sure (bit r e) ∷ []
+    → ((i : ℕ) → In i (atomsOf f) → is (bit (getD leaves i 0) e) ≡ w i) → not (bit r e) ≡ refuted (kleeneValue w f)
+whole-refuted = Three.whole-refuted

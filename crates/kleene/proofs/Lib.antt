@@ -1,4 +1,5 @@
 pub mod Formed
 pub mod Turns
+pub mod Whole
 pub mod Three
 pub mod Claims

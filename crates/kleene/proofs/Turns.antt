@@ -1,5 +1,6 @@
--- A turn of the machine keeps what is still to be run: at each evaluation the rest of the code, run on the column of the
--- stack, gives what the whole code gives. A store changes the column at its top alone. Assumes nothing.
+-- A turn of the machine keeps what is still to be run: in each row the rest of the code, run on the column of the stack, gives
+-- what the whole code gives. A turn changes the column at its top alone. What lies on the stack is known by its value in a row, so
+-- that these laws serve both runs; the rows of `run` are its evaluations. Assumes nothing.
 use mathlib.Core.Path.{_≡_, refl, sym, ap, ap₂, _∙_, subst}
 use mathlib.Core.Bool.{Bool}
 use mathlib.Core.List.{List, [], _∷_}
@@ -7,11 +8,11 @@ use mathlib.Mathlib.Logic.Function.Defs.{congr-fun}
 use Prim.Native.Nat.{ℕ, zero, suc, _+_, _-_, _≤_, _<_}
 use native.Mathlib.Omega.{arith}
 use native.Mathlib.Numerals.{add-one}
-use lib.ListN.{length, getD, set, drop, length-set, drop-of-length-le}
+use lib.ListN.{length, getD, set, drop, drop-of-length-le}
 use lib.Seq.{getD-set-same, getD-set-other}
 use Rattle.lists.proofs.Lists.{rest}
 use Rattle.evalset.specs.declared.EvalSet.{EvalSet}
-use Rattle.evalset.specs.Sets.{room, mem}
+use Rattle.evalset.specs.Sets.{mem}
 use Rattle.kleene.specs.declared.Two.{Two}
 use Rattle.kleene.specs.Code.{Class, turns, joins, pushes, classOf, after, Takes, Safe}
 use Rattle.kleene.specs.Rails.{Duo, duo, notD, tableOf, pushOf, turned, joined, stepBy, step, exec, duoAt, twoAt, leafAt}
@@ -63,29 +64,43 @@ two-other st m n r e l = ap (λ (s : Two). duoAt s e) (getD-set-other st m n r _
 
 -- ---- columns of the stack
 
--- the n lowest values of the stack at evaluation e, the top first
-unfoldable pub column : ℕ → ℕ → List Two → List Duo
-column e zero st = []
-column e (suc n) st = twoAt st n e ∷ column e n st
+-- the n lowest values of a stack that has the value p k at place k, the top first
+unfoldable pub column : (ℕ → Duo) → ℕ → List Duo
+column p zero = []
+column p (suc n) = p n ∷ column p n
 
-column-below : (e m n : ℕ) (st : List Two) (r : Two) → n ≤ m → column e n (set st m r) ≡ column e n st
+column-same : (p q : ℕ → Duo) (n : ℕ) → ((k : ℕ) → k < n → q k ≡ p k) → column q n ≡ column p n
 unfolding column
-column-below e m zero st r l = refl
-column-below e m (suc n) st r l = ap₂ _∷_ (two-other st m n r e (λ q. omega arith)) (column-below e m n st r (omega arith))
+column-same p q zero h = refl
+column-same p q (suc n) h = ap₂ _∷_ (h n (omega arith)) (column-same p q n (λ k l. h k (omega arith)))
 
-column-top : (e n : ℕ) (st : List Two) (r : Two) → n < length st → column e (suc n) (set st n r) ≡ duoAt r e ∷ column e n st
+-- in each row q has the value x at place n, and the values of p below it
+pub record Puts (rows n : ℕ) (p q : ℕ → ℕ → Duo) (x : ℕ → Duo) : Type 0 where
+  pub top : (e : ℕ) → e < rows → q e n ≡ x e
+  pub under : (e : ℕ) → e < rows → (k : ℕ) → k < n → q e k ≡ p e k
+
+column-puts : {rows n : ℕ} {p q : ℕ → ℕ → Duo} {x : ℕ → Duo} → Puts rows n p q x → (e : ℕ) → e < rows
+    → column (q e) (suc n) ≡ x e ∷ column (p e) n
 unfolding column
-column-top e n st r l = ap₂ _∷_ (two-same st n r e l) (column-below e n n st r (omega arith))
+column-puts {n = n} {p = p} {q = q} h e l = ap₂ _∷_ (h .top e l) (column-same (p e) (q e) n (h .under e l))
+
+-- a store puts
+pub two-puts : {rows : ℕ} (st : List Two) (n : ℕ) (r : Two) {x : ℕ → Duo} → n < length st → ((e : ℕ) → e < rows → duoAt r e ≡ x e)
+    → Puts rows n (leafAt st) (leafAt (set st n r)) x
+two-puts st n r l h = record {
+  top = λ e b. two-same st n r e l ∙ h e b;
+  under = λ e b k m. two-other st n k r e (λ q. omega arith);
+}
 
 -- ---- a turn
 
--- with i signs read and height values on the stack, which has room for `deep`
-pub record Running (deep : ℕ) (code : List ℕ) (leaves stack : List Two) (height i : ℕ) : Type 0 where
+-- with i signs read and height values on the stack, which has room for `deep`; in each row the atoms have the values v and the
+-- places of the stack the values p
+pub record Running (deep rows : ℕ) (code : List ℕ) (v p : ℕ → ℕ → Duo) (height i : ℕ) : Type 0 where
   pub within : i ≤ length code
   pub high : height ≤ deep
-  pub whole : length stack ≡ deep
   pub safe : Safe deep 16 (drop i code) height
-  pub same : (e : ℕ) → e < room → exec (leafAt leaves e) (drop i code) (column e height stack) ≡ exec (leafAt leaves e) code []
+  pub same : (e : ℕ) → e < rows → exec (v e) (drop i code) (column (p e) height) ≡ exec (v e) code []
 
 exec-next : (v : ℕ → Duo) (code : List ℕ) (i : ℕ) (st : List Duo) → i < length code
     → exec v (drop i code) st ≡ exec v (drop (i + 1) code) (step v (getD code i 0) st)
@@ -97,12 +112,9 @@ safe-next : (deep many : ℕ) (code : List ℕ) (i n : ℕ) → i < length code 
 unfolding Safe
 safe-next deep many code i n l s = subst (λ (k : List ℕ). Safe deep many k n) (rest code i 0 l) s
 
-module _ {deep : ℕ} {code : List ℕ} {leaves stack : List Two} {height i : ℕ} (inv : Running deep code leaves stack height i) (l : i < length code) where
+module _ {deep rows : ℕ} {code : List ℕ} {v p : ℕ → ℕ → Duo} {height i : ℕ} (inv : Running deep rows code v p height i) (l : i < length code) where
   abbrev c : ℕ
   c = getD code i 0
-
-  abbrev v : ℕ → ℕ → Duo
-  v e = leafAt leaves e
 
   -- what the sign read next finds on the stack
   pub takes : (k : Class) → classOf c ≡ k → Takes deep 16 k c height
@@ -111,63 +123,62 @@ module _ {deep : ℕ} {code : List ℕ} {leaves stack : List Two} {height i : �
   keeps : (k : Class) → classOf c ≡ k → Safe deep 16 (drop (i + 1) code) (after k height)
   keeps k h = subst (λ (q : Class). Safe deep 16 (drop (i + 1) code) (after q height)) h (safe-next deep 16 code i height l (inv .safe) .1)
 
-  runs : (k : Class) → classOf c ≡ k → (e : ℕ) → e < room
-      → exec (v e) (drop (i + 1) code) (stepBy k (v e) c (column e height stack)) ≡ exec (v e) code []
+  runs : (k : Class) → classOf c ≡ k → (e : ℕ) → e < rows
+      → exec (v e) (drop (i + 1) code) (stepBy k (v e) c (column (p e) height)) ≡ exec (v e) code []
   runs k h e b =
-      ap (λ (q : Class). exec (v e) (drop (i + 1) code) (stepBy q (v e) c (column e height stack))) (sym h)
-      ∙ sym (exec-next (v e) code i (column e height stack) l) ∙ inv .same e b
+      ap (λ (q : Class). exec (v e) (drop (i + 1) code) (stepBy q (v e) c (column (p e) height))) (sym h)
+      ∙ sym (exec-next (v e) code i (column (p e) height) l) ∙ inv .same e b
 
-  -- the value r is stored at n, and n + 1 values are left
-  stored : (k : Class) → classOf c ≡ k → (n m : ℕ) (r : Two) → m ≡ suc n → n < deep → after k height ≡ m
-      → ((e : ℕ) → e < room → duoAt r e ∷ column e n stack ≡ stepBy k (v e) c (column e height stack))
-      → Running deep code leaves (set stack n r) m (i + 1)
-  stored k h n m r z b q f = record {
+  -- the values x are put at n, and n + 1 values are left
+  stored : (k : Class) → classOf c ≡ k → (n m : ℕ) (q : ℕ → ℕ → Duo) (x : ℕ → Duo) → m ≡ suc n → n < deep → after k height ≡ m
+      → Puts rows n p q x → ((e : ℕ) → x e ∷ column (p e) n ≡ stepBy k (v e) c (column (p e) height))
+      → Running deep rows code v q m (i + 1)
+  stored k h n m q x z b a s f = record {
     within = omega arith;
     high = omega arith;
-    whole = length-set stack n r ∙ inv .whole;
-    safe = subst (Safe deep 16 (drop (i + 1) code)) q (keeps k h);
+    safe = subst (Safe deep 16 (drop (i + 1) code)) a (keeps k h);
     same = λ e d.
-        ap (λ (j : ℕ). exec (v e) (drop (i + 1) code) (column e j (set stack n r))) z
-        ∙ ap (exec (v e) (drop (i + 1) code)) (column-top e n stack r (omega (arith, inv .whole)) ∙ f e d) ∙ runs k h e d;
+        ap (λ (j : ℕ). exec (v e) (drop (i + 1) code) (column (q e) j)) z
+        ∙ ap (exec (v e) (drop (i + 1) code)) (column-puts s e d ∙ f e) ∙ runs k h e d;
   }
 
-  pub turn-again : (n : ℕ) (r : Two) → classOf c ≡ turns → height ≡ suc n → ((e : ℕ) → duoAt r e ≡ notD (twoAt stack n e))
-      → Running deep code leaves (set stack n r) height (i + 1)
+  pub turn-again : (n : ℕ) (q : ℕ → ℕ → Duo) → classOf c ≡ turns → height ≡ suc n → Puts rows n p q (λ e. notD (p e n))
+      → Running deep rows code v q height (i + 1)
   unfolding column
-  turn-again n r h z m =
-      stored turns h n height r z (omega (arith, inv .high)) refl
-      (λ e d. ap (λ (x : Duo). x ∷ column e n stack) (m e) ∙ ap (λ (k : ℕ). turned (column e k stack)) (sym z))
+  turn-again n q h z s =
+      stored turns h n height q (λ e. notD (p e n)) z (omega (arith, inv .high)) refl s
+      (λ e. ap (λ (k : ℕ). turned (column (p e) k)) (sym z))
 
-  pub join-again : (n : ℕ) (r : Two) → classOf c ≡ joins → height ≡ suc (suc n)
-      → ((e : ℕ) → duoAt r e ≡ tableOf c (twoAt stack n e) (twoAt stack (suc n) e)) → Running deep code leaves (set stack n r) (height - 1) (i + 1)
+  pub join-again : (n : ℕ) (q : ℕ → ℕ → Duo) → classOf c ≡ joins → height ≡ suc (suc n)
+      → Puts rows n p q (λ e. tableOf c (p e n) (p e (suc n))) → Running deep rows code v q (height - 1) (i + 1)
   unfolding column
-  join-again n r h z m =
-      stored joins h n (height - 1) r (omega arith) (omega (arith, inv .high)) refl
-      (λ e d. ap (λ (x : Duo). x ∷ column e n stack) (m e) ∙ ap (λ (k : ℕ). joined (tableOf c) (column e k stack)) (sym z))
+  join-again n q h z s =
+      stored joins h n (height - 1) q (λ e. tableOf c (p e n) (p e (suc n))) (omega arith) (omega (arith, inv .high)) refl s
+      (λ e. ap (λ (k : ℕ). joined (tableOf c) (column (p e) k)) (sym z))
 
-  pub push-again : (r : Two) → classOf c ≡ pushes → ((e : ℕ) → e < room → duoAt r e ≡ pushOf (leafAt leaves e) c)
-      → Running deep code leaves (set stack height r) (height + 1) (i + 1)
-  push-again r h m =
-      stored pushes h height (height + 1) r (add-one height) (takes pushes h .0) (sym (add-one height))
-      (λ e d. ap (λ (x : Duo). x ∷ column e height stack) (m e d))
+  pub push-again : (q : ℕ → ℕ → Duo) → classOf c ≡ pushes → Puts rows height p q (λ e. pushOf (v e) c)
+      → Running deep rows code v q (height + 1) (i + 1)
+  push-again q h s =
+      stored pushes h height (height + 1) q (λ e. pushOf (v e) c) (add-one height) (takes pushes h .0) (sym (add-one height)) s
+      (λ e. refl)
 
-pub begins : (deep : ℕ) (code : List ℕ) (leaves stack : List Two) → length stack ≡ deep → Safe deep 16 code 0
-    → Running deep code leaves stack 0 0
+pub begins : (deep rows : ℕ) (code : List ℕ) (v p : ℕ → ℕ → Duo) → Safe deep 16 code 0 → Running deep rows code v p 0 0
 unfolding column
-begins deep code leaves stack w s = record {
+begins deep rows code v p s = record {
   within = omega arith;
   high = omega arith;
-  whole = w;
   safe = s;
   same = λ e b. refl;
 }
 
 -- at the end one value is left
-pub ends : {deep : ℕ} {code : List ℕ} {leaves stack : List Two} {height i : ℕ} → Running deep code leaves stack height i → length code ≤ i → (e : ℕ) → e < room
-    → exec (leafAt leaves e) code [] ≡ twoAt stack 0 e ∷ []
-unfolding exec column Safe
-ends {deep} {code} {leaves} {stack} {height} {i} inv l e b =
-    let z : drop i code ≡ [] = drop-of-length-le code l in
-    let one : height ≡ 1 = subst (λ (k : List ℕ). Safe deep 16 k height) z (inv .safe) in
-    sym (inv .same e b) ∙ ap (λ (k : List ℕ). exec (leafAt leaves e) k (column e height stack)) z
-    ∙ ap (λ (k : ℕ). column e k stack) one
+pub one-left : {deep rows : ℕ} {code : List ℕ} {v p : ℕ → ℕ → Duo} {height i : ℕ} → Running deep rows code v p height i → length code ≤ i → height ≡ 1
+unfolding Safe
+one-left {deep} {code = code} {height = height} inv l = subst (λ (k : List ℕ). Safe deep 16 k height) (drop-of-length-le code l) (inv .safe)
+
+pub ends : {deep rows : ℕ} {code : List ℕ} {v p : ℕ → ℕ → Duo} {height i : ℕ} → Running deep rows code v p height i → length code ≤ i → (e : ℕ) → e < rows
+    → exec (v e) code [] ≡ p e 0 ∷ []
+unfolding exec column
+ends {code = code} {v} {p} {height} {i} inv l e b =
+    sym (inv .same e b) ∙ ap (λ (k : List ℕ). exec (v e) k (column (p e) height)) (drop-of-length-le code l)
+    ∙ ap (λ (k : ℕ). column (p e) k) (one-left inv l)

@@ -5,6 +5,7 @@ use mathlib.Core.List.{List, [], _∷_}
 use Prim.Native.Nat.{ℕ, zero, suc}
 use lib.ListN.{getD}
 use Rattle.formula.specs.Formula.{Form}
+use Rattle.evalset.specs.Bit.{bit}
 use Rattle.evalset.specs.Sets.{mem}
 use Rattle.contact.specs.Row.{Three, is, unknown}
 use Rattle.kleene.specs.declared.Two.{Two}
@@ -113,3 +114,13 @@ twoAt xs i = duoAt (getD xs i (record { yes = record { bits = 0 }; no = record {
 -- the atoms' values at evaluation e
 abbrev pub leafAt : List Two → ℕ → ℕ → Duo
 leafAt leaves e i = twoAt leaves i e
+
+-- ---- machine words on one rail: a value for each row, where every atom is decided
+
+-- so many rows a word has a value for
+abbrev pub wordRows : ℕ
+wordRows = 64
+
+-- the atoms' values in row e: bit e of their words
+abbrev pub wholeAt : List ℕ → ℕ → ℕ → Duo
+wholeAt leaves e i = sure (bit (getD leaves i 0) e)

@@ -1,13 +1,17 @@
 // Kleene's strong three values on two rails of sets, surely true and surely false, for the postfix code of one rule over
 // atom numbers: a run gives a value for each evaluation of a set, so ROOM rows at once. What is on neither rail is undecided.
-// Values are pairs, `Duo` of specs/Rails.antt, and each contract says the pair at each evaluation. The code comes from our own
-// compiler: `run` requires that it is safe, as that of a formula is (proofs/Formed.antt). Assumes nothing.
+// Values are pairs, `Duo` of specs/Rails.antt, and each contract says the pair at each evaluation. Where every atom is decided one
+// rail is enough: `run_whole` has a word for it, with 64 rows. The code comes from our own compiler: `run` and `run_whole` require
+// that it is safe, as that of a formula is (proofs/Formed.antt). Assumes nothing.
 ghost use mathlib.Core.Path.{_≡_};
+ghost use mathlib.Core.Bool.{not};
 ghost use mathlib.Core.List.{[], _∷_};
 ghost use Prim.Native.Nat.{ℕ, _≤_, _<_};
+ghost use lib.ListN.{length};
+ghost use Rattle.evalset.specs.Bit.{bit};
 ghost use Rattle.evalset.specs.Sets.{room};
 ghost use Rattle.kleene.specs.Code.{Safe};
-ghost use Rattle.kleene.specs.Rails.{Duo, sure, notD, tableOf, pushOf, exec, duoAt, leafAt};
+ghost use Rattle.kleene.specs.Rails.{Duo, sure, notD, tableOf, pushOf, exec, duoAt, leafAt, wordRows, wholeAt};
 use evalset::EvalSet;
 
 // A value for each evaluation: where it is surely true, and where surely false.
@@ -115,4 +119,65 @@ pub fn run(code: &[u8], leaves: [Two; 16]) -> Two
         height += 1;
     }
     stack[0]
+}
+
+// The word with every bit turned round.
+fn flipped(a: u64) -> u64
+    ensures { λ r. ⌜ ((e : ℕ) → e < wordRows → bit r e ≡ not (bit a e)) ⌝ }
+{
+    !a
+}
+
+// What the sign c of a constant or an atom pushes where every atom is decided.
+fn pushed(c: u8, leaves: &[u64; 16]) -> u64
+    requires { ⌜ (5 ≤ c) × (c < 23) ⌝ }
+    ensures { λ r. ⌜ ((e : ℕ) → e < wordRows → sure (bit r e) ≡ pushOf (wholeAt (now (leaves .entry)) e) c) ⌝ }
+{
+    if 6 < c {
+        leaves[c as usize - 7]
+    } else if c == 5 {
+        0
+    } else {
+        0xFFFF_FFFF_FFFF_FFFF
+    }
+}
+
+// The code of a formula run where every atom is decided, on 64 rows at once: a value is a word, whose bit e is the first rail in
+// row e. The stack is lent, so that no run clears it. Its top is kept in `top`, and the values below it lie from place 1 on.
+pub fn run_whole(code: &[u8], leaves: &[u64; 16], stack: &mut [u64; 128]) -> u64
+    requires { ⌜ Safe 128 16 (now code) 0 × (length (now stack) ≡ 128) ⌝ }
+    ensures { λ r. ⌜ (length (now (stack .exit)) ≡ 128) × ((e : ℕ) → e < wordRows → exec (wholeAt (now (leaves .entry)) e) (now (code .entry)) [] ≡ (sure (bit r e) ∷ [])) ⌝ }
+{
+    let mut top: u64 = 0;
+    let mut height: usize = 0;
+    let mut i: usize = 0;
+    while i < code.len() {
+        let c = code[i];
+        i += 1;
+        match c {
+            0 => top = flipped(top),
+            1 => {
+                height -= 1;
+                top = stack[height] & top;
+            }
+            2 => {
+                height -= 1;
+                top = stack[height] | top;
+            }
+            3 => {
+                height -= 1;
+                top = flipped(stack[height]) | top;
+            }
+            4 => {
+                height -= 1;
+                top = flipped(stack[height] ^ top);
+            }
+            _ => {
+                stack[height] = top;
+                height += 1;
+                top = pushed(c, leaves);
+            }
+        }
+    }
+    top
 }

@@ -1,7 +1,7 @@
 -- The state carries what the marks say. A mark more forbids and separates what its atom's sets say, so a step keeps the state that of
 -- the marks; and the tests on the state are those on the marks, as nothing from 2 ^ names up is allowed. Assumes nothing.
 use mathlib.Core.Bool.{Bool, true, false, not, _&&_, _||_, and-comm, and-true, or-self, or-false}
-use mathlib.Core.Path.{_≡_, refl, sym, ap, ap₂, _∙_, subst, fun-ext}
+use mathlib.Core.Path.{_≡_, sym, ap, ap₂, _∙_, fun-ext}
 use mathlib.Core.Logic.{⊎-elim}
 use mathlib.Core.List.{List, [], _∷_, _++_}
 use mathlib.Mathlib.Data.Bool.Basic.{eq-false-of-not-eq-true}
@@ -11,16 +11,16 @@ use native.Mathlib.Omega.{arith}
 use lib.Dec.{ltb}
 use Rattle.lists.proofs.Truth.{side, regroup, guarded}
 use Rattle.formula.specs.Formula.{Term, Atom}
-use Rattle.lists.specs.Search.{any, all, below}
+use Rattle.lists.specs.Search.{any, below}
 use Rattle.evalset.specs.Sets.{most, room, mem, memAt, belowOf, meetOf, minusOf}
 use Rattle.evalset.proofs.Members.{names-room, below-few, any-names}
 use Rattle.contact.specs.Meaning.{partTerm}
-use Rattle.contact.specs.Plan.{at, Means, evaluations, Mark, touching, apart, vacant, inhabited, zeroMark, mark, parts, separated, empties, allowed, fills, partners, leads, witnessed, check}
-use Rattle.contact.proofs.Realise.{allowed-elim, fills-elim, partners-elim, leads-elim, check-elim}
+use Rattle.contact.specs.Plan.{at, Means, Mark, zeroMark, mark, parts, separated, empties, allowed, fills, partners, leads}
+use Rattle.contact.proofs.Realise.{allowed-elim, fills-elim, partners-elim, leads-elim}
 use Rattle.search.specs.declared.State.{State}
-use Rattle.search.specs.Tests.{crossed, lessOf, partOf, startsOf, witnessedOf}
+use Rattle.search.specs.Tests.{crossed, lessOf, partOf, startsOf}
 use Rattle.search.specs.Compiled.{AtomIs, Fit, Follows}
-use Rattle.lists.proofs.Search.{any-last, all-last}
+use Rattle.lists.proofs.Search.{any-last}
 
 -- ---- what is allowed, and all that is taken from it, is below 2 ^ n
 
@@ -123,9 +123,6 @@ abbrev pub separatedIn : State → ℕ → ℕ → Bool
 separatedIn s = memAt (s .rows)
 
 module _ (n : ℕ) (few : n ≤ most) (s : State) (ms : List Mark) (f : Fit n s ms) where
-  pub some-is : any (allowedIn s) (below room) ≡ any (allowed n ms) (evaluations n)
-  some-is = ap (λ (p : ℕ → Bool). any p (below room)) (f .allowed-is) ∙ any-names (allowed n ms) n few (allowed-low n ms)
-
   pub fills-is : (x : ℕ → Bool) (t : Term ℕ) → Means n x t → meetOf (allowedIn s) x ≡ fills n ms t
   unfolding fills
   fills-is x t h =
@@ -149,85 +146,3 @@ module _ (n : ℕ) (few : n ≤ most) (s : State) (ms : List Mark) (f : Fit n s 
       ∙ guarded p (2 ^ n) (fills n ms u p) _ _ (fills-out n ms u p)
       (λ l. ap (λ (r : ℕ → Bool). any r (below room)) (partners-is y t hy p l)
       ∙ any-names (partners n ms t p) n few (partners-low n ms t p)))
-
-  zero-witnessed : (contact value : Bool) (x y : ℕ → Bool) (t : Term ℕ) → contact ≡ false → Means n x t
-      → witnessedOf contact value (allowedIn s) (separatedIn s) x y ≡ witnessed n ms (zeroMark value t)
-  zero-witnessed contact true x y t h g = ap (λ (b : Bool). witnessedOf b true (allowedIn s) (separatedIn s) x y) h
-  zero-witnessed contact false x y t h g =
-      ap (λ (b : Bool). witnessedOf b false (allowedIn s) (separatedIn s) x y) h ∙ ap (λ (p : ℕ → Bool). any p (below room)) (fills-is x t g)
-      ∙ any-names (fills n ms t) n few (fills-low n ms t)
-
-  pub witnessed-is : (contact value : Bool) (x y : ℕ → Bool) (a : Atom ℕ) → AtomIs n contact x y a
-      → witnessedOf contact value (allowedIn s) (separatedIn s) x y ≡ witnessed n ms (mark a value)
-  witnessed-is contact true x y (Atom.contact u t) h =
-      ap (λ (b : Bool). witnessedOf b true (allowedIn s) (separatedIn s) x y) (h .0)
-      ∙ ap (λ (p : ℕ → Bool). any p (below room)) (leads-is x y u t (h .1) (h .2))
-      ∙ any-names (leads n ms u t) n few (leads-low n ms u t)
-  witnessed-is contact false x y (Atom.contact u t) h = ap (λ (b : Bool). witnessedOf b false (allowedIn s) (separatedIn s) x y) (h .0)
-  witnessed-is contact value x y (Atom.part u t) h = zero-witnessed contact value x y (partTerm u t) (h .0) (h .1)
-  witnessed-is contact value x y (Atom.empty t) h = zero-witnessed contact value x y t (h .0) (h .1)
-
--- ---- a mark that leaves the state as it was: its own witness decides
-
--- the mark forbids and separates nothing
-pub record Unchanging (m : Mark) : Type 0 where
-  pub forbids-none : (e : ℕ) → empties e m ≡ false
-  pub separates-none : (p q : ℕ) → parts p q m ≡ false
-
-touching-unchanging : (u t : Term ℕ) → Unchanging (touching u t)
-touching-unchanging u t = record { forbids-none = λ e. refl; separates-none = λ p q. refl }
-
-inhabited-unchanging : (t : Term ℕ) → Unchanging (inhabited t)
-inhabited-unchanging t = record { forbids-none = λ e. refl; separates-none = λ p q. refl }
-
--- so does an atom whose value is true exactly if it is a contact
-pub unchanging : (n : ℕ) (contact value : Bool) (x y : ℕ → Bool) (a : Atom ℕ) → AtomIs n contact x y a → contact ≡ value
-    → Unchanging (mark a value)
-unchanging n contact value x y (Atom.contact u t) h e =
-    subst (λ (b : Bool). Unchanging (mark (Atom.contact u t) b)) (sym (h .0) ∙ e) (touching-unchanging u t)
-unchanging n contact value x y (Atom.part u t) h e =
-    subst (λ (b : Bool). Unchanging (zeroMark b (partTerm u t))) (sym (h .0) ∙ e) (inhabited-unchanging (partTerm u t))
-unchanging n contact value x y (Atom.empty t) h e = subst (λ (b : Bool). Unchanging (zeroMark b t)) (sym (h .0) ∙ e) (inhabited-unchanging t)
-
-module _ (n : ℕ) (ms : List Mark) (m : Mark) (h : Unchanging m) where
-  abbrev more : List Mark
-  more = ms ++ m ∷ []
-
-  same-any : (p : Mark → Bool) → p m ≡ false → any p ms ≡ any p more
-  same-any p e = sym (any-last p ms m ∙ ap (λ (b : Bool). any p ms || b) e ∙ or-false (any p ms))
-
-  same-separated : separated ms ≡ separated more
-  unfolding separated
-  same-separated = fun-ext (λ p. fun-ext (λ q. same-any (parts p q) (h .separates-none p q)))
-
-  same-allowed : allowed n ms ≡ allowed n more
-  unfolding allowed
-  same-allowed =
-      fun-ext
-      (λ e. ap₂ (λ (b c : Bool). ltb e (2 ^ n) && (not b && not c)) (same-any (empties e) (h .forbids-none e))
-      (congr-fun (congr-fun same-separated e) e))
-
-  same-witnessed : (o : Mark) → witnessed n ms o ≡ witnessed n more o
-  unfolding leads partners fills
-  same-witnessed (touching x y) =
-      ap₂
-      (λ (al : ℕ → Bool) (sep : ℕ → ℕ → Bool).
-      any (λ p. (al p && at x p) && any (λ q. (al q && at y q) && not (sep p q)) (evaluations n)) (evaluations n))
-      same-allowed same-separated
-  same-witnessed (apart x y) = refl
-  same-witnessed (vacant t) = refl
-  same-witnessed (inhabited t) = ap (λ (al : ℕ → Bool). any (λ e. al e && at t e) (evaluations n)) same-allowed
-
-  check-next : check n ms ≡ true → witnessed n more m ≡ check n more
-  unfolding check
-  check-next c =
-      let w = check-elim n ms c in
-      sym (ap₂ (λ (b d : Bool). b && d) (ap (λ (p : ℕ → Bool). any p (evaluations n)) (sym same-allowed) ∙ w .0)
-      (all-last (witnessed n more) ms m
-      ∙ ap (λ (b : Bool). b && witnessed n more m)
-      (ap (λ (p : Mark → Bool). all p ms) (sym (fun-ext same-witnessed)) ∙ w .1)))
-
--- the same of a list that ends with the mark
-pub check-last : (n : ℕ) (all-marks ms : List Mark) (m : Mark) → all-marks ≡ ms ++ m ∷ [] → Unchanging m → check n ms ≡ true
-    → witnessed n all-marks m ≡ check n all-marks
-check-last n all-marks ms m e h c = ap (λ (l : List Mark). witnessed n l m) e ∙ check-next n ms m h c ∙ sym (ap (check n) e)

@@ -1,12 +1,10 @@
--- Rows as numbers: bit j of the number is the atom that has j after it, so half the number is the row without its last atom, the
--- lower half of the numbers has the first atom true and the upper half false, and each row has a number; and the marks of one atom
--- more are those so far and its own. Assumes nothing.
+-- Rows as numbers: bit j of the number is the atom that has j after it, so the lower half of the numbers has the first atom true and
+-- the upper half false; and the marks of one atom more are those so far and its own. Assumes nothing.
 use mathlib.Core.Bool.{Bool, true, false, not}
 use mathlib.Core.Path.{_≡_, refl, sym, ap, ap₂, _∙_}
 use mathlib.Core.List.{List, [], _∷_, _++_}
-use Prim.Native.Nat.{ℕ, zero, suc, _+_, _-_, _*_, _/_, _%_, _^_, _≤_, _<_}
-use native.Mathlib.Nat.{mod-lt, zero-lt-suc, pow-suc}
-use native.Mathlib.Numerals.{add-one}
+use Prim.Native.Nat.{ℕ, zero, suc, _+_, _-_, _/_, _%_, _^_, _≤_, _<_}
+use native.Mathlib.Nat.{mod-lt, zero-lt-suc}
 use native.Mathlib.Omega.{arith}
 use lib.Dec.{eqb}
 use lib.ListN.{length, getD, take}
@@ -15,7 +13,7 @@ use Rattle.lists.proofs.Lists.{take-next}
 use Rattle.formula.specs.Formula.{Atom}
 use Rattle.evalset.specs.Bit.{bit}
 use Rattle.lists.specs.Search.{In, here, next}
-use Rattle.evalset.proofs.Bits.{bit-zero, bit-suc, bit-above, bit-under, bit-top}
+use Rattle.evalset.proofs.Bits.{bit-above, bit-under, bit-top}
 use Rattle.contact.specs.Row.{Row}
 use Rattle.contact.specs.Plan.{Mark, mark, rowMarks}
 use Rattle.contact.proofs.Searching.{no-marks}
@@ -64,68 +62,13 @@ pub row-upper : (j e : ℕ) → e < 2 ^ j → rowBits (suc j) (2 ^ j + e) ≡ fa
 unfolding rowBits
 row-upper j e l = ap₂ (λ (b : Bool) (r : List Bool). not b ∷ r) (bit-top j e l) (row-high j j e (omega arith))
 
--- each row of d atoms has a number
-pub number : (d : ℕ) (row : List Bool) → length row ≡ d → (e : ℕ) × (e < 2 ^ d) × (rowBits d e ≡ row)
-unfolding rowBits
-number zero [] l = (0, omega arith, refl)
-number zero (b ∷ row) l = absurd (omega arith)
-number (suc d) [] l = absurd (omega arith)
-number (suc d) (true ∷ row) l =
-    let w = number d row (omega arith) in
-    (w .0, omega (arith, w .1, pow-suc 2 d), row-lower d (w .0) (w .1) ∙ ap (λ (r : List Bool). true ∷ r) (w .2))
-number (suc d) (false ∷ row) l =
-    let w = number d row (omega arith) in
-    (2 ^ d + w .0, omega (arith, w .1, pow-suc 2 d), row-upper d (w .0) (w .1) ∙ ap (λ (r : List Bool). false ∷ r) (w .2))
-
--- ---- one atom more
-
-row-half : (k p : ℕ) → rowBits (suc k) p ≡ rowBits k (p / 2) ++ not (bit p 0) ∷ []
-unfolding rowBits
-row-half zero p = refl
-row-half (suc k) p = ap₂ _∷_ (ap not (bit-suc p k)) (row-half k p)
-
--- the row without its last atom, and that
-row-parent : (k p : ℕ) → 0 < k → rowBits k p ≡ rowBits (k - 1) (p / 2) ++ getD (rowBits k p) (k - 1) false ∷ []
-row-parent k p h =
-    let z : k ≡ suc (k - 1) = omega arith in
-    let w : k - 1 - (k - 1) ≡ 0 = omega arith in
-    ap (λ (j : ℕ). rowBits j p) z ∙ row-half (k - 1) p
-    ∙ ap (λ (b : Bool). rowBits (k - 1) (p / 2) ++ b ∷ [])
-    (sym (row-at k p (k - 1) (omega arith) ∙ ap (λ (j : ℕ). not (bit p j)) w))
-
-row-child : (k p d : ℕ) → d < 2 → rowBits (k + 1) (p * 2 + d) ≡ rowBits k p ++ not (eqb d 1) ∷ []
-row-child k p d h =
-    let half : (p * 2 + d) / 2 ≡ p = omega arith in
-    let low : (p * 2 + d) % 2 ≡ d = omega arith in
-    ap (λ (j : ℕ). rowBits j (p * 2 + d)) (add-one k) ∙ row-half k (p * 2 + d)
-    ∙ ap₂ (λ (x : ℕ) (b : Bool). rowBits k x ++ not b ∷ []) half (bit-zero (p * 2 + d) ∙ ap (λ (x : ℕ). eqb x 1) low)
-
--- the children of a row in the tree: the next atom true, and false
-pub row-true : (k p : ℕ) → rowBits (k + 1) (p * 2) ≡ rowBits k p ++ true ∷ []
-row-true k p =
-    let z : p * 2 ≡ p * 2 + 0 = omega arith in
-    ap (rowBits (k + 1)) z ∙ row-child k p 0 (omega arith)
-
-pub row-false : (k p : ℕ) → rowBits (k + 1) (p * 2 + 1) ≡ rowBits k p ++ false ∷ []
-row-false k p = row-child k p 1 (omega arith)
-
 -- ---- the marks of a row
 
-pub marks-last : (atoms : List (Atom ℕ)) (row : Row) (b : Bool) → length row < length atoms
+marks-last : (atoms : List (Atom ℕ)) (row : Row) (b : Bool) → length row < length atoms
     → rowMarks atoms (row ++ b ∷ []) ≡ rowMarks atoms row ++ mark (atomAt atoms (length row)) b ∷ []
 marks-last [] row b l = absurd (omega arith)
 marks-last (a ∷ atoms) [] b l = ap (λ (ms : List Mark). mark a b ∷ ms) (no-marks atoms)
 marks-last (a ∷ atoms) (c ∷ row) b l = ap (λ (ms : List Mark). mark a c ∷ ms) (marks-last atoms row b (omega arith))
-
--- the marks of the row without its last atom, and of that
-pub marks-parent : (atoms : List (Atom ℕ)) (k p : ℕ) → 0 < k → k ≤ length atoms
-    → rowMarks atoms (rowBits k p)
-    ≡ rowMarks atoms (rowBits (k - 1) (p / 2)) ++ mark (atomAt atoms (k - 1)) (getD (rowBits k p) (k - 1) false) ∷ []
-marks-parent atoms k p h l =
-    let z : length (rowBits (k - 1) (p / 2)) ≡ k - 1 = row-length (k - 1) (p / 2) in
-    let b : Bool = getD (rowBits k p) (k - 1) false in
-    ap (rowMarks atoms) (row-parent k p h) ∙ marks-last atoms (rowBits (k - 1) (p / 2)) b (omega arith)
-    ∙ ap (λ (j : ℕ). rowMarks atoms (rowBits (k - 1) (p / 2)) ++ mark (atomAt atoms j) b ∷ []) z
 
 -- the marks of the first i atoms, and of one more
 pub marks-take : (atoms : List (Atom ℕ)) (row : Row) (i : ℕ) → i < length row → length row ≤ length atoms

@@ -3,16 +3,14 @@
 use mathlib.Core.Bool.{Bool, true, false, _||_}
 use mathlib.Core.Path.{_≡_}
 use mathlib.Core.List.{List, [], _∷_, _++_}
-use Prim.Native.Nat.{ℕ, _-_, _/_, _^_, _≤_, _<_}
+use Prim.Native.Nat.{ℕ, _^_, _≤_, _<_}
 use lib.ListN.{length, getD}
 use Rattle.formula.specs.Formula.{Term, Atom}
-use Rattle.lists.specs.Search.{all}
 use Rattle.evalset.specs.Sets.{room, most, mem, memAt, minusOf}
 use Rattle.contact.specs.Meaning.{partTerm}
-use Rattle.contact.specs.Plan.{Means, Mark, mark, rowMarks, separated, allowed, witnessed, check}
+use Rattle.contact.specs.Plan.{Means, Mark, mark, separated, allowed}
 use Rattle.search.specs.declared.Sheet.{Sheet}
 use Rattle.search.specs.declared.State.{State}
-use Rattle.search.specs.Rows.{rowBits}
 use Rattle.search.specs.Tests.{lessOf, partOf}
 
 -- the most atoms
@@ -60,22 +58,3 @@ unfoldable pub StepSays : Sheet → State → ℕ → Bool → State → Type 0
 StepSays sheet s k value r =
     (atoms : List (Atom ℕ)) → Compiled sheet atoms → k < length atoms → (ms : List Mark) → Fit (sheet .names) s ms
     → Fit (sheet .names) r (ms ++ mark (atomAt atoms k) value ∷ [])
-
--- every mark of the row has its witness
-unfoldable pub WitnessedSays : Sheet → State → ℕ → ℕ → Bool → Type 0
-WitnessedSays sheet s row k r =
-    (atoms : List (Atom ℕ)) → Compiled sheet atoms → k ≤ length atoms → (ms : List Mark) → Fit (sheet .names) s ms
-    → r ≡ all (witnessed (sheet .names) ms) (rowMarks atoms (rowBits k row))
-
--- the check of the marks of the row
-unfoldable pub RealisableSays : Sheet → State → ℕ → ℕ → Bool → Type 0
-RealisableSays sheet s row k r =
-    (atoms : List (Atom ℕ)) → Compiled sheet atoms → k ≤ length atoms → Fit (sheet .names) s (rowMarks atoms (rowBits k row))
-    → r ≡ check (sheet .names) (rowMarks atoms (rowBits k row))
-
--- the same, if the row without its last atom passes: its number is half
-unfoldable pub NextSays : Sheet → State → ℕ → ℕ → Bool → Type 0
-NextSays sheet s row k r =
-    (atoms : List (Atom ℕ)) → Compiled sheet atoms → k ≤ length atoms → Fit (sheet .names) s (rowMarks atoms (rowBits k row))
-    → check (sheet .names) (rowMarks atoms (rowBits (k - 1) (row / 2))) ≡ true
-    → r ≡ check (sheet .names) (rowMarks atoms (rowBits k row))

@@ -37,13 +37,6 @@ partOf false v x y p q = false
 unfoldable pub startsOf : (ℕ → Bool) → (ℕ → Bool) → (ℕ → ℕ → Bool) → ℕ → Bool
 startsOf f g sep p = f p && any (minusOf g (sep p)) (below room)
 
--- an atom with its value has its witness
-abbrev pub witnessedOf : Bool → Bool → (ℕ → Bool) → (ℕ → ℕ → Bool) → (ℕ → Bool) → (ℕ → Bool) → Bool
-witnessedOf true true al sep x y = any (startsOf (meetOf al x) (meetOf al y) sep) (below room)
-witnessedOf true false al sep x y = true
-witnessedOf false true al sep x y = true
-witnessedOf false false al sep x y = any (meetOf al x) (below room)
-
 -- p and its least partner
 abbrev pub pairFrom : (ℕ → Bool) → (ℕ → ℕ → Bool) → ℕ → List ℕ
 pairFrom g sep p = p ∷ first (minusOf g (sep p)) (below room)

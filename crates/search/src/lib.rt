@@ -1,10 +1,9 @@
-// The check of the rows of a compiled sheet, and the plan of a row (document 01, 'The plan that is given').
-// A row is a number: of k atoms, atom i is true where bit k - 1 - i is clear. The state goes down the tree of rows by value: what
-// is allowed, and what is separated from each evaluation. Contracts speak of every list of atoms that the sheet is compiled
-// from (specs/Compiled.antt). A requires asks only that indices are in range: our own crates alone call these functions, with
-// at most 16 atoms, and a test for each call would cost the search time. Assumes nothing.
+// The plan of a row of a compiled sheet (document 01, 'The plan that is given').
+// A row is a number: of k atoms, atom i is true where bit k - 1 - i is clear. Its state is what the row allows, and what it separates
+// from each evaluation. Contracts speak of every list of atoms that the sheet is compiled from (specs/Compiled.antt). A requires asks
+// only that indices are in range: our own crates alone call these functions, with at most 16 atoms. Assumes nothing.
 ghost use mathlib.Core.Path.{_≡_};
-ghost use mathlib.Core.Bool.{true, false, cond};
+ghost use mathlib.Core.Bool.{false, cond};
 ghost use mathlib.Core.List.{[]};
 ghost use Prim.Native.Nat.{ℕ, _≤_, _<_};
 ghost use lib.ListN.{length, getD};
@@ -12,8 +11,8 @@ ghost use Rattle.lists.specs.Padded.{pad};
 ghost use Rattle.lists.specs.Search.{first, keep, below, elem};
 ghost use Rattle.evalset.specs.Sets.{room, most, mem, memAt, belowOf, addOf};
 ghost use Rattle.search.specs.Rows.{rowBits};
-ghost use Rattle.search.specs.Tests.{Separates, Parts, witnessedOf, pairOf, givesOf, rowOf, rowsOf, Filled};
-ghost use Rattle.search.specs.Compiled.{limit, Fit, Follows, StepSays, WitnessedSays, RealisableSays, NextSays};
+ghost use Rattle.search.specs.Tests.{Separates, Parts, pairOf, givesOf, rowOf, rowsOf, Filled};
+ghost use Rattle.search.specs.Compiled.{limit, Fit, Follows, StepSays};
 ghost use Rattle.search.specs.Planned.{StateSays, GatheredSays, GivenSays, Positions, PlanSays};
 use evalset::EvalSet;
 use evalset::Found;
@@ -113,7 +112,7 @@ fn decided(s: State, contact: bool, x: EvalSet, y: EvalSet, value: bool) -> Stat
 }
 
 // The state before any atom is decided: the evaluations below 2 ^ names, all of them from NAMES up, and none separated.
-pub fn start(names: usize) -> State
+fn start(names: usize) -> State
     ensures { λ r. ⌜ (mem (r .allowed) ≡ belowOf names) × ((p q : ℕ) → memAt (r .rows) p q ≡ false) × (names ≤ most → Fit names r []) ⌝ }
 {
     let none = evalset::empty();
@@ -125,7 +124,7 @@ pub fn start(names: usize) -> State
 }
 
 // The state, once atom k has its value.
-pub fn step(sheet: Sheet, s: State, k: usize, value: bool) -> State
+fn step(sheet: Sheet, s: State, k: usize, value: bool) -> State
     requires { ⌜ k < limit ⌝ }
     ensures { λ r. ⌜ StepSays sheet s k value r ⌝ }
 {
@@ -133,87 +132,6 @@ pub fn step(sheet: Sheet, s: State, k: usize, value: bool) -> State
     let x = sheet.xs[k];
     let y = sheet.ys[k];
     decided(s, contact, x, y, value)
-}
-
-// Whether an allowed evaluation of x has an allowed partner in y that is not separated from it.
-fn touches(s: State, x: EvalSet, y: EvalSet) -> bool
-    ensures { λ r. ⌜ r ≡ witnessedOf true true (mem (s .allowed)) (memAt (s .rows)) (mem x) (mem y) ⌝ }
-{
-    let second = evalset::meet(s.allowed, y);
-    let mut rest = evalset::meet(s.allowed, x);
-    let mut from: usize = 0;
-    while from < ROOM {
-        let Found::At(p) = evalset::least(rest) else {
-            return false;
-        };
-        let r = s.rows[p];
-        if !evalset::is_empty(evalset::minus(second, r)) {
-            return true;
-        }
-        rest = evalset::without(rest, p);
-        from = p + 1;
-    }
-    false
-}
-
-// Whether an atom with its value has its witness.
-fn witnessed(s: State, contact: bool, x: EvalSet, y: EvalSet, value: bool) -> bool
-    ensures { λ r. ⌜ r ≡ witnessedOf contact value (mem (s .allowed)) (memAt (s .rows)) (mem x) (mem y) ⌝ }
-{
-    if contact {
-        if value { touches(s, x, y) } else { true }
-    } else if value {
-        true
-    } else {
-        !evalset::is_empty(evalset::meet(s.allowed, x))
-    }
-}
-
-// Whether each of the k atoms of the row has its witness.
-fn all_witnessed(sheet: Sheet, s: State, row: usize, k: usize) -> bool
-    requires { ⌜ k ≤ limit ⌝ }
-    ensures { λ r. ⌜ WitnessedSays sheet s row k r ⌝ }
-{
-    let mut i: usize = 0;
-    while i < k {
-        let contact = sheet.contact[i];
-        let x = sheet.xs[i];
-        let y = sheet.ys[i];
-        if !witnessed(s, contact, x, y, value_in(row, k, i)) {
-            return false;
-        }
-        i += 1;
-    }
-    true
-}
-
-// The check of a row of k atoms, of which s is the state.
-pub fn realisable(sheet: Sheet, s: State, row: usize, k: usize) -> bool
-    requires { ⌜ k ≤ limit ⌝ }
-    ensures { λ r. ⌜ RealisableSays sheet s row k r ⌝ }
-{
-    if evalset::is_empty(s.allowed) {
-        false
-    } else {
-        all_witnessed(sheet, s, row, k)
-    }
-}
-
-// The same where the row without its last atom passed: if that atom left the state as it was, its own mark alone is checked.
-pub fn realisable_next(sheet: Sheet, s: State, row: usize, k: usize) -> bool
-    requires { ⌜ (0 < k) × (k ≤ limit) ⌝ }
-    ensures { λ r. ⌜ NextSays sheet s row k r ⌝ }
-{
-    let i = k - 1;
-    let contact = sheet.contact[i];
-    let value = value_in(row, k, i);
-    if contact == value {
-        let x = sheet.xs[i];
-        let y = sheet.ys[i];
-        witnessed(s, contact, x, y, value)
-    } else {
-        realisable(sheet, s, row, k)
-    }
 }
 
 // The state of a whole row.

@@ -1,4 +1,9 @@
 pub mod Codes
 pub mod Blocks
-pub mod Branches
+pub mod Whole
+pub mod Walks
+pub mod Places
+pub mod Under
+pub mod Steps
+pub mod Root
 pub mod Claims

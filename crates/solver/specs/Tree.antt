@@ -1,28 +1,29 @@
--- The tree of rows as the search walks it: blocks of rows under a row, what is left of them, and what is found. Assumes nothing.
-use mathlib.Core.Bool.{Bool, true, not, _&&_}
+-- What is computed: sets of rows under a row, how a search cuts the atoms, what it leaves out and what it finds. Assumes nothing.
+use mathlib.Core.Bool.{Bool, true, false, not}
 use mathlib.Core.Path.{_≡_}
 use mathlib.Core.List.{List, [], _∷_, _++_, map}
-use Prim.Native.Nat.{ℕ, _+_, _-_, _/_, _^_, _≤_, _<_}
-use lib.Dec.{ltb}
+use Prim.Native.Nat.{ℕ, _+_, _-_, _*_, _/_, _^_, _≤_, _<_, min}
 use lib.ListN.{length, getD}
 use Rattle.formula.specs.Formula.{Atom, Form}
 use Rattle.evalset.specs.declared.EvalSet.{EvalSet}
 use Rattle.lists.specs.Search.{first}
+use Rattle.evalset.specs.Bit.{bit}
 use Rattle.evalset.specs.Sets.{most, mem}
-use Rattle.contact.specs.Row.{is, unknown, PartialRow}
+use Rattle.contact.specs.Row.{Row, is, unknown, PartialRow}
 use Rattle.contact.specs.Plan.{rowMarks, check, good, firstRow}
-use Rattle.contact.specs.Tableau.{refutes, under}
-use Rattle.kleene.specs.Rails.{Duo, duoOf}
+use Rattle.contact.specs.Tableau.{refutes, closes, under}
+use Rattle.kleene.specs.Rails.{Duo, duoOf, wordRows}
 use Rattle.search.specs.declared.Sheet.{Sheet}
-use Rattle.search.specs.declared.State.{State}
 use Rattle.search.specs.Rows.{rowBits}
-use Rattle.search.specs.Compiled.{limit, Compiled, Fit}
-use Rattle.solver.specs.declared.Block.{Block}
+use Rattle.search.specs.Compiled.{limit, Compiled}
+use Rattle.pairing.specs.Words.{Contacts, lone, rowTest}
+use Rattle.pairing.specs.Listed.{seenAt, pairCount}
+use Rattle.solver.specs.declared.Cut.{Cut}
 use Rattle.solver.specs.declared.RowAnswer.{RowAnswer}
 use Rattle.solver.specs.declared.RowAnswer.the-variants.{At, Nothing}
 use Rattle.solver.specs.Coded.{SafeFrom, Coded}
 
--- ---- blocks
+-- ---- rows under a row
 
 -- a row with d atoms more, the e-th such row; the other atoms are undecided
 abbrev pub extended : List Bool → ℕ → ℕ → PartialRow
@@ -32,36 +33,42 @@ extended row d e = map is (row ++ rowBits d e)
 abbrev pub decidedAt : ℕ → ℕ → ℕ → ℕ → ℕ → Duo
 decidedAt k row d e i = duoOf (getD (extended (rowBits k row) d e) i unknown)
 
--- of the rows with d atoms more, those that no rule refutes
-unfoldable pub candidatesOf : List (Form ℕ) → List Bool → ℕ → ℕ → Bool
-candidatesOf rules row d e = ltb e (2 ^ d) && not (refutes rules (extended row d e))
+-- the set is of rows with d atoms more
+abbrev pub Low : ℕ → EvalSet → Type 0
+Low d r = (e : ℕ) → mem r e ≡ true → e < 2 ^ d
 
-unfoldable pub CandidatesSay : List ℕ → List ℕ → ℕ → ℕ → ℕ → EvalSet → Type 0
-CandidatesSay code ends row k d r =
-    (many : ℕ) (rules : List (Form ℕ)) → Coded many code ends rules → mem r ≡ candidatesOf rules (rowBits k row) d
+-- some rule refutes those that are not in it
+pub record UnrefutedSays (code ends : List ℕ) (row k d : ℕ) (r : EvalSet) : Type 0 where
+  pub low : Low d r
+  pub refuted : (many : ℕ) (rules : List (Form ℕ)) → Coded many code ends rules → (e : ℕ) → e < 2 ^ d → mem r e ≡ false
+      → refutes rules (extended (rowBits k row) d e) ≡ true
 
--- a block of at least one level, where j levels are at hand
-pub record Filled (code ends : List ℕ) (row k left j : ℕ) (unrefuted : EvalSet) (r : Block) : Type 0 where
-  pub some : 1 ≤ r .levels
-  pub few : r .levels ≤ most
-  pub fits : r .levels ≤ left
-  pub are : (many : ℕ) (rules : List (Form ℕ)) → Coded many code ends rules → mem unrefuted ≡ candidatesOf rules (rowBits k row) j
-      → mem (r .unrefuted) ≡ candidatesOf rules (rowBits k row) (r .levels)
+-- ---- words of whole rows, where a word has an atom's value in each row
 
--- ---- the check
+-- a word has the rows of so many atoms: 2 ^ wordLevels is wordRows
+abbrev pub wordLevels : ℕ
+wordLevels = 6
 
--- the row without its last atom passes, if it has one
-abbrev pub ParentPasses : Sheet → List (Atom ℕ) → ℕ → ℕ → Type 0
-ParentPasses sheet atoms row k = 0 < k → check (sheet .names) (rowMarks atoms (rowBits (k - 1) (row / 2))) ≡ true
+-- the first k leaves are those of the row; the others are as before
+pub record RowLeaves (row k : ℕ) (before leaves : List ℕ) : Type 0 where
+  pub size : length leaves ≡ 16
+  pub are : (i : ℕ) → i < k → (e : ℕ) → e < wordRows → bit (getD leaves i 0) e ≡ getD (rowBits k row) i false
+  pub kept : (i : ℕ) → k ≤ i → getD leaves i 0 ≡ getD before i 0
 
-unfoldable pub PassesSays : Sheet → State → ℕ → ℕ → Bool → Type 0
-PassesSays sheet s row k r =
-    (atoms : List (Atom ℕ)) → Compiled sheet atoms → k ≤ length atoms → Fit (sheet .names) s (rowMarks atoms (rowBits k row))
-    → ParentPasses sheet atoms row k → r ≡ check (sheet .names) (rowMarks atoms (rowBits k row))
+-- the next d leaves are those of the word
+pub record WordLeaves (k d : ℕ) (leaves : List ℕ) : Type 0 where
+  pub size : length leaves ≡ 16
+  pub are : (i : ℕ) → k ≤ i → i < k + d → (e : ℕ) → e < wordRows → bit (getD leaves i 0) e ≡ not (bit e (k + d - 1 - i))
 
--- ---- the search
+-- the rows that no rule refutes, where the rules have no other atoms than those of the rows
+pub record WholeSays (code ends : List ℕ) (row k d : ℕ) (r : EvalSet) : Type 0 where
+  pub low : Low d r
+  pub are : (many : ℕ) (rules : List (Form ℕ)) → Coded many code ends rules → many ≤ k + d → (e : ℕ) → e < 2 ^ d
+      → mem r e ≡ not (refutes rules (extended (rowBits k row) d e))
 
--- what the code and the sheet come from: atoms, and rules over their numbers
+-- ---- what the code and the sheet come from
+
+-- atoms, and rules over their numbers
 pub record ComesFrom (code ends : List ℕ) (sheet : Sheet) (atoms : List (Atom ℕ)) (rules : List (Form ℕ)) : Type 0 where
   pub compiled : Compiled sheet atoms
   pub coded : Coded (sheet .atoms) code ends rules
@@ -71,25 +78,95 @@ pub record Runnable (code ends : List ℕ) (sheet : Sheet) : Type 0 where
   pub safe : SafeFrom code 0 ends
   pub atoms-fit : sheet .atoms ≤ limit
 
--- a place in the tree: the row's number is one of k atoms, and j levels of a block are at hand
-pub record Node (code ends : List ℕ) (sheet : Sheet) (row k j : ℕ) : Type 0 where
-  pub runnable : Runnable code ends sheet
-  pub within : k ≤ sheet .atoms
-  pub row-fits : row < 2 ^ k
-  pub few : j ≤ most
-  pub block-fits : k + j ≤ sheet .atoms
-
 -- what is found, as a list of none or one
 abbrev pub rowsOf : ℕ → RowAnswer → List (List Bool)
 rowsOf n (At row) = rowBits n row ∷ []
 rowsOf n Nothing = []
 
-unfoldable pub UnderSays : List ℕ → List ℕ → Sheet → State → ℕ → ℕ → ℕ → EvalSet → RowAnswer → Type 0
-UnderSays code ends sheet s row k j unrefuted r =
-    (atoms : List (Atom ℕ)) (rules : List (Form ℕ)) → ComesFrom code ends sheet atoms rules
-    → Fit (sheet .names) s (rowMarks atoms (rowBits k row)) → ParentPasses sheet atoms row k
-    → mem unrefuted ≡ candidatesOf rules (rowBits k row) j
-    → rowsOf (sheet .atoms) r ≡ first (good (sheet .names) atoms rules) (under (rowBits k row) (sheet .atoms - k))
+-- the first of a set of rows, counted from `start`
+abbrev pub answerOf : ℕ → List ℕ → RowAnswer
+answerOf start [] = Nothing
+answerOf start (e ∷ es) = At (start + e)
+
+-- ---- the search
+
+-- a word has room for its rows, and a table for those of a block and for all words
+pub record Fits (cut : Cut) : Type 0 where
+  pub blocks : cut .k ≤ 6
+  pub words : cut .w ≤ 4
+  pub rows : cut .r ≤ wordLevels
+  pub contacts-fit : cut .contacts < 65536
+
+-- and what it has of the pairs is so, where ws has their words
+pub record CutFor (ws : List ℕ) (cut : Cut) : Type 0 where
+  pub fits : Fits cut
+  pub lone-is : cut .lone ≡ lone 0 ws
+  pub above-is : cut .above ≡ lone (cut .r) ws
+
+-- n atoms are cut
+pub record CutOf (ws : List ℕ) (contacts n : ℕ) (cut : Cut) : Type 0 where
+  pub for-list : CutFor ws cut
+  pub all : n ≡ cut .k + cut .w + cut .r
+  pub contacts-is : cut .contacts ≡ contacts
+
+-- what is lent for the words: their leaves, and a stack for the runs
+abbrev pub Lent : Cut → List ℕ → List ℕ → Type 0
+Lent cut leaves stack = WordLeaves (cut .k + cut .w) (cut .r) leaves × (length stack ≡ 128)
+
+-- names, atoms and rules over the atoms' numbers, of which the search has the code and the cut
+pub record Given (code ends : List ℕ) (cut : Cut) : Type 0 where
+  pub names : ℕ
+  pub atoms : List (Atom ℕ)
+  pub rules : List (Form ℕ)
+  pub counted : length atoms ≡ cut .k + cut .w + cut .r
+  pub coded : Coded (length atoms) code ends rules
+  pub contacts-are : Contacts atoms (cut .contacts)
+
+module _ {code ends : List ℕ} {cut : Cut} (g : Given code ends cut) where
+  -- the test of the 2 ^ d rows under the row of k atoms by the table is their check
+  abbrev pub Tested : List ℕ → Bool → ℕ → ℕ → ℕ → ℕ → ℕ → Type 0
+  Tested table one contacts low k row d =
+      (e : ℕ) → e < 2 ^ d
+      → rowTest table one contacts low (row * 2 ^ d + e) ≡ check (g .names) (rowMarks (g .atoms) (rowBits (k + d) (row * 2 ^ d + e)))
+
+  -- so for the rows of a block, by its table
+  abbrev pub RowsTested : List ℕ → ℕ → Type 0
+  RowsTested table row = Tested table (cut .lone) (cut .contacts) (2 ^ (cut .w + cut .r) - 1) (cut .k) row (cut .w + cut .r)
+
+  -- and for its words, by the table of all words
+  abbrev pub WordsTested : List ℕ → ℕ → Type 0
+  WordsTested upper row = Tested upper (cut .above) (cut .contacts / 2 ^ (cut .r)) (2 ^ (cut .k + cut .w) - 1) (cut .k) row (cut .w)
+
+  -- of the 2 ^ d rows under the row of k atoms, those that are not in the set close
+  abbrev pub Left : ℕ → ℕ → ℕ → EvalSet → Type 0
+  Left k row d set =
+      (e : ℕ) → e < 2 ^ d → mem set e ≡ false
+      → closes (g .names) (g .atoms) (g .rules) (map is (rowBits (k + d) (row * 2 ^ d + e))) ≡ true
+
+  abbrev pub goodFor : Row → Bool
+  goodFor = good (g .names) (g .atoms) (g .rules)
+
+  -- the answer is the first good row under the row of k atoms, s atoms more
+  abbrev pub Finds : ℕ → ℕ → ℕ → RowAnswer → Type 0
+  Finds k row s r = rowsOf (length (g .atoms)) r ≡ first goodFor (under (rowBits k row) s)
+
+-- ---- the memory that is lent for the list
+
+-- the number of evaluations of so many names: of the most where there are more
+abbrev pub evaluationCount : ℕ → ℕ
+evaluationCount names = 2 ^ min names most
+
+-- no word was seen yet, and each has its bit
+pub record Unseen (sheet : Sheet) (seen : List ℕ) : Type 0 where
+  pub none : (k : ℕ) → seenAt seen k ≡ false
+  pub bits : 2 ^ (sheet .atoms) ≤ 64 * length seen
+
+-- and there is room for the word of every pair
+pub record Roomy (sheet : Sheet) (seen list : List ℕ) : Type 0 where
+  pub unseen : Unseen sheet seen
+  pub places : pairCount (evaluationCount (sheet .names)) ≤ length list
+
+-- ---- the answer
 
 -- the answer is the first row, for all atoms and rules that the code and the sheet come from
 unfoldable pub FirstRowSays : List ℕ → List ℕ → Sheet → RowAnswer → Type 0

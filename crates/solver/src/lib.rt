@@ -1,22 +1,31 @@
-// The search for the first row (document 01, 'The plan that is given'): depth first, true before false. A branch closes where a
-// rule is false whatever the undecided atoms are, or where no floor gives the decided atoms their values. The rules are run on
-// up to six levels of the tree at once: a set has the rows of a block that are left, and each branch takes its half.
+// The search for the first row (document 01, 'The plan that is given'): rows in their order, true before false. The first atoms number the
+// blocks of rows, the next the words of a block, the last the rows of a word. A block or a word is left out where a rule is false whatever the
+// undecided atoms are, a word also where no floor gives the decided atoms their values (crate `pairing`). In a word that is left all rows are
+// taken at once; the first that makes the rules true and passes the check is the answer.
 // Rules come as postfix codes one after another: rule i is code[ends[i - 1]..ends[i]], the first from 0 on. Contracts speak of
 // all atoms and rules that sheet and code come from (specs/Tree.antt). A requires asks only that the code can be run and that
 // indices are in range. Assumes nothing.
 ghost use mathlib.Core.Path.{_≡_};
-ghost use Prim.Native.Nat.{ℕ, _+_, _≤_, _<_, _^_};
-ghost use Rattle.evalset.specs.Sets.{most};
-ghost use Rattle.kleene.specs.Rails.{duoAt, twoAt};
+ghost use mathlib.Core.Bool.{false, not};
+ghost use Prim.Native.Nat.{ℕ, _+_, _*_, _≤_, _<_, _^_, min};
+ghost use lib.ListN.{length, getD};
+ghost use Rattle.lists.specs.Search.{first, below};
+ghost use Rattle.evalset.specs.Bit.{bit};
+ghost use Rattle.evalset.specs.Sets.{room, most, mem};
+ghost use Rattle.kleene.specs.Rails.{duoAt, twoAt, wordRows};
 ghost use Rattle.search.specs.Compiled.{limit};
-ghost use Rattle.solver.specs.Coded.{part, PartSafe, SafeFrom, RuleRefuted, RefutedSays};
-ghost use Rattle.solver.specs.Tree.{decidedAt, CandidatesSay, Filled, PassesSays, Node, UnderSays, Runnable, FirstRowSays};
+ghost use Rattle.search.specs.Rows.{rowBits};
+ghost use Rattle.pairing.specs.Words.{Serving};
+ghost use Rattle.solver.specs.Coded.{part, PartSafe, SafeFrom, RuleRefuted, RefutedSays, TrueSays};
+ghost use Rattle.solver.specs.Tree.{decidedAt, Low, wordLevels, RowLeaves, WordLeaves, WholeSays, UnrefutedSays, answerOf, Fits, CutFor, Lent, Given, RowsTested, WordsTested, Left, Finds, CutOf, evaluationCount, Unseen, Roomy, Runnable, FirstRowSays};
 use evalset::EvalSet;
+use evalset::Found;
 use evalset::NAMES;
+use evalset::ROOM;
 use kleene::Two;
+use pairing::PLACES;
 use search::ATOMS;
 use search::Sheet;
-use search::State;
 
 // What the search answers: a row by its number, or none.
 pub enum RowAnswer {
@@ -24,13 +33,18 @@ pub enum RowAnswer {
     Nothing,
 }
 
-// The rows some levels down that no rule refutes.
-struct Block {
-    levels: usize,
-    unrefuted: EvalSet,
+// How a search cuts the atoms: the first k number the blocks, the next w the words of a block, the last r the rows of a word. With
+// the contacts, and whether some pair serves no atom (`lone`), or none above the last r (`above`).
+struct Cut {
+    k: usize,
+    w: usize,
+    r: usize,
+    contacts: u32,
+    lone: bool,
+    above: bool,
 }
 
-// The values of atom i in the 2 ^ d rows under the row of k atoms: the block's own atoms are true where their bit is clear.
+// The values of atom i in the 2 ^ d rows under the row of k atoms: the other atoms are true where their bit is clear.
 fn leaf(row: usize, k: usize, d: usize, i: usize) -> Two
     requires { ⌜ (k + d ≤ limit) × (d ≤ most) × (i < k + d) ⌝ }
     ensures { λ r. ⌜ ((e : ℕ) → e < 2 ^ d → duoAt r e ≡ decidedAt k row d e i) ⌝ }
@@ -87,99 +101,305 @@ fn some_refuted(code: &[u8], ends: &[usize], leaves: [Two; ATOMS]) -> EvalSet
     acc
 }
 
-// Of the 2 ^ d rows under the row of k atoms, those that no rule refutes.
-fn candidates(code: &[u8], ends: &[usize], row: usize, k: usize, d: usize) -> EvalSet
+// Of the 2 ^ d rows under the row of k atoms, those that no rule refutes; all where d is 0: the rules are run below.
+fn unrefuted(code: &[u8], ends: &[usize], row: usize, k: usize, d: usize) -> EvalSet
     requires { ⌜ SafeFrom (now code) 0 (now ends) × ((k + d ≤ limit) × (d ≤ most)) ⌝ }
-    ensures { λ r. ⌜ CandidatesSay (now (code .entry)) (now (ends .entry)) row k d r ⌝ }
+    ensures { λ r. ⌜ UnrefutedSays (now (code .entry)) (now (ends .entry)) row k d r ⌝ }
 {
+    if d == 0 {
+        return evalset::below(0);
+    }
     let no = some_refuted(code, ends, leaves(row, k, d));
     evalset::minus(evalset::below(d), no)
 }
 
-// How many levels a block has where so many are left.
-fn levels(left: usize) -> usize
-    requires { ⌜ 1 ≤ left ⌝ }
-    ensures { λ r. ⌜ (1 ≤ r) × (r ≤ most) × (r ≤ left) ⌝ }
+// The value of atom i in the row of k atoms, in every row of a word.
+fn row_leaf(row: usize, k: usize, i: usize) -> u64
+    requires { ⌜ (i < k) × (k ≤ limit) ⌝ }
+    ensures { λ r. ⌜ ((e : ℕ) → e < wordRows → bit r e ≡ getD (rowBits k row) i false) ⌝ }
 {
-    if left < NAMES { left } else { NAMES }
+    if search::value_in(row, k, i) {
+        0xFFFF_FFFF_FFFF_FFFF
+    } else {
+        0
+    }
 }
 
-// A block with at least one level: the one at hand, or the next.
-fn filled(
+// The first k leaves become those of the row.
+fn row_leaves(row: usize, k: usize, leaves: &mut [u64; ATOMS])
+    requires { ⌜ (k ≤ limit) × (length (now leaves) ≡ 16) ⌝ }
+    ensures { λ _. ⌜ RowLeaves row k (now (leaves .entry)) (now (leaves .exit)) ⌝ }
+{
+    let mut i: usize = 0;
+    while i < k {
+        leaves[i] = row_leaf(row, k, i);
+        i += 1;
+    }
+}
+
+// The rows of a word in which bit j of their number is clear.
+fn word_leaf(j: usize) -> u64
+    requires { ⌜ j < wordLevels ⌝ }
+    ensures { λ r. ⌜ ((e : ℕ) → e < wordRows → bit r e ≡ not (bit e j)) ⌝ }
+{
+    !evalset::low_word(evalset::name_set(j))
+}
+
+// The leaves of a word of d atoms under a row of k atoms, for `whole_candidates`: those of the row are not set yet.
+fn word_leaves(k: usize, d: usize) -> [u64; ATOMS]
+    requires { ⌜ (k + d ≤ limit) × (d ≤ wordLevels) ⌝ }
+    ensures { λ r. ⌜ WordLeaves k d r ⌝ }
+{
+    let mut out = [0u64; ATOMS];
+    let n = k + d;
+    let mut i = k;
+    while i < n {
+        out[i] = word_leaf(n - 1 - i);
+        i += 1;
+    }
+    out
+}
+
+// The rows in which every rule is true, where every atom is decided. The rules end early where no such row is left.
+fn all_true(code: &[u8], ends: &[usize], leaves: &[u64; ATOMS], stack: &mut [u64; 128]) -> u64
+    requires { ⌜ SafeFrom (now code) 0 (now ends) × (length (now stack) ≡ 128) ⌝ }
+    ensures { λ r. ⌜ (length (now (stack .exit)) ≡ 128) × TrueSays (now (code .entry)) (now (ends .entry)) (now (leaves .entry)) r ⌝ }
+{
+    let mut left: u64 = 0xFFFF_FFFF_FFFF_FFFF;
+    let mut from: usize = 0;
+    let mut i: usize = 0;
+    while i < ends.len() {
+        if left == 0 {
+            return 0;
+        }
+        let end = ends[i];
+        left = left & kleene::run_whole(&code[from..end], leaves, stack);
+        from = end;
+        i += 1;
+    }
+    left
+}
+
+// The rows of a word that no rule refutes, where the row and the word have all atoms: every atom is decided, so one rail is enough.
+// The leaves are lent with those of the word in place, so that a search sets them once for all its words.
+fn whole_candidates(
     code: &[u8],
     ends: &[usize],
     row: usize,
     k: usize,
-    left: usize,
-    j: usize,
-    unrefuted: EvalSet,
-) -> Block
-    requires { ⌜ SafeFrom (now code) 0 (now ends) × ((1 ≤ left) × (k + left ≤ limit) × (j ≤ most) × (j ≤ left)) ⌝ }
-    ensures { λ r. ⌜ Filled (now (code .entry)) (now (ends .entry)) row k left j unrefuted r ⌝ }
+    d: usize,
+    leaves: &mut [u64; ATOMS],
+    stack: &mut [u64; 128],
+) -> EvalSet
+    requires { ⌜ SafeFrom (now code) 0 (now ends) × ((k + d ≤ limit) × (d ≤ wordLevels)) × WordLeaves k d (now leaves) × (length (now stack) ≡ 128) ⌝ }
+    ensures { λ r. ⌜ WordLeaves k d (now (leaves .exit)) × (length (now (stack .exit)) ≡ 128) × WholeSays (now (code .entry)) (now (ends .entry)) row k d r ⌝ }
 {
-    if j == 0 {
-        let d = levels(left);
-        Block {
-            levels: d,
-            unrefuted: candidates(code, ends, row, k, d),
-        }
-    } else {
-        Block {
-            levels: j,
-            unrefuted,
-        }
+    row_leaves(row, k, leaves);
+    let left = all_true(code, ends, leaves, stack);
+    evalset::meet(evalset::below(d), evalset::of_word(left))
+}
+
+// The first of a set of rows, counted from `start`.
+fn answer(set: EvalSet, start: usize) -> RowAnswer
+    requires { ⌜ start < 4294967232 ⌝ }
+    ensures { λ r. ⌜ r ≡ answerOf start (first (mem set) (below room)) ⌝ }
+{
+    let Found::At(e) = evalset::least(set) else {
+        return RowAnswer::Nothing;
+    };
+    RowAnswer::At(start + e)
+}
+
+// In word e of a block, the first row that the rules leave and that passes the check, by the block's table.
+fn word(
+    code: &[u8],
+    ends: &[usize],
+    leaves: &mut [u64; ATOMS],
+    stack: &mut [u64; 128],
+    table: &[u16; PLACES],
+    cut: Cut,
+    row: usize,
+    e: usize,
+) -> RowAnswer
+    requires { ⌜ SafeFrom (now code) 0 (now ends) × Fits cut × (row < 2 ^ (cut .k)) × (e < 2 ^ (cut .w)) × Lent cut (now leaves) (now stack) ⌝ }
+    ensures { λ x. ⌜ Lent cut (now (leaves .exit)) (now (stack .exit)) × ((g : Given (now (code .entry)) (now (ends .entry)) cut) → RowsTested g (now (table .entry)) row → Finds g (cut .k + cut .w) (row * 2 ^ (cut .w) + e) (cut .r) x) ⌝ }
+{
+    let next = (row << cut.w) + e;
+    let start = next << cut.r;
+    let set = whole_candidates(code, ends, next, cut.k + cut.w, cut.r, leaves, stack);
+    let low = pairing::low_bits(cut.w + cut.r);
+    answer(
+        pairing::tested(table, cut.lone, cut.contacts, low, start, set),
+        start,
+    )
+}
+
+// The words of a block that are left: their rows pass the check, by the table of the first atoms, and no rule refutes them.
+fn words_left(code: &[u8], ends: &[usize], upper: &[u16; PLACES], cut: Cut, row: usize) -> EvalSet
+    requires { ⌜ SafeFrom (now code) 0 (now ends) × Fits cut × (row < 2 ^ (cut .k)) ⌝ }
+    ensures { λ r. ⌜ Low (cut .w) r × ((g : Given (now (code .entry)) (now (ends .entry)) cut) → WordsTested g (now (upper .entry)) row → Left g (cut .k) row (cut .w) r) ⌝ }
+{
+    let contacts = cut.contacts >> cut.r;
+    let low = pairing::low_bits(cut.k + cut.w);
+    let all = evalset::below(cut.w);
+    let passing = pairing::tested(upper, cut.above, contacts, low, row << cut.w, all);
+    if evalset::is_empty(passing) {
+        return passing;
+    }
+    evalset::meet(passing, unrefuted(code, ends, row, cut.k, cut.w))
+}
+
+// The first row in the words of the set, one word after the other.
+fn in_words(
+    code: &[u8],
+    ends: &[usize],
+    leaves: &mut [u64; ATOMS],
+    stack: &mut [u64; 128],
+    table: &[u16; PLACES],
+    cut: Cut,
+    row: usize,
+    words: EvalSet,
+) -> RowAnswer
+    requires { ⌜ SafeFrom (now code) 0 (now ends) × Fits cut × (row < 2 ^ (cut .k)) × Low (cut .w) words × Lent cut (now leaves) (now stack) ⌝ }
+    ensures { λ x. ⌜ Lent cut (now (leaves .exit)) (now (stack .exit)) × ((g : Given (now (code .entry)) (now (ends .entry)) cut) → RowsTested g (now (table .entry)) row × Left g (cut .k) row (cut .w) words → Finds g (cut .k) row (cut .w + cut .r) x) ⌝ }
+{
+    let mut rest = words;
+    let mut at: usize = 0;
+    while at < ROOM {
+        let Found::At(e) = evalset::least(rest) else {
+            return RowAnswer::Nothing;
+        };
+        let found = word(code, ends, leaves, stack, table, cut, row, e);
+        let RowAnswer::Nothing = found else {
+            return found;
+        };
+        rest = evalset::without(rest, e);
+        at = e + 1;
+    }
+    RowAnswer::Nothing
+}
+
+// The first row of a block. Its table is made only if some word is left.
+fn block(
+    code: &[u8],
+    ends: &[usize],
+    leaves: &mut [u64; ATOMS],
+    stack: &mut [u64; 128],
+    list: &[u16],
+    upper: &[u16; PLACES],
+    cut: Cut,
+    row: usize,
+) -> RowAnswer
+    requires { ⌜ SafeFrom (now code) 0 (now ends) × CutFor (now list) cut × (row < 2 ^ (cut .k)) × Lent cut (now leaves) (now stack) ⌝ }
+    ensures { λ x. ⌜ Lent cut (now (leaves .exit)) (now (stack .exit)) × ((g : Given (now (code .entry)) (now (ends .entry)) cut) → Serving (g .names) (g .atoms) (now (list .entry)) → WordsTested g (now (upper .entry)) row → Finds g (cut .k) row (cut .w + cut .r) x) ⌝ }
+{
+    let words = words_left(code, ends, upper, cut, row);
+    if evalset::is_empty(words) {
+        return RowAnswer::Nothing;
+    }
+    let table = pairing::judged(list, cut.contacts, 0, cut.w + cut.r, row);
+    in_words(code, ends, leaves, stack, &table, cut, row, words)
+}
+
+// The first row in the blocks, one block after the other. The table of the first atoms serves all their words.
+fn in_blocks(code: &[u8], ends: &[usize], list: &[u16], cut: Cut) -> RowAnswer
+    requires { ⌜ SafeFrom (now code) 0 (now ends) × CutFor (now list) cut ⌝ }
+    ensures { λ x. ⌜ ((g : Given (now (code .entry)) (now (ends .entry)) cut) → Serving (g .names) (g .atoms) (now (list .entry)) → Finds g 0 0 (cut .k + (cut .w + cut .r)) x) ⌝ }
+{
+    let mut stack = [0u64; 128];
+    let mut leaves = word_leaves(cut.k + cut.w, cut.r);
+    let upper = pairing::judged(list, cut.contacts, cut.r, cut.k + cut.w, 0);
+    let mut rest = unrefuted(code, ends, 0, 0, cut.k);
+    let mut at: usize = 0;
+    while at < ROOM {
+        let Found::At(e) = evalset::least(rest) else {
+            return RowAnswer::Nothing;
+        };
+        let found = block(code, ends, &mut leaves, &mut stack, list, &upper, cut, e);
+        let RowAnswer::Nothing = found else {
+            return found;
+        };
+        rest = evalset::without(rest, e);
+        at = e + 1;
+    }
+    RowAnswer::Nothing
+}
+
+// The first row where one word has all rows: no table of the first atoms is made.
+fn in_word(code: &[u8], ends: &[usize], list: &[u16], cut: Cut) -> RowAnswer
+    requires { ⌜ SafeFrom (now code) 0 (now ends) × CutFor (now list) cut × (cut .k + cut .w ≡ 0) ⌝ }
+    ensures { λ x. ⌜ ((g : Given (now (code .entry)) (now (ends .entry)) cut) → Serving (g .names) (g .atoms) (now (list .entry)) → Finds g 0 0 (cut .k + (cut .w + cut .r)) x) ⌝ }
+{
+    let mut stack = [0u64; 128];
+    let mut leaves = word_leaves(cut.k + cut.w, cut.r);
+    let table = pairing::judged(list, cut.contacts, 0, cut.w + cut.r, 0);
+    word(code, ends, &mut leaves, &mut stack, &table, cut, 0, 0)
+}
+
+// The lesser of two numbers.
+fn least_of(a: usize, b: usize) -> usize
+    ensures { λ r. ⌜ r ≡ min a b ⌝ }
+{
+    if a < b { a } else { b }
+}
+
+// The cut of n atoms: up to six for the rows of a word, up to four for the words of a block, and the others for the blocks.
+fn cut_of(list: &[u16], contacts: u32, n: usize) -> Cut
+    requires { ⌜ (n ≤ limit) × (contacts < 65536) ⌝ }
+    ensures { λ r. ⌜ CutOf (now (list .entry)) contacts n r ⌝ }
+{
+    let r = least_of(n, 6);
+    let w = least_of(n - r, 4);
+    Cut {
+        k: n - r - w,
+        w,
+        r,
+        contacts,
+        lone: pairing::some_without(list, 0),
+        above: pairing::some_without(list, r),
     }
 }
 
-// The check of the row of k atoms, where the row without its last atom passed.
-fn passes(sheet: Sheet, s: State, row: usize, k: usize) -> bool
-    requires { ⌜ k ≤ limit ⌝ }
-    ensures { λ r. ⌜ PassesSays sheet s row k r ⌝ }
+// The number of evaluations of so many names: of six where there are more.
+fn all_evaluations(names: usize) -> usize
+    ensures { λ r. ⌜ r ≡ evaluationCount names ⌝ }
 {
-    if k == 0 {
-        search::realisable(sheet, s, row, k)
-    } else {
-        search::realisable_next(sheet, s, row, k)
-    }
+    let one: usize = 1;
+    one << least_of(names, NAMES)
 }
 
-// The first row under the row of k atoms, of which s is the state, where `unrefuted` has what is left of the block's j levels.
-fn first_under(
+// The search with the lent memory for the words that are seen and for the list of words.
+fn searched(
     code: &[u8],
     ends: &[usize],
     sheet: Sheet,
-    s: State,
-    row: usize,
-    k: usize,
-    j: usize,
-    unrefuted: EvalSet,
+    seen: &mut [u64],
+    list: &mut [u16],
 ) -> RowAnswer
-    requires { ⌜ Node (now code) (now ends) sheet row k j ⌝ }
-    ensures { λ r. ⌜ UnderSays (now (code .entry)) (now (ends .entry)) sheet s row k j unrefuted r ⌝ }
+    requires { ⌜ Runnable (now code) (now ends) sheet × Roomy sheet (now seen) (now list) ⌝ }
+    ensures { λ r. ⌜ FirstRowSays (now (code .entry)) (now (ends .entry)) sheet r ⌝ }
 {
-    if evalset::is_empty(unrefuted) {
-        return RowAnswer::Nothing;
+    let contacts = pairing::contacts_of(sheet);
+    let top = all_evaluations(sheet.names);
+    let count = pairing::words_of(sheet, contacts, top, seen, list);
+    let cut = cut_of(&list[0..count], contacts, sheet.atoms);
+    if cut.k + cut.w == 0 {
+        return in_word(code, ends, &list[0..count], cut);
     }
-    if !passes(sheet, s, row, k) {
-        return RowAnswer::Nothing;
+    in_blocks(code, ends, &list[0..count], cut)
+}
+
+// The same with room for the list of words by the number of names: sheets of few names do not clear more than they need.
+fn listed(code: &[u8], ends: &[usize], sheet: Sheet, seen: &mut [u64]) -> RowAnswer
+    requires { ⌜ Runnable (now code) (now ends) sheet × Unseen sheet (now seen) ⌝ }
+    ensures { λ r. ⌜ FirstRowSays (now (code .entry)) (now (ends .entry)) sheet r ⌝ }
+{
+    if sheet.names <= 4 {
+        let mut few = [0u16; 136];
+        return searched(code, ends, sheet, seen, &mut few);
     }
-    if k == sheet.atoms {
-        return RowAnswer::At(row);
-    }
-    let block = filled(code, ends, row, k, sheet.atoms - k, j, unrefuted);
-    let whole = block.unrefuted;
-    let i = block.levels - 1;
-    let lower = evalset::meet(whole, evalset::below(i));
-    let upper = evalset::shifted(whole, i);
-    let even = row * 2;
-    let odd = even + 1;
-    let left = search::step(sheet, s, k, true);
-    let first = first_under(code, ends, sheet, left, even, k + 1, i, lower);
-    let RowAnswer::Nothing = first else {
-        return first;
-    };
-    let right = search::step(sheet, s, k, false);
-    first_under(code, ends, sheet, right, odd, k + 1, i, upper)
+    let mut list = [0u16; 2080];
+    searched(code, ends, sheet, seen, &mut list)
 }
 
 // "The first realisable row that makes all rules true." Our own crates alone call it, with code and sheet that they made from
@@ -188,7 +408,10 @@ pub fn first_row(code: &[u8], ends: &[usize], sheet: Sheet) -> RowAnswer
     requires { ⌜ Runnable (now code) (now ends) sheet ⌝ }
     ensures { λ r. ⌜ FirstRowSays (now (code .entry)) (now (ends .entry)) sheet r ⌝ }
 {
-    let s = search::start(sheet.names);
-    let unrefuted = candidates(code, ends, 0, 0, 0);
-    first_under(code, ends, sheet, s, 0, 0, 0, unrefuted)
+    if sheet.atoms <= 10 {
+        let mut few = [0u64; 16];
+        return listed(code, ends, sheet, &mut few);
+    }
+    let mut seen = [0u64; 1024];
+    listed(code, ends, sheet, &mut seen)
 }

@@ -1,22 +1,40 @@
--- `solver::first_row` meets its contract: the search from the root, where no atom is decided.
--- Assumes nothing.
-use Rattle.solver.proofs.Branches.{root-node, from-root}
+-- `solver::first_row` meets its contract: no word was seen, and of at most ten atoms there are 1,024 words. Assumes nothing.
+use native.Mathlib.Omega.{arith}
+use lib.Pow.{pow-mono}
 use borrow.Author.Needs.{needs}
+use Rattle.solver.proofs.Root.{unseen}
 use Rattle.solver.proofs.first_row.Statement.{statement}
 use Rattle.solver.proofs.first_row.Tie as tie
 
-start-requires : tie.Need-start-requires
-start-requires c κs = search needs
+slice-aggregate-listed : tie.Need-slice-aggregate-listed
+slice-aggregate-listed c = search needs
 
-candidates-requires : tie.Need-candidates-requires
-candidates-requires c κs = search needs
-
-first-under-requires : tie.Need-first-under-requires
-first-under-requires c κs = root-node (c .before .before .before .before .pre)
+listed-requires : tie.Need-listed-requires
+listed-requires c κs =
+    let s = c .before .before .before .before .before in
+    (s .pre, unseen _ 16 (omega (arith, pow-mono {i = s .args .sheet .atoms} {j = 10} (omega arith))))
 
 returns : tie.Need-returns
-returns c = from-root _ _ _ _ _ _ (c .before .before .start .ensures .2) (c .before .candidates .ensures) (c .first-under .ensures)
+returns c = search needs
+
+slice-aggregate-listed-2 : tie.Need-slice-aggregate-listed-2
+slice-aggregate-listed-2 c = search needs
+
+listed-requires-2 : tie.Need-listed-requires-2
+listed-requires-2 c κs =
+    let s = c .before .before .before .before .before in
+    (s .pre, unseen _ 1024 (omega (arith, pow-mono {i = s .args .sheet .atoms} {j = 16} (s .pre .atoms-fit))))
+
+returns-2 : tie.Need-returns-2
+returns-2 c = search needs
 
 pub first-row-spec : {M : Type 1} → statement M
 first-row-spec =
-    tie.close (tie.spec start-requires candidates-requires first-under-requires returns)
+    tie.close
+    (tie.spec
+    slice-aggregate-listed
+    listed-requires
+    returns
+    slice-aggregate-listed-2
+    listed-requires-2
+    returns-2)

@@ -1,0 +1,143 @@
+-- What is found in a word is its first good row: a row that closes has no good row under it, and a whole row that does not close is good. A
+-- row closes where a rule refutes it or where it fails the check, and a table has the check of each row. Assumes nothing.
+use mathlib.Core.Bool.{Bool, true, false, not, _&&_, _||_, cond, or-true, and-eq-true-iff, Bool·not-not}
+use mathlib.Core.Path.{_≡_, refl, sym, ap, ap₂, _∙_}
+use mathlib.Core.List.{List, [], _∷_, _++_, map, append-nil}
+use mathlib.Mathlib.Logic.Function.Defs.{congr-fun}
+use Prim.Native.Nat.{ℕ, _+_, _-_, _*_, _/_, _^_, _≤_, _<_}
+use native.Mathlib.Omega.{arith}
+use lib.ListN.{length}
+use lib.Pow.{pow-add}
+use borrow.Author.Tests.{not-true, not-false}
+use Rattle.lists.specs.Search.{first, below}
+use Rattle.lists.proofs.Below.{FirstSays, first-says}
+use Rattle.lists.proofs.Search.{first-none, none-intro, map-elim}
+use Rattle.lists.proofs.Truth.{clash, cases}
+use Rattle.evalset.specs.declared.EvalSet.{EvalSet}
+use Rattle.evalset.specs.Sets.{room, most, mem, meetOf}
+use Rattle.evalset.proofs.Members.{names-room}
+use Rattle.contact.specs.Row.{Row, is}
+use Rattle.contact.specs.Plan.{rowMarks, check, rows}
+use Rattle.contact.specs.Tableau.{refutes, closes, under}
+use Rattle.contact.proofs.Searching.{closes-sound, closes-exact, extends-prefix}
+use Rattle.search.specs.Rows.{rowBits}
+use Rattle.search.proofs.Rows.{row-length}
+use Rattle.pairing.specs.Words.{Serving, lone, rowTest, Judges}
+use Rattle.solver.specs.declared.Cut.{Cut}
+use Rattle.solver.specs.Tree.{UnrefutedSays, WholeSays, answerOf, CutFor, Given, Tested, RowsTested, WordsTested, Left, goodFor, Finds}
+use Rattle.solver.proofs.Codes.{coded-numbers}
+use Rattle.solver.proofs.Blocks.{RowsAre}
+use Rattle.solver.proofs.Walks.{row-join, walk-none, walk-at}
+use Rattle.solver.proofs.Places.{under-fits}
+
+neither : (a b : Bool) → (not a && b) ≡ not (a || not b)
+neither true b = refl
+neither false b = sym (Bool·not-not b)
+
+nested : (a p e q x : ℕ) → (a * p + e) * q + x ≡ a * (p * q) + (e * q + x)
+nested a p e q x = omega arith
+
+module _ {code ends : List ℕ} {cut : Cut} (g : Given code ends cut) where
+  -- ---- a row that closes, and one that does not
+
+  pub closed-none : (row : Row) (s : ℕ) → closes (g .names) (g .atoms) (g .rules) (map is row) ≡ true → first (goodFor g) (under row s) ≡ []
+  closed-none row s h =
+      first-none (goodFor g) (under row s)
+      (none-intro (goodFor g) (under row s)
+      (λ x i q. let w = map-elim (λ ext. row ++ ext) (rows s) i in
+      clash q (ap (goodFor g) (w .1) ∙ closes-sound (g .names) (g .atoms) (g .rules) (map is row) h (row ++ w .0) (extends-prefix row (w .0)))))
+
+  open-whole : (row : Row) → length row ≡ length (g .atoms) → closes (g .names) (g .atoms) (g .rules) (map is row) ≡ false
+      → first (goodFor g) (under row 0) ≡ row ∷ []
+  open-whole row l h =
+      ap (λ (b : Bool). cond b ((row ++ []) ∷ []) [])
+      (ap (goodFor g) (append-nil row)
+      ∙ closes-exact (g .names) (g .atoms) (g .rules) (coded-numbers (length (g .atoms)) code 0 ends (g .rules) (g .coded)) row l h)
+      ∙ ap (λ (r : Row). r ∷ []) (append-nil row)
+
+  -- ---- the test by a table
+
+  -- of the rows with w atoms more, for the rows under one of them
+  pub tested-below : (table : List ℕ) (one : Bool) (contacts low k row w d : ℕ) → Tested g table one contacts low k row (w + d)
+      → (e j next : ℕ) → e < 2 ^ w → j ≡ k + w → next ≡ row * 2 ^ w + e → Tested g table one contacts low j next d
+  tested-below table one contacts low k row w d h e j next l y z x m =
+      let v : next * 2 ^ d + x ≡ row * 2 ^ (w + d) + (e * 2 ^ d + x) =
+      ap (λ (i : ℕ). i * 2 ^ d + x) z ∙ nested row (2 ^ w) e (2 ^ d) x ∙ ap (λ (i : ℕ). row * i + (e * 2 ^ d + x)) (sym (pow-add 2 w d)) in
+      let u : j + d ≡ k + (w + d) = omega arith in
+      ap (rowTest table one contacts low) v ∙ h (e * 2 ^ d + x) (under-fits w d e x l m)
+      ∙ sym (ap₂ (λ (a b : ℕ). check (g .names) (rowMarks (g .atoms) (rowBits a b))) u v)
+
+  -- by a table of the pairs' words
+  module _ (ws : List ℕ) (cuts : CutFor ws cut) (serving : Serving (g .names) (g .atoms) ws) where
+    judged-tests : (table : List ℕ) (s d k row : ℕ) → Judges ws (cut .contacts) s d row table → k + d + s ≡ length (g .atoms) → row < 2 ^ k
+        → Tested g table (lone s ws) (cut .contacts / 2 ^ s) (2 ^ d - 1) k row d
+    unfolding Judges
+    judged-tests table s d k row j whole fits =
+        j (g .names) (g .atoms) k whole (omega (arith, g .counted, cuts .fits .blocks, cuts .fits .words, cuts .fits .rows)) fits (g .contacts-are) serving
+
+    pub rows-judged : (table : List ℕ) (row : ℕ) → row < 2 ^ (cut .k) → Judges ws (cut .contacts) 0 (cut .w + cut .r) row table → RowsTested g table row
+    rows-judged table row fits j e l =
+        let z : cut .contacts ≡ cut .contacts / 2 ^ 0 = omega arith in
+        ap₂ (λ (b : Bool) (x : ℕ). rowTest table b x (2 ^ (cut .w + cut .r) - 1) (row * 2 ^ (cut .w + cut .r) + e)) (cuts .lone-is) z
+        ∙ judged-tests table 0 (cut .w + cut .r) (cut .k) row j (omega (arith, g .counted)) fits e l
+
+    pub words-judged : (upper : List ℕ) → Judges ws (cut .contacts) (cut .r) (cut .k + cut .w) 0 upper → (e : ℕ) → e < 2 ^ (cut .k) → WordsTested g upper e
+    words-judged upper j e l x m =
+        ap (λ (b : Bool). rowTest upper b (cut .contacts / 2 ^ (cut .r)) (2 ^ (cut .k + cut .w) - 1) (e * 2 ^ (cut .w) + x)) (cuts .above-is)
+        ∙ tested-below upper _ _ _ 0 0 (cut .k) (cut .w) (judged-tests upper (cut .r) (cut .k + cut .w) 0 0 j (omega (arith, g .counted)) (omega arith))
+        e (cut .k) e l (omega arith) (omega arith) x m
+
+  module _ (k row d : ℕ) where
+    -- ---- rows outside a set
+
+    pub left-refuted : (r : EvalSet) → UnrefutedSays code ends row k d r → Left g k row d r
+    unfolding closes
+    left-refuted r says e l h =
+        ap (λ (b : Bool). b || not (check (g .names) (rowMarks (g .atoms) (rowBits (k + d) (row * 2 ^ d + e)))))
+        (ap (λ (x : Row). refutes (g .rules) (map is x)) (sym (row-join k row d e l)) ∙ says .refuted (length (g .atoms)) (g .rules) (g .coded) e l h)
+
+    pub left-meet : (a b r : EvalSet) → mem r ≡ meetOf (mem a) (mem b) → Left g k row d a → Left g k row d b → Left g k row d r
+    left-meet a b r q x y e l h =
+        cases (mem a e) (λ t. y e l (sym (ap (λ (c : Bool). c && mem b e) t) ∙ sym (congr-fun q e) ∙ h)) (x e l)
+
+    module _ (table : List ℕ) (one : Bool) (contacts bits : ℕ) (tests : Tested g table one contacts bits k row d)
+        (low start : ℕ) (q : low ≡ bits) (z : start ≡ row * 2 ^ d) where
+      test-is : (e : ℕ) → e < 2 ^ d
+          → rowTest table one contacts low (start + e) ≡ check (g .names) (rowMarks (g .atoms) (rowBits (k + d) (row * 2 ^ d + e)))
+      test-is e l = ap₂ (λ (x y : ℕ). rowTest table one contacts x (y + e)) q z ∙ tests e l
+
+      pub left-tested : (r : EvalSet) → RowsAre d r (λ e. rowTest table one contacts low (start + e)) → Left g k row d r
+      unfolding closes
+      left-tested r rows e l h =
+          ap (λ (b : Bool). refutes (g .rules) (map is (rowBits (k + d) (row * 2 ^ d + e))) || not b) (sym (test-is e l) ∙ sym (rows .are e l) ∙ h)
+          ∙ or-true (refutes (g .rules) (map is (rowBits (k + d) (row * 2 ^ d + e))))
+
+      -- ---- the first row of a word
+
+      module _ (few : d ≤ most) (whole : length (g .atoms) ≡ k + d) (set left : EvalSet) (says : WholeSays code ends row k d set)
+          (are : (e : ℕ) → mem left e ≡ (mem set e && rowTest table one contacts low (start + e))) where
+        exact : (e : ℕ) → e < 2 ^ d → mem left e ≡ not (closes (g .names) (g .atoms) (g .rules) (map is (rowBits (k + d) (row * 2 ^ d + e))))
+        unfolding closes
+        exact e l =
+            are e
+            ∙ ap₂ _&&_
+            (says .are (length (g .atoms)) (g .rules) (g .coded) (omega (arith, whole)) e l
+            ∙ ap (λ (x : Row). not (refutes (g .rules) (map is x))) (row-join k row d e l)) (test-is e l)
+            ∙ neither (refutes (g .rules) (map is (rowBits (k + d) (row * 2 ^ d + e))))
+            (check (g .names) (rowMarks (g .atoms) (rowBits (k + d) (row * 2 ^ d + e))))
+
+        pub word-first : Finds g k row d (answerOf start (first (mem left) (below room)))
+        word-first =
+            let y : d + 0 ≡ d = omega arith in
+            go (first (mem left) (below room)) (first-says (mem left) 0 room) ∙ ap (λ (s : ℕ). first (goodFor g) (under (rowBits k row) s)) y
+          where
+            outside : (e : ℕ) → e < 2 ^ d → mem left e ≡ false → first (goodFor g) (under (rowBits (k + d) (row * 2 ^ d + e)) 0) ≡ []
+            outside e l h = closed-none (rowBits (k + d) (row * 2 ^ d + e)) 0 (not-false _ (sym (exact e l) ∙ h))
+
+            go : (xs : List ℕ) → FirstSays (mem left) 0 room xs → Finds g k row (d + 0) (answerOf start xs)
+            go [] s = sym (walk-none (goodFor g) k row d 0 (λ e l m. outside e m (s e (omega arith) (omega (arith, names-room d few)))))
+            go (x ∷ xs) s =
+                let l : x < 2 ^ d = says .low x (and-eq-true-iff (mem set x) (rowTest table one contacts low (start + x)) .0 (sym (are x) ∙ s .2) .0) in
+                ap₂ (λ (n y : ℕ). rowBits n (y + x) ∷ []) whole z
+                ∙ sym (walk-at (goodFor g) k row d 0 x l (λ e b m. outside e m (s .3 e (omega arith) b)) (rowBits (k + d) (row * 2 ^ d + x)) []
+                (open-whole (rowBits (k + d) (row * 2 ^ d + x)) (row-length (k + d) (row * 2 ^ d + x) ∙ sym whole) (not-true _ (sym (exact x l) ∙ s .2))))
