@@ -1,4 +1,5 @@
--- What the compiler is asked and answers, over every formula, numbering of its names, and list of atoms before it. Assumes nothing.
+-- For proofs: the contract of `compile_rule`, which only our own crates call: what the compiler is asked and answers, over every formula,
+-- numbering of its names, and list of atoms before it. Assumes nothing.
 use mathlib.Core.Path.{_≡_}
 use mathlib.Core.List.{List, _++_, map}
 use Prim.Native.Nat.{ℕ, _+_, _≤_}

@@ -1,5 +1,5 @@
--- What a token of the order asks for, by the number of its kind (specs/Arrays.antt of the lexer): 0 is ->, 1 <->, 2 |, 3 &, 4 +,
--- 5 *, 6 -, 7 ~, 10 =0, 12 T, 13 F, 14 C, 15 <=, 16 0, 17 1, 18 a name. Sets are known by their members. Assumes nothing.
+-- What is computed: what a token of the order asks for, by the number of its kind (specs/Arrays.antt of the lexer): 0 is ->, 1 <->, 2 |, 3
+-- &, 4 +, 5 *, 6 -, 7 ~, 10 =0, 12 T, 13 F, 14 C, 15 <=, 16 0, 17 1, 18 a name. Sets are known by their members. Assumes nothing.
 use mathlib.Core.Bool.{Bool, true, cond}
 use Prim.Native.Nat.{ℕ}
 use lib.Dec.{eqb, leb}

@@ -1,6 +1,6 @@
--- A means of proof, which no contract names: what is computed, on terms in place of sets. A formula's order is passed once, from
--- left to right. The terms that are whole wait on a stack, its top first; the atoms and the code are written behind those before.
--- Assumes nothing.
+-- For proofs: a machine which no contract names: what is computed, on terms in place of sets. A formula's order is passed once, from left
+-- to right. The terms that are whole wait on a stack, its top first; the atoms and the code are written behind those before. Assumes
+-- nothing.
 use mathlib.Core.Bool.{true, false}
 use mathlib.Core.List.{List, [], _∷_, _++_, tail}
 use Prim.Native.Nat.{ℕ}

@@ -1,4 +1,4 @@
--- When a sheet is compiled from a list of atoms. Assumes nothing.
+-- For proofs: when a sheet is compiled from a list of atoms, as the contracts have it. Assumes nothing.
 use mathlib.Core.Bool.{Bool, true, false, _&&_, cond}
 use mathlib.Core.Path.{_≡_}
 use mathlib.Core.List.{List}

@@ -1,4 +1,4 @@
--- Document 01, 'Meaning': floors, and what a rule says of one. Assumes nothing.
+-- What is meant: document 01, 'Meaning': floors, and what a rule says of one. Assumes nothing.
 use mathlib.Core.Bool.{Bool, true, false, not, _&&_, _||_, Bool·beq}
 use mathlib.Core.Path.{_≡_}
 use mathlib.Core.List.{List}

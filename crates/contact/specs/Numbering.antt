@@ -1,4 +1,5 @@
--- "Names and atoms are numbered from 0 by first place, rules in order, left to right." Assumes nothing.
+-- What is meant: "Names and atoms are numbered from 0 by first place, rules in order, left to right." The last definitions (`TermBelow`,
+-- `AtomBelow`, `RulesBelow`) are for proofs. Assumes nothing.
 use mathlib.Core.Bool.{Bool, true, false, not, _&&_, cond}
 use mathlib.Core.List.{List, [], _∷_, map}
 use Prim.Native.Nat.{ℕ, zero, suc, _+_, _<_}

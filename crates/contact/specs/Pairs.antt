@@ -1,6 +1,6 @@
--- What is computed: the check of a row by pairs of evaluations. A mark that demands something (a true contact, a false zero atom) is served by a pair; a mark
--- that restricts (a false contact, a true zero atom) takes away exactly the pairs that would serve its atom. So a row, whole or
--- partial, is judged by which pairs are left and what they serve. For any number of names. Assumes nothing.
+-- What is computed: the check of a row by pairs of evaluations. A mark that demands something (a true contact, a false zero atom) is served
+-- by a pair; a mark that restricts (a false contact, a true zero atom) takes away exactly the pairs that would serve its atom. So a row,
+-- whole or partial, is judged by which pairs are left and what they serve. For any number of names. Assumes nothing.
 use mathlib.Core.Bool.{Bool, true, false, not, _&&_, _||_}
 use mathlib.Core.List.{List}
 use Prim.Native.Nat.{ℕ}

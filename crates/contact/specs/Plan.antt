@@ -1,5 +1,7 @@
--- Document 01, 'The plan that is given', as it is computed: the check of a row, whole or partial, and the points. Rules and
--- atoms have numbers for names. Facts hold for any number of names. Assumes nothing.
+-- What is meant, and what is computed: document 01, 'The plan that is given'. Of the points that paper gives the rule itself: `separated`,
+-- `allowed`, `gives` and `pointsFor` are its sentences. Computed are the check of a row, whole or partial (`check`), and the first row that
+-- passes it (`firstRow`); proofs/Claims.antt ties them to Row. Rules and atoms have numbers for names. Facts hold for any number of names.
+-- Assumes nothing.
 use mathlib.Core.Bool.{Bool, true, false, not, _&&_, _||_}
 use mathlib.Core.Path.{_≡_}
 use mathlib.Core.List.{List, [], _∷_, _++_, map}

@@ -1,5 +1,5 @@
--- Rows of values for the atoms, whole and partial, and which of them a floor realises (document 01, 'The plan that is
--- given'). Assumes nothing.
+-- What is meant: rows of values for the atoms and which of them a floor realises (document 01, 'The plan that is given'); and for proofs,
+-- partial rows and tests that close branches. Assumes nothing.
 use mathlib.Core.Bool.{Bool, true, false}
 use mathlib.Core.Path.{_≡_}
 use mathlib.Core.List.{List, [], _∷_, map}

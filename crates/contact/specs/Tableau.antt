@@ -1,6 +1,6 @@
--- The search over the atoms in order, true first, that closes a branch by a test, and the two tests: a rule is false
--- whatever the undecided atoms are, by Kleene's strong tables; no floor gives the decided atoms their values.
--- Assumes nothing.
+-- What is computed, and for proofs: the search over the atoms in order, true first, that closes a branch by a test, and the two tests: a
+-- rule is false whatever the undecided atoms are, by Kleene's strong tables; no floor gives the decided atoms their values. The contracts
+-- of the solver name the tests; no contract names `search`. Assumes nothing.
 use mathlib.Core.Bool.{Bool, true, false, not, _||_, cond}
 use mathlib.Core.List.{List, [], _∷_, _++_, map}
 use Prim.Native.Nat.{ℕ, zero, suc}

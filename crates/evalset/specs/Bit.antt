@@ -1,4 +1,4 @@
--- "An evaluation is a number whose bit i is set if the point lies in name i." Assumes nothing.
+-- What is meant: "An evaluation is a number whose bit i is set if the point lies in name i." Assumes nothing.
 use mathlib.Core.Bool.{Bool}
 use Prim.Native.Nat.{ℕ, _/_, _%_, _^_}
 use lib.Dec.{eqb}

@@ -1,5 +1,5 @@
--- Sets of evaluations, known by their members. `mem` alone ties a machine word to a set: all else here speaks of members, as
--- a test on numbers. Assumes nothing.
+-- What is computed, and of what is meant `most`, the six names, and `nameSet`, the sets that the six masks are: sets of evaluations, known
+-- by their members. `mem` alone ties a machine word to a set: all else here speaks of members, as a test on numbers. Assumes nothing.
 use mathlib.Core.Bool.{Bool, false, not, _&&_, _||_}
 use mathlib.Core.List.{List, [], _∷_}
 use Prim.Native.Nat.{ℕ, _+_, _^_}

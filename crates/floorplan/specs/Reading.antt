@@ -1,4 +1,4 @@
--- What reading gives. Assumes nothing.
+-- For proofs: what reading gives. Assumes nothing.
 use Prim.Native.Nat.{ℕ, _+_, _≤_}
 use Rattle.floorplan.specs.declared.Got.{Got}
 use Rattle.floorplan.specs.declared.Got.the-variants as Got

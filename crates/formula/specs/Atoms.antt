@@ -1,4 +1,4 @@
--- The atoms of a formula, left to right. Assumes nothing.
+-- What is meant: the atoms of a formula, left to right. Assumes nothing.
 use mathlib.Core.List.{List, [], _∷_, _++_}
 use Rattle.formula.specs.Formula.{Form}
 

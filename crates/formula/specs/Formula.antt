@@ -1,5 +1,5 @@
--- "Terms: 0, 1, a name, -t, t*t, t+t, (t). Formulas: T, F, C(t,t), <=(t,t), t=0, ~f, f&f, f|f, f->f, f<->f, (f)."
--- Trees over the type of names; a parenthesis leaves no trace in them. Assumes nothing.
+-- What is meant: "Terms: 0, 1, a name, -t, t*t, t+t, (t). Formulas: T, F, C(t,t), <=(t,t), t=0, ~f, f&f, f|f, f->f, f<->f, (f)." Trees over
+-- the type of names; a parenthesis leaves no trace in them. Assumes nothing.
 use mathlib.Core.List.{List}
 use Prim.Native.Nat.{ℕ}
 

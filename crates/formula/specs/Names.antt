@@ -1,4 +1,4 @@
--- The names of a formula, each place, left to right. Assumes nothing.
+-- What is meant: the names of a formula, each place, left to right. Assumes nothing.
 use mathlib.Core.List.{List, [], _∷_, _++_}
 use Rattle.formula.specs.Formula.{Term, Atom, Form, Formula}
 

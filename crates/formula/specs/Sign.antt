@@ -1,4 +1,5 @@
--- "Binding, loosest first: "->" and "<->" on one level, then | and +, then & and *, then ~ and -." Assumes nothing.
+-- What is meant: "Binding, loosest first: "->" and "<->" on one level, then | and +, then & and *, then ~ and -." Only the reader needs
+-- `joinsTerms`. Assumes nothing.
 use mathlib.Core.Bool.{Bool, true, false}
 use Prim.Native.Nat.{ℕ}
 use Rattle.formula.specs.declared.Sign.{Sign}

@@ -53,7 +53,7 @@ module _ (plan : PlanArrays) (sheet : Sheet) (code ends : List ℕ) (r : Judged)
       let j = judge-unmet (planFloor p is) rules k in
       (λ e. j .0 (judged-unmet _ k (sym answer-is ∙ e)), λ u. answer-is ∙ ap judgedOf (j .1 u))
 
--- the numbered rules are judged on the plan's floor as the rules as read are on the one over their names (Renamed)
+-- the numbered rules are judged on the plan's floor as the rules as read are on the one over their names (Unmet of plan)
 pub names-judged : (rules : List (Formula Name)) (p : Plan) (is : IsPlan p)
     → judge (planFloor p is) (numberedNames rules) ≡ judge (namedFloor rules p is) rules
 names-judged rules p is = judge-map (numberOf rules) (planFloor p is) 1 rules

@@ -1,4 +1,5 @@
--- What judging a plan ensures, of all rules that the sheet and the code may be of. Assumes nothing.
+-- For proofs: the contract of `judge_plan`, which only our own crates call: what judging a plan ensures, of all rules that the sheet and
+-- the code may be of. Assumes nothing.
 use mathlib.Core.Path.{_≡_}
 use mathlib.Core.List.{List}
 use Prim.Native.Nat.{ℕ}

@@ -1,5 +1,5 @@
--- The values of atoms on a plan that arrays hold, the judgement of numbered rules whose atoms have given values, and what the
--- private functions ensure. Assumes nothing.
+-- What is computed, and for proofs what the private functions ensure: the values of atoms on a plan that arrays hold, and the judgement of
+-- numbered rules whose atoms have given values. Assumes nothing.
 use mathlib.Core.Path.{_≡_}
 use mathlib.Core.Bool.{Bool, true, false, cond}
 use mathlib.Core.List.{List, [], _∷_}

@@ -1,5 +1,5 @@
--- A formula over atom numbers as postfix code, a number for each sign, and which code a stack of bounded height can run.
--- Assumes nothing.
+-- What is computed, and for proofs which code a stack of bounded height can run: a formula over atom numbers as postfix code, a number for
+-- each sign. Assumes nothing.
 use mathlib.Core.Path.{_≡_}
 use mathlib.Core.List.{List, [], _∷_, _++_}
 use Prim.Native.Nat.{ℕ, zero, suc, _+_, _-_, _≤_, _<_}

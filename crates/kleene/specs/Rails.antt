@@ -1,4 +1,4 @@
--- Kleene's strong three values on two rails, surely true and surely false; a value that is on neither is undecided. The
+-- What is computed: Kleene's strong three values on two rails, surely true and surely false; a value that is on neither is undecided. The
 -- value of a formula, and the stack machine that finds it from postfix code. Assumes nothing.
 use mathlib.Core.Bool.{Bool, true, false, not, _&&_, _||_}
 use mathlib.Core.List.{List, [], _∷_}

@@ -1,4 +1,4 @@
--- What is meant: where the tokens of a text lie. Assumes nothing.
+-- For proofs: where the tokens of a text lie. Assumes nothing.
 use mathlib.Core.Path.{_≡_}
 use mathlib.Core.List.{List, [], _∷_}
 use Prim.Native.Nat.{ℕ, _+_, _≤_}

@@ -1,4 +1,5 @@
--- What is computed step by step: the sign by its first three bytes, and the arrays filled token by token. Assumes nothing.
+-- For proofs: what the private functions compute, step by step: the sign by its first three bytes, and the arrays filled token by token.
+-- Assumes nothing.
 use mathlib.Core.Bool.{cond}
 use mathlib.Core.List.{List, [], _∷_}
 use Prim.Native.Nat.{ℕ, _+_}

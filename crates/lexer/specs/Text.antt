@@ -1,4 +1,4 @@
--- A quoted text as its bytes, for texts whose bytes are below 128. Assumes nothing.
+-- What is meant: a quoted text as its bytes, for texts whose bytes are below 128. Assumes nothing.
 use mathlib.Core.List.{List}
 use mathlib.Core.List.{[] as nil, _∷_ as _then_}
 use Prim.Native.Nat.{ℕ}

@@ -1,4 +1,4 @@
--- A list in an array. Assumes nothing.
+-- What is computed: a list in an array. Assumes nothing.
 use mathlib.Core.List.{List, _++_}
 use Prim.Native.Nat.{ℕ, _-_}
 use lib.ListN.{length, replicate}

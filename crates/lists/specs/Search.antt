@@ -1,5 +1,5 @@
--- Search in a list: some, every, the first, and the numbers below n in rising order. What stands after the element that
--- decides is not computed. Assumes nothing.
+-- What is meant, and what is computed: search in a list: some, every, the first, and the numbers below n in rising order. What stands after
+-- the element that decides is not computed. Assumes nothing.
 use mathlib.Core.Bool.{Bool, true, false, _&&_, _||_, cond}
 use mathlib.Core.List.{List, [], _∷_, _++_}
 use Prim.Native.Nat.{ℕ, zero, suc}

@@ -21,8 +21,8 @@ use Rattle.names.specs.declared.Names.{Names}
 use Rattle.names.specs.declared.NamesAnswer.{NamesAnswer}
 use Rattle.names.specs.declared.NamesAnswer.the-variants as NamesAnswer
 use Rattle.names.specs.declared.Gathered.{Gathered}
-use Rattle.names.specs.Gather.{placesOf, ruleTokens, namesAfter, arraysOf, knownOf, gatheredOf, gathered, Kept, Gathers}
-use Rattle.names.specs.Seventh.{namesAt, SeventhAt}
+use Rattle.names.specs.Gather.{ruleTokens, namesAfter, arraysOf, knownOf, gatheredOf, gathered, Kept, Gathers}
+use Rattle.names.specs.Seventh.{namesAt, SeventhAt, placesOf}
 use Rattle.names.proofs.Distinct.{position-distinct}
 use Rattle.names.proofs.Arrays.{known-back, kept-names}
 use Rattle.names.proofs.Outcome.{few-after}

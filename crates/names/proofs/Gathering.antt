@@ -22,7 +22,8 @@ use Rattle.names.specs.declared.Names.{Names}
 use Rattle.names.specs.declared.NamesAnswer.{NamesAnswer}
 use Rattle.names.specs.declared.NamesAnswer.the-variants as NamesAnswer
 use Rattle.names.specs.declared.Gathered.{Gathered}
-use Rattle.names.specs.Gather.{NameAt, nameAt, placesOf, ruleTokens, withName, Numbered, numbered, behind, namesAfter, arraysOf, knownOf, gatheredOf, gathered, Gathers}
+use Rattle.names.specs.Gather.{ruleTokens, withName, Numbered, numbered, behind, namesAfter, arraysOf, knownOf, gatheredOf, gathered, Gathers}
+use Rattle.names.specs.Seventh.{NameAt, nameAt, placesOf}
 use Rattle.names.specs.Steps.{placeIn, withKept}
 use Rattle.names.proofs.Distinct.{position-most}
 use Rattle.names.proofs.Arrays.{kept-count, number-kept, with-kept, too-many, not-too-many}

@@ -15,8 +15,8 @@ use Rattle.contact.specs.Numbering.{position, sameName}
 use Rattle.contact.proofs.Naming.{same-name}
 use Rattle.names.specs.declared.NamesAnswer.{NamesAnswer}
 use Rattle.names.specs.declared.NamesAnswer.the-variants as NamesAnswer
-use Rattle.names.specs.Gather.{NameAt, nameAt, withName, Numbered, numbered, behind, namesAfter, isIn, put}
-use Rattle.names.specs.Seventh.{namesAt}
+use Rattle.names.specs.Gather.{withName, Numbered, numbered, behind, namesAfter, isIn, put}
+use Rattle.names.specs.Seventh.{namesAt, NameAt, nameAt}
 use Rattle.names.proofs.Distinct.{put-all-longer, put-all-position}
 
 -- all the different names, and where each stands among them

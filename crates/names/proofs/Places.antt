@@ -15,8 +15,8 @@ use Rattle.contact.specs.Numbering.{distinct, sameName}
 use Rattle.contact.proofs.Naming.{same-name}
 use Rattle.names.specs.declared.NamesAnswer.{NamesAnswer}
 use Rattle.names.specs.declared.NamesAnswer.the-variants as NamesAnswer
-use Rattle.names.specs.Gather.{NameAt, nameAt, Numbered, numbered, namesAfter, isIn}
-use Rattle.names.specs.Seventh.{namesAt, SeventhAt}
+use Rattle.names.specs.Gather.{Numbered, numbered, namesAfter, isIn}
+use Rattle.names.specs.Seventh.{namesAt, SeventhAt, NameAt, nameAt}
 use Rattle.names.proofs.Distinct.{distinct-append, in-distinct, distinct-in-list}
 use Rattle.names.proofs.Outcome.{allOf, numbersIn, Fits, Stops, outcome, seventh-answered, stops-many}
 

@@ -15,8 +15,8 @@ use Rattle.syntax.proofs.Claims.{token-names}
 use Rattle.lists.specs.Search.{gather}
 use Rattle.lists.proofs.Search.{gather-append}
 use Rattle.contact.specs.Numbering.{allAtoms}
-use Rattle.names.specs.Gather.{NameAt, nameAt, placesOf, ruleTokens}
-use Rattle.names.specs.Seventh.{namesAt}
+use Rattle.names.specs.Gather.{ruleTokens}
+use Rattle.names.specs.Seventh.{namesAt, NameAt, nameAt, placesOf}
 use Rattle.names.proofs.Tokens.{tokens-of-rule}
 
 -- ---- the names of a text

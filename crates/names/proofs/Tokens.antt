@@ -29,7 +29,8 @@ use Rattle.syntax.specs.Rule.{refusalOf, readTokens, tokensIn, byAnswer, ruleOf
 use Rattle.syntax.specs.declared.RuleAnswer.{RuleAnswer}
 use Rattle.syntax.specs.declared.Rule.{Rule}
 use Rattle.syntax.proofs.Claims.{text-answered, text-read}
-use Rattle.names.specs.Gather.{nameAt, placesOf, ifRead, ruleTokens}
+use Rattle.names.specs.Gather.{ifRead, ruleTokens}
+use Rattle.names.specs.Seventh.{nameAt, placesOf}
 
 -- ---- the rule's tokens
 

@@ -8,10 +8,8 @@ use lib.Dec.{ltb}
 use lib.ListN.{length, take, replicate}
 use Rattle.lists.specs.Padded.{pad}
 use Rattle.formula.specs.Formula.{Name}
-use Rattle.lexer.specs.Token.{Token, bytesOf}
+use Rattle.lexer.specs.Token.{Token}
 use Rattle.lexer.specs.Cutter.{cutting}
-use Rattle.syntax.specs.Symbol.{symbolOf}
-use Rattle.syntax.specs.Postfix.{symbolNames}
 use Rattle.syntax.specs.Rule.{tokensIn, ruleOf}
 use Rattle.syntax.specs.declared.RuleAnswer.{RuleAnswer}
 use Rattle.syntax.specs.declared.RuleAnswer.the-variants as RuleAnswer
@@ -19,26 +17,14 @@ use Rattle.syntax.specs.declared.Rule.{Rule}
 use Rattle.lists.specs.Search.{any}
 use Rattle.evalset.specs.Sets.{most}
 use Rattle.contact.specs.Numbering.{position, sameName}
+use Rattle.names.specs.Seventh.{NameAt, placesOf}
 use Rattle.names.specs.declared.KeptName.{KeptName}
 use Rattle.names.specs.declared.Names.{Names}
 use Rattle.names.specs.declared.NamesAnswer.{NamesAnswer}
 use Rattle.names.specs.declared.NamesAnswer.the-variants as NamesAnswer
 use Rattle.names.specs.declared.Gathered.{Gathered}
 
--- ---- the names of a text, with their places
-
--- a name and the place of its first byte
-pub record NameAt : Type 0 where
-  pub name : Name
-  pub place : ℕ
-
-abbrev pub nameAt : ℕ → Name → NameAt
-nameAt p w = record { name = w; place = p }
-
--- the names among the tokens of a text, left to right
-unfoldable pub placesOf : List ℕ → List Token → List NameAt
-placesOf s [] = []
-placesOf s (t ∷ ts) = map (nameAt (t .start)) (symbolNames (symbolOf (t .kind) (bytesOf s t))) ++ placesOf s ts
+-- ---- the tokens of a rule
 
 -- the tokens that a rule is handed back with; a refusal comes with none
 abbrev pub ifRead : RuleAnswer → List Token → List Token

@@ -1,13 +1,28 @@
--- What is meant by refusal 7 of the table of calls: "a seventh name", carrying "that name's first byte". Assumes nothing.
+-- What is meant: the names of a text at their places, and refusal 7 of the table of calls, "a seventh name", carrying "that name's first
+-- byte". Assumes nothing.
 use mathlib.Core.Path.{_≡_}
-use mathlib.Core.List.{List, _∷_, _++_, map}
+use mathlib.Core.List.{List, [], _∷_, _++_, map}
 use Prim.Native.Nat.{ℕ}
 use lib.ListN.{length}
 use Rattle.formula.specs.Formula.{Name}
+use Rattle.lexer.specs.Token.{Token, bytesOf}
+use Rattle.syntax.specs.Symbol.{symbolOf, symbolNames}
 use Rattle.lists.specs.Search.{In}
 use Rattle.evalset.specs.Sets.{most}
 use Rattle.contact.specs.Numbering.{distinct, sameName}
-use Rattle.names.specs.Gather.{NameAt, nameAt}
+
+-- a name and the place of its first byte
+pub record NameAt : Type 0 where
+  pub name : Name
+  pub place : ℕ
+
+abbrev pub nameAt : ℕ → Name → NameAt
+nameAt p w = record { name = w; place = p }
+
+-- the tokens of a text that are names, left to right, each by its bytes and the place of its first byte
+unfoldable pub placesOf : List ℕ → List Token → List NameAt
+placesOf s [] = []
+placesOf s (t ∷ ts) = map (nameAt (t .start)) (symbolNames (symbolOf (t .kind) (bytesOf s t))) ++ placesOf s ts
 
 -- names without their places
 abbrev pub namesAt : List NameAt → List Name

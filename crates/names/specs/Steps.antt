@@ -1,4 +1,5 @@
--- What is computed step by step, over the arrays: a kept name against bytes, its number, and one name more. Assumes nothing.
+-- For proofs: what the private functions compute, step by step, over the arrays: a kept name against bytes, its number, and one name more.
+-- Assumes nothing.
 use mathlib.Core.Bool.{Bool, _&&_, cond}
 use mathlib.Core.List.{List, [], _∷_}
 use Prim.Native.Nat.{ℕ, suc, _+_}

@@ -1,4 +1,5 @@
--- What is computed: the masks of evaluations, the list of the different words of pairs, and what is put into a table. Assumes nothing.
+-- What is computed, and for proofs what the functions ensure: the masks of evaluations, the list of the different words of pairs, and what
+-- is put into a table. `ListSays` is the contract of `words_of`, which only our own crates call. Assumes nothing.
 use mathlib.Core.Bool.{Bool, true, false, not, _&&_, _||_}
 use mathlib.Core.Path.{_≡_}
 use mathlib.Core.List.{List, [], _∷_}

@@ -19,7 +19,7 @@ use Rattle.plan.specs.declared.PlanRead.{PlanRead}
 use Rattle.plan.specs.Words.{Plan, Ascends, IsPlan, wordsOf, Refusal}
 use Rattle.plan.specs.Floor.{touching, planFloor, namedFloor}
 use Rattle.plan.specs.Judging.{yes, unmet, judge}
-use Rattle.plan.specs.Reader.{Reading, plan, refused, readOf}
+use Rattle.plan.specs.Reader.{Reading, plan, refused, readOf, ReadingSays}
 use Rattle.plan.specs.Arrays.{Stored, answerOf, planIn, Reads, countOf, planBy, touchesOf, vacantOf}
 use Rattle.plan.specs.Given.{rowPlan, plansOf}
 use Rattle.plan.proofs.Exact.{exact, plan-read, refusal-read}
@@ -29,7 +29,7 @@ use Rattle.plan.proofs.SameArrays.{InRange, reads-once}
 use Rattle.plan.proofs.Judged.{touches-meant, vacant-meant}
 use Rattle.plan.proofs.Given
 use Rattle.plan.proofs.Unmet.{yes-exactly, unmet-exactly}
-use Rattle.plan.specs.Meant.{FirstUnmet, ReadingSays, IsGiven}
+use Rattle.plan.specs.Meant.{FirstUnmet, IsGiven}
 
 -- what is read is a plan whose words these are (Sound, Exact)
 pub read-is-plan : (ws : List ℕ) (p : Plan) → readOf ws ≡ plan p → IsPlan p × (wordsOf p ≡ ws)

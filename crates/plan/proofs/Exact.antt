@@ -9,12 +9,11 @@ use lib.ListN.{length, length-append}
 use Rattle.lists.proofs.Truth.{side}
 use Rattle.lists.proofs.Lists.{prefix}
 use Rattle.plan.specs.Words.{Plan, Ascends, Rises, IsPlan, firstWord, pointWord, lastWord, before, wordsOf, Begins, Stops, Refusal}
-use Rattle.plan.specs.Reader.{kindOf, State, start, pointing, linking, whole, dead, step, run, Reading, plan, refused, ended, unless, readFrom, readOf}
+use Rattle.plan.specs.Reader.{kindOf, State, start, pointing, linking, whole, dead, step, run, Reading, plan, refused, ended, unless, readFrom, readOf, ReadingSays}
 use Rattle.lists.specs.Search.{from}
 use Rattle.lists.proofs.Search.{from-length}
 use Rattle.plan.proofs.Sound.{Seen, PointsSeen, LinksSeen, seen}
 use Rattle.plan.proofs.Complete.{complete, run-append}
-use Rattle.plan.specs.Meant.{ReadingSays}
 
 -- ---- the states told apart
 abbrev pub IsDead : State → Type 0

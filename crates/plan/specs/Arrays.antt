@@ -1,5 +1,6 @@
--- What the public functions answer: a plan held in arrays, what reading words gives, what writing a plan gives, and the two
--- kinds of atoms judged on arrays. Assumes nothing.
+-- What is computed, and of what is meant `Stored`, a plan in arrays, `linksTo`, the contacts that rows have, and `over`, words written over
+-- a buffer: what the public functions answer: a plan held in arrays, what reading words gives, what writing a plan gives, and the two kinds
+-- of atoms judged on arrays. Assumes nothing.
 use mathlib.Core.Path.{_≡_}
 use mathlib.Core.Bool.{Bool, not, _&&_, cond}
 use mathlib.Core.List.{List, [], _∷_, _++_}

@@ -1,4 +1,5 @@
--- What is computed: the plan that is given for rules, as plan words have it. Assumes nothing.
+-- What is meant, by document 01's own rule (`givenPlan`, `rowPlan`), and what is computed (`plansOf`): the plan that is given for rules, as
+-- plan words have it. Assumes nothing.
 use mathlib.Core.Bool.{not}
 use mathlib.Core.List.{List, map}
 use Prim.Native.Nat.{ℕ}

@@ -1,4 +1,6 @@
--- What is meant by a reading of words, by a judgement, and by the plan that is given. No algorithm. Assumes nothing.
+-- What is meant: a judgement, and the plan that is given. The first row is meant with no algorithm (`IsFirstRow`); of the points and the
+-- contacts of its plan document 01 gives the rule itself, which is `rowPlan`. `given-exactly` of proofs/Claims.antt ties the plan that is
+-- found to this. Assumes nothing.
 use mathlib.Core.Path.{_≡_}
 use mathlib.Core.Bool.{true, false}
 use mathlib.Core.List.{List, _∷_, _++_}
@@ -7,14 +9,8 @@ use lib.ListN.{length}
 use Rattle.formula.specs.Formula.{Formula, Name}
 use Rattle.contact.specs.Meaning.{Floor, meets, meetsAll}
 use Rattle.contact.specs.Row.{Row, IsFirstRow}
-use Rattle.plan.specs.Words.{Plan, IsPlan, wordsOf, Refusal}
-use Rattle.plan.specs.Reader.{Reading, plan, refused}
+use Rattle.plan.specs.Words.{Plan}
 use Rattle.plan.specs.Given.{rowPlan}
-
--- what a reading says of the words
-abbrev pub ReadingSays : List ℕ → Reading → Type 0
-ReadingSays ws (plan p) = IsPlan p × (wordsOf p ≡ ws)
-ReadingSays ws (refused i) = Refusal ws i
 
 -- "the lowest unmet rule, from 1"
 module _ {N : Type 0} (F : Floor N) where

@@ -1,4 +1,4 @@
--- What the private functions' values hold: how far words have been read, what has been written over a buffer so far, and what
+-- For proofs: what the private functions' values hold: how far words have been read, what has been written over a buffer so far, and what
 -- has been found of a row. Assumes nothing.
 use mathlib.Core.Path.{_≡_}
 use mathlib.Core.Bool.{Bool, _&&_, _||_}

@@ -1,5 +1,6 @@
--- How plan words are read, as it is computed: a machine that takes a word at a time. It is dead as soon as no plan has the words
--- so far as its first words. Assumes nothing.
+-- What is computed: how plan words are read, by a machine that takes a word at a time. It is dead as soon as no plan has the words so far
+-- as its first words. Assumes nothing.
+use mathlib.Core.Path.{_≡_}
 use mathlib.Core.Bool.{_&&_, cond}
 use mathlib.Core.List.{List, [], _∷_, _++_}
 use Prim.Native.Nat.{ℕ, zero, suc, _+_, _-_, _*_, _^_, _/_, _%_}
@@ -7,7 +8,7 @@ use lib.Dec.{eqb, ltb, leb}
 use lib.ListN.{length}
 use Rattle.plan.specs.declared.Word.{Word}
 use Rattle.plan.specs.declared.Word.the-variants.{First, Point, Contact, Last, Other}
-use Rattle.plan.specs.Words.{Plan}
+use Rattle.plan.specs.Words.{Plan, IsPlan, wordsOf, Refusal}
 use Rattle.evalset.specs.Sets.{most}
 
 -- a word by its kind and the rest of its bits; Other where an unnamed bit is set
@@ -107,3 +108,8 @@ readFrom i s (w ∷ ws) = let t = step s (kindOf w) in let r = readFrom (suc i) 
 -- what the words give
 unfoldable pub readOf : List ℕ → Reading
 readOf ws = readFrom 0 start ws
+
+-- what a reading says of the words
+abbrev pub ReadingSays : List ℕ → Reading → Type 0
+ReadingSays ws (plan p) = IsPlan p × (wordsOf p ≡ ws)
+ReadingSays ws (refused i) = Refusal ws i

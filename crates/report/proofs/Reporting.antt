@@ -33,13 +33,16 @@ use Rattle.table.proofs.AskAnswer.{the-type}
 use Rattle.table.proofs.LoadAnswer.{the-type as load-type}
 use Rattle.table.proofs.Outcome.{the-type as outcome-type}
 use Rattle.table.specs.Store.{Text, rulesOf}
-use Rattle.table.specs.Calls.{formulasOf, namesIn, atomsIn, linesOf, filled, judgeLoad, ifLoaded, loadRules, loaded, FromUs, Loads}
+use Rattle.table.specs.Calls.{formulasOf, namesIn, atomsIn, judgeLoad, ifLoaded, loadRules, loaded, FromUs, Loads}
+use Rattle.table.specs.Sheet.{linesOf, filled}
 use Rattle.table.specs.Asking.{askWords, asked, Asks}
 use Rattle.table.specs.Rows.{SomeStand, AskRow, LoadRow}
+use Rattle.plan.specs.Meant.{IsGiven}
 use Rattle.table.proofs.Claims.{ask-answered, load-answered, rules-back}
 use Rattle.table.specs.declared.Outcome.{Outcome}
 use Rattle.table.specs.declared.Outcome.the-variants as Outcome
 use Rattle.table.specs.Numbers.{loadOutcome, askOutcome}
+use Rattle.table.proofs.Rules.{of-computed, can-read, can-names, can-atoms}
 use Rattle.table.proofs.Standing.{not-loaded}
 use Rattle.table.proofs.Asking.{words-written, first-words}
 use Rattle.report.specs.Output.{planText, plansText, rulesText, outcomeText, outputOf, ended}
@@ -88,13 +91,13 @@ module _ {t : Table} {buffer : List ℕ} {r : AskResult} {exit : List ℕ} (h : 
 
   few-atoms : length (allAtoms rules) ≤ 16
   unfolding atomsIn
-  few-atoms = h .from-us .standing .atoms
+  few-atoms = can-atoms (rulesOf t) (h .from-us .standing)
 
   row : AskRow (rulesOf t) (length buffer) (askOutcome (r .answer))
   unfolding asked
   row =
       subst (λ (a : AskAnswer). AskRow (rulesOf t) (length buffer) (askOutcome a)) (sym (ap (λ (x : AskResult). x .answer) (h .asks .result)))
-      (ask-answered (length buffer) (rulesOf t))
+      (ask-answered (length buffer) (rulesOf t) (h .from-us .standing .formulas) (h .from-us .standing .rules))
 
   -- where ask gives no plan
   pub no-text : ((n : ℕ) → r .answer ≡ AskAnswer.Plan n → ⊥) → ended (bytes "NO PLAN") ≡ rulesText rules
@@ -103,9 +106,10 @@ module _ {t : Table} {buffer : List ℕ} {r : AskResult} {exit : List ℕ} (h : 
     where
       go : (o : Outcome) → AskRow (rulesOf t) (length buffer) o → askOutcome (r .answer) ≡ o → ended (bytes "NO PLAN") ≡ plansText (namesOf rules) (plansOf rules)
       go o (AskRow.none e) f = absurd (h .some e)
-      go o (AskRow.without z never) f = sym (ap (plansText (namesOf rules)) (no-plan-given rules .1 never))
-      go o (AskRow.short {p} z g l) f = absurd (omega (arith, h .room, given-words rules few-atoms p (given-exactly rules p .1 g)))
-      go o (AskRow.given {p} z g l) f = absurd (other (length (wordsOf p)) (is-plan (r .answer) f))
+      go o (AskRow.without {fs} z are never) f = sym (ap (plansText (namesOf rules)) (of-computed (rulesOf t) fs are (λ gs. plansOf gs ≡ []) (no-plan-given fs .1 never)))
+      go o (AskRow.short {fs} {p} z are g l) f =
+          absurd (omega (arith, h .room, given-words rules few-atoms p (given-exactly rules p .1 (of-computed (rulesOf t) fs are (λ gs. IsGiven gs p) g))))
+      go o (AskRow.given {p = p} z are g l) f = absurd (other (length (wordsOf p)) (is-plan (r .answer) f))
 
   -- where it gives one
   pub record Wrote (n : ℕ) : Type 0 where
@@ -122,16 +126,17 @@ module _ {t : Table} {buffer : List ℕ} {r : AskResult} {exit : List ℕ} (h : 
     where
       go : (o : Outcome) → AskRow (rulesOf t) (length buffer) o → o ≡ Outcome.Plan n → Wrote n
       go o (AskRow.none z) f = absurd (h .some z)
-      go o (AskRow.without z never) f = absurd (let z : _≡_ {A = ℕ} 0 1 = cc in omega arith)
-      go o (AskRow.short z g l) f = absurd (let z : _≡_ {A = ℕ} 0 1 = cc in omega arith)
-      go o (AskRow.given {p} z g l) f =
+      go o (AskRow.without z are never) f = absurd (let z : _≡_ {A = ℕ} 0 1 = cc in omega arith)
+      go o (AskRow.short z are g l) f = absurd (let z : _≡_ {A = ℕ} 0 1 = cc in omega arith)
+      go o (AskRow.given {fs} {p} z are k l) f =
+          let g : IsGiven rules p = of-computed (rulesOf t) fs are (λ gs. IsGiven gs p) k in
           let size : length (wordsOf p) ≡ n = cc in
           let wrote : exit ≡ over (wordsOf p) buffer = h .asks .words ∙ words-written (rulesOf t) buffer (h .some) p g l in
           let words : take n exit ≡ wordsOf p
           = ap (take n) (h .asks .words) ∙ ap (λ (k : ℕ). take k (askWords (rulesOf t) buffer)) (sym size) ∙ first-words (rulesOf t) buffer (h .some) p g l in
           record {
             plan = p;
-            is = subst IsPlan (sym (g .is)) (given-is-plan rules (h .from-us .standing .names) (g .row) (first-row-only-named rules (g .row) (g .first)));
+            is = subst IsPlan (sym (g .is)) (given-is-plan rules (can-names (rulesOf t) (h .from-us .standing)) (g .row) (first-row-only-named rules (g .row) (g .first)));
             only = given-exactly rules p .1 g;
             within = omega (arith, size, ap length wrote, length-append (wordsOf p) (drop (length (wordsOf p)) buffer));
             counted = sym (ap length words ∙ size);
@@ -155,10 +160,10 @@ module _ {t : Table} {buffer : List ℕ} {r : AskResult} {exit : List ℕ} (h : 
     unfolding rulesText namesIn
     plan-puttable =
         record {
-          kept = subst Kept (sym are) (kept-names (namesIn (rulesOf t)) (h .from-us .standing .names));
+          kept = subst Kept (sym are) (kept-names (namesIn (rulesOf t)) (can-names (rulesOf t) (h .from-us .standing)));
           count = omega (arith, stored .count, points);
           fits = subst (λ (l : List ℕ). length l ≤ 10551) (sym said)
-              (plan-few (namesIn (rulesOf t)) (h .from-us .standing .names) (names-short (rulesOf t) (h .from-us .standing .rules)) (it .plan) (it .is) points (given-words rules few-atoms (it .plan) (it .only)));
+              (plan-few (namesIn (rulesOf t)) (can-names (rulesOf t) (h .from-us .standing)) (names-short (rulesOf t) (can-read (rulesOf t) (h .from-us .standing))) (it .plan) (it .is) points (given-words rules few-atoms (it .plan) (it .only)));
           text = said ∙ sym (ap (plansText (namesOf rules)) (it .only));
         }
 

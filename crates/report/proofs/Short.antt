@@ -18,8 +18,8 @@ use Rattle.lists.specs.Search.{In, gather}
 use Rattle.lists.proofs.Search.{none-in, uncons, placed, map-elim, any-intro, gather-intro, gather-elim}
 use Rattle.contact.specs.Numbering.{allAtoms, sameName}
 use Rattle.contact.proofs.Naming.{same-name}
-use Rattle.names.specs.Gather.{NameAt, placesOf, ruleTokens}
-use Rattle.names.specs.Seventh.{namesAt}
+use Rattle.names.specs.Gather.{ruleTokens}
+use Rattle.names.specs.Seventh.{namesAt, NameAt, placesOf}
 use Rattle.names.proofs.Distinct.{distinct-in-list}
 use Rattle.names.proofs.Tokens.{past, token-within, at-name, at-other, at-end}
 use Rattle.names.proofs.Texts.{names-of-rule, atoms-names}

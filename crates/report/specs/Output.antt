@@ -1,4 +1,6 @@
--- What is meant: the text that the program floorplan writes for a sheet (document 01, 'Worked sheets'). Assumes nothing.
+-- What is meant, and over what is computed: the text that the program floorplan writes for a sheet (document 01, 'Worked sheets'). The
+-- lines are meant; which a sheet gets, `rulesText` and `outputOf` take from `judgeLoad`, `formulasOf` and `plansOf`, which are computed.
+-- Assumes nothing.
 use mathlib.Core.Bool.{cond}
 use mathlib.Core.List.{List, [], _∷_, _++_}
 use Prim.Native.Nat.{ℕ, zero, suc, _+_, _/_, _%_}
@@ -12,7 +14,8 @@ use Rattle.contact.specs.Numbering.{namesOf}
 use Rattle.plan.specs.Words.{Plan}
 use Rattle.plan.specs.Given.{plansOf}
 use Rattle.table.specs.Store.{Text}
-use Rattle.table.specs.Calls.{formulasOf, linesOf, filled, judgeLoad, ifLoaded}
+use Rattle.table.specs.Calls.{formulasOf, judgeLoad, ifLoaded}
+use Rattle.table.specs.Sheet.{linesOf, filled}
 use Rattle.table.specs.declared.Outcome.{Outcome}
 use Rattle.table.specs.declared.Outcome.the-variants as Outcome
 use Rattle.table.specs.Numbers.{loadOutcome}

@@ -1,5 +1,5 @@
--- What the private functions do: each puts a text into the buffer, from a place on, and answers the place after it.
--- Assumes nothing.
+-- For proofs: what the private functions do: each puts a text into the buffer, from a place on, and answers the place after it; and the
+-- contract of `report` (`Reports`). Assumes nothing.
 use mathlib.Core.Path.{_≡_}
 use mathlib.Core.List.{List}
 use Prim.Native.Nat.{ℕ, _+_, _≤_}

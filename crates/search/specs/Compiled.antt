@@ -1,5 +1,5 @@
--- When a sheet is compiled from a list of atoms, when a state is that of a list of marks, and what the functions on them ensure.
--- Assumes nothing.
+-- For proofs: when a sheet is compiled from a list of atoms, when a state is that of a list of marks, and what the functions on them
+-- ensure. Assumes nothing.
 use mathlib.Core.Bool.{Bool, true, false, _||_}
 use mathlib.Core.Path.{_≡_}
 use mathlib.Core.List.{List, [], _∷_, _++_}

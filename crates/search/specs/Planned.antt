@@ -1,4 +1,5 @@
--- What the functions that make the plan of a row ensure, of every list of atoms that the sheet is compiled from. Assumes nothing.
+-- For proofs: what the functions that make the plan of a row ensure, of every list of atoms that the sheet is compiled from; `PlanSays` is
+-- the contract of `planned`, which only our own crates call. Assumes nothing.
 use mathlib.Core.Bool.{not, _&&_}
 use mathlib.Core.Path.{_≡_}
 use mathlib.Core.List.{List}

@@ -1,5 +1,5 @@
--- "of two rows the first is the one with true at the lowest atom where they differ": rows as numbers in that order. Of k atoms,
--- atom i is true where bit k - 1 - i is clear. Assumes nothing.
+-- What is computed: rows as numbers in the order of "of two rows the first is the one with true at the lowest atom where they differ". Of k
+-- atoms, atom i is true where bit k - 1 - i is clear. Assumes nothing.
 use mathlib.Core.Bool.{not}
 use mathlib.Core.List.{[], _∷_}
 use Prim.Native.Nat.{ℕ, zero, suc}

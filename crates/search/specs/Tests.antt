@@ -1,5 +1,5 @@
--- What the functions on sets compute, with sets as tests on evaluations: f and g or x and y are sets, al the allowed set, sep p what
--- is separated from p. Assumes nothing.
+-- For proofs: what the private functions on sets compute, with sets as tests on evaluations: f and g or x and y are sets, al the allowed
+-- set, sep p what is separated from p. Assumes nothing.
 use mathlib.Core.Bool.{Bool, true, false, not, _&&_, _||_}
 use mathlib.Core.Path.{_≡_}
 use mathlib.Core.List.{List, [], _∷_}

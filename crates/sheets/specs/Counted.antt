@@ -1,4 +1,4 @@
--- How many names a formula's order has. Assumes nothing.
+-- For proofs: what a private function computes, how many names a formula's order has. Assumes nothing.
 use mathlib.Core.List.{List, [], _∷_}
 use Prim.Native.Nat.{ℕ, _+_}
 use Rattle.compile.specs.Kinds.{namesBy}

@@ -1,4 +1,4 @@
--- Where the last part of the code ends. Assumes nothing.
+-- For proofs: what a private function computes, where the last part of the code ends. Assumes nothing.
 use mathlib.Core.List.{List, [], _∷_}
 use Prim.Native.Nat.{ℕ}
 

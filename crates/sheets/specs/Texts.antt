@@ -1,5 +1,5 @@
--- What is compiled once the texts of a list of rules are, what one text more is asked and gives, and what the compiled rules answer.
--- Assumes nothing.
+-- For proofs: the contracts of functions that only our own crates call: what is compiled once the texts of a list of rules are, what one
+-- text more is asked and gives, and what the compiled rules answer. Assumes nothing.
 use mathlib.Core.Path.{_≡_}
 use mathlib.Core.List.{List, [], _∷_, _++_, map}
 use Prim.Native.Nat.{ℕ, _≤_}

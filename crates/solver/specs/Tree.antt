@@ -1,4 +1,5 @@
--- What is computed: sets of rows under a row, how a search cuts the atoms, what it leaves out and what it finds. Assumes nothing.
+-- What is computed, and for proofs what the private functions ensure: sets of rows under a row, how a search cuts the atoms, what it leaves
+-- out and what it finds. `FirstRowSays` is the contract of `first_row`, which only our own crates call. Assumes nothing.
 use mathlib.Core.Bool.{Bool, true, false, not}
 use mathlib.Core.Path.{_≡_}
 use mathlib.Core.List.{List, [], _∷_, _++_, map}

@@ -1,6 +1,6 @@
--- The grammar of rule text: which tokens are which term, which formula, at which of the four binding levels.
--- "Binding, loosest first: "->" and "<->" on one level, then | and +, then & and *, then ~ and -. Binary signs group to
--- the left, "->" too." What is of one level is of each looser one. Assumes nothing.
+-- What is meant: the grammar of rule text: which tokens are which term, which formula, at which of the four binding levels. "Binding,
+-- loosest first: "->" and "<->" on one level, then | and +, then & and *, then ~ and -. Binary signs group to the left, "->" too." What is
+-- of one level is of each looser one. Assumes nothing.
 use mathlib.Core.Bool.{true, false}
 use mathlib.Core.List.{List, [], _∷_, _++_}
 use Prim.Native.Nat.{ℕ, suc}
@@ -39,7 +39,7 @@ pub data IsFormula {N : Type 0} : ℕ → List (Symbol N) → Formula N → Type
   f-parenthesis : {ts : List (Symbol N)} {f : Formula N} → IsFormula 0 ts f → IsFormula tightest (opening ∷ ts ++ closing ∷ []) f
   f-looser : {l : ℕ} {ts : List (Symbol N)} {f : Formula N} → IsFormula (suc l) ts f → IsFormula l ts f
 
--- the tokens are the formula
+-- the tokens are the formula; "the reading is unique": they are one at most (`one-reading` of proofs/Claims.antt)
 abbrev pub Derives : {N : Type 0} → List (Symbol N) → Formula N → Type 0
 Derives ts f = IsFormula 0 ts f
 

@@ -1,5 +1,5 @@
--- The reader: tokens are read one by one, with a stack of the signs that wait for a value and the postfix order so far.
--- A parenthesis may open a term or a formula: it allows a formula inside where it may itself be one. Assumes nothing.
+-- What is computed: the reader: tokens are read one by one, with a stack of the signs that wait for a value and the postfix order so far. A
+-- parenthesis may open a term or a formula: it allows a formula inside where it may itself be one. Assumes nothing.
 use mathlib.Core.Bool.{Bool, true, false, not, Bool·beq, cond}
 use mathlib.Core.List.{List, [], _∷_, _++_}
 use Prim.Native.Nat.{ℕ, suc, _+_}

@@ -1,10 +1,11 @@
--- Postfix order: each sign after what it is put on. A formula is found again from it. Assumes nothing.
+-- What is computed: postfix order: each sign after what it is put on. A formula is found again from it. Assumes nothing.
 use mathlib.Core.Bool.{true, false}
 use mathlib.Core.List.{List, [], _∷_, _++_, tail}
 use Rattle.lists.specs.Search.{gather}
 use Rattle.formula.specs.declared.Sign.the-variants.{Implies, Iff, Or, And, Plus, Times}
 use Rattle.formula.specs.Formula.{Term, Atom, Form, Formula}
 use Rattle.syntax.specs.Grammar.{leafTerm}
+pub use Rattle.syntax.specs.Symbol.{symbolNames}
 use Rattle.syntax.specs.Symbol.{Leaf, Symbol, leaf, minus, tilde, opening, closing, comma, isZero, binary, constant, relation, contact, part}
 
 -- a term behind the symbols o
@@ -89,22 +90,5 @@ formulaOf xs = topFormula (puts xs [])
 
 -- the names among symbols, in their order
 module _ {N : Type 0} where
-  abbrev pub leafNames : Leaf N → List N
-  leafNames Leaf.zero = []
-  leafNames Leaf.one = []
-  leafNames (Leaf.name x) = x ∷ []
-
-  abbrev pub symbolNames : Symbol N → List N
-  symbolNames (leaf x) = leafNames x
-  symbolNames minus = []
-  symbolNames tilde = []
-  symbolNames opening = []
-  symbolNames closing = []
-  symbolNames comma = []
-  symbolNames isZero = []
-  symbolNames (binary b) = []
-  symbolNames (constant b) = []
-  symbolNames (relation c) = []
-
   unfoldable pub namesIn : List (Symbol N) → List N
   namesIn xs = gather symbolNames xs

@@ -1,5 +1,6 @@
--- What the recursive readers are asked and answer, over the machine: a reader lent the kinds of the tokens answers how the
--- machine goes on, whatever frames wait and whatever order is written before. Assumes nothing.
+-- For proofs, but for `codes`, the kinds of symbols, which are computed: what the recursive readers are asked and answer, over the machine:
+-- a reader lent the kinds of the tokens answers how the machine goes on, whatever frames wait and whatever order is written before. Assumes
+-- nothing.
 use mathlib.Core.Bool.{Bool, true, false, cond, Bool·beq}
 use mathlib.Core.List.{List, [], _∷_, map}
 use mathlib.Core.Path.{_≡_}

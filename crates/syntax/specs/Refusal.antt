@@ -1,4 +1,4 @@
--- Where the tokens are refused: "tokens up to here begin no formula, or text ends early | token's first byte, or the text's
+-- What is meant: where the tokens are refused: "tokens up to here begin no formula, or text ends early | token's first byte, or the text's
 -- length". A place is a count of tokens here; what the first byte of a token is, the cut of the text says. Assumes nothing.
 use mathlib.Core.Path.{_≡_}
 use mathlib.Core.List.{List, [], _∷_, _++_}

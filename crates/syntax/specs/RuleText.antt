@@ -1,5 +1,5 @@
--- What is meant by the answer for a rule text: refusals 2, 1, 3, 4, 5 and 6 of the table of calls, from the top down, or the
--- formula. Assumes nothing.
+-- What is meant: the answer for a rule text: refusals 2, 1, 3, 4, 5 and 6 of the table of calls, from the top down, or the formula. Assumes
+-- nothing.
 use mathlib.Core.List.{List, [], _∷_, map}
 use Prim.Native.Nat.{ℕ, _≤_, _<_}
 use lib.ListN.{length, getD}

@@ -1,5 +1,7 @@
--- The alphabet of the grammar: tokens as what they say, a name by itself, with no place in a text. Assumes nothing.
+-- What is meant: the alphabet of the grammar: tokens as what they say, a name by itself, with no place in a text. Only the reader needs
+-- `kindOf`. Assumes nothing.
 use mathlib.Core.Bool.{Bool, true, false}
+use mathlib.Core.List.{List, [], _∷_}
 use Rattle.formula.specs.declared.Sign.{Sign}
 use Rattle.formula.specs.declared.Sign.the-variants.{Implies, Iff, Or, And, Plus, Times}
 use Rattle.formula.specs.Formula.{Name}
@@ -73,3 +75,22 @@ kindOf (constant true) = Kind.Truth
 kindOf (constant false) = Kind.Falsity
 kindOf (relation contact) = Kind.Contact
 kindOf (relation part) = Kind.Part
+
+-- the name that a symbol is; none of another symbol
+module _ {N : Type 0} where
+  abbrev pub leafNames : Leaf N → List N
+  leafNames Leaf.zero = []
+  leafNames Leaf.one = []
+  leafNames (Leaf.name x) = x ∷ []
+
+  abbrev pub symbolNames : Symbol N → List N
+  symbolNames (leaf x) = leafNames x
+  symbolNames minus = []
+  symbolNames tilde = []
+  symbolNames opening = []
+  symbolNames closing = []
+  symbolNames comma = []
+  symbolNames isZero = []
+  symbolNames (binary b) = []
+  symbolNames (constant b) = []
+  symbolNames (relation c) = []

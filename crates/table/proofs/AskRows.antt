@@ -15,7 +15,7 @@ use Rattle.formula.specs.Formula.{Formula, Name}
 use Rattle.contact.specs.Meaning.{Floor, renamed}
 use Rattle.contact.specs.Numbering.{namesOf, numberOf}
 use Rattle.plan.specs.Words.{Plan, IsPlan, wordsOf, Refusal}
-use Rattle.plan.specs.Reader.{Reading, plan, refused, readOf}
+use Rattle.plan.specs.Reader.{Reading, plan, refused, readOf, ReadingSays}
 use Rattle.plan.specs.Given.{plansOf}
 use Rattle.plan.specs.Judging.{Judgement, judge}
 use Rattle.plan.proofs.Exact.{exact}
@@ -26,37 +26,45 @@ use Rattle.table.specs.declared.AskAnswer.the-variants as AskAnswer
 use Rattle.table.specs.declared.JudgeAnswer.{JudgeAnswer}
 use Rattle.table.specs.declared.JudgeAnswer.the-variants as JudgeAnswer
 use Rattle.table.specs.Store.{Text}
-use Rattle.table.specs.Calls.{formulasOf, namesIn}
+use Rattle.table.specs.Rules.{AreRules}
+use Rattle.table.specs.Calls.{formulasOf}
 use Rattle.table.specs.Asking.{planAnswer, foundAnswer, askAnswer, judgementAnswer, judgePlan, judgeReading, judgeAnswer}
 use Rattle.plan.specs.declared.PlanRead.{PlanRead}
 use Rattle.plan.specs.Arrays.{answerOf, Reads}
 use Rattle.table.specs.declared.Outcome.{Outcome}
 use Rattle.table.specs.declared.Outcome.the-variants as Outcome
+use Rattle.table.proofs.Rules.{AllRead, are-formulas, formulas-are}
 use Rattle.table.proofs.Asking.{asked-some, judged-some}
 use Rattle.table.specs.Numbers.{askOutcome, judgeOutcome, planOutcome}
 use Rattle.table.specs.Rows.{SomeStand, AskRow, Decodes, floorOf, JudgeRow}
-use Rattle.plan.specs.Meant.{ReadingSays, IsGiven}
+use Rattle.plan.specs.Meant.{IsGiven}
 
 -- ---- ask
 
 module _ (room : ℕ) where
   -- where a rule stands, the plans decide
-  found-row : (rs : List Text) → SomeStand rs → (ps : List Plan) → plansOf (formulasOf rs) ≡ ps → length ps ≤ 1 → AskRow rs room (askOutcome (foundAnswer ps room))
-  found-row rs some [] e l = AskRow.without some (no-plan-given (formulasOf rs) .0 e)
-  found-row rs some (p ∷ []) e l = go (leb (length (wordsOf p)) room) refl
+  found-row : (rs : List Text) (fs : List (Formula Name)) → SomeStand rs → AreRules rs fs → (ps : List Plan) → plansOf fs ≡ ps → length ps ≤ 1 → AskRow rs room (askOutcome (foundAnswer ps room))
+  found-row rs fs some are [] e l = AskRow.without some are (no-plan-given fs .0 e)
+  found-row rs fs some are (p ∷ []) e l = go (leb (length (wordsOf p)) room) refl
     where
       go : (b : Bool) → leb (length (wordsOf p)) room ≡ b → AskRow rs room (askOutcome (cond b (AskAnswer.Plan (length (wordsOf p))) (AskAnswer.ShortBuffer (length (wordsOf p)))))
-      go true t = AskRow.given some (given-exactly (formulasOf rs) p .0 e) (leb-true (length (wordsOf p)) room t)
-      go false t = AskRow.short some (given-exactly (formulasOf rs) p .0 e) (leb-false (length (wordsOf p)) room t)
-  found-row rs some (p ∷ q ∷ ps) e l = absurd (omega arith)
+      go true t = AskRow.given some are (given-exactly fs p .0 e) (leb-true (length (wordsOf p)) room t)
+      go false t = AskRow.short some are (given-exactly fs p .0 e) (leb-false (length (wordsOf p)) room t)
+  found-row rs fs some are (p ∷ q ∷ ps) e l = absurd (omega arith)
 
-  pub ask-row : (rs : List Text) → AskRow rs room (askOutcome (askAnswer rs room))
+  pub ask-row : (rs : List Text) → AllRead rs → AskRow rs room (askOutcome (askAnswer rs room))
   unfolding askAnswer
-  ask-row [] = AskRow.none refl
-  ask-row (s ∷ rs) = found-row (s ∷ rs) cons≢nil (plansOf (formulasOf (s ∷ rs))) refl (given-at-most-one (formulasOf (s ∷ rs)))
+  ask-row [] read = AskRow.none refl
+  ask-row (s ∷ rs) read =
+      found-row (s ∷ rs) (formulasOf (s ∷ rs)) cons≢nil (formulas-are (s ∷ rs) read) (plansOf (formulasOf (s ∷ rs))) refl (given-at-most-one (formulasOf (s ∷ rs)))
 
-  asked-given : (rs : List Text) → SomeStand rs → (p : Plan) → IsGiven (formulasOf rs) p → askAnswer rs room ≡ planAnswer (length (wordsOf p)) room
-  asked-given rs some p g = asked-some rs some room ∙ ap (λ (ps : List Plan). foundAnswer ps room) (given-exactly (formulasOf rs) p .1 g)
+  -- the answer, where these are the plans of the rules
+  asked-plans : (rs : List Text) (fs : List (Formula Name)) → SomeStand rs → AreRules rs fs → (ps : List Plan) → plansOf fs ≡ ps → askAnswer rs room ≡ foundAnswer ps room
+  asked-plans rs fs some are ps e =
+      asked-some rs some room ∙ ap (λ (qs : List Plan). foundAnswer qs room) (ap plansOf (sym (are-formulas rs fs are)) ∙ e)
+
+  asked-given : (rs : List Text) (fs : List (Formula Name)) → SomeStand rs → AreRules rs fs → (p : Plan) → IsGiven fs p → askAnswer rs room ≡ planAnswer (length (wordsOf p)) room
+  asked-given rs fs some are p g = asked-plans rs fs some are (p ∷ []) (given-exactly fs p .1 g)
 
   by-room : (n : ℕ) (b : Bool) → leb n room ≡ b → cond b (AskAnswer.Plan n) (AskAnswer.ShortBuffer n) ≡ planAnswer n room
   by-room n b e = ap (λ (t : Bool). cond t (AskAnswer.Plan n) (AskAnswer.ShortBuffer n)) (sym e)
@@ -64,41 +72,41 @@ module _ (room : ℕ) where
   pub ask-row-only : (rs : List Text) (o : Outcome) → AskRow rs room o → o ≡ askOutcome (askAnswer rs room)
   unfolding askAnswer
   ask-row-only rs o (AskRow.none e) = sym (ap (λ (l : List Text). askOutcome (askAnswer l room)) e)
-  ask-row-only rs o (AskRow.without some never) =
-      sym (ap askOutcome (asked-some rs some room ∙ ap (λ (ps : List Plan). foundAnswer ps room) (no-plan-given (formulasOf rs) .1 never)))
-  ask-row-only rs o (AskRow.short {p} some g l) =
-      ap askOutcome (by-room (length (wordsOf p)) false (lt-leb (length (wordsOf p)) room l) ∙ sym (asked-given rs some p g))
-  ask-row-only rs o (AskRow.given {p} some g l) =
-      ap askOutcome (by-room (length (wordsOf p)) true (le-leb (length (wordsOf p)) room l) ∙ sym (asked-given rs some p g))
+  ask-row-only rs o (AskRow.without {fs} some are never) = sym (ap askOutcome (asked-plans rs fs some are [] (no-plan-given fs .1 never)))
+  ask-row-only rs o (AskRow.short {fs} {p} some are g l) =
+      ap askOutcome (by-room (length (wordsOf p)) false (lt-leb (length (wordsOf p)) room l) ∙ sym (asked-given rs fs some are p g))
+  ask-row-only rs o (AskRow.given {fs} {p} some are g l) =
+      ap askOutcome (by-room (length (wordsOf p)) true (le-leb (length (wordsOf p)) room l) ∙ sym (asked-given rs fs some are p g))
 
 -- ---- judge
 
 module _ (words : List ℕ) where
-  -- where the words are a plan of as many names, its floor decides
-  met-row : (rs : List Text) → SomeStand rs → (p : Plan) (d : Decodes rs words p) (j : Judgement) → judge (floorOf d) (formulasOf rs) ≡ j → JudgeRow rs words (judgeOutcome (judgementAnswer j))
-  met-row rs some p d Judgement.yes e = JudgeRow.met some d (judge-yes (floorOf d) (formulasOf rs) .0 e)
-  met-row rs some p d (Judgement.unmet k) e = JudgeRow.unmet some d (judge-unmet (floorOf d) (formulasOf rs) k .0 e)
+  -- rules that stand, and their formulas
+  module _ (rs : List Text) (fs : List (Formula Name)) (some : SomeStand rs) (are : AreRules rs fs) where
+    -- where the words are a plan of as many names, its floor decides
+    met-row : (p : Plan) (d : Decodes fs words p) (j : Judgement) → judge (floorOf d) fs ≡ j → JudgeRow rs words (judgeOutcome (judgementAnswer j))
+    met-row p d Judgement.yes e = JudgeRow.met some are d (judge-yes (floorOf d) fs .0 e)
+    met-row p d (Judgement.unmet k) e = JudgeRow.unmet some are d (judge-unmet (floorOf d) fs k .0 e)
 
-  plan-row : (rs : List Text) → SomeStand rs → (p : Plan) (h : IsPlan p) → wordsOf p ≡ words → JudgeRow rs words (judgeOutcome (judgePlan (formulasOf rs) p h))
-  unfolding namesIn
-  plan-row rs some p h w = go (decEq (p .names) (length (namesOf (formulasOf rs))))
-    where
-      answer : Bool → JudgeAnswer
-      answer b = cond b (judgementAnswer (judge (namedFloor (formulasOf rs) p h) (formulasOf rs))) (JudgeAnswer.NamesDiffer (p .names))
+    plan-row : (p : Plan) (h : IsPlan p) → wordsOf p ≡ words → JudgeRow rs words (judgeOutcome (judgePlan fs p h))
+    plan-row p h w = go (decEq (p .names) (length (namesOf fs)))
+      where
+        answer : Bool → JudgeAnswer
+        answer b = cond b (judgementAnswer (judge (namedFloor fs p h) fs)) (JudgeAnswer.NamesDiffer (p .names))
 
-      go : Dec (p .names ≡ length (namesOf (formulasOf rs))) → JudgeRow rs words (judgeOutcome (answer (eqb (p .names) (length (namesOf (formulasOf rs))))))
-      go (yes e) = subst (λ (b : Bool). JudgeRow rs words (judgeOutcome (answer b))) (sym (eq-eqb (p .names) (length (namesOf (formulasOf rs))) e))
-          (met-row rs some p (record { is = h; words-are = w; named = e }) (judge (namedFloor (formulasOf rs) p h) (formulasOf rs)) refl)
-      go (no e) = subst (λ (b : Bool). JudgeRow rs words (judgeOutcome (answer b))) (sym (ne-eqb (p .names) (length (namesOf (formulasOf rs))) e)) (JudgeRow.differ some h w e)
+        go : Dec (p .names ≡ length (namesOf fs)) → JudgeRow rs words (judgeOutcome (answer (eqb (p .names) (length (namesOf fs)))))
+        go (yes e) = subst (λ (b : Bool). JudgeRow rs words (judgeOutcome (answer b))) (sym (eq-eqb (p .names) (length (namesOf fs)) e))
+            (met-row p (record { is = h; words-are = w; named = e }) (judge (namedFloor fs p h) fs) refl)
+        go (no e) = subst (λ (b : Bool). JudgeRow rs words (judgeOutcome (answer b))) (sym (ne-eqb (p .names) (length (namesOf fs)) e)) (JudgeRow.differ some are h w e)
 
-  reading-row : (rs : List Text) → SomeStand rs → (r : Reading) (h : ReadingSays words r) → JudgeRow rs words (judgeOutcome (judgeReading (formulasOf rs) words r h))
-  reading-row rs some (plan p) h = plan-row rs some p (h .0) (h .1)
-  reading-row rs some (refused j) h = JudgeRow.unread some h
+    reading-row : (r : Reading) (h : ReadingSays words r) → JudgeRow rs words (judgeOutcome (judgeReading fs words r h))
+    reading-row (plan p) h = plan-row p (h .0) (h .1)
+    reading-row (refused j) h = JudgeRow.unread some h
 
-  pub judge-row : (rs : List Text) → JudgeRow rs words (judgeOutcome (judgeAnswer rs words))
+  pub judge-row : (rs : List Text) → AllRead rs → JudgeRow rs words (judgeOutcome (judgeAnswer rs words))
   unfolding judgeAnswer
-  judge-row [] = JudgeRow.none refl
-  judge-row (s ∷ rs) = reading-row (s ∷ rs) cons≢nil (readOf words) (exact words)
+  judge-row [] read = JudgeRow.none refl
+  judge-row (s ∷ rs) read = reading-row (s ∷ rs) (formulasOf (s ∷ rs)) cons≢nil (formulas-are (s ∷ rs) read) (readOf words) (exact words)
 
   -- the judgement of a plan is that of its floor, however it was shown to be a plan
   same-floor : (p : Plan) (a b : IsPlan p) → planFloor p a ≡ planFloor p b
@@ -120,13 +128,16 @@ module _ (words : List ℕ) where
       go (plan q) s e = let z : q ≡ p = cc in same-plan (formulasOf rs) q p z (s .0) h
       go (refused j) s e = absurd (let z : _≡_ {A = ℕ} 0 1 = cc in omega arith)
 
-  by-names : (rs : List Text) (p : Plan) (h : IsPlan p) (b : Bool) → eqb (p .names) (length (namesIn rs)) ≡ b
-      → judgePlan (formulasOf rs) p h ≡ cond b (judgementAnswer (judge (namedFloor (formulasOf rs) p h) (formulasOf rs))) (JudgeAnswer.NamesDiffer (p .names))
-  unfolding namesIn
-  by-names rs p h b e = ap (λ (t : Bool). cond t (judgementAnswer (judge (namedFloor (formulasOf rs) p h) (formulasOf rs))) (JudgeAnswer.NamesDiffer (p .names))) e
+  by-names : (fs : List (Formula Name)) (p : Plan) (h : IsPlan p) (b : Bool) → eqb (p .names) (length (namesOf fs)) ≡ b
+      → judgePlan fs p h ≡ cond b (judgementAnswer (judge (namedFloor fs p h) fs)) (JudgeAnswer.NamesDiffer (p .names))
+  by-names fs p h b e = ap (λ (t : Bool). cond t (judgementAnswer (judge (namedFloor fs p h) fs)) (JudgeAnswer.NamesDiffer (p .names))) e
 
-  decoded-judged : (rs : List Text) → SomeStand rs → (p : Plan) (d : Decodes rs words p) → judgeAnswer rs words ≡ judgementAnswer (judge (floorOf d) (formulasOf rs))
-  decoded-judged rs some p d = judged-plan rs some p (d .is) (d .words-are) ∙ by-names rs p (d .is) true (eq-eqb (p .names) (length (namesIn rs)) (d .named))
+  module _ (rs : List Text) (fs : List (Formula Name)) (some : SomeStand rs) (are : AreRules rs fs) where
+    judged-as : (p : Plan) (h : IsPlan p) → wordsOf p ≡ words → judgeAnswer rs words ≡ judgePlan fs p h
+    judged-as p h w = judged-plan rs some p h w ∙ ap (λ (gs : List (Formula Name)). judgePlan gs p h) (sym (are-formulas rs fs are))
+
+    decoded-judged : (p : Plan) (d : Decodes fs words p) → judgeAnswer rs words ≡ judgementAnswer (judge (floorOf d) fs)
+    decoded-judged p d = judged-as p (d .is) (d .words-are) ∙ by-names fs p (d .is) true (eq-eqb (p .names) (length (namesOf fs)) (d .named))
 
   pub judge-row-only : (rs : List Text) (o : Outcome) → JudgeRow rs words o → o ≡ judgeOutcome (judgeAnswer rs words)
   unfolding judgeAnswer
@@ -136,10 +147,12 @@ module _ (words : List ℕ) where
       go : (x : Reading) (s : ReadingSays words x) → x ≡ refused j → judgeReading (formulasOf rs) words x s ≡ JudgeAnswer.NotAPlan j
       go (plan q) s e = absurd (let z : _≡_ {A = ℕ} 0 1 = cc in omega arith)
       go (refused i) s e = let z : i ≡ j = cc in ap JudgeAnswer.NotAPlan z
-  judge-row-only rs o (JudgeRow.differ {p} some h w n) = sym (ap judgeOutcome (judged-plan rs some p h w ∙ by-names rs p h false (ne-eqb (p .names) (length (namesIn rs)) n)))
-  judge-row-only rs o (JudgeRow.met {p} some d m) = sym (ap judgeOutcome (decoded-judged rs some p d ∙ ap judgementAnswer (judge-yes (floorOf d) (formulasOf rs) .1 m)))
-  judge-row-only rs o (JudgeRow.unmet {p} {k} some d u) =
-      sym (ap judgeOutcome (decoded-judged rs some p d ∙ ap judgementAnswer (judge-unmet (floorOf d) (formulasOf rs) k .1 u)))
+  judge-row-only rs o (JudgeRow.differ {fs} {p} some are h w n) =
+      sym (ap judgeOutcome (judged-as rs fs some are p h w ∙ by-names fs p h false (ne-eqb (p .names) (length (namesOf fs)) n)))
+  judge-row-only rs o (JudgeRow.met {fs} {p} some are d m) =
+      sym (ap judgeOutcome (decoded-judged rs fs some are p d ∙ ap judgementAnswer (judge-yes (floorOf d) fs .1 m)))
+  judge-row-only rs o (JudgeRow.unmet {fs} {p} {k} some are d u) =
+      sym (ap judgeOutcome (decoded-judged rs fs some are p d ∙ ap judgementAnswer (judge-unmet (floorOf d) fs k .1 u)))
 
 -- ---- plan words alone
 

@@ -19,7 +19,7 @@ use Rattle.plan.specs.declared.PlanRead.{PlanRead}
 use Rattle.plan.specs.declared.Written.{Written}
 use Rattle.plan.specs.declared.Written.the-variants as Written
 use Rattle.plan.specs.Words.{Plan, IsPlan, wordsOf}
-use Rattle.plan.specs.Reader.{Reading, plan, refused, readOf}
+use Rattle.plan.specs.Reader.{Reading, plan, refused, readOf, ReadingSays}
 use Rattle.plan.specs.Arrays.{Stored, answerOf, planIn, Reads, planBy, Writes, over}
 use Rattle.plan.specs.Given.{rowPlan, plansOf}
 use Rattle.plan.specs.Judging.{Judgement, yes, unmet, judge}
@@ -43,7 +43,7 @@ use Rattle.table.specs.Asking.{foundAnswer, askAnswer, foundWords, askWo
 use Rattle.table.specs.Steps.{writtenAnswer, judgedAnswer, JudgeAnswerSays}
 use Rattle.table.specs.Rows.{SomeStand}
 use Rattle.table.proofs.Lines.{count-is, none-stand}
-use Rattle.plan.specs.Meant.{ReadingSays, IsGiven}
+use Rattle.plan.specs.Meant.{IsGiven}
 
 -- ---- where some rule stands
 

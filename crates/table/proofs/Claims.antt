@@ -1,7 +1,8 @@
--- What is proved of the table, for whoever builds on it: it is that of the standing rules whatever calls were made, and each call is
--- answered by the first row of the table of calls that applies. Each claim cites the file that proves it. Assumes nothing.
+-- What is proved of the table, for whoever builds on it: it is that of the standing rules whatever calls were made, these are made by the
+-- rows of the table of calls, and each call is answered by the first row of the table of calls that applies. Each claim cites the file
+-- that proves it. Assumes nothing.
 use Prim.Native.Nat.{ℕ}
-use mathlib.Core.Path.{_≡_}
+use mathlib.Core.Path.{_≡_, sym, _∙_}
 use mathlib.Core.Logic.{_↔_}
 use mathlib.Core.List.{List, [], _∷_, _++_}
 use Rattle.table.specs.declared.Table.{Table}
@@ -12,8 +13,10 @@ use Rattle.table.specs.declared.WithdrawResult.{WithdrawResult}
 use Rattle.table.specs.declared.LoadResult.{LoadResult}
 use Rattle.table.specs.declared.AskResult.{AskResult}
 use Rattle.table.specs.Store.{Text, tableOf, rulesOf}
-use Rattle.table.specs.Calls.{judgeAdd, judgeWithdraw, judgeLoad, CanStand, FromUs, Adds, Withdraws, Loads}
+use Rattle.table.specs.Calls.{formulasOf, judgeAdd, judgeWithdraw, judgeLoad, FromUs, Adds, Withdraws, Loads}
+use Rattle.table.specs.Rules.{AreRules, CanStand}
 use Rattle.table.specs.Asking.{askAnswer, Asks, judgeAnswer}
+use Rattle.formula.specs.Formula.{Formula, Name}
 use Rattle.syntax.specs.Rule.{ruleOf}
 use Rattle.plan.specs.declared.PlanRead.{PlanRead}
 use Rattle.plan.specs.Words.{Refusal}
@@ -22,13 +25,16 @@ use Rattle.table.specs.declared.Outcome.{Outcome}
 use Rattle.table.specs.declared.Outcome.the-variants as Outcome
 use Rattle.table.specs.Numbers.{addOutcome, withdrawOutcome, loadOutcome, askOutcome, judgeOutcome, ruleOutcome, planOutcome}
 use Rattle.table.specs.Rows.{AddRow, WithdrawRow, LoadRow, AskRow, JudgeRow}
-use Rattle.table.specs.Runs.{Call, add, withdraw, load, ask, step, run, after, standing, adds, Faithful}
+use Rattle.table.specs.Stands.{Call, add, withdraw, load, ask, adds, Stands}
+use Rattle.table.specs.Runs.{step, run, after, standing, Faithful}
 use Rattle.table.proofs.Stored as Stored
+use Rattle.table.proofs.Rules as Rules
 use Rattle.table.proofs.Standing as Standing
 use Rattle.table.proofs.Running as Running
 use Rattle.table.proofs.Rows as Rows
 use Rattle.table.proofs.LoadRows as LoadRows
 use Rattle.table.proofs.AskRows as AskRows
+use Rattle.table.proofs.Stands as Stands
 
 -- ---- tables and lists
 
@@ -43,6 +49,19 @@ may-stand = Stored.from-us-table
 -- where rs can stand, a text is added exactly if it can stand behind them
 pub added-exactly : (rs : List Text) (s : Text) → CanStand rs → (judgeAdd rs s ≡ AddAnswer.Added) ↔ CanStand (rs ++ s ∷ [])
 added-exactly rs s h = (Standing.stand-more rs s h, Standing.stand-added rs s)
+
+-- ---- formulas
+
+-- texts that can stand mean formulas by the grammar, one list of them only
+pub formulas-some : (rs : List Text) → CanStand rs → (fs : List (Formula Name)) × AreRules rs fs
+formulas-some rs h = (h .formulas, h .rules)
+
+pub formulas-one : (rs : List Text) (fs gs : List (Formula Name)) → AreRules rs fs → AreRules rs gs → fs ≡ gs
+formulas-one = Rules.are-one
+
+-- they are those that are computed from the texts
+pub formulas-computed : (rs : List Text) (fs : List (Formula Name)) → AreRules rs fs → fs ≡ formulasOf rs
+formulas-computed = Rules.are-formulas
 
 -- ---- calls
 
@@ -62,6 +81,26 @@ ask-steps = Running.by-ask
 -- every call maps the table of a list to the table of the list after it
 pub call-maps : (rs : List Text) (c : Call) → step (tableOf rs) c ≡ tableOf (after rs c)
 call-maps = Running.step-table
+
+-- ---- the standing rules
+
+-- every list of calls has a list of standing rules by the rows of the table of calls, and one only
+pub stands-some : (cs : List Call) → (rs : List Text) × Stands cs rs
+stands-some cs = (standing cs, Stands.standing-stands cs)
+
+pub stands-one : (cs : List Call) (rs ss : List Text) → Stands cs rs → Stands cs ss → rs ≡ ss
+stands-one cs rs ss h k = Stands.stands-standing cs rs h ∙ sym (Stands.stands-standing cs ss k)
+
+-- "It holds at most 16 rules, 6 names and 16 atoms.": they are rules, and within these limits
+pub stands-within : (cs : List Call) (rs : List Text) → Stands cs rs → CanStand rs
+stands-within = Stands.stands-within
+
+-- it is the one that is computed from the judgements of the calls
+pub standing-stands : (cs : List Call) → Stands cs (standing cs)
+standing-stands = Stands.standing-stands
+
+pub stands-computed : (cs : List Call) (rs : List Text) → Stands cs rs → rs ≡ standing cs
+stands-computed = Stands.stands-standing
 
 -- ---- demand 3, for tables
 
@@ -101,14 +140,14 @@ load-answered = LoadRows.load-row
 pub load-answered-only : (f : Text) (o : Outcome) → LoadRow f o → o ≡ loadOutcome (judgeLoad f)
 load-answered-only = LoadRows.load-row-only
 
-pub ask-answered : (room : ℕ) (rs : List Text) → AskRow rs room (askOutcome (askAnswer rs room))
-ask-answered = AskRows.ask-row
+pub ask-answered : (room : ℕ) (rs : List Text) (fs : List (Formula Name)) → AreRules rs fs → AskRow rs room (askOutcome (askAnswer rs room))
+ask-answered room rs fs are = AskRows.ask-row room rs (Rules.are-read rs fs are)
 
 pub ask-answered-only : (room : ℕ) (rs : List Text) (o : Outcome) → AskRow rs room o → o ≡ askOutcome (askAnswer rs room)
 ask-answered-only = AskRows.ask-row-only
 
-pub judge-answered : (words : List ℕ) (rs : List Text) → JudgeRow rs words (judgeOutcome (judgeAnswer rs words))
-judge-answered = AskRows.judge-row
+pub judge-answered : (words : List ℕ) (rs : List Text) (fs : List (Formula Name)) → AreRules rs fs → JudgeRow rs words (judgeOutcome (judgeAnswer rs words))
+judge-answered words rs fs are = AskRows.judge-row words rs (Rules.are-read rs fs are)
 
 pub judge-answered-only : (words : List ℕ) (rs : List Text) (o : Outcome) → JudgeRow rs words o → o ≡ judgeOutcome (judgeAnswer rs words)
 judge-answered-only = AskRows.judge-row-only

@@ -12,7 +12,9 @@ use Rattle.sheets.specs.Texts.{Fits, CompiledTexts, NothingCompiled, Ready, Wit
 use Rattle.sheets.proofs.Claims.{no-texts, may-add, text-added}
 use Rattle.table.specs.declared.Table.{Table}
 use Rattle.table.specs.Store.{Text, rulesOf}
-use Rattle.table.specs.Calls.{namesIn, atomsIn, CanStand, FromUs}
+use Rattle.table.specs.Calls.{namesIn, atomsIn, FromUs}
+use Rattle.table.specs.Rules.{CanStand}
+use Rattle.table.proofs.Rules.{can-names, can-atoms}
 use Rattle.syntax.proofs.Claims.{is-rule}
 use Rattle.table.proofs.Lines.{count-is}
 use Rattle.table.proofs.Recount.{text, first, stands, text-read}
@@ -20,7 +22,7 @@ use Rattle.table.proofs.Recount.{text, first, stands, text-read}
 -- rules that can stand can be compiled
 stand-fits : (rs : List Text) → CanStand rs → Fits (map meaningOf rs)
 unfolding namesIn atomsIn
-stand-fits rs h = record { rules-fit = omega (arith, length-map rs meaningOf, h .few); names-fit = h .names; atoms-fit = h .atoms }
+stand-fits rs h = record { rules-fit = omega (arith, length-map rs meaningOf, h .few); names-fit = can-names rs h; atoms-fit = can-atoms rs h }
 
 -- the loop's invariant: the first i texts are compiled
 pub record Reached (t : Table) (c : Compiling) (code : List ℕ) (i : ℕ) : Type 0 where

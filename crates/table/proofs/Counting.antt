@@ -21,7 +21,9 @@ use Rattle.table.specs.declared.Counted.{Counted}
 use Rattle.table.specs.declared.AddAnswer.{AddAnswer}
 use Rattle.table.specs.declared.AddAnswer.the-variants as AddAnswer
 use Rattle.table.specs.Store.{Text}
-use Rattle.table.specs.Calls.{formulasOf, namesIn, atomsIn, readAnswer, namesAnswer, firstRefusal, judgeNames, judgeAtoms, judgeRoom, judgeText, judgeAdd, addRules, CanStand}
+use Rattle.table.specs.Calls.{formulasOf, namesIn, atomsIn, readAnswer, namesAnswer, firstRefusal, judgeNames, judgeAtoms, judgeRoom, judgeText, judgeAdd, addRules}
+use Rattle.table.specs.Rules.{CanStand}
+use Rattle.table.proofs.Rules.{can-names}
 use Rattle.table.specs.Steps.{WasRead, atomPlaces, countsOf, countedOf, CountsWith}
 use Rattle.table.proofs.Standing.{NotAdded, not-full, not-many, refused-else, names-last, atoms-append, atoms-one, read-formula, names-enough, added-taken, added-refused}
 use Rattle.syntax.proofs.Claims.{is-rule}
@@ -127,7 +129,7 @@ module _ (c : Counts) (rs : List Text) (can : CanStand rs) (e : c ≡ countsOf r
   counted-rules = ap (λ (x : Counts). x .rules) e
 
   pub counted-gathers : (s : Text) (rule : Rule) → rule ≡ ruleOf s → Gathers s rule (c .names)
-  counted-gathers s rule f = may-gather s rule (c .names) (namesIn rs) f counted-names (can .names)
+  counted-gathers s rule f = may-gather s rule (c .names) (namesIn rs) f counted-names (can-names rs can)
 
   counted-gathered : (s : Text) (g : Gathered) → g ≡ gathered s (knownOf (c .names)) → g ≡ gathered s (namesIn rs)
   counted-gathered s g f = f ∙ ap (gathered s) (known-from (c .names) (namesIn rs) counted-names)
@@ -147,7 +149,7 @@ module _ (c : Counts) (rs : List Text) (can : CanStand rs) (e : c ≡ countsOf r
 
   next-names : (s : Text) (g : Gathered) → judgeText s ≡ AddAnswer.Added → judgeNames rs s ≡ AddAnswer.Added → g ≡ gathered s (namesIn rs)
       → g .names ≡ arraysOf (namesIn (rs ++ s ∷ []))
-  next-names s g f k h = ap (λ (x : Gathered). x .names) h ∙ names-with rs s (can .names) (text-formula s f) (names-found rs s k)
+  next-names s g f k h = ap (λ (x : Gathered). x .names) h ∙ names-with rs s (can-names rs can) (text-formula s f) (names-found rs s k)
 
   next-atoms : (s : Text) (rule : Rule) (n : ℕ) → rule ≡ ruleOf s → judgeText s ≡ AddAnswer.Added → n ≡ atomPlaces (take (rule .len) (rule .order))
       → c .atoms + n ≡ atomsIn (rs ++ s ∷ [])

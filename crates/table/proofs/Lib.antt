@@ -1,5 +1,6 @@
 pub mod Fewer
 pub mod Stored
+pub mod Rules
 pub mod Standing
 pub mod Running
 pub mod Lines
@@ -15,5 +16,6 @@ pub mod Asking
 pub mod Loading
 pub mod Rows
 pub mod LoadRows
+pub mod Stands
 pub mod AskRows
 pub mod Claims

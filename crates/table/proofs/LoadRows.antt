@@ -16,7 +16,9 @@ use Rattle.table.specs.declared.AddAnswer.the-variants as AddAnswer
 use Rattle.table.specs.declared.LoadAnswer.{LoadAnswer}
 use Rattle.table.specs.declared.LoadAnswer.the-variants as LoadAnswer
 use Rattle.table.specs.Store.{Text}
-use Rattle.table.specs.Calls.{judgeAdd, linesOf, blankLine, filled, judgeLines, isNone, judgeLoad, CanStand}
+use Rattle.table.specs.Calls.{judgeAdd, judgeLines, isNone, judgeLoad}
+use Rattle.table.specs.Rules.{CanStand}
+use Rattle.table.specs.Sheet.{linesOf, blankLine, filled}
 use Rattle.table.specs.declared.Outcome.{Outcome}
 use Rattle.table.specs.declared.Outcome.the-variants as Outcome
 use Rattle.table.specs.Numbers.{addOutcome, onLine, loadOutcome}
@@ -187,6 +189,19 @@ all-added : (ls : List Text) → CanStand (filled ls) → judgeLines 1 [] ls ≡
 unfolding judgeLines
 all-added ls h = ap (judgeLines 1 []) (sym (append-nil ls)) ∙ passed ls 1 [] [] h
 
+-- a load that is not refused by its row is none by the judgement
+of-loads : (f : Text) → length f ≤ 8192 → (filled (linesOf f) ≡ [] → ⊥) → CanStand (filled (linesOf f)) → judgeLoad f ≡ LoadAnswer.Loaded
+of-loads f h n k = by-lines f h (⊎-elim (λ e. absurd (n (e .1))) (λ e. e .0) (some-or (filled (linesOf f)))) ∙ all-added (linesOf f) k
+
+pub load-done : (f : Text) → LoadRow f Outcome.Done → judgeLoad f ≡ LoadAnswer.Loaded
+load-done f r = go Outcome.Done r refl
+  where
+    go : (o : Outcome) → LoadRow f o → o ≡ Outcome.Done → judgeLoad f ≡ LoadAnswer.Loaded
+    go o (long h) e = absurd (let z : _≡_ {A = ℕ} 0 1 = cc in omega arith)
+    go o (blank h z) e = absurd (let z : _≡_ {A = ℕ} 0 1 = cc in omega arith)
+    go o (line h r) e = absurd (let z : _≡_ {A = ℕ} 0 1 = cc in omega arith)
+    go o (loads h n k) e = of-loads f h n k
+
 pub load-row-only : (f : Text) (o : Outcome) → LoadRow f o → o ≡ loadOutcome (judgeLoad f)
 load-row-only f o (long h) = sym (ap loadOutcome (too-long f h))
 load-row-only f o (blank h e) = sym (ap loadOutcome (all-blank f h (ap isNone e)))
@@ -194,5 +209,4 @@ load-row-only f o (line {k} {n} {p} h r) =
     sym
     (ap loadOutcome (by-lines f h (ap (λ (ls : List Text). isNone (filled ls)) (r .split) ∙ some-line (r .before) (r .text) (r .later) (r .filled-text)))
     ∙ refused-first (linesOf f) k n p r)
-load-row-only f o (loads h n k) =
-    sym (ap loadOutcome (by-lines f h (⊎-elim (λ e. absurd (n (e .1))) (λ e. e .0) (some-or (filled (linesOf f)))) ∙ all-added (linesOf f) k))
+load-row-only f o (loads h n k) = sym (ap loadOutcome (of-loads f h n k))

@@ -18,7 +18,9 @@ use Rattle.names.proofs.Claims.{may-gather, known-from}
 use Rattle.table.specs.declared.Line.{Line}
 use Rattle.table.specs.declared.Table.{Table}
 use Rattle.table.specs.Store.{Text, rulesOf, lineOf, textOf}
-use Rattle.table.specs.Calls.{namesIn, atomsIn, CanStand, FromUs}
+use Rattle.table.specs.Calls.{namesIn, atomsIn, FromUs}
+use Rattle.table.specs.Rules.{CanStand}
+use Rattle.table.proofs.Rules.{can-names, can-atoms}
 use Rattle.table.specs.Steps.{atomPlaces, countsOf}
 use Rattle.table.proofs.Stored.{text-line}
 use Rattle.table.proofs.Standing.{stand-first, stand-added, room}
@@ -74,10 +76,10 @@ module _ {t : Table} {i : ℕ} (v : FromUs t) (h : i < t .count) where
 
   module _ (ns : Names) (n : ℕ) (p : CountedTo t ns n i) where
     pub text-gathers : (rule : Rule) → rule ≡ ruleOf text → Gathers text rule ns
-    text-gathers rule e = may-gather text rule ns (namesIn (take i (rulesOf t))) e (p .names) (stand-first (take i (rulesOf t)) (text ∷ []) stands .names)
+    text-gathers rule e = may-gather text rule ns (namesIn (take i (rulesOf t))) e (p .names) (can-names (take i (rulesOf t)) (stand-first (take i (rulesOf t)) (text ∷ []) stands))
 
     pub counted-few : n ≤ 16
-    counted-few = omega (arith, p .atoms, stand-first (take i (rulesOf t)) (text ∷ []) stands .atoms)
+    counted-few = omega (arith, p .atoms, can-atoms (take i (rulesOf t)) (stand-first (take i (rulesOf t)) (text ∷ []) stands))
 
     pub counted-next : (rule : Rule) (g : Gathered) (k : ℕ) → rule ≡ ruleOf text → g ≡ gathered text (knownOf ns) → k ≡ atomPlaces (take (rule .len) (rule .order))
         → CountedTo t (g .names) (n + k) (i + 1)
@@ -87,7 +89,7 @@ module _ {t : Table} {i : ℕ} (v : FromUs t) (h : i < t .count) where
         let known : g ≡ gathered text (namesIn rs) = f ∙ ap (gathered text) (known-from ns (namesIn rs) (p .names)) in
         record {
           within = omega (arith, count-is t v);
-          names = ap (λ (x : Gathered). x .names) known ∙ names-with rs text (stand-first rs (text ∷ []) stands .names) (r .read) (r .names)
+          names = ap (λ (x : Gathered). x .names) known ∙ names-with rs text (can-names rs (stand-first rs (text ∷ []) stands)) (r .read) (r .names)
               ∙ ap (λ (l : List Text). arraysOf (namesIn l)) (sym first);
           atoms = omega (arith, p .atoms, atoms-with rs text (r .read), read-atoms text rule k e q, ap atomsIn first);
         }

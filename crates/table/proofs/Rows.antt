@@ -16,11 +16,12 @@ use Rattle.syntax.specs.declared.RuleAnswer.{RuleAnswer}
 use Rattle.syntax.specs.declared.RuleAnswer.the-variants as RuleAnswer
 use Rattle.syntax.proofs.Claims.{text-answered, text-answered-only, is-rule}
 use Rattle.lexer.specs.Token.{Token}
-use Rattle.lists.specs.Search.{gather}
+use Rattle.lists.specs.Search.{gather, here}
+use Rattle.lists.proofs.Search.{in-right}
 use Rattle.lists.proofs.Truth.{cases}
-use Rattle.contact.specs.Numbering.{allAtoms}
-use Rattle.names.specs.Gather.{gathered, placesOf}
-use Rattle.names.specs.Seventh.{SeventhAt}
+use Rattle.contact.specs.Numbering.{allAtoms, namesOf}
+use Rattle.names.specs.Gather.{ruleTokens, gathered}
+use Rattle.names.specs.Seventh.{SeventhAt, placesOf}
 use Rattle.names.specs.declared.NamesAnswer.{NamesAnswer}
 use Rattle.names.specs.declared.NamesAnswer.the-variants as NamesAnswer
 use Rattle.names.proofs.Claims.{rule-seventh}
@@ -29,12 +30,14 @@ use Rattle.table.specs.declared.AddAnswer.{AddAnswer}
 use Rattle.table.specs.declared.AddAnswer.the-variants as AddAnswer
 use Rattle.table.specs.declared.WithdrawAnswer.{WithdrawAnswer}
 use Rattle.table.specs.Store.{Text}
-use Rattle.table.specs.Calls.{formulasOf, namesIn, atomsIn, readAnswer, judgeNames, judgeText, judgeAdd, judgeWithdraw, CanStand}
+use Rattle.table.specs.Calls.{formulasOf, namesIn, atomsIn, readAnswer, judgeNames, judgeText, judgeAdd, judgeWithdraw}
+use Rattle.table.specs.Rules.{AreRules, CanStand}
 use Rattle.table.specs.declared.Outcome.{Outcome}
 use Rattle.table.specs.declared.Outcome.the-variants as Outcome
 use Rattle.table.specs.Numbers.{addOutcome, withdrawOutcome, ruleOutcome}
 use Rattle.table.specs.Rows.{AddRow, full, seventh, many, stands, WithdrawRow, none, taken}
-use Rattle.table.proofs.Standing.{NotAdded, read-formula, enough}
+use Rattle.table.proofs.Rules.{rule-answer, are-read, are-formulas, formulas-are, are-names, are-atoms, can-read, can-rules, can-names}
+use Rattle.table.proofs.Standing.{NotAdded, read-formula, read-more, enough}
 use Rattle.table.proofs.Counting.{text-is, names-are, judge-text, judge-full, judge-names, judge-atoms, judge-added}
 use Rattle.table.proofs.Results.{withdraw-zero, withdraw-high, withdraw-good}
 
@@ -76,17 +79,19 @@ module _ (rs : List Text) (s : Text) (h : CanStand rs) where
     seventh-row : (p : ℕ) → gathered s (namesIn rs) .answer ≡ NamesAnswer.SeventhName p → Holds (AddAnswer.SeventhName p)
     unfolding namesIn
     seventh-row p f =
-        seventh rule few
+        seventh rule (can-rules rs h) few
         (subst (λ (ts : List Token). SeventhAt (gather atomNames (allAtoms (formulasOf rs))) (placesOf s ts) p) (tokens-of-rule s (meaningOf s) rule)
-        (rule-seventh (formulasOf rs) (h .names) s (meaningOf s) rule p .0 f))
+        (rule-seventh (formulasOf rs) (can-names rs h) s (meaningOf s) rule p .0 f))
 
     counted : gathered s (namesIn rs) .answer ≡ NamesAnswer.Enough → Holds (judgeAdd rs s)
+    unfolding namesIn atomsIn
     counted f =
-        let names = enough rs s (h .names) e .0 f in
+        let names = enough rs s (can-names rs h) e .0 f in
+        let are : AreRules (rs ++ s ∷ []) (formulasOf (rs ++ s ∷ [])) = formulas-are (rs ++ s ∷ []) (read-more rs s (can-read rs h) e) in
         let fine = names-are rs s NamesAnswer.Enough f in
         cases (ltb 16 (atomsIn (rs ++ s ∷ [])))
-        (λ t. subst⁻¹ Holds (judge-atoms rs s read few fine (ltb-true _ _ t)) (many rule few names (ltb-true _ _ t)))
-        (λ t. subst⁻¹ Holds (judge-added rs s read few fine (ltb-false _ _ t)) (stands rule few names (ltb-false _ _ t)))
+        (λ t. subst⁻¹ Holds (judge-atoms rs s read few fine (ltb-true _ _ t)) (many are few names (ltb-true _ _ t)))
+        (λ t. subst⁻¹ Holds (judge-added rs s read few fine (ltb-false _ _ t)) (stands are few names (ltb-false _ _ t)))
 
     named : (a : NamesAnswer) → gathered s (namesIn rs) .answer ≡ a → Holds (judgeAdd rs s)
     named NamesAnswer.Enough f = counted f
@@ -109,14 +114,24 @@ module _ (rs : List Text) (s : Text) (h : CanStand rs) where
           (unread-row (ruleOf s .answer) (text-answered s) n)
 
   of-formula : {f : Formula Name} → IsRule s f → ruleOf s .answer ≡ RuleAnswer.Formula
-  of-formula r = sym (text-answered-only s RuleAnswer.Formula (formula r))
+  of-formula {f} r = rule-answer s f r
 
-  seventh-found : {f : Formula Name} (p : ℕ) (r : IsRule s f) → SeventhAt (gather atomNames (allAtoms (formulasOf rs))) (placesOf s (r .tokens-of)) p → judgeNames rs s ≡ AddAnswer.SeventhName p
+  -- a text that is a rule behind the others
+  of-last : {fs : List (Formula Name)} → AreRules (rs ++ s ∷ []) fs → ruleOf s .answer ≡ RuleAnswer.Formula
+  of-last {fs} are = are-read (rs ++ s ∷ []) fs are s (in-right rs here)
+
+  last-names : {fs : List (Formula Name)} → AreRules (rs ++ s ∷ []) fs → length (namesOf fs) ≤ 6 → judgeNames rs s ≡ AddAnswer.Added
+  last-names {fs} are l =
+      names-are rs s NamesAnswer.Enough (enough rs s (can-names rs h) (of-last are) .1 (omega (arith, ap length (are-names (rs ++ s ∷ []) fs are))))
+
+  seventh-found : {f : Formula Name} (p : ℕ) (r : IsRule s f) (fs : List (Formula Name)) → AreRules rs fs → SeventhAt (gather atomNames (allAtoms fs)) (placesOf s (r .tokens-of)) p
+      → judgeNames rs s ≡ AddAnswer.SeventhName p
   unfolding namesIn
-  seventh-found {f = f} p r x =
+  seventh-found {f = f} p r fs are x =
       names-are rs s (NamesAnswer.SeventhName p)
-      (rule-seventh (formulasOf rs) (h .names) s (meaningOf s) (is-rule s (of-formula r)) p .1
-      (subst (λ (ts : List Token). SeventhAt (gather atomNames (allAtoms (formulasOf rs))) (placesOf s ts) p) (sym (tokens-of-rule s f r)) x))
+      (rule-seventh (formulasOf rs) (can-names rs h) s (meaningOf s) (is-rule s (of-formula r)) p .1
+      (subst (λ (gs : List (Formula Name)). SeventhAt (gather atomNames (allAtoms gs)) (placesOf s (ruleTokens s)) p) (are-formulas rs fs are)
+      (subst (λ (ts : List Token). SeventhAt (gather atomNames (allAtoms fs)) (placesOf s ts) p) (sym (tokens-of-rule s f r)) x)))
 
   unread-only : (a : RuleAnswer) → Answers s a → (a ≡ RuleAnswer.Formula → ⊥) → addOutcome (readAnswer a) ≡ addOutcome (judgeAdd rs s)
   unread-only a r n =
@@ -132,18 +147,18 @@ module _ (rs : List Text) (s : Text) (h : CanStand rs) where
   add-row-only o (AddRow.measured {p} r) = unread-only (RuleAnswer.Measured p) r (λ e. let z : _≡_ {A = ℕ} 0 1 = cc in omega arith)
   add-row-only o (AddRow.grammar {p} r) = unread-only (RuleAnswer.GrammarAt p) r (λ e. let z : _≡_ {A = ℕ} 0 1 = cc in omega arith)
   add-row-only o (full r k) = sym (ap addOutcome (judge-full rs s (text-is s RuleAnswer.Formula (of-formula r)) k))
-  add-row-only o (seventh {p = p} r few x) =
+  add-row-only o (seventh {fs = fs} {p = p} r are few x) =
       sym
       (ap addOutcome
-      (judge-names rs s (text-is s RuleAnswer.Formula (of-formula r)) few (AddAnswer.SeventhName p) (seventh-found p r x) (not-seventh p)))
-  add-row-only o (many r few names k) =
+      (judge-names rs s (text-is s RuleAnswer.Formula (of-formula r)) few (AddAnswer.SeventhName p) (seventh-found p r fs are x) (not-seventh p)))
+  add-row-only o (many {fs = fs} are few names k) =
       sym
       (ap addOutcome
-      (judge-atoms rs s (text-is s RuleAnswer.Formula (of-formula r)) few (names-are rs s NamesAnswer.Enough (enough rs s (h .names) (of-formula r) .1 names)) k))
-  add-row-only o (stands r few names k) =
+      (judge-atoms rs s (text-is s RuleAnswer.Formula (of-last are)) few (last-names are names) (omega (arith, are-atoms (rs ++ s ∷ []) fs are))))
+  add-row-only o (stands {fs = fs} are few names k) =
       sym
       (ap addOutcome
-      (judge-added rs s (text-is s RuleAnswer.Formula (of-formula r)) few (names-are rs s NamesAnswer.Enough (enough rs s (h .names) (of-formula r) .1 names)) k))
+      (judge-added rs s (text-is s RuleAnswer.Formula (of-last are)) few (last-names are names) (omega (arith, are-atoms (rs ++ s ∷ []) fs are))))
 
 -- a text that is refused alone is so by add, whatever rules stand
 pub text-refused : (rs : List Text) (s : Text) (k p : ℕ) → ruleOutcome (ruleOf s .answer) ≡ Outcome.Refused k p → addOutcome (judgeAdd rs s) ≡ Outcome.Refused k p

@@ -12,9 +12,11 @@ use Rattle.table.specs.declared.WithdrawResult.{WithdrawResult}
 use Rattle.table.specs.declared.LoadResult.{LoadResult}
 use Rattle.table.specs.declared.AskResult.{AskResult}
 use Rattle.table.specs.Store.{Text, tableOf, rulesOf}
-use Rattle.table.specs.Calls.{CanStand, FromUs, Adds, Withdraws, Loads, judgeAdd, added, withdrawn, loaded}
+use Rattle.table.specs.Calls.{FromUs, Adds, Withdraws, Loads, judgeAdd, added, withdrawn, loaded}
+use Rattle.table.specs.Rules.{CanStand}
 use Rattle.table.specs.Asking.{Asks}
-use Rattle.table.specs.Runs.{Call, add, withdraw, load, ask, step, runFrom, run, after, standingFrom, standing, adds, Faithful}
+use Rattle.table.specs.Stands.{Call, add, withdraw, load, ask, adds}
+use Rattle.table.specs.Runs.{step, runFrom, run, after, standingFrom, standing, Faithful}
 use Rattle.table.proofs.Stored.{rules-table, from-us-table}
 use Rattle.table.proofs.Standing.{stand-none, stand-first, stand-added, stand-add, stand-withdraw, stand-load, added-taken}
 
@@ -43,7 +45,7 @@ step-table rs (withdraw k) = rw rules-table
 step-table rs (load f) = rw rules-table
 step-table rs (ask buf) = refl
 
-stand-after : (rs : List Text) (c : Call) → CanStand rs → CanStand (after rs c)
+pub stand-after : (rs : List Text) (c : Call) → CanStand rs → CanStand (after rs c)
 unfolding after
 stand-after rs (add s) h = stand-add rs s h
 stand-after rs (withdraw k) h = stand-withdraw rs k h

@@ -29,8 +29,11 @@ use Rattle.table.specs.declared.WithdrawAnswer.the-variants as WithdrawA
 use Rattle.table.specs.declared.LoadAnswer.{LoadAnswer}
 use Rattle.table.specs.declared.LoadAnswer.the-variants as LoadAnswer
 use Rattle.table.specs.Store.{Text}
-use Rattle.table.specs.Calls.{formulasOf, namesIn, atomsIn, readAnswer, namesAnswer, ifAdded, firstRefusal, judgeNames, judgeAtoms, judgeRoom, judgeText, judgeAdd, addRules, judgeWithdraw, without, ifWithdrawn, withdrawRules, linesOf, blankLine, filled, judgeLines, isNone, judgeLoad, ifLoaded, loadRules, CanStand}
+use Rattle.table.specs.Calls.{formulasOf, namesIn, atomsIn, readAnswer, namesAnswer, ifAdded, firstRefusal, judgeNames, judgeAtoms, judgeRoom, judgeText, judgeAdd, addRules, judgeWithdraw, without, ifWithdrawn, withdrawRules, judgeLines, isNone, judgeLoad, ifLoaded, loadRules}
+use Rattle.table.specs.Rules.{CanStand}
+use Rattle.table.specs.Sheet.{linesOf, blankLine, filled}
 use Rattle.table.proofs.Fewer.{names-fewer}
+use Rattle.table.proofs.Rules.{AllRead, can-stand, can-read, can-names, can-atoms}
 
 -- ---- answers
 
@@ -121,12 +124,9 @@ atoms-one s = ap length (append-nil (atomsOf (meaningOf s)))
 stand-part : (rs ss : List Text) → CanStand ss → ((s : Text) → In s rs → In s ss) → length rs ≤ length ss → atomsIn rs ≤ atomsIn ss → CanStand rs
 unfolding namesIn
 stand-part rs ss h among few atoms =
-    record {
-      few = omega (arith, h .few);
-      rules = λ s i. h .rules s (among s i);
-      names = omega (arith, h .names, names-fewer (formulasOf rs) (formulasOf ss) formulas);
-      atoms = omega (arith, h .atoms);
-    }
+    can-stand rs (omega (arith, h .few)) (λ s i. can-read ss h s (among s i))
+    (omega (arith, can-names ss h, names-fewer (formulasOf rs) (formulasOf ss) formulas))
+    (omega (arith, can-atoms ss h))
   where
     formulas : (f : Formula Name) → In f (formulasOf rs) → In f (formulasOf ss)
     formulas f i =
@@ -135,7 +135,7 @@ stand-part rs ss h among few atoms =
 
 pub stand-none : CanStand []
 unfolding namesIn atomsIn
-stand-none = record { few = omega arith; rules = λ s i. none-in i; names = omega arith; atoms = omega arith }
+stand-none = can-stand [] (omega arith) (λ s i. none-in i) (omega arith) (omega arith)
 
 pub stand-first : (rs ss : List Text) → CanStand (rs ++ ss) → CanStand rs
 stand-first rs ss h = stand-part rs (rs ++ ss) h (λ s i. in-left ss i) (omega (arith, length-append rs ss)) (omega (arith, atoms-append rs ss))
@@ -183,31 +183,31 @@ enough rs s h e =
     let r = rule-enough (formulasOf rs) h s (meaningOf s) (is-rule s e) in
     (λ a. omega (arith, r .0 a, ap length (names-last rs s)), λ b. r .1 (omega (arith, ap length (names-last rs s))))
 
+-- one text more is read
+pub read-more : (rs : List Text) (s : Text) → AllRead rs → ruleOf s .answer ≡ RuleAnswer.Formula → AllRead (rs ++ s ∷ [])
+read-more rs s h e t i = ⊎-elim (h t) (λ j. last (uncons j)) (in-either rs (s ∷ []) i)
+  where
+    last : (t ≡ s) ⊎ In t [] → ruleOf t .answer ≡ RuleAnswer.Formula
+    last (inl f) = ap (λ (x : Text). ruleOf x .answer) f ∙ e
+    last (inr j) = none-in j
+
 pub stand-more : (rs : List Text) (s : Text) → CanStand rs → judgeAdd rs s ≡ AddAnswer.Added → CanStand (rs ++ s ∷ [])
 stand-more rs s h e =
     let m = room rs s e in
-    record {
-      few = omega (arith, m .few, length-append rs (s ∷ []));
-      rules = λ t i. ⊎-elim (h .rules t) (λ j. last t (uncons j)) (in-either rs (s ∷ []) i);
-      names = enough rs s (h .names) (m .read) .0 (m .names);
-      atoms = m .atoms;
-    }
-  where
-    last : (t : Text) → (t ≡ s) ⊎ In t [] → ruleOf t .answer ≡ RuleAnswer.Formula
-    last t (inl f) = ap (λ (x : Text). ruleOf x .answer) f ∙ room rs s e .read
-    last t (inr j) = none-in j
+    can-stand (rs ++ s ∷ []) (omega (arith, m .few, length-append rs (s ∷ []))) (read-more rs s (can-read rs h) (m .read))
+    (enough rs s (can-names rs h) (m .read) .0 (m .names)) (m .atoms)
 
 -- what can stand is added
 pub stand-added : (rs : List Text) (s : Text) → CanStand (rs ++ s ∷ []) → judgeAdd rs s ≡ AddAnswer.Added
 stand-added rs s h =
     let b = stand-first rs (s ∷ []) h in
-    let read = h .rules s (in-right rs here) in
+    let read = can-read (rs ++ s ∷ []) h s (in-right rs here) in
     room-added rs s
     (record {
       read = read;
       few = omega (arith, h .few, length-append rs (s ∷ []));
-      names = enough rs s (b .names) read .1 (h .names);
-      atoms = h .atoms;
+      names = enough rs s (can-names rs b) read .1 (can-names (rs ++ s ∷ []) h);
+      atoms = can-atoms (rs ++ s ∷ []) h;
     })
 
 -- ---- each call leaves a list that can stand

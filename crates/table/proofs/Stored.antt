@@ -7,7 +7,8 @@ use lib.ListN.{length, length-map}
 use lib.Seq.{take-at}
 use Rattle.lists.proofs.Padded.{pad-taken}
 use Rattle.table.specs.Store.{Text, tableOf, rulesOf, lineOf, textOf}
-use Rattle.table.specs.Calls.{CanStand, FromUs}
+use Rattle.table.specs.Calls.{FromUs}
+use Rattle.table.specs.Rules.{CanStand}
 
 pub text-line : (s : Text) → textOf (lineOf s) ≡ s
 unfolding textOf lineOf

@@ -1,4 +1,5 @@
--- What ask and judge give, as functions of the list of standing texts and of what is lent beside the table. Assumes nothing.
+-- What is computed: what ask and judge give, as functions of the list of standing texts and of what is lent beside the table, and their
+-- contracts. Rows says what is meant; proofs/Claims.antt ties the two. Assumes nothing.
 use Prim.Native.Nat.{ℕ}
 use mathlib.Core.Path.{_≡_}
 use mathlib.Core.Bool.{cond}
@@ -8,7 +9,7 @@ use lib.ListN.{length}
 use Rattle.formula.specs.Formula.{Formula, Name}
 use Rattle.contact.specs.Numbering.{namesOf}
 use Rattle.plan.specs.Words.{Plan, IsPlan, wordsOf}
-use Rattle.plan.specs.Reader.{Reading, plan, refused, readOf}
+use Rattle.plan.specs.Reader.{Reading, plan, refused, readOf, ReadingSays}
 use Rattle.plan.specs.Arrays.{over}
 use Rattle.plan.specs.Given.{plansOf}
 use Rattle.plan.specs.Judging.{Judgement, yes, unmet, judge}
@@ -23,7 +24,6 @@ use Rattle.table.specs.declared.JudgeAnswer.the-variants as JudgeAnswer
 use Rattle.table.specs.declared.JudgeResult.{JudgeResult}
 use Rattle.table.specs.Store.{Text, tableOf, rulesOf}
 use Rattle.table.specs.Calls.{formulasOf, FromUs}
-use Rattle.plan.specs.Meant.{ReadingSays}
 
 -- ---- ask
 

@@ -1,20 +1,16 @@
--- What each call gives, as a function of the list of standing texts and of what is passed beside the table: "Whether a call is
--- refused follows from the lines below, this list and what was passed beside the table, never from the stored table."
--- Assumes nothing.
-use Prim.Native.Nat.{ℕ, suc, _+_, _-_, _≤_}
+-- What is computed: what each call gives, as a function of the list of standing texts and of what is passed beside the table: "Whether a
+-- call is refused follows from the lines below, this list and what was passed beside the table, never from the stored table." Then the
+-- calls' one requires (`FromUs`) and their contracts. Rows says what is meant; proofs/Claims.antt ties the two. Assumes nothing.
+use Prim.Native.Nat.{ℕ, suc, _+_, _-_}
 use mathlib.Core.Path.{_≡_}
 use mathlib.Core.List.{List, [], _∷_, _++_, map}
-use mathlib.Core.Bool.{Bool, true, false, cond, not}
+use mathlib.Core.Bool.{Bool, true, false, cond}
 use lib.ListN.{length, take, drop}
-use lib.Dec.{ltb, leb, eqb}
+use lib.Dec.{ltb, leb}
 use Rattle.formula.specs.Formula.{Formula, Name}
-use Rattle.lexer.specs.Class.{classOf}
-use Rattle.lexer.specs.declared.Class.{Class}
-use Rattle.lexer.specs.declared.Class.the-variants as Class
 use Rattle.syntax.specs.Rule.{ruleOf, meaningOf}
 use Rattle.syntax.specs.declared.RuleAnswer.{RuleAnswer}
 use Rattle.syntax.specs.declared.RuleAnswer.the-variants as RuleAnswer
-use Rattle.lists.specs.Search.{In, all, keep}
 use Rattle.contact.specs.Numbering.{allAtoms, namesOf}
 use Rattle.names.specs.Gather.{gathered}
 use Rattle.names.specs.declared.NamesAnswer.{NamesAnswer}
@@ -30,10 +26,13 @@ use Rattle.table.specs.declared.LoadAnswer.{LoadAnswer}
 use Rattle.table.specs.declared.LoadAnswer.the-variants as LoadAnswer
 use Rattle.table.specs.declared.LoadResult.{LoadResult}
 use Rattle.table.specs.Store.{Text, tableOf, rulesOf}
+use Rattle.table.specs.Rules.{CanStand}
+use Rattle.table.specs.Sheet.{linesOf, blankLine, filled}
 
 -- ---- what the standing texts say
 
--- "Each entry is the rule's text as it came, and means the formula read from it."
+-- "Each entry is the rule's text as it came, and means the formula read from it.": of rules, those that the grammar derives
+-- (`formulas-computed` of proofs/Claims.antt)
 abbrev pub formulasOf : List Text → List (Formula Name)
 formulasOf rs = map meaningOf rs
 
@@ -131,35 +130,9 @@ withdrawn rs k = record { table = tableOf (withdrawRules rs k); answer = judgeWi
 
 -- ---- load
 
--- "Load splits at byte 10"
-unfoldable pub onFirst : ℕ → List Text → List Text
-onFirst b [] = (b ∷ []) ∷ []
-onFirst b (l ∷ ls) = (b ∷ l) ∷ ls
-
-unfoldable pub linesOf : Text → List Text
-linesOf [] = [] ∷ []
-linesOf (b ∷ s) = cond (eqb b 10) ([] ∷ linesOf s) (onFirst b (linesOf s))
-
 -- the lines from a place on; past the end there is none
 unfoldable pub linesFrom : Text → ℕ → List Text
 linesFrom f from = cond (leb from (length f)) (linesOf (drop from f)) []
-
--- a line is blank if the class of each byte is
-abbrev pub blankClass : Class → Bool
-blankClass Class.Blank = true
-blankClass Class.Alphanumeric = false
-blankClass Class.Sign = false
-blankClass Class.Foreign = false
-
-unfoldable pub blankByte : ℕ → Bool
-blankByte b = blankClass (classOf b)
-
-unfoldable pub blankLine : Text → Bool
-blankLine s = all blankByte s
-
--- "its lines that are not blank"
-unfoldable pub filled : List Text → List Text
-filled ls = keep (λ l. not (blankLine l)) ls
 
 -- "Load's lines that are not blank are judged as adds that start from an empty list"; "line (from 1, blank ones counted)":
 -- the lines from line n on, where rs stand
@@ -194,13 +167,6 @@ unfoldable pub loaded : List Text → Text → LoadResult
 loaded rs f = record { table = tableOf (loadRules rs f); answer = judgeLoad f }
 
 -- ---- a table that came from us
-
--- "It holds at most 16 rules, 6 names and 16 atoms."
-pub record CanStand (rs : List Text) : Type 0 where
-  pub few : length rs ≤ 16
-  pub rules : (s : Text) → In s rs → ruleOf s .answer ≡ RuleAnswer.Formula
-  pub names : length (namesIn rs) ≤ 6
-  pub atoms : atomsIn rs ≤ 16
 
 -- "A table is the empty one or one that a call gave back": proofs/Claims.antt shows that these are exactly those
 pub record FromUs (t : Table) : Type 0 where

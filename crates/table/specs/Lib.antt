@@ -1,7 +1,10 @@
 pub mod Store
+pub mod Rules
+pub mod Sheet
 pub mod Calls
 pub mod Steps
 pub mod Rows
 pub mod Numbers
+pub mod Stands
 pub mod Runs
 pub mod Asking

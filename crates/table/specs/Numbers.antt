@@ -1,4 +1,4 @@
--- Document 01's number of each answer, and what it carries, by the table of calls. Assumes nothing.
+-- What is meant: document 01's number of each answer, and what it carries, by the table of calls. Assumes nothing.
 use Prim.Native.Nat.{ℕ}
 use Rattle.syntax.specs.declared.RuleAnswer.{RuleAnswer}
 use Rattle.plan.specs.declared.PlanAnswer.{PlanAnswer}

@@ -1,5 +1,6 @@
--- What is meant by an answer: the row of the table of calls that applies first, "checked from the top down", with its number and what
--- it carries. No algorithm. Assumes nothing.
+-- What is meant: an answer, the row of the table of calls that applies first, "checked from the top down", with its number and what it
+-- carries. No algorithm: the formulas fs of the standing texts are those that the grammar derives (`AreRules`), and there is one list of
+-- them only (`formulas-one` of proofs/Claims.antt); the plan that is given follows document 01's own rule (`IsGiven`). Assumes nothing.
 use Prim.Native.Nat.{ℕ, _+_, _≤_, _<_}
 use mathlib.Core.Path.{_≡_}
 use mathlib.Core.Logic.{_⊎_}
@@ -11,16 +12,16 @@ use Rattle.formula.specs.Names.{atomNames}
 use Rattle.syntax.specs.RuleText.{IsRule, Answers}
 use Rattle.syntax.specs.declared.RuleAnswer.the-variants as RuleAnswer
 use Rattle.lists.specs.Search.{gather}
-use Rattle.contact.specs.Numbering.{allAtoms}
+use Rattle.contact.specs.Numbering.{allAtoms, namesOf}
 use Rattle.contact.specs.Meaning.{Floor, meetsAll}
 use Rattle.plan.specs.Words.{Plan, IsPlan, wordsOf, Refusal}
 use Rattle.plan.specs.Floor.{namedFloor}
-use Rattle.names.specs.Gather.{placesOf}
-use Rattle.names.specs.Seventh.{SeventhAt}
+use Rattle.names.specs.Seventh.{SeventhAt, placesOf}
 use Rattle.table.specs.Store.{Text}
 use Rattle.table.specs.declared.Outcome.{Outcome}
 use Rattle.table.specs.declared.Outcome.the-variants as Outcome
-use Rattle.table.specs.Calls.{formulasOf, namesIn, atomsIn, linesOf, blankLine, filled, CanStand}
+use Rattle.table.specs.Rules.{AreRules, CanStand}
+use Rattle.table.specs.Sheet.{linesOf, blankLine, filled}
 use Rattle.plan.specs.Meant.{IsGiven, FirstUnmet}
 
 -- add's text s where the texts rs stand
@@ -39,13 +40,13 @@ pub data AddRow (rs : List Text) (s : Text) : Outcome → Type 0 where
   grammar : {p : ℕ} → Answers s (RuleAnswer.GrammarAt p) → AddRow rs s (Outcome.Refused 6 p)
   -- 9: "16 rules stand"
   full : {f : Formula Name} → IsRule s f → 16 ≤ length rs → AddRow rs s (Outcome.Refused 9 0)
-  -- 7: "a seventh name", at "that name's first byte"
-  seventh : {f : Formula Name} {p : ℕ} → (h : IsRule s f) → length rs < 16 → SeventhAt (gather atomNames (allAtoms (formulasOf rs))) (placesOf s (h .tokens-of)) p
-      → AddRow rs s (Outcome.Refused 7 p)
-  -- 8: "more than 16 atoms in all"
-  many : {f : Formula Name} → IsRule s f → length rs < 16 → length (namesIn (rs ++ s ∷ [])) ≤ 6 → 16 < atomsIn (rs ++ s ∷ []) → AddRow rs s (Outcome.Refused 8 0)
+  -- 7: "a seventh name", at "that name's first byte", among the tokens that the text is cut into
+  seventh : {f : Formula Name} {fs : List (Formula Name)} {p : ℕ} → (h : IsRule s f) → AreRules rs fs → length rs < 16
+      → SeventhAt (gather atomNames (allAtoms fs)) (placesOf s (h .tokens-of)) p → AddRow rs s (Outcome.Refused 7 p)
+  -- 8: "more than 16 atoms in all"; "for 7 and 8, add's text is first put at its end"
+  many : {fs : List (Formula Name)} → AreRules (rs ++ s ∷ []) fs → length rs < 16 → length (namesOf fs) ≤ 6 → 16 < length (allAtoms fs) → AddRow rs s (Outcome.Refused 8 0)
   -- "No refusal comes in another case."
-  stands : {f : Formula Name} → IsRule s f → length rs < 16 → length (namesIn (rs ++ s ∷ [])) ≤ 6 → atomsIn (rs ++ s ∷ []) ≤ 16 → AddRow rs s Outcome.Done
+  stands : {fs : List (Formula Name)} → AreRules (rs ++ s ∷ []) fs → length rs < 16 → length (namesOf fs) ≤ 6 → length (allAtoms fs) ≤ 16 → AddRow rs s Outcome.Done
 
 -- withdraw k where the texts rs stand
 pub data WithdrawRow (rs : List Text) (k : ℕ) : Outcome → Type 0 where
@@ -83,20 +84,20 @@ pub data AskRow (rs : List Text) (room : ℕ) : Outcome → Type 0 where
   -- 11: "no rule stands"
   none : rs ≡ [] → AskRow rs room (Outcome.Refused 11 0)
   -- no finite floor, of any number of points, meets all rules
-  without : SomeStand rs → ((F : Floor Name) → meetsAll F (formulasOf rs) ≡ true → ⊥) → AskRow rs room Outcome.NoPlan
+  without : {fs : List (Formula Name)} → SomeStand rs → AreRules rs fs → ((F : Floor Name) → meetsAll F fs ≡ true → ⊥) → AskRow rs room Outcome.NoPlan
   -- 12: "the plan has more words than the buffer", with the "words needed"
-  short : {p : Plan} → SomeStand rs → IsGiven (formulasOf rs) p → room < length (wordsOf p) → AskRow rs room (Outcome.Refused 12 (length (wordsOf p)))
-  given : {p : Plan} → SomeStand rs → IsGiven (formulasOf rs) p → length (wordsOf p) ≤ room → AskRow rs room (Outcome.Plan (length (wordsOf p)))
+  short : {fs : List (Formula Name)} {p : Plan} → SomeStand rs → AreRules rs fs → IsGiven fs p → room < length (wordsOf p) → AskRow rs room (Outcome.Refused 12 (length (wordsOf p)))
+  given : {fs : List (Formula Name)} {p : Plan} → SomeStand rs → AreRules rs fs → IsGiven fs p → length (wordsOf p) ≤ room → AskRow rs room (Outcome.Plan (length (wordsOf p)))
 
--- the words are those of this plan, and it has as many names as the rules
-pub record Decodes (rs : List Text) (words : List ℕ) (p : Plan) : Type 0 where
+-- the words are those of this plan, and it has as many names as the rules fs
+pub record Decodes (fs : List (Formula Name)) (words : List ℕ) (p : Plan) : Type 0 where
   pub is : IsPlan p
   pub words-are : wordsOf p ≡ words
-  pub named : p .names ≡ length (namesIn rs)
+  pub named : p .names ≡ length (namesOf fs)
 
 -- its floor over the rules' names in their numbering
-abbrev pub floorOf : {rs : List Text} {words : List ℕ} {p : Plan} → Decodes rs words p → Floor Name
-floorOf {rs} {words} {p} d = namedFloor (formulasOf rs) p (d .is)
+abbrev pub floorOf : {fs : List (Formula Name)} {words : List ℕ} {p : Plan} → Decodes fs words p → Floor Name
+floorOf {fs} {words} {p} d = namedFloor fs p (d .is)
 
 -- judge, with these words
 pub data JudgeRow (rs : List Text) (words : List ℕ) : Outcome → Type 0 where
@@ -105,8 +106,9 @@ pub data JudgeRow (rs : List Text) (words : List ℕ) : Outcome → Type 0 where
   -- 13: "words up to here begin no plan, or end early"
   unread : {j : ℕ} → SomeStand rs → Refusal words j → JudgeRow rs words (Outcome.Refused 13 j)
   -- 14: "names differ in number", with the "plan's names"
-  differ : {p : Plan} → SomeStand rs → IsPlan p → wordsOf p ≡ words → (p .names ≡ length (namesIn rs) → ⊥) → JudgeRow rs words (Outcome.Refused 14 (p .names))
+  differ : {fs : List (Formula Name)} {p : Plan} → SomeStand rs → AreRules rs fs → IsPlan p → wordsOf p ≡ words → (p .names ≡ length (namesOf fs) → ⊥)
+      → JudgeRow rs words (Outcome.Refused 14 (p .names))
   -- "Judge answers yes"
-  met : {p : Plan} → SomeStand rs → (d : Decodes rs words p) → meetsAll (floorOf d) (formulasOf rs) ≡ true → JudgeRow rs words Outcome.Yes
+  met : {fs : List (Formula Name)} {p : Plan} → SomeStand rs → AreRules rs fs → (d : Decodes fs words p) → meetsAll (floorOf d) fs ≡ true → JudgeRow rs words Outcome.Yes
   -- "or the lowest unmet rule, from 1"
-  unmet : {p : Plan} {k : ℕ} → SomeStand rs → (d : Decodes rs words p) → FirstUnmet (floorOf d) 1 (formulasOf rs) k → JudgeRow rs words (Outcome.Unmet k)
+  unmet : {fs : List (Formula Name)} {p : Plan} {k : ℕ} → SomeStand rs → AreRules rs fs → (d : Decodes fs words p) → FirstUnmet (floorOf d) 1 fs k → JudgeRow rs words (Outcome.Unmet k)

@@ -1,18 +1,11 @@
--- Lists of calls: the table that they leave, and the standing rules, "a list made by the calls that were not refused", from the
--- calls and the list alone. Assumes nothing.
-use Prim.Native.Nat.{ℕ}
+-- What is computed: the table that a list of calls leaves, and its standing rules by the judgements of the calls. Which rules stand is
+-- said by the rows of the table of calls in Stands; proofs/Claims.antt shows that these are the same. Assumes nothing.
 use mathlib.Core.Path.{_≡_}
-use mathlib.Core.List.{List, [], _∷_, map}
+use mathlib.Core.List.{List, [], _∷_}
 use Rattle.table.specs.declared.Table.{Table}
 use Rattle.table.specs.Store.{Text, tableOf, rulesOf}
 use Rattle.table.specs.Calls.{FromUs, addRules, added, withdrawRules, withdrawn, loadRules, loaded}
-
--- a call, with any text, number or plan buffer
-pub data Call : Type 0 where
-  add : Text → Call
-  withdraw : ℕ → Call
-  load : Text → Call
-  ask : List ℕ → Call
+use Rattle.table.specs.Stands.{Call, add, withdraw, load, ask, adds}
 
 -- the table that a call gives back, by the functions that the contracts cite; "Ask passes the table on unchanged"
 unfoldable pub step : Table → Call → Table
@@ -43,10 +36,6 @@ standingFrom rs (c ∷ cs) = standingFrom (after rs c) cs
 -- "it starts empty"
 unfoldable pub standing : List Call → List Text
 standing cs = standingFrom [] cs
-
--- "The run it is compared with has one add for each standing rule, with that rule's text"
-unfoldable pub adds : List Text → List Call
-adds ss = map add ss
 
 -- the claim for tables of demand 3, of one list of calls
 pub record Faithful (cs : List Call) : Type 0 where

@@ -1,5 +1,5 @@
--- What the private functions do: rules, names and atoms counted text by text, and the answers of
--- the plan writer and of the judge of plans as those of the calls. Assumes nothing.
+-- For proofs: what the private functions do: rules, names and atoms counted text by text, and the answers of the plan writer and of the
+-- judge of plans as those of the calls. Assumes nothing.
 use Prim.Native.Nat.{ℕ, suc}
 use mathlib.Core.Path.{_≡_}
 use mathlib.Core.Bool.{cond}
@@ -31,7 +31,8 @@ use Rattle.table.specs.declared.Counts.{Counts}
 use Rattle.table.specs.declared.Counted.{Counted}
 use Rattle.table.specs.Store.{Text}
 use Rattle.table.specs.Asking.{judgePlan}
-use Rattle.table.specs.Calls.{namesIn, atomsIn, judgeAdd, addRules, CanStand}
+use Rattle.table.specs.Calls.{namesIn, atomsIn, judgeAdd, addRules}
+use Rattle.table.specs.Rules.{CanStand}
 
 -- a rule that was read from a text
 pub record WasRead (rule : Rule) : Type 0 where

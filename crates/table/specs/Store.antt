@@ -1,5 +1,5 @@
--- The table as a function of the list of standing texts, and the list that a table holds. "Each entry is the rule's text as it
--- came." Assumes nothing.
+-- What is computed, and of what is meant `Text`: the table as a function of the list of standing texts, and the list that a table holds.
+-- "Each entry is the rule's text as it came." Assumes nothing.
 use Prim.Native.Nat.{ℕ, _-_}
 use mathlib.Core.List.{List, [], _++_, map}
 use lib.ListN.{length, take, replicate}
@@ -16,6 +16,7 @@ unfoldable pub lineOf : Text → Line
 lineOf s = record { bytes = pad 256 s; len = length s }
 
 -- the lines of the texts, empty ones after them: nothing else is held
+-- "Nothing of a withdrawn rule stays in the table; later rules move down and the freed place is used again."
 unfoldable pub tableOf : List Text → Table
 tableOf rs = record { lines = map lineOf rs ++ replicate (16 - length rs) (lineOf []); count = length rs }
 

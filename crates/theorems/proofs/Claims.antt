@@ -1,12 +1,17 @@
--- The three demands and the worked sheets, in one place. Each demand is one claim about every list of calls from the empty table; what
--- it says is in specs/Demands.antt, and what a worked sheet says in specs/Worked.antt. Nothing is assumed.
+-- The three demands and the worked sheets, in one place. Each demand is one claim about every list of calls from the empty table, the
+-- table that the calls leave and the rules that stand after them; what it says is in specs/Demands.antt, and what a worked sheet says in
+-- specs/Worked.antt. Nothing is assumed.
+use mathlib.Core.Path.{_≡_}
 use mathlib.Core.List.{List}
 use Prim.Native.Nat.{ℕ}
 use Rattle.lists.specs.Search.{In}
 use Rattle.table.specs.declared.Table.{Table}
 use Rattle.table.specs.declared.AskResult.{AskResult}
 use Rattle.table.specs.Asking.{Asks}
-use Rattle.table.specs.Runs.{Call, run}
+use Rattle.table.specs.Store.{Text}
+use Rattle.table.specs.Stands.{Call, Stands}
+use Rattle.table.specs.Runs.{run}
+use Rattle.table.proofs.Claims as table
 use Rattle.theorems.specs.Demands.{Leaves, Answered, Meant, Same}
 use Rattle.theorems.specs.Worked.{WorkedSheet, workedSheets, Holds}
 use Rattle.theorems.proofs.Demands as Demands
@@ -16,19 +21,27 @@ use Rattle.theorems.proofs.Worked as Worked
 pub calls-leave : (cs : List Call) → Leaves cs (run cs)
 calls-leave = Demands.leaves-run
 
+-- and has its standing rules, one list of them only
+pub rules-stand : (cs : List Call) → (rs : List Text) × Stands cs rs
+rules-stand = table.stands-some
+
+pub rules-stand-one : (cs : List Call) (rs ss : List Text) → Stands cs rs → Stands cs ss → rs ≡ ss
+rules-stand-one = table.stands-one
+
 -- demand 1: after any calls, any further call is answered by the first row of the table of calls that applies and by no other, and a
 -- refusal changes neither the table nor a word of what is lent
-pub demand-one : (cs : List Call) (t : Table) → Leaves cs t → Answered cs t
+pub demand-one : (cs : List Call) (t : Table) (rs : List Text) → Leaves cs t → Stands cs rs → Answered rs t
 demand-one = Demands.demand-one
 
 -- demand 2: the standing texts are rules of the grammar, a plan given meets them and is read back from its words, and a stranger's plan is
 -- judged by the same definition
-pub demand-two : (cs : List Call) (t : Table) → Leaves cs t → Meant cs t
+pub demand-two : (cs : List Call) (t : Table) (rs : List Text) → Leaves cs t → Stands cs rs → Meant rs t
 demand-two = Demands.demand-two
 
 -- demand 3: after any calls, ask with any buffer answers 11, no plan exactly where no finite floor meets the standing rules, the plan that is
 -- defined, or 12; and table, answer and every word are those of the calls that add only the standing rules
-pub demand-three : (cs : List Call) (t : Table) → Leaves cs t → (buffer : List ℕ) (r : AskResult) (exit : List ℕ) → Asks t buffer r exit → Same cs t buffer r exit
+pub demand-three : (cs : List Call) (t : Table) (rs : List Text) → Leaves cs t → Stands cs rs → (buffer : List ℕ) (r : AskResult) (exit : List ℕ) → Asks t buffer r exit
+    → Same rs t buffer r exit
 demand-three = Demands.demand-three
 
 -- P1 to P12

@@ -9,12 +9,13 @@ use mathlib.Core.List.{List, [], _∷_, _++_}
 use native.Mathlib.Omega.{arith}
 use lib.ListN.{length, take}
 use Rattle.formula.specs.Formula.{Formula, Name}
-use Rattle.syntax.proofs.Claims.{text-means, is-rule}
+use Rattle.syntax.proofs.Claims.{text-means}
 use Rattle.contact.specs.Meaning.{Floor, meetsAll}
 use Rattle.plan.specs.Words.{Plan, wordsOf}
 use Rattle.plan.specs.Reader.{plan}
 use Rattle.plan.specs.Given.{givenPlan, rowPlan, plansOf}
 use Rattle.plan.proofs.Claims.{written-read, no-plan-given, given-exactly, given-at-most-one, given-is-plan, given-meets}
+use Rattle.contact.specs.Numbering.{namesOf}
 use Rattle.contact.specs.Row.{Row, IsFirstRow}
 use Rattle.contact.proofs.Claims.{first-row-only-named}
 use Rattle.table.specs.declared.Table.{Table}
@@ -26,11 +27,14 @@ use Rattle.table.specs.declared.LoadResult.{LoadResult}
 use Rattle.table.specs.declared.AskResult.{AskResult}
 use Rattle.table.specs.declared.JudgeResult.{JudgeResult}
 use Rattle.table.specs.Store.{Text, tableOf, rulesOf}
-use Rattle.table.specs.Calls.{formulasOf, namesIn, judgeAdd, addRules, added, judgeWithdraw, withdrawRules, withdrawn, judgeLoad, loadRules, loaded, CanStand, FromUs, Adds}
+use Rattle.table.specs.Calls.{formulasOf, namesIn, judgeAdd, addRules, added, judgeWithdraw, withdrawRules, withdrawn, judgeLoad, loadRules, loaded, FromUs, Adds}
+use Rattle.table.specs.Rules.{AreRules, CanStand}
+use Rattle.table.proofs.Rules.{of-computed, can-rules, can-names}
 use Rattle.table.specs.Asking.{askAnswer, askWords, asked, Asks, judgeAnswer, judged, Judges}
 use Rattle.table.specs.Numbers.{addOutcome, withdrawOutcome, loadOutcome, askOutcome, judgeOutcome}
 use Rattle.table.specs.Rows.{AddRow, WithdrawRow, LoadRow, SomeStand, AskRow, floorOf, JudgeRow}
-use Rattle.table.specs.Runs.{Call, step, runFrom, run, standing, adds}
+use Rattle.table.specs.Stands.{Call, adds, Stands}
+use Rattle.table.specs.Runs.{step, runFrom, run, standing}
 use Rattle.table.proofs.Standing.{refused-else, not-withdrawn, not-loaded, stand-none, stand-first}
 use Rattle.table.proofs.Results.{adds-of, withdraws-of, loads-of}
 use Rattle.table.proofs.Asking.{asks-of, words-none, words-written, words-short, first-words}
@@ -73,27 +77,31 @@ by-row Row outcome e w only = subst (λ o. Exactly Row o) (sym (ap outcome e)) (
 
 -- ---- the words of the buffer
 
+-- the plan that is given, of the formulas that are computed
+given-computed : (rs : List Text) {fs : List (Formula Name)} → AreRules rs fs → (p : Plan) → IsGiven fs p → IsGiven (formulasOf rs) p
+given-computed rs {fs} are p = of-computed rs fs are (λ gs. IsGiven gs p)
+
 words-kept : (rs : List Text) (buffer : List ℕ) (o : Outcome) → AskRow rs (length buffer) o → ((n : ℕ) → o ≡ Outcome.Plan n → ⊥) → askWords rs buffer ≡ buffer
 unfolding askWords
 words-kept rs buffer o (AskRow.none e) n = ap (λ (l : List Text). askWords l buffer) e
-words-kept rs buffer o (AskRow.without some never) n = words-none rs buffer some (no-plan-given (formulasOf rs) .1 never)
-words-kept rs buffer o (AskRow.short {p} some g l) n = words-short rs buffer some p g l
-words-kept rs buffer o (AskRow.given {p} some g l) n = absurd (n (length (wordsOf p)) refl)
+words-kept rs buffer o (AskRow.without {fs} some are never) n = words-none rs buffer some (of-computed rs fs are (λ gs. plansOf gs ≡ []) (no-plan-given fs .1 never))
+words-kept rs buffer o (AskRow.short {p = p} some are g l) n = words-short rs buffer some p (given-computed rs are p g) l
+words-kept rs buffer o (AskRow.given {p = p} some are g l) n = absurd (n (length (wordsOf p)) refl)
 
 -- where a plan is said there was room for it
 had-room : (rs : List Text) (room : ℕ) (o : Outcome) → AskRow rs room o → (n : ℕ) → o ≡ Outcome.Plan n → SomeStand rs × (n ≤ room)
 had-room rs room o (AskRow.none z) n f = absurd (let z : _≡_ {A = ℕ} 0 1 = cc in omega arith)
-had-room rs room o (AskRow.without some never) n f = absurd (let z : _≡_ {A = ℕ} 0 1 = cc in omega arith)
-had-room rs room o (AskRow.short some g l) n f = absurd (let z : _≡_ {A = ℕ} 0 1 = cc in omega arith)
-had-room rs room o (AskRow.given {p} some g l) n f = let z : length (wordsOf p) ≡ n = cc in (some, omega arith)
+had-room rs room o (AskRow.without some are never) n f = absurd (let z : _≡_ {A = ℕ} 0 1 = cc in omega arith)
+had-room rs room o (AskRow.short some are g l) n f = absurd (let z : _≡_ {A = ℕ} 0 1 = cc in omega arith)
+had-room rs room o (AskRow.given {p = p} some are g l) n f = let z : length (wordsOf p) ≡ n = cc in (some, omega arith)
 
 -- ---- plans
 
 without-plan : (rs : List Text) (room : ℕ) (o : Outcome) → AskRow rs room o → o ≡ Outcome.NoPlan → (F : Floor Name) → meetsAll F (formulasOf rs) ≡ true → ⊥
 without-plan rs room o (AskRow.none z) f = absurd (let z : _≡_ {A = ℕ} 0 1 = cc in omega arith)
-without-plan rs room o (AskRow.without some never) f = never
-without-plan rs room o (AskRow.short some g l) f = absurd (let z : _≡_ {A = ℕ} 0 1 = cc in omega arith)
-without-plan rs room o (AskRow.given some g l) f = absurd (let z : _≡_ {A = ℕ} 0 1 = cc in omega arith)
+without-plan rs room o (AskRow.without {fs} some are never) f = of-computed rs fs are (λ gs. (F : Floor Name) → meetsAll F gs ≡ true → ⊥) never
+without-plan rs room o (AskRow.short some are g l) f = absurd (let z : _≡_ {A = ℕ} 0 1 = cc in omega arith)
+without-plan rs room o (AskRow.given some are g l) f = absurd (let z : _≡_ {A = ℕ} 0 1 = cc in omega arith)
 
 -- where some floor meets the rules there is a plan
 plan-found : (rules : List (Formula Name)) (F : Floor Name) → meetsAll F rules ≡ true → (p : Plan) × IsGiven rules p
@@ -105,15 +113,15 @@ plan-found rules F m = go (plansOf rules) refl (given-at-most-one rules)
     go (p ∷ q ∷ ps) e l = absurd (omega arith)
 
 -- the words of the plan of the first row decode to it, and it meets the rules
-row-given : (rs : List Text) → SomeStand rs → length (namesIn rs) ≤ 6 → (row : Row) → IsFirstRow (formulasOf rs) row → Given rs (wordsOf (rowPlan (formulasOf rs) row))
-unfolding namesIn rowPlan givenPlan
-row-given rs some few row first =
-    let found = first-row-only-named (formulasOf rs) row first in
-    let is = given-is-plan (formulasOf rs) few row found in
+row-given : (rs : List Text) (fs : List (Formula Name)) → SomeStand rs → AreRules rs fs → length (namesOf fs) ≤ 6 → (row : Row) → IsFirstRow fs row → Given rs (wordsOf (rowPlan fs row))
+unfolding rowPlan givenPlan
+row-given rs fs some are few row first =
+    let found = first-row-only-named fs row first in
+    let is = given-is-plan fs few row found in
     record {
-      met = record { some = some; plan = rowPlan (formulasOf rs) row; decodes = record { is = is; words-are = refl; named = refl }; meets = given-meets (formulasOf rs) row found is };
+      met = record { some = some; formulas = fs; rules = are; plan = rowPlan fs row; decodes = record { is = is; words-are = refl; named = refl }; meets = given-meets fs row found is };
       is = record { row = row; first = first; is = refl };
-      back = written-read (rowPlan (formulasOf rs) row) is;
+      back = written-read (rowPlan fs row) is;
     }
 
 -- ---- a list of calls
@@ -125,6 +133,13 @@ module _ (cs : List Call) where
 
   stands : CanStand (standing cs)
   stands = subst CanStand held (table.same-table cs .from-us .standing)
+
+  -- their formulas
+  abbrev fs : List (Formula Name)
+  fs = formulasOf (standing cs)
+
+  are : AreRules (standing cs) fs
+  are = can-rules (standing cs) stands
 
   -- ---- the answers as functions of the standing rules
   asked-by : (buffer : List ℕ) (r : AskResult) (exit : List ℕ) → Asks (run cs) buffer r exit
@@ -141,18 +156,18 @@ module _ (cs : List Call) where
 
   ask-exactly : (buffer : List ℕ) (r : AskResult) (exit : List ℕ) → Asks (run cs) buffer r exit → Exactly (AskRow (standing cs) (length buffer)) (askOutcome (r .answer))
   ask-exactly buffer r exit h =
-      by-row (AskRow (standing cs) (length buffer)) askOutcome (asked-by buffer r exit h .0) (table.ask-answered (length buffer) (standing cs)) (table.ask-answered-only (length buffer) (standing cs))
+      by-row (AskRow (standing cs) (length buffer)) askOutcome (asked-by buffer r exit h .0) (table.ask-answered (length buffer) (standing cs) fs are) (table.ask-answered-only (length buffer) (standing cs))
 
   judge-exactly : (words : List ℕ) (r : JudgeResult) → Judges (run cs) words r → Exactly (JudgeRow (standing cs) words) (judgeOutcome (r .answer))
   judge-exactly words r h =
-      by-row (JudgeRow (standing cs) words) judgeOutcome (judged-by words r h) (table.judge-answered words (standing cs)) (table.judge-answered-only words (standing cs))
+      by-row (JudgeRow (standing cs) words) judgeOutcome (judged-by words r h) (table.judge-answered words (standing cs) fs are) (table.judge-answered-only words (standing cs))
 
   -- ---- demand 1
 
   same-table : tableOf (rulesOf (run cs)) ≡ run cs
   same-table = sym (table.same-table cs .from-us .same)
 
-  answered : Answered cs (run cs)
+  answered : Answered (standing cs) (run cs)
   unfolding added withdrawn loaded addRules withdrawRules loadRules
   answered =
       let can : CanStand (standing cs) = stands in
@@ -172,8 +187,8 @@ module _ (cs : List Call) where
             ap (λ (x : LoadResult). x .table) e ∙ ap tableOf (not-loaded (judgeLoad f) _ _ (λ g. n (ap loadOutcome (ap (λ (x : LoadResult). x .answer) e ∙ g)))) ∙ same-table;
         ask = ask-exactly;
         ask-same = λ buffer r exit h. h .same;
-        ask-written = λ buffer r exit h p g e. let fits = had-room (standing cs) (length buffer) (askOutcome (r .answer)) (ask-exactly buffer r exit h .row) (length (wordsOf p)) e in
-            asked-by buffer r exit h .1 ∙ words-written (standing cs) buffer (fits .0) p g (fits .1);
+        ask-written = λ buffer r exit h gs rules p g e. let fits = had-room (standing cs) (length buffer) (askOutcome (r .answer)) (ask-exactly buffer r exit h .row) (length (wordsOf p)) e in
+            asked-by buffer r exit h .1 ∙ words-written (standing cs) buffer (fits .0) p (given-computed (standing cs) rules p g) (fits .1);
         ask-kept = λ buffer r exit h n. asked-by buffer r exit h .1 ∙ words-kept (standing cs) buffer (askOutcome (r .answer)) (ask-exactly buffer r exit h .row) n;
         judge = judge-exactly;
         judge-same = λ words r h. h .same;
@@ -182,19 +197,21 @@ module _ (cs : List Call) where
   -- ---- demand 2
 
   -- the words of the plan that is given decode to it, and it meets the rules
-  plan-given : SomeStand (standing cs) → (p : Plan) → IsGiven (formulasOf (standing cs)) p → Given (standing cs) (wordsOf p)
+  plan-given : SomeStand (standing cs) → (p : Plan) → IsGiven fs p → Given (standing cs) (wordsOf p)
+  unfolding namesIn
   plan-given some p g =
-      subst (λ (q : Plan). Given (standing cs) (wordsOf q)) (sym (g .is)) (row-given (standing cs) some (stands .names) (g .row) (g .first))
+      subst (λ (q : Plan). Given (standing cs) (wordsOf q)) (sym (g .is)) (row-given (standing cs) fs some are (can-names (standing cs) stands) (g .row) (g .first))
 
   given : (buffer : List ℕ) (r : AskResult) (exit : List ℕ) → Asks (run cs) buffer r exit → (n : ℕ) → askOutcome (r .answer) ≡ Outcome.Plan n → Given (standing cs) (take n exit)
   given buffer r exit h n e = go (askOutcome (r .answer)) (ask-exactly buffer r exit h .row) e
     where
       go : (o : Outcome) → AskRow (standing cs) (length buffer) o → o ≡ Outcome.Plan n → Given (standing cs) (take n exit)
       go o (AskRow.none z) f = absurd (let z : _≡_ {A = ℕ} 0 1 = cc in omega arith)
-      go o (AskRow.without some never) f = absurd (let z : _≡_ {A = ℕ} 0 1 = cc in omega arith)
-      go o (AskRow.short some g l) f = absurd (let z : _≡_ {A = ℕ} 0 1 = cc in omega arith)
-      go o (AskRow.given {p} some g l) f =
+      go o (AskRow.without some rules never) f = absurd (let z : _≡_ {A = ℕ} 0 1 = cc in omega arith)
+      go o (AskRow.short some rules g l) f = absurd (let z : _≡_ {A = ℕ} 0 1 = cc in omega arith)
+      go o (AskRow.given {p = p} some rules k l) f =
           let z : length (wordsOf p) ≡ n = cc in
+          let g : IsGiven fs p = given-computed (standing cs) rules p k in
           let w : take n exit ≡ wordsOf p
           = ap (take n) (asked-by buffer r exit h .1) ∙ ap (λ (k : ℕ). take k (askWords (standing cs) buffer)) (sym z) ∙ first-words (standing cs) buffer some p g l in
           subst (Given (standing cs)) (sym w) (plan-given some p g)
@@ -203,25 +220,33 @@ module _ (cs : List Call) where
   judged-so : (words : List ℕ) (o : Outcome) → JudgeRow (standing cs) words o → (o ≡ Outcome.Yes → Met (standing cs) words) × ((k : ℕ) → o ≡ Outcome.Unmet k → NotMet (standing cs) words k)
   judged-so words o (JudgeRow.none z) = (λ f. absurd (let z : _≡_ {A = ℕ} 0 1 = cc in omega arith), λ k f. absurd (let z : _≡_ {A = ℕ} 0 1 = cc in omega arith))
   judged-so words o (JudgeRow.unread some z) = (λ f. absurd (let z : _≡_ {A = ℕ} 0 1 = cc in omega arith), λ k f. absurd (let z : _≡_ {A = ℕ} 0 1 = cc in omega arith))
-  judged-so words o (JudgeRow.differ some i w z) = (λ f. absurd (let z : _≡_ {A = ℕ} 0 1 = cc in omega arith), λ k f. absurd (let z : _≡_ {A = ℕ} 0 1 = cc in omega arith))
-  judged-so words o (JudgeRow.met {p} some d m) = (λ f. record { some = some; plan = p; decodes = d; meets = m }, λ k f. absurd (let z : _≡_ {A = ℕ} 0 1 = cc in omega arith))
-  judged-so words o (JudgeRow.unmet {p} {k = j} some d u) = (
+  judged-so words o (JudgeRow.differ some rules i w z) = (λ f. absurd (let z : _≡_ {A = ℕ} 0 1 = cc in omega arith), λ k f. absurd (let z : _≡_ {A = ℕ} 0 1 = cc in omega arith))
+  judged-so words o (JudgeRow.met {fs = gs} {p = p} some rules d m) = (λ f. record { some = some; formulas = gs; rules = rules; plan = p; decodes = d; meets = m }, λ k f. absurd (let z : _≡_ {A = ℕ} 0 1 = cc in omega arith))
+  judged-so words o (JudgeRow.unmet {fs = gs} {p = p} {k = j} some rules d u) = (
     λ f. absurd (let z : _≡_ {A = ℕ} 0 1 = cc in omega arith),
-    λ k f. let z : j ≡ k = cc in record { some = some; plan = p; decodes = d; lowest = subst (λ (i : ℕ). FirstUnmet (floorOf d) 1 (formulasOf (standing cs)) i) z u },
+    λ k f. let z : j ≡ k = cc in record { some = some; formulas = gs; rules = rules; plan = p; decodes = d; lowest = subst (λ (i : ℕ). FirstUnmet (floorOf d) 1 gs i) z u },
   )
 
   judged-yes : (words : List ℕ) (r : JudgeResult) → Judges (run cs) words r → (judgeOutcome (r .answer) ≡ Outcome.Yes) ↔ Met (standing cs) words
   judged-yes words r h =
       let row = judge-exactly words r h in
-      (judged-so words (judgeOutcome (r .answer)) (row .row) .0, λ m. sym (row .only Outcome.Yes (JudgeRow.met (m .some) (m .decodes) (m .meets))))
+      (judged-so words (judgeOutcome (r .answer)) (row .row) .0, λ m. sym (row .only Outcome.Yes (JudgeRow.met (m .some) (m .rules) (m .decodes) (m .meets))))
 
   judged-unmet : (words : List ℕ) (r : JudgeResult) → Judges (run cs) words r → (k : ℕ) → (judgeOutcome (r .answer) ≡ Outcome.Unmet k) ↔ NotMet (standing cs) words k
   judged-unmet words r h k =
       let row = judge-exactly words r h in
-      (judged-so words (judgeOutcome (r .answer)) (row .row) .1 k, λ m. sym (row .only (Outcome.Unmet k) (JudgeRow.unmet (m .some) (m .decodes) (m .lowest))))
+      (judged-so words (judgeOutcome (r .answer)) (row .row) .1 k, λ m. sym (row .only (Outcome.Unmet k) (JudgeRow.unmet (m .some) (m .rules) (m .decodes) (m .lowest))))
 
-  meant : Meant cs (run cs)
-  meant = record { rules = λ s i. is-rule s (stands .rules s i); one = text-means; given = given; yes = judged-yes; unmet = judged-unmet }
+  meant : Meant (standing cs) (run cs)
+  meant =
+      record {
+        formulas = fs;
+        rules = are;
+        one = λ s f g h k. sym (text-means s f h) ∙ text-means s g k;
+        given = given;
+        yes = judged-yes;
+        unmet = judged-unmet;
+      }
 
   -- ---- demand 3
 
@@ -234,16 +259,18 @@ module _ (cs : List Call) where
       let before-held : rulesOf u ≡ before = ap rulesOf (left (adds before) u l) ∙ table.same-table (adds before) .holds ∙ table.adds-stand before (stand-first before (s ∷ later) can) in
       ap addOutcome (ap (λ (x : AddResult). x .answer) (h .result) ∙ ap (λ (rs : List Text). judgeAdd rs s) before-held ∙ table.next-added before s later can)
 
-  same : (buffer : List ℕ) (r : AskResult) (exit : List ℕ) → Asks (run cs) buffer r exit → Same cs (run cs) buffer r exit
+  same : (buffer : List ℕ) (r : AskResult) (exit : List ℕ) → Asks (run cs) buffer r exit → Same (standing cs) (run cs) buffer r exit
   same buffer r exit h =
       let row = ask-exactly buffer r exit h in
       let faithful = table.same-table cs in
       record {
+        formulas = fs;
+        rules = are;
         none = λ e. sym (row .only (Outcome.Refused 11 0) (AskRow.none e));
-        no-plan = λ some. (λ e. without-plan (standing cs) (length buffer) (askOutcome (r .answer)) (row .row) e, λ never. sym (row .only Outcome.NoPlan (AskRow.without some never)));
-        plan = λ some p g l. (sym (row .only (Outcome.Plan (length (wordsOf p))) (AskRow.given some g l)), asked-by buffer r exit h .1 ∙ words-written (standing cs) buffer some p g l);
-        short = λ some p g l. (sym (row .only (Outcome.Refused 12 (length (wordsOf p))) (AskRow.short some g l)), asked-by buffer r exit h .1 ∙ words-short (standing cs) buffer some p g l);
-        otherwise = plan-found (formulasOf (standing cs));
+        no-plan = λ some. (λ e. without-plan (standing cs) (length buffer) (askOutcome (r .answer)) (row .row) e, λ never. sym (row .only Outcome.NoPlan (AskRow.without some are never)));
+        plan = λ some p g l. (sym (row .only (Outcome.Plan (length (wordsOf p))) (AskRow.given some are g l)), asked-by buffer r exit h .1 ∙ words-written (standing cs) buffer some p g l);
+        short = λ some p g l. (sym (row .only (Outcome.Refused 12 (length (wordsOf p))) (AskRow.short some are g l)), asked-by buffer r exit h .1 ∙ words-short (standing cs) buffer some p g l);
+        otherwise = plan-found fs;
         table = λ u l. faithful .table ∙ sym (left (adds (standing cs)) u l);
         taken = taken;
         same = λ u l s words k.
@@ -255,12 +282,18 @@ module _ (cs : List Call) where
 
 -- ---- the calls of the code
 
-pub demand-one : (cs : List Call) (t : Table) → Leaves cs t → Answered cs t
-demand-one cs t l = subst (Answered cs) (sym (left cs t l)) (answered cs)
+-- what holds of the computed table and rules holds of the table that is left and of the rules that stand
+carried : (cs : List Call) (P : List Text → Table → Type 0) → P (standing cs) (run cs) → (t : Table) (rs : List Text) → Leaves cs t → Stands cs rs → P rs t
+carried cs P h t rs l s =
+    subst (P rs) (sym (left cs t l)) (subst (λ (ss : List Text). P ss (run cs)) (sym (table.stands-computed cs rs s)) h)
 
-pub demand-two : (cs : List Call) (t : Table) → Leaves cs t → Meant cs t
-demand-two cs t l = subst (Meant cs) (sym (left cs t l)) (meant cs)
+pub demand-one : (cs : List Call) (t : Table) (rs : List Text) → Leaves cs t → Stands cs rs → Answered rs t
+demand-one cs = carried cs Answered (answered cs)
 
-pub demand-three : (cs : List Call) (t : Table) → Leaves cs t → (buffer : List ℕ) (r : AskResult) (exit : List ℕ) → Asks t buffer r exit → Same cs t buffer r exit
-demand-three cs t l buffer r exit =
-    subst (λ (u : Table). Asks u buffer r exit → Same cs u buffer r exit) (sym (left cs t l)) (same cs buffer r exit)
+pub demand-two : (cs : List Call) (t : Table) (rs : List Text) → Leaves cs t → Stands cs rs → Meant rs t
+demand-two cs = carried cs Meant (meant cs)
+
+pub demand-three : (cs : List Call) (t : Table) (rs : List Text) → Leaves cs t → Stands cs rs → (buffer : List ℕ) (r : AskResult) (exit : List ℕ) → Asks t buffer r exit
+    → Same rs t buffer r exit
+demand-three cs t rs l s buffer r exit =
+    carried cs (λ ss u. Asks u buffer r exit → Same ss u buffer r exit) (same cs buffer r exit) t rs l s

@@ -20,7 +20,8 @@ use Rattle.lists.proofs.Truth.{clash}
 use Rattle.lists.proofs.Lists.{map-same}
 use Rattle.contact.specs.Row.{rulesTrue}
 use Rattle.contact.specs.Plan.{separated, allowed, fills, partners, leads, check, given, pointsFor, good, firstRow}
-use Rattle.names.specs.Gather.{placesOf, ruleTokens, withName, namesAfter, gatheredOf, gathered}
+use Rattle.names.specs.Gather.{ruleTokens, withName, namesAfter, gatheredOf, gathered}
+use Rattle.names.specs.Seventh.{placesOf}
 use Rattle.plan.specs.Arrays.{pairOf, rowTo, linksTo, over}
 use Rattle.plan.specs.Words.{Plan, before, wordsOf}
 use Rattle.plan.specs.Given.{givenPlan, rowPlan, plansOf}
@@ -28,10 +29,11 @@ use Rattle.table.specs.declared.AskAnswer.{AskAnswer}
 use Rattle.table.specs.declared.AskAnswer.the-variants as AskAnswer
 use Rattle.table.specs.Store.{Text}
 use Rattle.table.specs.Calls.{formulasOf, namesIn, atomsIn, judgeNames, judgeAtoms, judgeRoom, judgeText, judgeAdd, addRules, judgeWithdraw, without, withdrawRules, isNone}
-use Rattle.table.specs.Runs.{after, standingFrom, standing, adds}
+use Rattle.table.specs.Stands.{adds, Stands}
+use Rattle.table.specs.Runs.{after, standingFrom, standing}
 use Rattle.table.specs.Asking.{planAnswer, foundAnswer, askAnswer, foundWords, askWords}
 use Rattle.table.specs.Numbers.{askOutcome}
-use Rattle.table.proofs.Claims.{same-table}
+use Rattle.table.proofs.Claims.{standing-stands, same-table}
 use Rattle.theorems.specs.Worked.{Answer, words, noPlan, WorkedSheet, workedSheets, Asked, AskedFor, Holds}
 
 -- ---- computed
@@ -99,7 +101,7 @@ worked row i =
     let e = map-same computed written i sheets-computed in
     let held = same-table (row .calls) .holds in
     record {
-      stand = ap (λ (o : Computed). o .rules) e;
+      stand = subst (Stands (row .calls)) (ap (λ (o : Computed). o .rules) e) (standing-stands (row .calls));
       held = held ∙ ap (λ (o : Computed). o .rules) e;
       answered = λ buffer. subst (λ rs. AskedFor (row .answer) rs buffer) (sym held)
           (asked buffer (row .answer) (standing (row .calls)) (ap (λ (o : Computed). o .none) e) (ap (λ (o : Computed). o .plans) e));

@@ -1,7 +1,8 @@
--- The customer's three demands, each as one statement about a list of calls from the empty table. The list is any list of add, withdraw,
--- load and ask, refused ones included, each with any text, number or plan buffer; the standing rules, `standing`, are made from the
--- calls alone. The calls of the code come in by their contracts (Adds, Withdraws, Loads, Asks, Judges, Reads): what holds of every
--- result that a contract allows holds of what the code gives. Assumes nothing.
+-- What is meant: the customer's three demands, each as one statement about a list of calls from the empty table. The list is any list of
+-- add, withdraw, load and ask, refused ones included, each with any text, number or plan buffer; the standing rules rs are those that
+-- `Stands` makes of the calls alone, by the rows of the table of calls, and their formulas those that the grammar derives. The calls of
+-- the code come in by their contracts (Adds, Withdraws, Loads, Asks, Judges, Reads): what holds of every result that a contract allows
+-- holds of what the code gives. Assumes nothing.
 use Prim.Native.Nat.{ℕ, _≤_, _<_}
 use mathlib.Core.Path.{_≡_}
 use mathlib.Core.Logic.{_↔_}
@@ -9,9 +10,7 @@ use mathlib.Core.Bool.{true}
 use mathlib.Core.List.{List, [], _∷_, _++_}
 use lib.ListN.{length, take}
 use Rattle.formula.specs.Formula.{Formula, Name}
-use Rattle.syntax.specs.Rule.{meaningOf}
 use Rattle.syntax.specs.RuleText.{IsRule}
-use Rattle.lists.specs.Search.{In}
 use Rattle.contact.specs.Meaning.{Floor, meetsAll}
 use Rattle.plan.specs.declared.PlanAnswer.the-variants as PlanAnswer
 use Rattle.plan.specs.declared.PlanRead.{PlanRead}
@@ -26,11 +25,12 @@ use Rattle.table.specs.declared.LoadResult.{LoadResult}
 use Rattle.table.specs.declared.AskResult.{AskResult}
 use Rattle.table.specs.declared.JudgeResult.{JudgeResult}
 use Rattle.table.specs.Store.{Text, tableOf}
-use Rattle.table.specs.Calls.{formulasOf, FromUs, Adds, Withdraws, Loads}
+use Rattle.table.specs.Rules.{AreRules}
+use Rattle.table.specs.Calls.{FromUs, Adds, Withdraws, Loads}
 use Rattle.table.specs.Asking.{Asks, Judges}
 use Rattle.table.specs.Numbers.{addOutcome, withdrawOutcome, loadOutcome, askOutcome, judgeOutcome}
 use Rattle.table.specs.Rows.{AddRow, WithdrawRow, LoadRow, SomeStand, AskRow, Decodes, floorOf, JudgeRow}
-use Rattle.table.specs.Runs.{Call, standing, adds}
+use Rattle.table.specs.Stands.{Call, adds}
 use Rattle.plan.specs.Meant.{IsGiven, FirstUnmet}
 
 -- "each call taking the table as the last one gave it back": these calls of the code, the first on t, leave the table u
@@ -53,23 +53,24 @@ pub record Exactly (Row : Outcome → Type 0) (outcome : Outcome) : Type 0 where
   pub row : Row outcome
   pub only : (o : Outcome) → Row o → o ≡ outcome
 
--- a call after the list; what add, load and judge are lent they cannot write
-pub record Answered (cs : List Call) (t : Table) : Type 0 where
+-- a call on the table t, where the rules rs stand
+-- "Add and load write nothing into the text.", and judge "writes nothing": what they are lent is lent for reading only
+pub record Answered (rs : List Text) (t : Table) : Type 0 where
   -- "With a table that came from us, a caller may pass anything without looking at it first."
   pub may-call : FromUs t
-  pub add : (s : Text) (r : AddResult) → Adds t s r → Exactly (AddRow (standing cs) s) (addOutcome (r .answer))
+  pub add : (s : Text) (r : AddResult) → Adds t s r → Exactly (AddRow rs s) (addOutcome (r .answer))
   pub add-refused : (s : Text) (r : AddResult) → Adds t s r → (addOutcome (r .answer) ≡ Outcome.Done → ⊥) → r .table ≡ t
-  pub withdraw : (k : ℕ) (r : WithdrawResult) → Withdraws t k r → Exactly (WithdrawRow (standing cs) k) (withdrawOutcome (r .answer))
+  pub withdraw : (k : ℕ) (r : WithdrawResult) → Withdraws t k r → Exactly (WithdrawRow rs k) (withdrawOutcome (r .answer))
   pub withdraw-refused : (k : ℕ) (r : WithdrawResult) → Withdraws t k r → (withdrawOutcome (r .answer) ≡ Outcome.Done → ⊥) → r .table ≡ t
   pub load : (f : Text) (r : LoadResult) → Loads t f r → Exactly (LoadRow f) (loadOutcome (r .answer))
   pub load-refused : (f : Text) (r : LoadResult) → Loads t f r → (loadOutcome (r .answer) ≡ Outcome.Done → ⊥) → r .table ≡ t
-  pub ask : (buffer : List ℕ) (r : AskResult) (exit : List ℕ) → Asks t buffer r exit → Exactly (AskRow (standing cs) (length buffer)) (askOutcome (r .answer))
+  pub ask : (buffer : List ℕ) (r : AskResult) (exit : List ℕ) → Asks t buffer r exit → Exactly (AskRow rs (length buffer)) (askOutcome (r .answer))
   pub ask-same : (buffer : List ℕ) (r : AskResult) (exit : List ℕ) → Asks t buffer r exit → r .table ≡ t
   -- "words past the plan, and all words for no plan, keep their values"; a refusal too writes nothing
-  pub ask-written : (buffer : List ℕ) (r : AskResult) (exit : List ℕ) → Asks t buffer r exit → (p : Plan) → IsGiven (formulasOf (standing cs)) p
+  pub ask-written : (buffer : List ℕ) (r : AskResult) (exit : List ℕ) → Asks t buffer r exit → (fs : List (Formula Name)) → AreRules rs fs → (p : Plan) → IsGiven fs p
       → askOutcome (r .answer) ≡ Outcome.Plan (length (wordsOf p)) → exit ≡ over (wordsOf p) buffer
   pub ask-kept : (buffer : List ℕ) (r : AskResult) (exit : List ℕ) → Asks t buffer r exit → ((n : ℕ) → askOutcome (r .answer) ≡ Outcome.Plan n → ⊥) → exit ≡ buffer
-  pub judge : (words : List ℕ) (r : JudgeResult) → Judges t words r → Exactly (JudgeRow (standing cs) words) (judgeOutcome (r .answer))
+  pub judge : (words : List ℕ) (r : JudgeResult) → Judges t words r → Exactly (JudgeRow rs words) (judgeOutcome (r .answer))
   pub judge-same : (words : List ℕ) (r : JudgeResult) → Judges t words r → r .table ≡ t
 
 -- ---- demand 2: "Rule text is read as the grammar of document 01 has it, and a plan given meets every standing rule .. Plan words read
@@ -78,50 +79,58 @@ pub record Answered (cs : List Call) (t : Table) : Type 0 where
 -- the words are those of a plan whose floor, over the rules' names in their numbering, meets the rules
 pub record Met (rs : List Text) (words : List ℕ) : Type 0 where
   pub some : SomeStand rs
+  pub formulas : List (Formula Name)
+  pub rules : AreRules rs formulas
   pub plan : Plan
-  pub decodes : Decodes rs words plan
-  pub meets : meetsAll (floorOf decodes) (formulasOf rs) ≡ true
+  pub decodes : Decodes formulas words plan
+  pub meets : meetsAll (floorOf decodes) formulas ≡ true
 
 -- they are those of a plan of which rule k, from 1, is the lowest that it does not meet
 pub record NotMet (rs : List Text) (words : List ℕ) (k : ℕ) : Type 0 where
   pub some : SomeStand rs
+  pub formulas : List (Formula Name)
+  pub rules : AreRules rs formulas
   pub plan : Plan
-  pub decodes : Decodes rs words plan
-  pub lowest : FirstUnmet (floorOf decodes) 1 (formulasOf rs) k
+  pub decodes : Decodes formulas words plan
+  pub lowest : FirstUnmet (floorOf decodes) 1 formulas k
 
 -- the words of the plan that document 01 defines; it meets the rules, and what is read from the words is the plan
 pub record Given (rs : List Text) (words : List ℕ) : Type 0 where
   pub met : Met rs words
-  pub is : IsGiven (formulasOf rs) (met .plan)
+  pub is : IsGiven (met .formulas) (met .plan)
   pub back : (q : PlanRead) → Reads words q → (q .answer ≡ PlanAnswer.Plan) × Stored (q .plan) (met .plan)
 
-pub record Meant (cs : List Call) (t : Table) : Type 0 where
-  -- each standing text is derived by the grammar, and means the one formula that is
-  pub rules : (s : Text) → In s (standing cs) → IsRule s (meaningOf s)
-  pub one : (s : Text) (f : Formula Name) → IsRule s f → meaningOf s ≡ f
-  pub given : (buffer : List ℕ) (r : AskResult) (exit : List ℕ) → Asks t buffer r exit → (n : ℕ) → askOutcome (r .answer) ≡ Outcome.Plan n → Given (standing cs) (take n exit)
+pub record Meant (rs : List Text) (t : Table) : Type 0 where
+  -- each standing text is derived by the grammar, and a text means one formula only
+  pub formulas : List (Formula Name)
+  pub rules : AreRules rs formulas
+  pub one : (s : Text) (f g : Formula Name) → IsRule s f → IsRule s g → f ≡ g
+  pub given : (buffer : List ℕ) (r : AskResult) (exit : List ℕ) → Asks t buffer r exit → (n : ℕ) → askOutcome (r .answer) ≡ Outcome.Plan n → Given rs (take n exit)
   -- "Judge answers yes or the lowest unmet rule, from 1"
-  pub yes : (words : List ℕ) (r : JudgeResult) → Judges t words r → (judgeOutcome (r .answer) ≡ Outcome.Yes) ↔ Met (standing cs) words
-  pub unmet : (words : List ℕ) (r : JudgeResult) → Judges t words r → (k : ℕ) → (judgeOutcome (r .answer) ≡ Outcome.Unmet k) ↔ NotMet (standing cs) words k
+  pub yes : (words : List ℕ) (r : JudgeResult) → Judges t words r → (judgeOutcome (r .answer) ≡ Outcome.Yes) ↔ Met rs words
+  pub unmet : (words : List ℕ) (r : JudgeResult) → Judges t words r → (k : ℕ) → (judgeOutcome (r .answer) ≡ Outcome.Unmet k) ↔ NotMet rs words k
 
 -- ---- demand 3
 
 -- what ask gives after the list, with any plan buffer
-pub record Same (cs : List Call) (t : Table) (buffer : List ℕ) (r : AskResult) (exit : List ℕ) : Type 0 where
+pub record Same (rs : List Text) (t : Table) (buffer : List ℕ) (r : AskResult) (exit : List ℕ) : Type 0 where
+  -- what the standing rules mean
+  pub formulas : List (Formula Name)
+  pub rules : AreRules rs formulas
   -- "after the list, ask gives refusal 11 where no rule stands"
-  pub none : standing cs ≡ [] → askOutcome (r .answer) ≡ Outcome.Refused 11 0
+  pub none : rs ≡ [] → askOutcome (r .answer) ≡ Outcome.Refused 11 0
   -- "Where any stands, it says "no plan" exactly when no finite floor with any number of points, one or more, meets all the standing rules"
-  pub no-plan : SomeStand (standing cs) → (askOutcome (r .answer) ≡ Outcome.NoPlan) ↔ ((F : Floor Name) → meetsAll F (formulasOf (standing cs)) ≡ true → ⊥)
+  pub no-plan : SomeStand rs → (askOutcome (r .answer) ≡ Outcome.NoPlan) ↔ ((F : Floor Name) → meetsAll F formulas ≡ true → ⊥)
   -- "and otherwise gives the plan that document 01 defines, or refusal 12 where the buffer is too short for it"
-  pub plan : SomeStand (standing cs) → (p : Plan) → IsGiven (formulasOf (standing cs)) p → length (wordsOf p) ≤ length buffer
+  pub plan : SomeStand rs → (p : Plan) → IsGiven formulas p → length (wordsOf p) ≤ length buffer
       → (askOutcome (r .answer) ≡ Outcome.Plan (length (wordsOf p))) × (exit ≡ over (wordsOf p) buffer)
-  pub short : SomeStand (standing cs) → (p : Plan) → IsGiven (formulasOf (standing cs)) p → length buffer < length (wordsOf p)
+  pub short : SomeStand rs → (p : Plan) → IsGiven formulas p → length buffer < length (wordsOf p)
       → (askOutcome (r .answer) ≡ Outcome.Refused 12 (length (wordsOf p))) × (exit ≡ buffer)
-  pub otherwise : (F : Floor Name) → meetsAll F (formulasOf (standing cs)) ≡ true → (p : Plan) × IsGiven (formulasOf (standing cs)) p
+  pub otherwise : (F : Floor Name) → meetsAll F formulas ≡ true → (p : Plan) × IsGiven formulas p
   -- "the table after the list .. equal to what comes from an empty table to which only the standing rules are added, in their order":
   -- "none of these adds is refused"
-  pub table : (u : Table) → Leaves (adds (standing cs)) u → t ≡ u
-  pub taken : (before : List Text) (s : Text) (later : List Text) → standing cs ≡ before ++ s ∷ later
+  pub table : (u : Table) → Leaves (adds rs) u → t ≡ u
+  pub taken : (before : List Text) (s : Text) (later : List Text) → rs ≡ before ++ s ∷ later
       → (u : Table) → Leaves (adds before) u → (r : AddResult) → Adds u s r → addOutcome (r .answer) ≡ Outcome.Done
   -- "the answer that ask then gives, a refusal too, and every word of its plan buffer .. when ask is lent the same plan buffer"
-  pub same : (u : Table) → Leaves (adds (standing cs)) u → (s : AskResult) (words : List ℕ) → Asks u buffer s words → (r ≡ s) × (exit ≡ words)
+  pub same : (u : Table) → Leaves (adds rs) u → (s : AskResult) (words : List ℕ) → Asks u buffer s words → (r ≡ s) × (exit ≡ words)

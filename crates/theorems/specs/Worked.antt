@@ -1,4 +1,5 @@
--- Document 01, 'Worked sheets': the rows P1 to P12 as that paper has them, and what a row says. Assumes nothing.
+-- What is meant, and over what is computed: document 01, 'Worked sheets': the rows P1 to P12 as that paper has them, and what a row says,
+-- which is of the functions that the calls' contracts name (`run`, `askAnswer`, `askWords`). Assumes nothing.
 use mathlib.Core.Path.{_≡_}
 use mathlib.Core.List.{List, [], _∷_, _++_}
 use Prim.Native.Nat.{ℕ, _≤_, _<_}
@@ -6,7 +7,8 @@ use lib.ListN.{length}
 use Rattle.lexer.specs.Text.{bytes}
 use Rattle.plan.specs.Arrays.{over}
 use Rattle.table.specs.Store.{Text, rulesOf}
-use Rattle.table.specs.Runs.{Call, withdraw, adds, run, standing}
+use Rattle.table.specs.Stands.{Call, withdraw, adds, Stands}
+use Rattle.table.specs.Runs.{run}
 use Rattle.table.specs.Asking.{askAnswer, askWords}
 use Rattle.table.specs.declared.Outcome.{Outcome}
 use Rattle.table.specs.declared.Outcome.the-variants as Outcome
@@ -90,7 +92,7 @@ AskedFor noPlan rs buffer = Asked rs buffer Outcome.NoPlan buffer
 -- the row holds
 pub record Holds (row : WorkedSheet) : Type 0 where
   -- the rules that stand after the calls are the row's
-  pub stand : standing (row .calls) ≡ row .rules
+  pub stand : Stands (row .calls) (row .rules)
   -- the table that the calls leave holds them
   pub held : rulesOf (run (row .calls)) ≡ row .rules
   -- ask on that table gives the row's answer, whatever buffer is lent

@@ -1,7 +1,7 @@
 -- `table::blank_byte` meets its contract: each arm knows the class, which decides. Assumes nothing.
 use borrow.Author.Needs.{needs}
 use mathlib.Core.Path.{sym, ap, _∙_}
-use Rattle.table.specs.Calls.{blankByte, blankClass}
+use Rattle.table.specs.Sheet.{blankByte, blankClass}
 use Rattle.table.proofs.blank_byte.Statement.{statement}
 use Rattle.table.proofs.blank_byte.Tie as tie
 

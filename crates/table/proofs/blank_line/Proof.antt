@@ -4,7 +4,7 @@ use Prim.Native.Nat.{_-_, _≤_}
 use mathlib.Core.Path.{_≡_, refl, sym, _∙_}
 use borrow.Author.Tests.{not-true, not-false}
 use lib.ListN.{length, drop}
-use Rattle.table.specs.Calls.{blankLine}
+use Rattle.table.specs.Sheet.{blankLine}
 use Rattle.table.proofs.Scan.{blank-next, blank-not, blank-end}
 use native.Mathlib.Omega.{arith}
 use Rattle.table.proofs.blank_line.Statement.{statement}

@@ -3,7 +3,7 @@ use borrow.Author.Needs.{needs}
 use Prim.Native.Nat.{ℕ, _-_, _≤_}
 use mathlib.Core.Path.{_≡_, sym, ap, _∙_}
 use lib.ListN.{length, take, drop}
-use Rattle.table.specs.Calls.{linesOf}
+use Rattle.table.specs.Sheet.{linesOf}
 use Rattle.table.proofs.Scan.{onHead, head-none, lines-next, lines-cut, lines-last}
 use native.Mathlib.Omega.{arith}
 use Rattle.table.proofs.line_end.Statement.{statement}

@@ -1,6 +1,7 @@
 -- `table::with_rule` meets its contract: refusals 9, 7 and 8 are looked for in this order, and a rule with room is counted. Assumes nothing.
 use borrow.Author.Needs.{needs}
 use native.Mathlib.Omega.{arith}
+use Rattle.table.proofs.Rules.{can-atoms}
 use Rattle.table.proofs.Refusals.{told-refused}
 use Rattle.table.proofs.Counting.{text-formula, was-read, counted-atoms, counted-gathers, with-full, with-seventh, with-many, with-added}
 use Rattle.table.proofs.with_rule.Statement.{statement}
@@ -33,7 +34,7 @@ atoms-of-requires c κs =
 add-atoms : tie.Need-add-atoms
 add-atoms c =
     let pre = c .before .before .before .before .before .before .before .before .before .before .pre .0 in
-    omega (arith, counted-atoms _ (pre .rules) (pre .standing) (pre .counted), pre .standing .atoms, c .before .atoms-of .ensures .1)
+    omega (arith, counted-atoms _ (pre .rules) (pre .standing) (pre .counted), can-atoms (pre .rules) (pre .standing), c .before .atoms-of .ensures .1)
 
 returns-3 : tie.Need-returns-3
 returns-3 c =
