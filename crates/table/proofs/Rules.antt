@@ -1,6 +1,6 @@
 -- The formulas that the grammar derives from rules are those that are computed from their texts, so that there is exactly one list of
 -- them, and what is counted in it is what is counted in the texts. Assumes nothing.
-use Prim.Native.Nat.{ℕ, _≤_}
+use Prim.Native.Nat.{_≤_}
 use mathlib.Core.Path.{_≡_, refl, sym, ap, ap₂, subst, _∙_}
 use mathlib.Core.Logic.{⊎-elim}
 use mathlib.Core.List.{List, [], _∷_}
@@ -8,7 +8,7 @@ use native.Mathlib.Omega.{arith}
 use lib.ListN.{length}
 use Rattle.formula.specs.Formula.{Formula, Name}
 use Rattle.syntax.specs.RuleText.{IsRule, formula}
-use Rattle.syntax.specs.Rule.{ruleOf, meaningOf}
+use Rattle.syntax.specs.Rule.{ruleOf}
 use Rattle.syntax.specs.declared.RuleAnswer.the-variants as RuleAnswer
 use Rattle.syntax.proofs.Claims.{text-answered-only, text-means, is-rule}
 use Rattle.lists.specs.Search.{In, here, next}

@@ -23,7 +23,7 @@ use Rattle.table.specs.Numbers.{addOutcome, withdrawOutcome, loadOutcome
 use Rattle.table.specs.Rows.{AddRow, WithdrawRow, LoadRow}
 use Rattle.table.specs.Stands.{Call, add, withdraw, load, ask, IsRefused, TakesOut, StandsAfter, StandsFrom, Stands}
 use Rattle.table.specs.Runs.{after, standingFrom, standing}
-use Rattle.table.proofs.Standing.{NotAdded, not-withdrawn, not-loaded, added-or, added-taken, added-refused, stand-none}
+use Rattle.table.proofs.Standing.{not-withdrawn, not-loaded, added-or, added-taken, added-refused, stand-none}
 use Rattle.table.proofs.Results.{withdraw-good}
 use Rattle.table.proofs.Rows.{add-row, add-row-only, withdraw-row, withdraw-row-only}
 use Rattle.table.proofs.LoadRows.{load-row, load-row-only, load-done}
