@@ -7,7 +7,7 @@ use mathlib.Core.List.{List, [], _∷_, map}
 use Prim.Native.Nat.{ℕ, _+_, _*_, _^_, _≤_, _<_, max}
 use lib.ListN.{length, getD}
 use Rattle.formula.specs.Formula.{Atom, Form, Formula, Name}
-use Rattle.lists.specs.Search.{In, first, gather, below}
+use Rattle.lists.specs.Search.{In, first, collect, below}
 use Rattle.evalset.specs.Bit.{bit}
 use Rattle.contact.specs.Meaning.{Floor, atomOn, meetsAll}
 use Rattle.formula.specs.Names.{atomNames}
@@ -39,7 +39,7 @@ pub same-name : (x y : Name) → (sameName x y ≡ true) ↔ (x ≡ y)
 same-name = Naming.same-name
 
 -- each name of the rules has a number below how many names they have, and is found at it
-pub name-found : (rules : List (Formula Name)) {x : Name} → In x (gather atomNames (allAtoms rules))
+pub name-found : (rules : List (Formula Name)) {x : Name} → In x (collect atomNames (allAtoms rules))
     → (numberOf rules x < length (namesOf rules)) × (nameOf rules (numberOf rules x) ≡ x)
 name-found rules i = Naming.name-found rules i
 

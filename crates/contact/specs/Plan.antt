@@ -9,7 +9,7 @@ use Prim.Native.Nat.{ℕ, zero, suc, _^_, _<_}
 use lib.Dec.{ltb}
 use lib.ListN.{length}
 use Rattle.formula.specs.Formula.{Term, Atom, Form, Formula}
-use Rattle.lists.specs.Search.{any, all, first, keep, orElse, gather, below, elem}
+use Rattle.lists.specs.Search.{any, all, first, keep, orElse, collect, below, elem}
 use Rattle.evalset.specs.Bit.{bit}
 use Rattle.contact.specs.Meaning.{holds, partTerm}
 use Rattle.contact.specs.Numbering.{allAtoms, numberedAtoms}
@@ -110,14 +110,14 @@ withPartner names ms y p = p ∷ first (partners names ms y p) (evaluations name
 -- "Each false zero atom gives the least allowed evaluation in its term .. Each true contact gives p, the least allowed one in
 -- its first term with an allowed, unseparated partner in the second, and then its least partner."
 abbrev pub gives : ℕ → List Mark → Mark → List ℕ
-gives names ms (touching x y) = gather (withPartner names ms y) (first (leads names ms x y) (evaluations names))
+gives names ms (touching x y) = collect (withPartner names ms y) (first (leads names ms x y) (evaluations names))
 gives names ms (apart x y) = []
 gives names ms (vacant t) = []
 gives names ms (inhabited t) = first (fills names ms t) (evaluations names)
 
 -- what the marks give, or the least allowed evaluation where that is none
 unfoldable pub given : ℕ → List Mark → List ℕ
-given names ms = orElse (gather (gives names ms) ms) (first (allowed names ms) (evaluations names))
+given names ms = orElse (collect (gives names ms) ms) (first (allowed names ms) (evaluations names))
 
 -- "The points are these evaluations, ascending, each once; if there are none, the least allowed evaluation."
 unfoldable pub pointsFor : ℕ → List Mark → List ℕ

@@ -16,12 +16,12 @@ use lib.Seq.{getD-set-same, getD-set-other, take-suc-set}
 use borrow.Author.Tests.{eqb-true}
 use Rattle.formula.specs.Formula.{Atom}
 use Rattle.lists.specs.Search.{In, here, below}
-use Rattle.lists.proofs.Search.{none-in, in-one, in-left, in-right, in-either, gather-intro, gather-elim, gather-same, below-intro, below-elim}
-use Rattle.lists.proofs.Below.{gather-more}
+use Rattle.lists.proofs.Search.{none-in, in-one, in-left, in-right, in-either, collect-intro, collect-elim, collect-same, below-intro, below-elim}
+use Rattle.lists.proofs.Below.{collect-more}
 use Rattle.lists.proofs.Truth.{side, clash, or-cases}
 use Rattle.evalset.specs.Bit.{bit}
 use Rattle.evalset.proofs.Bits.{bit-add}
-use Rattle.search.specs.declared.Sheet.{Sheet}
+use Rattle.search.specs.declared.Chart.{Chart}
 use Rattle.search.specs.Compiled.{Compiled}
 use Rattle.pairing.specs.Sums.{entry}
 use Rattle.pairing.specs.declared.Masks.{Masks}
@@ -109,7 +109,7 @@ noted-more {ks} {js} a b =
 module _ (words : List ℕ) where
   entries-next : (f : ℕ) → entriesOf words f ++ (entry words f ∷ []) ≡ entriesOf words (f + 1)
   unfolding entriesOf
-  entries-next f = gather-more (λ f. entry words f ∷ []) f
+  entries-next f = collect-more (λ f. entry words f ∷ []) f
 
   pub entry-noted : {seen list seen' list' seen'' list'' : List ℕ} {count r q : ℕ} (f : ℕ) → Noted (entriesOf words f) seen list count seen' list' r
       → Noted (entry words f ∷ []) seen' list' r seen'' list'' q → Noted (entriesOf words (f + 1)) seen list count seen'' list'' q
@@ -141,11 +141,11 @@ module _ (m : Masks) where
   entries-pairs : (e n : ℕ) (words : List ℕ) → PairsIn m e n words → entriesOf words n ≡ pairsOf m e n
   unfolding entriesOf pairsOf
   entries-pairs e n words h =
-      gather-same (λ f. entry words f ∷ []) (λ f. pairWord m e f ∷ []) (below n) (λ f i. ap (λ (w : ℕ). w ∷ []) (h .are f (below-elim n f i)))
+      collect-same (λ f. entry words f ∷ []) (λ f. pairWord m e f ∷ []) (below n) (λ f i. ap (λ (w : ℕ). w ∷ []) (h .are f (below-elim n f i)))
 
   all-next : (e : ℕ) → allPairs m e ++ pairsOf m e (e + 1) ≡ allPairs m (e + 1)
   unfolding allPairs
-  all-next e = gather-more (λ e. pairsOf m e (e + 1)) e
+  all-next e = collect-more (λ e. pairsOf m e (e + 1)) e
 
   -- the pairs of one evaluation more
   pub all-noted : {seen list seen' list' seen'' list'' : List ℕ} {count r q : ℕ} (e : ℕ) (words : List ℕ) → PairsIn m e (e + 1) words
@@ -159,7 +159,7 @@ module _ (m : Masks) where
   unfolding pairsOf
   pairs-length e zero = refl
   pairs-length e (suc n) =
-      ap (λ (x : ℕ). length (pairsOf m e x)) (sym (add-one n)) ∙ ap length (sym (gather-more (λ f. pairWord m e f ∷ []) n))
+      ap (λ (x : ℕ). length (pairsOf m e x)) (sym (add-one n)) ∙ ap length (sym (collect-more (λ f. pairWord m e f ∷ []) n))
       ∙ length-append (pairsOf m e n) (pairWord m e n ∷ []) ∙ omega (arith, pairs-length e n)
 
   pub all-length : (n : ℕ) → length (allPairs m n) ≡ pairCount n
@@ -179,34 +179,34 @@ count-grows e top l = ⊎-elim (λ k. omega (arith, count-next e top k)) (λ k. 
 
 -- ---- the whole list
 
-module _ (sheet : Sheet) (atoms : List (Atom ℕ)) (h : Compiled sheet atoms) (m : Masks) (masks : MasksAre sheet (2 ^ (sheet .names)) m)
-    (seen list seen' list' : List ℕ) (r : ℕ) (none : (k : ℕ) → seenAt seen k ≡ false) (noted : Noted (allPairs m (2 ^ (sheet .names))) seen list 0 seen' list' r) where
+module _ (chart : Chart) (atoms : List (Atom ℕ)) (h : Compiled chart atoms) (m : Masks) (masks : MasksAre chart (2 ^ (chart .names)) m)
+    (seen list seen' list' : List ℕ) (r : ℕ) (none : (k : ℕ) → seenAt seen k ≡ false) (noted : Noted (allPairs m (2 ^ (chart .names))) seen list 0 seen' list' r) where
   abbrev top : ℕ
-  top = 2 ^ (sheet .names)
+  top = 2 ^ (chart .names)
 
   unseen : Seen seen []
   unseen k t = clash t (none k)
 
   spelt : (e f : ℕ) → e < top → f < top → IsWord atoms e f (pairWord m e f)
-  spelt e f le lf = pair-spelt sheet atoms h m e f le lf (masks e le) (masks f lf)
+  spelt e f le lf = pair-spelt chart atoms h m e f le lf (masks e le) (masks f lf)
 
   -- a pair with the lesser evaluation second
   listed : (e f : ℕ) → e < top → f ≤ e → In (pairWord m e f) (take r list')
   unfolding pairsOf allPairs
   listed e f le lf =
-      noted .there unseen (inr (gather-intro (λ e. pairsOf m e (e + 1)) (below-intro top e le)
-      (gather-intro (λ f. pairWord m e f ∷ []) (below-intro (e + 1) f (omega arith)) here)))
+      noted .there unseen (inr (collect-intro (λ e. pairsOf m e (e + 1)) (below-intro top e le)
+      (collect-intro (λ f. pairWord m e f ∷ []) (below-intro (e + 1) f (omega arith)) here)))
 
   pair-of : (w : ℕ) → In w (allPairs m top) → (e : ℕ) × (f : ℕ) × (e < top) × (f < top) × IsWord atoms e f w
   unfolding pairsOf allPairs
   pair-of w i =
-      let a = gather-elim (λ e. pairsOf m e (e + 1)) (below top) i in
-      let b = gather-elim (λ f. pairWord m (a .0) f ∷ []) (below (a .0 + 1)) (a .2) in
+      let a = collect-elim (λ e. pairsOf m e (e + 1)) (below top) i in
+      let b = collect-elim (λ f. pairWord m (a .0) f ∷ []) (below (a .0 + 1)) (a .2) in
       let le : a .0 < top = below-elim top (a .0) (a .1) in
       let lf : b .0 < top = (let l = below-elim (a .0 + 1) (b .0) (b .1) in omega (arith, l, le)) in
       (a .0, b .0, le, lf, subst (IsWord atoms (a .0) (b .0)) (sym (in-one (b .2))) (spelt (a .0) (b .0) le lf))
 
-  pub list-serves : Serving (sheet .names) atoms (take r list')
+  pub list-serves : Serving (chart .names) atoms (take r list')
   list-serves =
       record {
         each = λ {w} i. ⊎-elim none-in (pair-of w) (noted .only i);

@@ -19,7 +19,7 @@ use Rattle.contact.specs.Row.{Row}
 use Rattle.contact.specs.Meaning.{partTerm}
 use Rattle.contact.specs.Plan.{at, Mark, touching, apart, vacant, inhabited, mark, rowMarks}
 use Rattle.contact.specs.Pairs.{serves, restricts}
-use Rattle.search.specs.declared.Sheet.{Sheet}
+use Rattle.search.specs.declared.Chart.{Chart}
 use Rattle.search.specs.Rows.{rowBits}
 use Rattle.search.specs.Compiled.{Compiled, AtomIs, atomAt, contactAt}
 use Rattle.search.proofs.Rows.{row-length, row-at, mark-in}
@@ -68,7 +68,7 @@ zero-bits false b true d = refl
 zero-bits false true false d = refl
 zero-bits false false false d = refl
 
--- from the sheet's sets to the terms
+-- from the chart's sets to the terms
 sets-serve : (names : ℕ) (c : Bool) (x y : ℕ → Bool) (atom : Atom ℕ) → AtomIs names c x y atom → (v : Bool) (e f : ℕ) → e < 2 ^ names → f < 2 ^ names
     → ((((x e && (not c || y e)) || (x f && (not c || y f))) || ((c && x e) && y f)) || (y e && (c && x f))) ≡ serves e f (mark atom v)
 sets-serve names c x y (Atom.contact s t) (z, h, k) v e f le lf =
@@ -96,32 +96,32 @@ sets-serve names c x y (Atom.empty t) (z, h) v e f le lf =
     same true = refl
     same false = refl
 
-pub pair-small : (sheet : Sheet) (m : Masks) (e f : ℕ) → MaskIs sheet e (entry (m .own) e) (entry (m .first) e) (entry (m .second) e)
-    → MaskIs sheet f (entry (m .own) f) (entry (m .first) f) (entry (m .second) f) → pairWord m e f < 2 ^ (sheet .atoms)
+pub pair-small : (chart : Chart) (m : Masks) (e f : ℕ) → MaskIs chart e (entry (m .own) e) (entry (m .first) e) (entry (m .second) e)
+    → MaskIs chart f (entry (m .own) f) (entry (m .first) f) (entry (m .second) f) → pairWord m e f < 2 ^ (chart .atoms)
 unfolding pairWord
-pair-small sheet m e f a b =
-    or-lt (sheet .atoms) _ _
-    (or-lt (sheet .atoms) _ _ (or-lt (sheet .atoms) _ _ (a .own-is .small) (b .own-is .small))
-    (and-lt (sheet .atoms) (entry (m .first) e) (entry (m .second) f) (a .first-is .small) (b .second-is .small)))
-    (and-lt (sheet .atoms) (entry (m .second) e) (entry (m .first) f) (a .second-is .small) (b .first-is .small))
+pair-small chart m e f a b =
+    or-lt (chart .atoms) _ _
+    (or-lt (chart .atoms) _ _ (or-lt (chart .atoms) _ _ (a .own-is .small) (b .own-is .small))
+    (and-lt (chart .atoms) (entry (m .first) e) (entry (m .second) f) (a .first-is .small) (b .second-is .small)))
+    (and-lt (chart .atoms) (entry (m .second) e) (entry (m .first) f) (a .second-is .small) (b .first-is .small))
 
-module _ (sheet : Sheet) (atoms : List (Atom ℕ)) (h : Compiled sheet atoms) (m : Masks) (e f : ℕ) (le : e < 2 ^ (sheet .names)) (lf : f < 2 ^ (sheet .names))
-    (a : MaskIs sheet e (entry (m .own) e) (entry (m .first) e) (entry (m .second) e))
-    (b : MaskIs sheet f (entry (m .own) f) (entry (m .first) f) (entry (m .second) f)) where
+module _ (chart : Chart) (atoms : List (Atom ℕ)) (h : Compiled chart atoms) (m : Masks) (e f : ℕ) (le : e < 2 ^ (chart .names)) (lf : f < 2 ^ (chart .names))
+    (a : MaskIs chart e (entry (m .own) e) (entry (m .first) e) (entry (m .second) e))
+    (b : MaskIs chart f (entry (m .own) f) (entry (m .first) f) (entry (m .second) f)) where
   abbrev n : ℕ
-  n = sheet .atoms
+  n = chart .atoms
 
   pair-bits : (p : ℕ) → p < n → bit (pairWord m e f) p ≡ servesAt atoms e f (n - 1 - p)
   pair-bits p l =
       let i : ℕ = n - 1 - p in
       pair-bit m e f p
       ∙ ap₂ (λ (u v : Bool). ((u || v) || (bit (entry (m .first) e) p && bit (entry (m .second) f) p)) || (bit (entry (m .second) e) p && bit (entry (m .first) f) p)) (a .own-is .bits p l) (b .own-is .bits p l)
-      ∙ ap₂ (λ (u v : Bool). ((ownAt sheet e i || ownAt sheet f i) || (u && v)) || (bit (entry (m .second) e) p && bit (entry (m .first) f) p)) (a .first-is .bits p l) (b .second-is .bits p l)
-      ∙ ap₂ (λ (u v : Bool). ((ownAt sheet e i || ownAt sheet f i) || (firstAt sheet e i && secondAt sheet f i)) || (u && v)) (a .second-is .bits p l) (b .first-is .bits p l)
-      ∙ sets-serve (sheet .names) (contactAt sheet i) (memAt (sheet .xs) i) (memAt (sheet .ys) i) (atomAt atoms i) (h .atom-is i (omega (arith, h .counted))) true e f le lf
+      ∙ ap₂ (λ (u v : Bool). ((ownAt chart e i || ownAt chart f i) || (u && v)) || (bit (entry (m .second) e) p && bit (entry (m .first) f) p)) (a .first-is .bits p l) (b .second-is .bits p l)
+      ∙ ap₂ (λ (u v : Bool). ((ownAt chart e i || ownAt chart f i) || (firstAt chart e i && secondAt chart f i)) || (u && v)) (a .second-is .bits p l) (b .first-is .bits p l)
+      ∙ sets-serve (chart .names) (contactAt chart i) (memAt (chart .xs) i) (memAt (chart .ys) i) (atomAt atoms i) (h .atom-is i (omega (arith, h .counted))) true e f le lf
 
   pub pair-spelt : IsWord atoms e f (pairWord m e f)
-  pair-spelt = subst (λ (x : ℕ). Spelt x (servesAt atoms e f) (pairWord m e f)) (h .counted) (record { small = pair-small sheet m e f a b; bits = pair-bits })
+  pair-spelt = subst (λ (x : ℕ). Spelt x (servesAt atoms e f) (pairWord m e f)) (h .counted) (record { small = pair-small chart m e f a b; bits = pair-bits })
 
 -- the pair the other way round
 pub serves-turned : (e f : ℕ) (m : Mark) → serves e f m ≡ serves f e m
@@ -152,16 +152,16 @@ atom-restricts (Atom.part s t) false = refl
 atom-restricts (Atom.empty t) true = refl
 atom-restricts (Atom.empty t) false = refl
 
--- the sheet's contacts are the atoms'
+-- the chart's contacts are the atoms'
 pub contact-is : (names : ℕ) (c : Bool) (x y : ℕ → Bool) (a : Atom ℕ) → AtomIs names c x y a → c ≡ isContact a
 contact-is names c x y (Atom.contact s t) (z, h, k) = z
 contact-is names c x y (Atom.part s t) (z, h) = z
 contact-is names c x y (Atom.empty t) (z, h) = z
 
-pub contacts-spelt : (sheet : Sheet) (atoms : List (Atom ℕ)) (w : ℕ) → Compiled sheet atoms → Spelt (sheet .atoms) (contactAt sheet) w → Contacts atoms w
-contacts-spelt sheet atoms w h s =
+pub contacts-spelt : (chart : Chart) (atoms : List (Atom ℕ)) (w : ℕ) → Compiled chart atoms → Spelt (chart .atoms) (contactAt chart) w → Contacts atoms w
+contacts-spelt chart atoms w h s =
     subst (λ (x : ℕ). Spelt x (λ i. isContact (atomAt atoms i)) w) (h .counted)
-    (record { small = s .small; bits = λ p l. s .bits p l ∙ contact-is (sheet .names) _ _ _ (atomAt atoms (sheet .atoms - 1 - p)) (h .atom-is _ (omega (arith, h .counted))) })
+    (record { small = s .small; bits = λ p l. s .bits p l ∙ contact-is (chart .names) _ _ _ (atomAt atoms (chart .atoms - 1 - p)) (h .atom-is _ (omega (arith, h .counted))) })
 
 -- ---- a word without its last atoms
 

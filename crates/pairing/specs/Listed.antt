@@ -9,11 +9,11 @@ use lib.Bits.{bitAnd, bitOr}
 use lib.Dec.{eqb}
 use lib.ListN.{length, getD, take}
 use Rattle.formula.specs.Formula.{Atom}
-use Rattle.lists.specs.Search.{In, any, gather, below}
+use Rattle.lists.specs.Search.{In, any, collect, below}
 use Rattle.evalset.specs.Bit.{bit}
 use Rattle.evalset.specs.declared.EvalSet.{EvalSet}
 use Rattle.evalset.specs.Sets.{room, most, memAt}
-use Rattle.search.specs.declared.Sheet.{Sheet}
+use Rattle.search.specs.declared.Chart.{Chart}
 use Rattle.search.specs.Compiled.{limit, Compiled, contactAt}
 use Rattle.pairing.specs.declared.Masks.{Masks}
 use Rattle.pairing.specs.declared.Mask.{Mask}
@@ -32,29 +32,29 @@ digit true = 1
 digit false = 0
 
 -- e is in the first term of contact i
-abbrev pub firstAt : Sheet → ℕ → ℕ → Bool
-firstAt sheet e i = contactAt sheet i && memAt (sheet .xs) i e
+abbrev pub firstAt : Chart → ℕ → ℕ → Bool
+firstAt chart e i = contactAt chart i && memAt (chart .xs) i e
 
 -- and in the second
-abbrev pub secondAt : Sheet → ℕ → ℕ → Bool
-secondAt sheet e i = memAt (sheet .ys) i e
+abbrev pub secondAt : Chart → ℕ → ℕ → Bool
+secondAt chart e i = memAt (chart .ys) i e
 
 -- e alone serves atom i
-abbrev pub ownAt : Sheet → ℕ → ℕ → Bool
-ownAt sheet e i = memAt (sheet .xs) i e && (not (contactAt sheet i) || memAt (sheet .ys) i e)
+abbrev pub ownAt : Chart → ℕ → ℕ → Bool
+ownAt chart e i = memAt (chart .xs) i e && (not (contactAt chart i) || memAt (chart .ys) i e)
 
 -- the masks of e: which atoms e serves alone, and which contacts have it in their first term, and in their second
-pub record MaskIs (sheet : Sheet) (e own first second : ℕ) : Type 0 where
-  pub own-is : Spelt (sheet .atoms) (ownAt sheet e) own
-  pub first-is : Spelt (sheet .atoms) (firstAt sheet e) first
-  pub second-is : Spelt (sheet .atoms) (secondAt sheet e) second
+pub record MaskIs (chart : Chart) (e own first second : ℕ) : Type 0 where
+  pub own-is : Spelt (chart .atoms) (ownAt chart e) own
+  pub first-is : Spelt (chart .atoms) (firstAt chart e) first
+  pub second-is : Spelt (chart .atoms) (secondAt chart e) second
 
-abbrev pub maskSays : Sheet → ℕ → Mask → Type 0
-maskSays sheet e m = MaskIs sheet e (m .own) (m .first) (m .second)
+abbrev pub maskSays : Chart → ℕ → Mask → Type 0
+maskSays chart e m = MaskIs chart e (m .own) (m .first) (m .second)
 
 -- those of the evaluations below n
-abbrev pub MasksAre : Sheet → ℕ → Masks → Type 0
-MasksAre sheet n m = (e : ℕ) → e < n → MaskIs sheet e (entry (m .own) e) (entry (m .first) e) (entry (m .second) e)
+abbrev pub MasksAre : Chart → ℕ → Masks → Type 0
+MasksAre chart n m = (e : ℕ) → e < n → MaskIs chart e (entry (m .own) e) (entry (m .first) e) (entry (m .second) e)
 
 -- ---- pairs
 
@@ -70,11 +70,11 @@ pairWord m e f =
 
 -- those of e with the first n evaluations
 unfoldable pub pairsOf : Masks → ℕ → ℕ → List ℕ
-pairsOf m e n = gather (λ f. pairWord m e f ∷ []) (below n)
+pairsOf m e n = collect (λ f. pairWord m e f ∷ []) (below n)
 
 -- those of the first n evaluations, each with those up to it
 unfoldable pub allPairs : Masks → ℕ → List ℕ
-allPairs m n = gather (λ e. pairsOf m e (e + 1)) (below n)
+allPairs m n = collect (λ e. pairsOf m e (e + 1)) (below n)
 
 -- how many these are
 unfoldable pub pairCount : ℕ → ℕ
@@ -88,7 +88,7 @@ pub record PairsIn (m : Masks) (e n : ℕ) (words : List ℕ) : Type 0 where
 
 -- the first n of an array
 unfoldable pub entriesOf : List ℕ → ℕ → List ℕ
-entriesOf words n = gather (λ f. entry words f ∷ []) (below n)
+entriesOf words n = collect (λ f. entry words f ∷ []) (below n)
 
 -- the words up to e fit the list, and have a bit each among the words that are seen
 abbrev pub Small : List ℕ → ℕ → ℕ → Type 0
@@ -113,21 +113,21 @@ pub record Noted (ks seen list : List ℕ) (count : ℕ) (seen' list' : List ℕ
   pub noted : Seen seen (take count list) → Seen seen' (take r list')
   pub there : Seen seen (take count list) → {w : ℕ} → In w (take count list) ⊎ In w ks → In w (take r list')
 
--- nothing was seen yet, and there is room for every word; the evaluations are the sheet's
-pub record Listable (sheet : Sheet) (contacts top : ℕ) (seen list : List ℕ) : Type 0 where
-  pub few : sheet .atoms ≤ limit
-  pub contacts-are : Spelt (sheet .atoms) (contactAt sheet) contacts
+-- nothing was seen yet, and there is room for every word; the evaluations are the chart's
+pub record Listable (chart : Chart) (contacts top : ℕ) (seen list : List ℕ) : Type 0 where
+  pub few : chart .atoms ≤ limit
+  pub contacts-are : Spelt (chart .atoms) (contactAt chart) contacts
   pub fits : top ≤ room
-  pub top-is : sheet .names ≤ most → top ≡ 2 ^ (sheet .names)
+  pub top-is : chart .names ≤ most → top ≡ 2 ^ (chart .names)
   pub none : (k : ℕ) → seenAt seen k ≡ false
-  pub bits : 2 ^ (sheet .atoms) ≤ 64 * length seen
+  pub bits : 2 ^ (chart .atoms) ≤ 64 * length seen
   pub places : pairCount top ≤ length list
 
--- the first r places have the words of the sheet's pairs
-pub record ListSays (sheet : Sheet) (list list' : List ℕ) (r : ℕ) : Type 0 where
+-- the first r places have the words of the chart's pairs
+pub record ListSays (chart : Chart) (list list' : List ℕ) (r : ℕ) : Type 0 where
   pub long : length list' ≡ length list
   pub fits : r ≤ length list'
-  pub are : (atoms : List (Atom ℕ)) → Compiled sheet atoms → Serving (sheet .names) atoms (take r list')
+  pub are : (atoms : List (Atom ℕ)) → Compiled chart atoms → Serving (chart .names) atoms (take r list')
 
 -- ---- a table
 

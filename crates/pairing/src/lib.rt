@@ -1,4 +1,4 @@
-// Which rows of a compiled sheet are realisable, up to 1,024 at once (document 01, 'The plan that is given'). A pair of evaluations serves
+// Which rows of a compiled chart are realisable, up to 1,024 at once (document 01, 'The plan that is given'). A pair of evaluations serves
 // some atoms (contact's specs/Pairs.antt), and its word has their bits. What a row demands, its true contacts and false zero atoms, is a
 // word too: the row passes the check exactly if its word is the union of the words of pairs that lie within it, one at least. The
 // different words are listed once a search; a table has the unions for all rows of a block by sums over subsets, for rows of some of
@@ -16,7 +16,7 @@ ghost use Rattle.pairing.specs.Listed.{digit, memberOf, maskSays, MasksA
 use evalset::EvalSet;
 use evalset::Found;
 use evalset::ROOM;
-use search::Sheet;
+use search::Chart;
 
 // The places of a table: 2 ^ 10.
 pub const PLACES: usize = 1024;
@@ -61,15 +61,15 @@ fn side(sets: [EvalSet; 16], n: usize, e: usize) -> u32
 }
 
 // The contacts.
-pub fn contacts_of(sheet: Sheet) -> u32
-    requires { ⌜ sheet .atoms ≤ limit ⌝ }
-    ensures { λ r. ⌜ Spelt (sheet .atoms) (contactAt sheet) r ⌝ }
+pub fn contacts_of(chart: Chart) -> u32
+    requires { ⌜ chart .atoms ≤ limit ⌝ }
+    ensures { λ r. ⌜ Spelt (chart .atoms) (contactAt chart) r ⌝ }
 {
-    let n = sheet.atoms;
+    let n = chart.atoms;
     let mut k: u32 = 0;
     let mut i: usize = 0;
     while i < n {
-        let contact = sheet.contact[i];
+        let contact = chart.contact[i];
         k = pushed(k, contact);
         i += 1;
     }
@@ -77,13 +77,13 @@ pub fn contacts_of(sheet: Sheet) -> u32
 }
 
 // The masks of e.
-fn mask_of(sheet: Sheet, contacts: u32, e: usize) -> Mask
-    requires { ⌜ (sheet .atoms ≤ limit) × Spelt (sheet .atoms) (contactAt sheet) contacts ⌝ }
-    ensures { λ r. ⌜ maskSays sheet e r ⌝ }
+fn mask_of(chart: Chart, contacts: u32, e: usize) -> Mask
+    requires { ⌜ (chart .atoms ≤ limit) × Spelt (chart .atoms) (contactAt chart) contacts ⌝ }
+    ensures { λ r. ⌜ maskSays chart e r ⌝ }
 {
-    let n = sheet.atoms;
-    let xs = sheet.xs;
-    let ys = sheet.ys;
+    let n = chart.atoms;
+    let xs = chart.xs;
+    let ys = chart.ys;
     let a = side(xs, n, e);
     let b = side(ys, n, e);
     let out = a & !contacts;
@@ -96,16 +96,16 @@ fn mask_of(sheet: Sheet, contacts: u32, e: usize) -> Mask
 }
 
 // The masks of the first `top` evaluations.
-fn masks_of(sheet: Sheet, contacts: u32, top: usize) -> Masks
-    requires { ⌜ (sheet .atoms ≤ limit) × Spelt (sheet .atoms) (contactAt sheet) contacts × (top ≤ room) ⌝ }
-    ensures { λ r. ⌜ MasksAre sheet top r ⌝ }
+fn masks_of(chart: Chart, contacts: u32, top: usize) -> Masks
+    requires { ⌜ (chart .atoms ≤ limit) × Spelt (chart .atoms) (contactAt chart) contacts × (top ≤ room) ⌝ }
+    ensures { λ r. ⌜ MasksAre chart top r ⌝ }
 {
     let mut own = [0u32; ROOM];
     let mut first = [0u32; ROOM];
     let mut second = [0u32; ROOM];
     let mut e: usize = 0;
     while e < top {
-        let m = mask_of(sheet, contacts, e);
+        let m = mask_of(chart, contacts, e);
         own[e] = m.own;
         first[e] = m.first;
         second[e] = m.second;
@@ -175,16 +175,16 @@ fn note_words(
 
 // The different words of the pairs of the first `top` evaluations, in the list's first places; their number is answered.
 pub fn words_of(
-    sheet: Sheet,
+    chart: Chart,
     contacts: u32,
     top: usize,
     seen: &mut [u64],
     list: &mut [u16],
 ) -> usize
-    requires { ⌜ Listable sheet contacts top (now seen) (now list) ⌝ }
-    ensures { λ r. ⌜ ListSays sheet (now (list .entry)) (now (list .exit)) r ⌝ }
+    requires { ⌜ Listable chart contacts top (now seen) (now list) ⌝ }
+    ensures { λ r. ⌜ ListSays chart (now (list .entry)) (now (list .exit)) r ⌝ }
 {
-    let m = masks_of(sheet, contacts, top);
+    let m = masks_of(chart, contacts, top);
     let own = m.own;
     let first = m.first;
     let second = m.second;

@@ -8,7 +8,7 @@ use Prim.Native.Nat.{ℕ, min, _+_, _*_}
 use lib.Dec.{ltb, leb}
 use lib.ListN.{length, getD, take, drop}
 use Rattle.lists.specs.Padded.{pad}
-use Rattle.lists.specs.Search.{any, gather, below}
+use Rattle.lists.specs.Search.{any, collect, below}
 use Rattle.evalset.specs.Sets.{memAt}
 use Rattle.plan.specs.declared.PlanArrays.{PlanArrays}
 use Rattle.plan.specs.declared.PlanAnswer.{PlanAnswer}
@@ -58,11 +58,11 @@ pairOf i j row = cond (ltb i j && row j) ((i * 256 + j) ∷ []) []
 
 -- the contacts of position i with the later ones below n
 unfoldable pub rowTo : ℕ → ℕ → (ℕ → Bool) → List ℕ
-rowTo n i row = gather (λ j. pairOf i j row) (below n)
+rowTo n i row = collect (λ j. pairOf i j row) (below n)
 
 -- the contacts of the positions below m with the later ones below n
 unfoldable pub linksTo : ℕ → ℕ → (ℕ → ℕ → Bool) → List ℕ
-linksTo m n rows = gather (λ i. rowTo n i (rows i)) (below m)
+linksTo m n rows = collect (λ i. rowTo n i (rows i)) (below m)
 
 -- the plan that arrays hold
 unfoldable pub planBy : PlanArrays → Plan

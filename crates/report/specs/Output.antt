@@ -8,7 +8,7 @@ use lib.Dec.{ltb}
 use lib.ListN.{length, getD}
 use Rattle.formula.specs.Formula.{Formula, Name}
 use Rattle.lexer.specs.Text.{bytes, byte}
-use Rattle.lists.specs.Search.{gather, below, orElse}
+use Rattle.lists.specs.Search.{collect, below, orElse}
 use Rattle.evalset.specs.Bit.{bit}
 use Rattle.contact.specs.Numbering.{namesOf}
 use Rattle.plan.specs.Words.{Plan}
@@ -51,7 +51,7 @@ nameIf names e i = cond (bit e i) (getD names i [] ∷ []) []
 
 -- "its names in order of number"
 unfoldable pub pointNames : List Name → ℕ → List Name
-pointNames names e = gather (nameIf names e) (below (length names))
+pointNames names e = collect (nameIf names e) (below (length names))
 
 -- "or "-" if none"
 unfoldable pub namesOrNone : List Name → ℕ → List Name
@@ -63,11 +63,11 @@ blanked word = bytes " " ++ word
 
 -- "A point line has its position and its names in order of number, parted by one blank, or "-" if none."
 unfoldable pub pointLine : List Name → ℕ → ℕ → List ℕ
-pointLine names i e = ended (labelled (bytes "point ") i ++ bytes ":" ++ gather blanked (namesOrNone names e))
+pointLine names i e = ended (labelled (bytes "point ") i ++ bytes ":" ++ collect blanked (namesOrNone names e))
 
 -- the lines of all points, in order of position
 unfoldable pub pointLines : List Name → List ℕ → List ℕ
-pointLines names points = gather (λ i. pointLine names i (getD points i 0)) (below (length points))
+pointLines names points = collect (λ i. pointLine names i (getD points i 0)) (below (length points))
 
 -- "Contact lines follow as "contact 0 1", positions as in the words."
 unfoldable pub contactLine : ℕ → List ℕ
@@ -75,7 +75,7 @@ contactLine k = ended (labelled (bytes "contact ") (k / 256) ++ labelled (bytes 
 
 -- a plan over these names
 unfoldable pub planText : List Name → Plan → List ℕ
-planText names p = headLine (p .names) (length (p .points)) ++ pointLines names (p .points) ++ gather contactLine (p .contacts)
+planText names p = headLine (p .names) (length (p .points)) ++ pointLines names (p .points) ++ collect contactLine (p .contacts)
 
 -- "Otherwise the one line is "NO PLAN" or .."
 abbrev pub plansText : List Name → List Plan → List ℕ

@@ -28,8 +28,8 @@ use Rattle.plan.proofs.Exact.{exact}
 use Rattle.plan.specs.Floor.{namedFloor}
 use Rattle.judging.specs.declared.Judged.{Judged}
 use Rattle.judging.specs.Values.{judgedOf}
-use Rattle.sheets.specs.declared.Compiling.{Compiling}
-use Rattle.sheets.specs.Texts.{CompiledRules, FirstRowIs, JudgedIs}
+use Rattle.ruleset.specs.declared.Compiling.{Compiling}
+use Rattle.ruleset.specs.Texts.{CompiledRules, FirstRowIs, JudgedIs}
 use Rattle.table.specs.declared.Table.{Table}
 use Rattle.table.specs.declared.AskAnswer.{AskAnswer}
 use Rattle.table.specs.declared.AskAnswer.the-variants as AskAnswer
@@ -112,7 +112,7 @@ module _ (t : Table) (v : FromUs t) (buffer : List ℕ) where
 
 -- the plans of the rows that are found
 pub found-plans : (rules : List (Formula Name)) (c : Compiling) (code : List ℕ) (r : RowAnswer) → CompiledRules rules c code → FirstRowIs c code r
-    → plansOf rules ≡ map (rowPlan rules) (rowsOf (c .sheet .atoms) r)
+    → plansOf rules ≡ map (rowPlan rules) (rowsOf (c .chart .atoms) r)
 unfolding plansOf FirstRowIs
 found-plans rules c code r h says = ap (map (rowPlan rules)) (sym (says rules h))
 
@@ -139,13 +139,13 @@ same-judgement (unmet k) = refl
 
 module _ (rules : List (Formula Name)) (c : Compiling) (code : List ℕ) (arrays : PlanArrays) (compiled : CompiledRules rules c code)
     (p : Plan) (h : IsPlan p) (stored : Stored arrays p) where
-  judge-differs : (arrays .names ≡ c .sheet .names → ⊥) → JudgeAnswer.NamesDiffer (arrays .names) ≡ judgePlan rules p h
+  judge-differs : (arrays .names ≡ c .chart .names → ⊥) → JudgeAnswer.NamesDiffer (arrays .names) ≡ judgePlan rules p h
   judge-differs differ =
       ap JudgeAnswer.NamesDiffer (stored .names)
       ∙ sym (ap (λ (b : Bool). cond b (judgementAnswer (judge (namedFloor rules p h) rules)) (JudgeAnswer.NamesDiffer (p .names)))
       (ne-eqb (p .names) (length (namesOf rules)) (λ e. differ (stored .names ∙ e ∙ sym (compiled .names-counted)))))
 
-  judge-equal : arrays .names ≡ c .sheet .names → (j : Judged) → JudgedIs c code arrays j → (a : JudgeAnswer) → a ≡ judgedAnswer j → a ≡ judgePlan rules p h
+  judge-equal : arrays .names ≡ c .chart .names → (j : Judged) → JudgedIs c code arrays j → (a : JudgeAnswer) → a ≡ judgedAnswer j → a ≡ judgePlan rules p h
   unfolding JudgedIs
   judge-equal e j says a f =
       let named : p .names ≡ length (namesOf rules) = sym (stored .names) ∙ e ∙ compiled .names-counted in
@@ -153,12 +153,12 @@ module _ (rules : List (Formula Name)) (c : Compiling) (code : List ℕ) (arrays
       ∙ sym (ap (λ (b : Bool). cond b (judgementAnswer (judge (namedFloor rules p h) rules)) (JudgeAnswer.NamesDiffer (p .names)))
       (eq-eqb (p .names) (length (namesOf rules)) named))
 
-pub says-differ : (c : Compiling) (code : List ℕ) (arrays : PlanArrays) → (arrays .names ≡ c .sheet .names → ⊥)
+pub says-differ : (c : Compiling) (code : List ℕ) (arrays : PlanArrays) → (arrays .names ≡ c .chart .names → ⊥)
     → JudgeAnswerSays c code arrays (JudgeAnswer.NamesDiffer (arrays .names))
 unfolding JudgeAnswerSays
 says-differ c code arrays differ rules compiled p h stored = judge-differs rules c code arrays compiled p h stored differ
 
-pub says-equal : (c : Compiling) (code : List ℕ) (arrays : PlanArrays) → arrays .names ≡ c .sheet .names → (j : Judged) → JudgedIs c code arrays j
+pub says-equal : (c : Compiling) (code : List ℕ) (arrays : PlanArrays) → arrays .names ≡ c .chart .names → (j : Judged) → JudgedIs c code arrays j
     → (a : JudgeAnswer) → a ≡ judgedAnswer j → JudgeAnswerSays c code arrays a
 unfolding JudgeAnswerSays
 says-equal c code arrays e j says a f rules compiled p h stored = judge-equal rules c code arrays compiled p h stored e j says a f

@@ -7,9 +7,9 @@ use native.Mathlib.Omega.{arith}
 use lib.ListN.{length, take, length-map}
 use lib.Seq.{take-all}
 use Rattle.syntax.specs.Rule.{meaningOf}
-use Rattle.sheets.specs.declared.Compiling.{Compiling}
-use Rattle.sheets.specs.Texts.{Fits, CompiledTexts, NothingCompiled, Ready, WithText}
-use Rattle.sheets.proofs.Claims.{no-texts, may-add, text-added}
+use Rattle.ruleset.specs.declared.Compiling.{Compiling}
+use Rattle.ruleset.specs.Texts.{Fits, CompiledTexts, NothingCompiled, Ready, WithText}
+use Rattle.ruleset.proofs.Claims.{no-texts, may-add, text-added}
 use Rattle.table.specs.declared.Table.{Table}
 use Rattle.table.specs.Store.{Text, rulesOf}
 use Rattle.table.specs.Calls.{namesIn, atomsIn, FromUs}

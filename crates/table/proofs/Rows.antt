@@ -16,7 +16,7 @@ use Rattle.syntax.specs.declared.RuleAnswer.{RuleAnswer}
 use Rattle.syntax.specs.declared.RuleAnswer.the-variants as RuleAnswer
 use Rattle.syntax.proofs.Claims.{text-answered, text-answered-only, is-rule}
 use Rattle.lexer.specs.Token.{Token}
-use Rattle.lists.specs.Search.{gather, here}
+use Rattle.lists.specs.Search.{collect, here}
 use Rattle.lists.proofs.Search.{in-right}
 use Rattle.lists.proofs.Truth.{cases}
 use Rattle.contact.specs.Numbering.{allAtoms, namesOf}
@@ -80,7 +80,7 @@ module _ (rs : List Text) (s : Text) (h : CanStand rs) where
     unfolding namesIn
     seventh-row p f =
         seventh rule (can-rules rs h) few
-        (subst (λ (ts : List Token). SeventhAt (gather atomNames (allAtoms (formulasOf rs))) (placesOf s ts) p) (tokens-of-rule s (meaningOf s) rule)
+        (subst (λ (ts : List Token). SeventhAt (collect atomNames (allAtoms (formulasOf rs))) (placesOf s ts) p) (tokens-of-rule s (meaningOf s) rule)
         (rule-seventh (formulasOf rs) (can-names rs h) s (meaningOf s) rule p .0 f))
 
     counted : gathered s (namesIn rs) .answer ≡ NamesAnswer.Enough → Holds (judgeAdd rs s)
@@ -124,14 +124,14 @@ module _ (rs : List Text) (s : Text) (h : CanStand rs) where
   last-names {fs} are l =
       names-are rs s NamesAnswer.Enough (enough rs s (can-names rs h) (of-last are) .1 (omega (arith, ap length (are-names (rs ++ s ∷ []) fs are))))
 
-  seventh-found : {f : Formula Name} (p : ℕ) (r : IsRule s f) (fs : List (Formula Name)) → AreRules rs fs → SeventhAt (gather atomNames (allAtoms fs)) (placesOf s (r .tokens-of)) p
+  seventh-found : {f : Formula Name} (p : ℕ) (r : IsRule s f) (fs : List (Formula Name)) → AreRules rs fs → SeventhAt (collect atomNames (allAtoms fs)) (placesOf s (r .tokens-of)) p
       → judgeNames rs s ≡ AddAnswer.SeventhName p
   unfolding namesIn
   seventh-found {f = f} p r fs are x =
       names-are rs s (NamesAnswer.SeventhName p)
       (rule-seventh (formulasOf rs) (can-names rs h) s (meaningOf s) (is-rule s (of-formula r)) p .1
-      (subst (λ (gs : List (Formula Name)). SeventhAt (gather atomNames (allAtoms gs)) (placesOf s (ruleTokens s)) p) (are-formulas rs fs are)
-      (subst (λ (ts : List Token). SeventhAt (gather atomNames (allAtoms fs)) (placesOf s ts) p) (sym (tokens-of-rule s f r)) x)))
+      (subst (λ (gs : List (Formula Name)). SeventhAt (collect atomNames (allAtoms gs)) (placesOf s (ruleTokens s)) p) (are-formulas rs fs are)
+      (subst (λ (ts : List Token). SeventhAt (collect atomNames (allAtoms fs)) (placesOf s ts) p) (sym (tokens-of-rule s f r)) x)))
 
   unread-only : (a : RuleAnswer) → Answers s a → (a ≡ RuleAnswer.Formula → ⊥) → addOutcome (readAnswer a) ≡ addOutcome (judgeAdd rs s)
   unread-only a r n =

@@ -18,8 +18,8 @@ use Rattle.plan.specs.Words.{Plan, IsPlan}
 use Rattle.plan.specs.Arrays.{Stored}
 use Rattle.judging.specs.declared.Judged.{Judged}
 use Rattle.judging.specs.declared.Judged.the-variants as Judged
-use Rattle.sheets.specs.declared.Compiling.{Compiling}
-use Rattle.sheets.specs.Texts.{CompiledRules}
+use Rattle.ruleset.specs.declared.Compiling.{Compiling}
+use Rattle.ruleset.specs.Texts.{CompiledRules}
 use Rattle.table.specs.declared.AskAnswer.{AskAnswer}
 use Rattle.table.specs.declared.AskAnswer.the-variants as AskAnswer
 use Rattle.table.specs.declared.JudgeAnswer.{JudgeAnswer}

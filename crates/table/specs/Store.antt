@@ -12,13 +12,13 @@ abbrev pub Text : Type 0
 Text = List ℕ
 
 -- a text in a line, zeros after it
-unfoldable pub lineOf : Text → Line
-lineOf s = record { bytes = pad 256 s; len = length s }
+unfoldable pub keptLine : Text → Line
+keptLine s = record { bytes = pad 256 s; len = length s }
 
 -- the lines of the texts, empty ones after them: nothing else is held
 -- "Nothing of a withdrawn rule stays in the table; later rules move down and the freed place is used again."
 unfoldable pub tableOf : List Text → Table
-tableOf rs = record { lines = map lineOf rs ++ replicate (16 - length rs) (lineOf []); count = length rs }
+tableOf rs = record { lines = map keptLine rs ++ replicate (16 - length rs) (keptLine []); count = length rs }
 
 -- read back
 unfoldable pub textOf : Line → Text

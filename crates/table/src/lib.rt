@@ -10,8 +10,8 @@ ghost use Prim.Native.Nat.{_+_, _-_, _≤_, _<_};
 ghost use lib.ListN.{length, take, drop};
 ghost use Rattle.syntax.specs.Rule.{ruleOf};
 ghost use Rattle.names.specs.Gather.{arraysOf};
-ghost use Rattle.sheets.specs.Texts.{CompiledTexts, Whole};
-ghost use Rattle.table.specs.Store.{lineOf, tableOf, rulesOf};
+ghost use Rattle.ruleset.specs.Texts.{CompiledTexts, Whole};
+ghost use Rattle.table.specs.Store.{keptLine, tableOf, rulesOf};
 ghost use Rattle.table.specs.Calls.{namesIn, readAnswer, namesAnswer, judgeText, linesFrom, FromUs, Adds, Withdraws, Loads};
 ghost use Rattle.table.specs.Sheet.{blankByte, blankLine, linesOf};
 ghost use Rattle.table.specs.Asking.{Asks, Judges};
@@ -25,8 +25,8 @@ use names::NamesAnswer;
 use plan::PlanAnswer;
 use plan::PlanArrays;
 use plan::Written;
+use ruleset::Compiling;
 use search::ATOMS;
-use sheets::Compiling;
 use solver::RowAnswer;
 use syntax::Rule;
 use syntax::RuleAnswer;
@@ -154,7 +154,7 @@ struct Counted {
 
 // A line with nothing in it.
 fn no_line() -> Line
-    ensures { λ r. ⌜ r ≡ lineOf [] ⌝ }
+    ensures { λ r. ⌜ r ≡ keptLine [] ⌝ }
 {
     let bytes = lexer::zeros();
     Line { bytes, len: 0 }
@@ -163,7 +163,7 @@ fn no_line() -> Line
 // A text in a line.
 fn line_of(text: &[u8]) -> Line
     requires { ⌜ length (now text) ≤ 256 ⌝ }
-    ensures { λ r. ⌜ r ≡ lineOf (now (text .entry)) ⌝ }
+    ensures { λ r. ⌜ r ≡ keptLine (now (text .entry)) ⌝ }
 {
     let mut bytes = lexer::zeros();
     let mut i: usize = 0;
@@ -389,12 +389,12 @@ fn judge_answer(c: Compiling, code: &[u8], plan: PlanArrays) -> JudgeAnswer
     requires { ⌜ Whole c (now code) ⌝ }
     ensures { λ r. ⌜ JudgeAnswerSays c (now (code .entry)) plan r ⌝ }
 {
-    let sheet = c.sheet;
+    let chart = c.chart;
     let names = plan.names as usize;
-    if names != sheet.names {
+    if names != chart.names {
         return JudgeAnswer::NamesDiffer(names);
     }
-    let judged = sheets::judged(c, code, plan);
+    let judged = ruleset::judged(c, code, plan);
     judged_answer(judged)
 }
 
@@ -625,13 +625,13 @@ impl Table {
         ensures { λ r. ⌜ CompiledTexts (rulesOf self) r (now (code .exit)) ⌝ }
     {
         let standing = self.count;
-        let mut c = sheets::nothing_compiled();
+        let mut c = ruleset::nothing_compiled();
         let mut i: usize = 0;
         while i < standing {
             let line = self.lines[i];
             let len = line.len;
             let bytes = line.bytes;
-            c = sheets::with_text(&bytes[..len], c, code);
+            c = ruleset::with_text(&bytes[..len], c, code);
             i += 1;
         }
         c
@@ -652,14 +652,14 @@ impl Table {
         }
         let mut code = no_code();
         let c = self.compiled(&mut code);
-        let found = sheets::row_of(c, &code);
+        let found = ruleset::row_of(c, &code);
         let RowAnswer::At(row) = found else {
             return AskResult {
                 table: self,
                 answer: AskAnswer::NoPlan,
             };
         };
-        let plan = sheets::plan_of(c, row);
+        let plan = ruleset::plan_of(c, row);
         let written = plan::write_plan(plan, buffer);
         let answer = written_answer(written);
         AskResult {

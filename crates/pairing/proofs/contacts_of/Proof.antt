@@ -9,10 +9,10 @@ use Rattle.pairing.proofs.contacts_of.Statement.{statement}
 use Rattle.pairing.proofs.contacts_of.Tie as tie
 
 abbrev Inv-loop : tie.InvT-loop
-Inv-loop sheet n k₀ i₀ k i = (i ≤ n) × Spelt i (contactAt sheet) k
+Inv-loop chart n k₀ i₀ k i = (i ≤ n) × Spelt i (contactAt chart) k
 
 abbrev μ-loop : tie.MeasureT-loop
-μ-loop sheet n k₀ i₀ k i = n - i
+μ-loop chart n k₀ i₀ k i = n - i
 
 loop-holds : tie.Need-loop-holds Inv-loop μ-loop
 loop-holds c = (omega arith, spelt-none _)

@@ -14,7 +14,7 @@ side-requires-2 c κs = search needs
 returns : tie.Need-returns
 returns c =
     let s = c .before .before .before .before in
-    mask-law (s .args .sheet) (s .args .e) (s .args .contacts) (c .before .side .result) (c .side2 .result) (s .pre .0) (s .pre .1)
+    mask-law (s .args .chart) (s .args .e) (s .args .contacts) (c .before .side .result) (c .side2 .result) (s .pre .0) (s .pre .1)
     (c .before .side .ensures) (c .side2 .ensures)
 
 pub mask-of-spec : {M : Type 1} → statement M

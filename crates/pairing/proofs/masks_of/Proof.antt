@@ -11,12 +11,12 @@ use Rattle.pairing.proofs.masks_of.Statement.{statement}
 use Rattle.pairing.proofs.masks_of.Tie as tie
 
 abbrev Inv-loop : tie.InvT-loop
-Inv-loop sheet contacts top own₀ first₀ second₀ e₀ own first second e =
+Inv-loop chart contacts top own₀ first₀ second₀ e₀ own first second e =
     (e ≤ top) × (length own ≡ 64) × (length first ≡ 64) × (length second ≡ 64)
-    × ((d : ℕ) → d < e → MaskIs sheet d (entry own d) (entry first d) (entry second d))
+    × ((d : ℕ) → d < e → MaskIs chart d (entry own d) (entry first d) (entry second d))
 
 abbrev μ-loop : tie.MeasureT-loop
-μ-loop sheet contacts top own₀ first₀ second₀ e₀ own first second e = top - e
+μ-loop chart contacts top own₀ first₀ second₀ e₀ own first second e = top - e
 
 loop-holds : tie.Need-loop-holds Inv-loop μ-loop
 loop-holds c = (omega arith, refl, refl, refl, λ d l. absurd (omega arith))

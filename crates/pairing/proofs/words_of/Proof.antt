@@ -36,9 +36,9 @@ note-words-requires c κs =
     let words = c .before .before .before .pair-words .ensures in (
       omega (arith, s .pre .fits),
       omega (arith, k .inv .2 .few, k .inv .2 .long-list, all-length m (k .e), count-next (k .e) (s .args .top) (omega arith), s .pre .places),
-      λ f l. let small = pair-small (s .args .sheet) m (k .e) f (masks .ensures (k .e) (omega arith)) (masks .ensures f (omega arith)) in
+      λ f l. let small = pair-small (s .args .chart) m (k .e) f (masks .ensures (k .e) (omega arith)) (masks .ensures f (omega arith)) in
           let is = words .are f (omega arith) in
-          (omega (arith, is, small, pow-mono {i = s .args .sheet .atoms} {j = 16} (s .pre .few)), omega (arith, is, small, s .pre .bits, k .inv .2 .long-seen)),
+          (omega (arith, is, small, pow-mono {i = s .args .chart .atoms} {j = 16} (s .pre .few)), omega (arith, is, small, s .pre .bits, k .inv .2 .long-seen)),
     )
 
 add-e : tie.Need-add-e Inv-loop μ-loop
@@ -77,8 +77,8 @@ returns c =
       long = k .inv .2 .long-list;
       fits = omega (arith, few, k .inv .2 .long-list, s .pre .places);
       are = λ atoms h.
-          let top : a .top ≡ 2 ^ (a .sheet .names) = s .pre .top-is (h .few) in
-          list-serves (a .sheet) atoms h m (subst (λ (x : ℕ). MasksAre (a .sheet) x (masks .result)) top (masks .ensures)) (a .seen .now) (a .list .now) (k .seen) (k .list) (k .count)
+          let top : a .top ≡ 2 ^ (a .chart .names) = s .pre .top-is (h .few) in
+          list-serves (a .chart) atoms h m (subst (λ (x : ℕ). MasksAre (a .chart) x (masks .result)) top (masks .ensures)) (a .seen .now) (a .list .now) (k .seen) (k .list) (k .count)
           (s .pre .none) (subst (λ (x : ℕ). Noted (allPairs m x) (a .seen .now) (a .list .now) 0 (k .seen) (k .list) (k .count)) (z ∙ top) (k .inv .2));
     }
 

@@ -12,7 +12,7 @@ slice-aggregate-listed c = search needs
 listed-requires : tie.Need-listed-requires
 listed-requires c κs =
     let s = c .before .before .before .before .before in
-    (s .pre, unseen _ 16 (omega (arith, pow-mono {i = s .args .sheet .atoms} {j = 10} (omega arith))))
+    (s .pre, unseen _ 16 (omega (arith, pow-mono {i = s .args .chart .atoms} {j = 10} (omega arith))))
 
 returns : tie.Need-returns
 returns c = search needs
@@ -23,7 +23,7 @@ slice-aggregate-listed-2 c = search needs
 listed-requires-2 : tie.Need-listed-requires-2
 listed-requires-2 c κs =
     let s = c .before .before .before .before .before in
-    (s .pre, unseen _ 1024 (omega (arith, pow-mono {i = s .args .sheet .atoms} {j = 16} (s .pre .atoms-fit))))
+    (s .pre, unseen _ 1024 (omega (arith, pow-mono {i = s .args .chart .atoms} {j = 16} (s .pre .atoms-fit))))
 
 returns-2 : tie.Need-returns-2
 returns-2 c = search needs

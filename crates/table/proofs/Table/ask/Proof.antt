@@ -7,7 +7,7 @@ use Rattle.solver.specs.declared.RowAnswer.{RowAnswer}
 use Rattle.plan.specs.Words.{Plan}
 use Rattle.plan.specs.Given.{rowPlan}
 use Rattle.plan.specs.Arrays.{planBy}
-use Rattle.sheets.proofs.Claims.{plan-is, may-plan}
+use Rattle.ruleset.proofs.Claims.{plan-is, may-plan}
 use Rattle.table.specs.Store.{rulesOf}
 use Rattle.table.specs.Calls.{formulasOf}
 use Rattle.table.proofs.Asking.{asks-none, asks-some, found-plans, wrote-plan}
@@ -40,7 +40,7 @@ returns-2 c =
     let t = c .before .before .before .before .before .before .before .before .before .before .args .self in
     let compiled = c .before .before .before .before .compiled .ensures .rules-compiled in
     asks-some t (c .before .before .before .before .before .before .before .before .before .before .pre) _ (c .before .before .before .before .before .before .before .if1 .left) []
-    (found-plans (formulasOf (rulesOf t)) _ _ _ compiled (c .before .before .row-of .ensures) ∙ ap (λ (r : RowAnswer). map (rowPlan (formulasOf (rulesOf t))) (rowsOf (c .before .before .before .before .compiled .result .sheet .atoms) r)) (c .enum-told .given .1)) _ _ refl refl
+    (found-plans (formulasOf (rulesOf t)) _ _ _ compiled (c .before .before .row-of .ensures) ∙ ap (λ (r : RowAnswer). map (rowPlan (formulasOf (rulesOf t))) (rowsOf (c .before .before .before .before .compiled .result .chart .atoms) r)) (c .enum-told .given .1)) _ _ refl refl
 
 plan-of-requires : tie.Need-plan-of-requires
 plan-of-requires c κs = may-plan _ _ _ (c .before .before .before .before .before .compiled .ensures .rules-compiled)
@@ -61,7 +61,7 @@ returns-3 c =
     let compiled = c .before .before .before .before .before .before .before .before .before .before .before .compiled .ensures .rules-compiled in
     let wrote = wrote-plan _ _ _ _ (c .before .before .before .write-plan .ensures) in
     asks-some t (c .before .before .before .before .before .before .before .before .before .before .before .before .before .before .before .before .before .pre) _ (c .before .before .before .before .before .before .before .before .before .before .before .before .before .before .if1 .left) (planBy (c .before .before .before .before .before .plan-of .result) ∷ [])
-    (found-plans rules _ _ _ compiled (c .before .before .before .before .before .before .before .before .before .row-of .ensures) ∙ ap (λ (r : RowAnswer). map (rowPlan rules) (rowsOf (c .before .before .before .before .before .before .before .before .before .before .before .compiled .result .sheet .atoms) r)) (c .before .before .before .before .before .before .before .found .given .1)
+    (found-plans rules _ _ _ compiled (c .before .before .before .before .before .before .before .before .before .row-of .ensures) ∙ ap (λ (r : RowAnswer). map (rowPlan rules) (rowsOf (c .before .before .before .before .before .before .before .before .before .before .before .compiled .result .chart .atoms) r)) (c .before .before .before .before .before .before .before .found .given .1)
     ∙ ap (λ (p : Plan). p ∷ []) (sym (plan-is rules _ _ compiled _ _ (c .before .before .before .before .before .plan-of .ensures)))) _ _ (c .written-answer .ensures ∙ wrote .0) (wrote .1)
 
 pub ask-spec : {M : Type 1} → statement M
