@@ -5,7 +5,8 @@ use mathlib.Core.List.{List}
 use Prim.Native.Nat.{ℕ, _^_, _≤_, _<_}
 use native.Mathlib.Omega.{arith}
 use Rattle.formula.specs.Formula.{Atom}
-use Rattle.evalset.specs.Sets.{room, most, memAt}
+use Rattle.evalset.specs.Sets.{room, memAt}
+use Rattle.evalset.specs.Most.{most}
 use Rattle.evalset.proofs.Members.{names-room}
 use Rattle.contact.specs.Plan.{at}
 use Rattle.search.specs.Compiled.{AtomIs, atomAt, contactAt, Compiled}

@@ -13,7 +13,8 @@ use Rattle.contact.specs.Meaning.{Floor, atomOn, meetsAll}
 use Rattle.formula.specs.Names.{atomNames}
 use Rattle.contact.specs.Numbering.{allAtoms, sameName, namesOf, numberOf, nameOf, numberedNames, numberedAtoms, AtomBelow, RulesBelow}
 use Rattle.contact.specs.Row.{IsFirstRow, Row, Realises, Realisable, PartialRow, RealisesPart, rulesTrue, Sound, Exact}
-use Rattle.contact.specs.Plan.{Mark, marksOf, rowMarks, separated, check, pointsFor, rows, good, firstRowOf, trueContacts, falseZeros}
+use Rattle.contact.specs.Plan.{Mark, marksOf, rowMarks, separated, pointsFor, trueContacts, falseZeros}
+use Rattle.contact.specs.Check.{check, rows, good, firstRowOf}
 use Rattle.contact.specs.Pairs.{pairCheck}
 use Rattle.contact.specs.Tableau.{refutes, closes, search}
 use Rattle.contact.proofs.Bits

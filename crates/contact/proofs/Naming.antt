@@ -22,7 +22,7 @@ use Rattle.formula.specs.Names.{termNames, atomNames}
 use Rattle.contact.specs.Numbering.{allAtoms, distinct, position, sameName, namesOf, mapTerm, mapAtom, mapForm, numberedNames, numberedAtoms, TermBelow, AtomBelow, RulesBelow, numberOf, nameOf}
 use Rattle.lists.proofs.Truth.{clash, cases}
 use Rattle.contact.specs.Row.{IsFirstRow, Row, Realises, Realisable, rulesTrue}
-use Rattle.contact.specs.Plan.{firstRowOf}
+use Rattle.contact.specs.Check.{firstRowOf}
 use Rattle.contact.proofs.Numbered.{all-atoms-map, numbered-map}
 use Rattle.contact.proofs.Answer.{first-row, first-row-only, rowFloor, plan-gives-row, plan-meets, no-plan-exactly}
 

@@ -19,7 +19,8 @@ use Rattle.lists.proofs.Truth.{clash, or-cases}
 use Rattle.contact.specs.Meaning.{Floor, within, isEmpty, touches, atomOn}
 use Rattle.contact.specs.Numbering.{TermBelow, AtomBelow}
 use Rattle.contact.specs.Row.{Row, Realises, Realisable, is, unknown, PartialRow, Extends, RealisesPart}
-use Rattle.contact.specs.Plan.{at, evaluations, Mark, touching, apart, vacant, inhabited, mark, marksOf, rowMarks, parts, separated, empties, allowed, fills, partners, leads, witnessed, check, withPartner, gives, given, pointsFor}
+use Rattle.contact.specs.Plan.{at, evaluations, Mark, touching, apart, vacant, inhabited, mark, marksOf, rowMarks, parts, separated, empties, allowed, fills, partners, leads, withPartner, gives, given, pointsFor}
+use Rattle.contact.specs.Check.{witnessed, check}
 use Rattle.contact.proofs.Bits.{encode, encode-lt, bit-encode, holds-same}
 
 -- ---- what marks say of a floor

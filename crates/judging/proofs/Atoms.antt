@@ -17,7 +17,7 @@ use Rattle.search.specs.declared.Chart.{Chart}
 use Rattle.search.specs.Compiled.{AtomIs, atomAt, contactAt, Compiled}
 use Rattle.plan.specs.declared.PlanArrays.{PlanArrays}
 use Rattle.plan.specs.Words.{Plan, IsPlan}
-use Rattle.plan.specs.Arrays.{Stored}
+use Rattle.plan.specs.Stored.{Stored}
 use Rattle.plan.specs.Floor.{planFloor}
 use Rattle.plan.proofs.Judged.{touches-meant, vacant-meant}
 use Rattle.judging.specs.Values.{atomOf, valueOf, Sure}

@@ -8,7 +8,7 @@ use Rattle.contact.specs.Numbering.{allAtoms, numberedAtoms}
 use Rattle.search.specs.declared.Chart.{Chart}
 use Rattle.plan.specs.declared.PlanArrays.{PlanArrays}
 use Rattle.plan.specs.Words.{Plan, IsPlan}
-use Rattle.plan.specs.Arrays.{Stored}
+use Rattle.plan.specs.Stored.{Stored}
 use Rattle.plan.specs.Judging.{judge}
 use Rattle.solver.specs.Tree.{ComesFrom}
 use Rattle.plan.specs.Floor.{planFloor}

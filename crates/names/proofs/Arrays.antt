@@ -16,7 +16,7 @@ use Rattle.lists.specs.Padded.{pad}
 use Rattle.lists.proofs.Lists.{set-behind}
 use Rattle.lists.proofs.Padded.{pad-taken}
 use Rattle.formula.specs.Formula.{Name}
-use Rattle.evalset.specs.Sets.{most}
+use Rattle.evalset.specs.Most.{most}
 use Rattle.contact.specs.Numbering.{position, sameName}
 use Rattle.contact.proofs.Naming.{same-name}
 use Rattle.names.specs.declared.KeptName.{KeptName}

@@ -14,7 +14,7 @@ use Rattle.syntax.specs.RuleText.{IsRule}
 use Rattle.syntax.specs.Rule.{ruleOf}
 use Rattle.syntax.specs.declared.Rule.{Rule}
 use Rattle.lists.specs.Search.{In, collect}
-use Rattle.evalset.specs.Sets.{most}
+use Rattle.evalset.specs.Most.{most}
 use Rattle.contact.specs.Numbering.{allAtoms, distinct, position, sameName, namesOf}
 use Rattle.contact.proofs.Naming.{same-name}
 use Rattle.names.specs.declared.Names.{Names}

@@ -15,7 +15,7 @@ use Rattle.syntax.specs.declared.RuleAnswer.{RuleAnswer}
 use Rattle.syntax.specs.declared.RuleAnswer.the-variants as RuleAnswer
 use Rattle.syntax.specs.declared.Rule.{Rule}
 use Rattle.lists.specs.Search.{any}
-use Rattle.evalset.specs.Sets.{most}
+use Rattle.evalset.specs.Most.{most}
 use Rattle.contact.specs.Numbering.{position, sameName}
 use Rattle.names.specs.Seventh.{NameAt, placesOf}
 use Rattle.names.specs.declared.KeptName.{KeptName}

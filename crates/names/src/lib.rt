@@ -8,7 +8,7 @@ ghost use mathlib.Core.Path.{_≡_};
 ghost use Prim.Native.Nat.{_≤_, _<_};
 ghost use mathlib.Core.List.{[]};
 ghost use lib.ListN.{length, take};
-ghost use Rattle.evalset.specs.Sets.{most};
+ghost use Rattle.evalset.specs.Most.{most};
 ghost use Rattle.names.specs.Gather.{arraysOf, keptName, knownOf, Gathers, gathered};
 ghost use Rattle.names.specs.Steps.{sameKept, placeIn, withKept};
 use evalset::NAMES;

@@ -13,7 +13,8 @@ use Rattle.lists.specs.Search.{In}
 use Rattle.contact.specs.Meaning.{Floor}
 use Rattle.contact.specs.Numbering.{AtomBelow}
 use Rattle.contact.specs.Row.{is, RealisesPart}
-use Rattle.contact.specs.Plan.{rowMarks, check}
+use Rattle.contact.specs.Plan.{rowMarks}
+use Rattle.contact.specs.Check.{check}
 use Rattle.contact.proofs.Claims as contact
 use Rattle.search.specs.declared.Chart.{Chart}
 use Rattle.search.specs.Rows.{rowBits}

@@ -12,7 +12,8 @@ use Rattle.formula.specs.Formula.{Atom}
 use Rattle.lists.specs.Search.{In, any, collect, below}
 use Rattle.evalset.specs.Bit.{bit}
 use Rattle.evalset.specs.declared.EvalSet.{EvalSet}
-use Rattle.evalset.specs.Sets.{room, most, memAt}
+use Rattle.evalset.specs.Sets.{room, memAt}
+use Rattle.evalset.specs.Most.{most}
 use Rattle.search.specs.declared.Chart.{Chart}
 use Rattle.search.specs.Compiled.{limit, Compiled, contactAt}
 use Rattle.pairing.specs.declared.Masks.{Masks}

@@ -11,10 +11,12 @@ use borrow.Author.Tests.{ltb-true, lt-ltb, le-ltb}
 use Rattle.lists.proofs.Below.{collect-more, collect-within, collect-small}
 use Rattle.lists.specs.Search.{collect, from, below}
 use Rattle.lists.proofs.Search.{below-elim, collect-same}
-use Rattle.evalset.specs.Sets.{memAt, most}
+use Rattle.evalset.specs.Sets.{memAt}
+use Rattle.evalset.specs.Most.{most}
 use Rattle.plan.specs.declared.PlanArrays.{PlanArrays}
 use Rattle.plan.specs.Words.{Ascends, Rises, IsPlan}
-use Rattle.plan.specs.Arrays.{countOf, pairOf, rowTo, linksTo, planBy}
+use Rattle.plan.specs.Arrays.{countOf, planBy}
+use Rattle.plan.specs.Links.{pairOf, rowTo, linksTo}
 
 -- ---- the contacts that rows give
 pub pair-early : (i j : ℕ) (t : ℕ → Bool) → j ≤ i → pairOf i j t ≡ []

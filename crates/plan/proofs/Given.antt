@@ -19,7 +19,8 @@ use Rattle.lists.specs.Search.{keep, collect, from, elem}
 use Rattle.contact.specs.Meaning.{Floor, meetsAll}
 use Rattle.contact.specs.Numbering.{allAtoms, namesOf, mapAtom, numberedNames, numberedAtoms, numberOf}
 use Rattle.contact.specs.Row.{Row, Realises, is}
-use Rattle.contact.specs.Plan.{Mark, rowMarks, separated, check, given, pointsFor, rows, good, firstRow, firstRowOf}
+use Rattle.contact.specs.Plan.{Mark, rowMarks, separated, given, pointsFor}
+use Rattle.contact.specs.Check.{check, rows, good, firstRow, firstRowOf}
 use Rattle.contact.proofs.Realise.{marksFloor, points-some, plan-points, plan-touch, plan-lies}
 use Rattle.contact.proofs.Numbered.{all-atoms-map}
 use Rattle.contact.proofs.Answer.{row-found, rowFloor, plan-gives-row, plan-meets}
@@ -27,10 +28,11 @@ use Rattle.contact.proofs.Naming.{numbers-row, numbers-meet, first-row-named, f
 use Rattle.contact.proofs.Count.{points-at-most}
 use Rattle.contact.proofs.SameFloor.{SameFloor, row-same, meets-same}
 use Rattle.plan.specs.Words.{Plan, Ascends, IsPlan, lastWord, before, wordsOf}
-use Rattle.evalset.specs.Sets.{most}
+use Rattle.evalset.specs.Most.{most}
 use Rattle.plan.specs.Floor.{liesIn, planFloor, namedFloor}
-use Rattle.plan.specs.Arrays.{pairOf, rowTo, linksTo}
-use Rattle.plan.specs.Given.{givenPlan, rowPlan, plansOf}
+use Rattle.plan.specs.Links.{pairOf, rowTo, linksTo}
+use Rattle.plan.specs.Given.{givenPlan, rowPlan}
+use Rattle.plan.specs.Plans.{plansOf}
 use Rattle.plan.proofs.Complete.{before-length}
 use Rattle.plan.proofs.Contacts.{pair-early, pair-small, links-rise}
 use Rattle.plan.proofs.Judged.{few-points}

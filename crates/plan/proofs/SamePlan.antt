@@ -18,7 +18,9 @@ use Rattle.evalset.specs.Sets.{memAt}
 use Rattle.plan.specs.declared.PlanArrays.{PlanArrays}
 use Rattle.plan.specs.Words.{Plan, Rises, IsPlan}
 use Rattle.plan.specs.Floor.{between, touching}
-use Rattle.plan.specs.Arrays.{square, Stored, countOf, pairOf, rowTo, linksTo, planBy}
+use Rattle.plan.specs.Arrays.{countOf, planBy}
+use Rattle.plan.specs.Links.{pairOf, rowTo, linksTo}
+use Rattle.plan.specs.Stored.{square, Stored}
 use Rattle.plan.specs.Private.{planOf}
 use Rattle.plan.proofs.Squares.{Related, square-elim, square-intro}
 use Rattle.plan.proofs.Contacts.{links-rise}

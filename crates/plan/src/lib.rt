@@ -7,11 +7,14 @@ ghost use mathlib.Core.Bool.{cond};
 ghost use mathlib.Core.List.{List, [], map};
 ghost use Prim.Native.Nat.{ℕ, min, _+_, _*_, _<_, _≤_, _^_};
 ghost use lib.ListN.{length, take};
-ghost use Rattle.evalset.specs.Sets.{most, mem, memAt, addOf};
+ghost use Rattle.evalset.specs.Sets.{mem, memAt, addOf};
+ghost use Rattle.evalset.specs.Most.{most};
 ghost use Rattle.evalset.specs.Arrays.{positionsOf};
 ghost use Rattle.plan.specs.Words.{pointWord};
 ghost use Rattle.plan.specs.Reader.{kindOf, State, step, opened, pointed, linked};
-ghost use Rattle.plan.specs.Arrays.{Stored, Reads, pairOf, rowTo, linksTo, Writes, touchesOf, vacantOf};
+ghost use Rattle.plan.specs.Arrays.{Reads, Writes, touchesOf, vacantOf};
+ghost use Rattle.plan.specs.Links.{pairOf, rowTo, linksTo};
+ghost use Rattle.plan.specs.Stored.{Stored};
 ghost use Rattle.plan.specs.Private.{planOf, joinedOf, Adds, Holds, HeldPoints, HeldLinks, SomePoints, SomeLinks, SomeState, written, Wrote, reachesOf, reachedOf};
 use evalset::EvalSet;
 

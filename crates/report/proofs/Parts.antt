@@ -11,7 +11,8 @@ use Rattle.lexer.specs.Text.{bytes}
 use Rattle.lists.specs.Search.{collect, below, orElse}
 use Rattle.evalset.specs.Sets.{memAt}
 use Rattle.lists.proofs.Search.{collect-collect}
-use Rattle.plan.specs.Arrays.{pairOf, rowTo, linksTo, planBy}
+use Rattle.plan.specs.Arrays.{planBy}
+use Rattle.plan.specs.Links.{pairOf, rowTo, linksTo}
 use Rattle.plan.specs.declared.PlanArrays.{PlanArrays}
 use Rattle.plan.proofs.Contacts.{pair-there}
 use Rattle.report.specs.Output.{labelled, ended, headLine, blanked, nameIf, pointNames, namesOrNone, pointLine, pointLines, contactLine, planText}

@@ -16,9 +16,10 @@ use Rattle.names.specs.declared.Names.{Names}
 use Rattle.names.proofs.Arrays.{known-back, kept-names}
 use Rattle.plan.specs.declared.PlanArrays.{PlanArrays}
 use Rattle.plan.specs.declared.PlanRead.{PlanRead}
-use Rattle.plan.specs.Words.{Plan, IsPlan, wordsOf}
-use Rattle.plan.specs.Arrays.{Stored, Reads, over, planBy}
-use Rattle.plan.specs.Given.{plansOf}
+use Rattle.plan.specs.Words.{Plan, IsPlan, wordsOf, over}
+use Rattle.plan.specs.Arrays.{Reads, planBy}
+use Rattle.plan.specs.Stored.{Stored}
+use Rattle.plan.specs.Plans.{plansOf}
 use Rattle.plan.proofs.SamePlan.{plan-again}
 use Rattle.plan.proofs.Buffer.{written-over}
 use Rattle.plan.proofs.Claims.{no-plan-given, given-exactly, given-is-plan, given-words, given-points, written-read}
@@ -32,9 +33,9 @@ use Rattle.table.specs.declared.LoadResult.{LoadResult}
 use Rattle.table.proofs.AskAnswer.{the-type}
 use Rattle.table.proofs.LoadAnswer.{the-type as load-type}
 use Rattle.table.proofs.Outcome.{the-type as outcome-type}
-use Rattle.table.specs.Store.{Text, rulesOf}
+use Rattle.table.specs.Store.{rulesOf}
+use Rattle.table.specs.Sheet.{Text, linesOf, filled}
 use Rattle.table.specs.Calls.{formulasOf, namesIn, atomsIn, judgeLoad, ifLoaded, loadRules, loaded, FromUs, Loads}
-use Rattle.table.specs.Sheet.{linesOf, filled}
 use Rattle.table.specs.Asking.{askWords, asked, Asks}
 use Rattle.table.specs.Rows.{SomeStand, AskRow, LoadRow}
 use Rattle.plan.specs.Meant.{IsGiven}

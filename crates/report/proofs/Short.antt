@@ -23,7 +23,7 @@ use Rattle.names.specs.Seventh.{namesAt, NameAt, placesOf}
 use Rattle.names.proofs.Distinct.{distinct-in-list}
 use Rattle.names.proofs.Tokens.{past, token-within, at-name, at-other, at-end}
 use Rattle.names.proofs.Texts.{names-of-rule, atoms-names}
-use Rattle.table.specs.Store.{Text}
+use Rattle.table.specs.Sheet.{Text}
 use Rattle.table.specs.Calls.{formulasOf, namesIn}
 use Rattle.syntax.proofs.Claims.{is-rule}
 

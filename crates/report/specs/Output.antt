@@ -12,10 +12,9 @@ use Rattle.lists.specs.Search.{collect, below, orElse}
 use Rattle.evalset.specs.Bit.{bit}
 use Rattle.contact.specs.Numbering.{namesOf}
 use Rattle.plan.specs.Words.{Plan}
-use Rattle.plan.specs.Given.{plansOf}
-use Rattle.table.specs.Store.{Text}
+use Rattle.plan.specs.Plans.{plansOf}
+use Rattle.table.specs.Sheet.{Text, linesOf, filled}
 use Rattle.table.specs.Calls.{formulasOf, judgeLoad, ifLoaded}
-use Rattle.table.specs.Sheet.{linesOf, filled}
 use Rattle.table.specs.declared.Outcome.{Outcome}
 use Rattle.table.specs.declared.Outcome.the-variants as Outcome
 use Rattle.table.specs.Numbers.{loadOutcome}

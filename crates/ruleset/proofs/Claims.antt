@@ -12,7 +12,7 @@ use Rattle.syntax.specs.RuleText.{IsRule}
 use Rattle.syntax.specs.Rule.{meaningOf}
 use Rattle.lists.proofs.Search.{in-either, uncons, none-in}
 use Rattle.contact.specs.Numbering.{allAtoms, namesOf, numberedNames, numberedAtoms}
-use Rattle.contact.specs.Plan.{firstRow, firstRowOf}
+use Rattle.contact.specs.Check.{firstRow, firstRowOf}
 use Rattle.solver.specs.declared.RowAnswer.{RowAnswer}
 use Rattle.solver.specs.Tree.{ComesFrom, Runnable, rowsOf, FirstRowSays}
 use Rattle.solver.proofs.Claims.{runnable, answer-is}
@@ -23,8 +23,9 @@ use Rattle.search.specs.Planned.{marksIn, PlanSays}
 use Rattle.search.proofs.Claims.{planned-is, planned-few}
 use Rattle.plan.specs.declared.PlanArrays.{PlanArrays}
 use Rattle.plan.specs.Words.{Plan, IsPlan}
-use Rattle.evalset.specs.Sets.{most}
-use Rattle.plan.specs.Arrays.{Stored, planBy}
+use Rattle.evalset.specs.Most.{most}
+use Rattle.plan.specs.Arrays.{planBy}
+use Rattle.plan.specs.Stored.{Stored}
 use Rattle.plan.specs.Given.{givenPlan, rowPlan}
 use Rattle.plan.specs.Judging.{judge}
 use Rattle.plan.specs.Floor.{namedFloor}

@@ -13,7 +13,8 @@ use Rattle.contact.specs.Plan.{Mark, separated, pointsFor}
 use Rattle.search.specs.declared.RowPlan.{RowPlan}
 use Rattle.search.specs.Planned.{PlanOf}
 use Rattle.plan.specs.declared.PlanArrays.{PlanArrays}
-use Rattle.plan.specs.Arrays.{linksTo, planBy}
+use Rattle.plan.specs.Arrays.{planBy}
+use Rattle.plan.specs.Links.{linksTo}
 use Rattle.plan.specs.Private.{planOf}
 use Rattle.plan.specs.Given.{givenPlan}
 use Rattle.plan.proofs.Contacts.{links-same}

@@ -10,14 +10,15 @@ use Rattle.syntax.specs.Rule.{meaningOf}
 use Rattle.lists.specs.Search.{In}
 use Rattle.contact.specs.Numbering.{allAtoms, namesOf, numberedNames, numberedAtoms}
 use Rattle.names.specs.Gather.{arraysOf}
-use Rattle.contact.specs.Plan.{firstRowOf}
+use Rattle.contact.specs.Check.{firstRowOf}
 use Rattle.solver.specs.declared.RowAnswer.{RowAnswer}
 use Rattle.solver.specs.Coded.{Coded}
 use Rattle.solver.specs.Tree.{rowsOf}
 use Rattle.search.specs.Rows.{rowBits}
 use Rattle.plan.specs.declared.PlanArrays.{PlanArrays}
 use Rattle.plan.specs.Words.{Plan, IsPlan}
-use Rattle.plan.specs.Arrays.{Stored, planBy}
+use Rattle.plan.specs.Arrays.{planBy}
+use Rattle.plan.specs.Stored.{Stored}
 use Rattle.plan.specs.Given.{rowPlan}
 use Rattle.plan.specs.Judging.{judge}
 use Rattle.plan.specs.Floor.{namedFloor}

@@ -7,7 +7,7 @@ ghost use mathlib.Core.Path.{_≡_};
 ghost use Prim.Native.Nat.{_≤_};
 ghost use lib.ListN.{take};
 ghost use Rattle.search.specs.Compiled.{limit};
-ghost use Rattle.evalset.specs.Sets.{most};
+ghost use Rattle.evalset.specs.Most.{most};
 ghost use Rattle.ruleset.specs.Ends.{lastEnd};
 ghost use Rattle.ruleset.specs.Counted.{nameCount};
 ghost use Rattle.ruleset.specs.Texts.{NothingCompiled, Ready, WithText, Whole, FirstRowIs, RowPlanIs, JudgedIs};

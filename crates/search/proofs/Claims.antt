@@ -11,7 +11,8 @@ use Rattle.lists.proofs.Padded.{pad-at}
 use Rattle.formula.specs.Formula.{Atom}
 use Rattle.evalset.specs.Sets.{memAt, room}
 use Rattle.contact.specs.Row.{is}
-use Rattle.contact.specs.Plan.{separated, check, pointsFor}
+use Rattle.contact.specs.Plan.{separated, pointsFor}
+use Rattle.contact.specs.Check.{check}
 use Rattle.contact.proofs.Claims as contact
 use Rattle.contact.proofs.Realise.{marksFloor}
 use Rattle.search.specs.declared.Chart.{Chart}

@@ -8,7 +8,8 @@ use Prim.Native.Nat.{ℕ, _^_, _≤_, _<_}
 use Rattle.lists.proofs.Below.{any-at, any-none}
 use Rattle.formula.specs.Formula.{Term, Atom}
 use Rattle.lists.specs.Search.{In, here, any, first, orElse, collect, below, elem}
-use Rattle.evalset.specs.Sets.{most, room, meetOf}
+use Rattle.evalset.specs.Sets.{room, meetOf}
+use Rattle.evalset.specs.Most.{most}
 use Rattle.evalset.proofs.Members.{first-names}
 use Rattle.lists.proofs.Search.{none-in, uncons, first-in, below-elim, elem-intro, elem-elim, collect-elim, or-else-cases, collect-same}
 use Rattle.lists.proofs.Truth.{clash}

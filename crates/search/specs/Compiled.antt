@@ -6,7 +6,8 @@ use mathlib.Core.List.{List, [], _∷_, _++_}
 use Prim.Native.Nat.{ℕ, _^_, _≤_, _<_}
 use lib.ListN.{length, getD}
 use Rattle.formula.specs.Formula.{Term, Atom}
-use Rattle.evalset.specs.Sets.{room, most, mem, memAt, minusOf}
+use Rattle.evalset.specs.Sets.{room, mem, memAt, minusOf}
+use Rattle.evalset.specs.Most.{most}
 use Rattle.contact.specs.Meaning.{partTerm}
 use Rattle.contact.specs.Plan.{Means, Mark, mark, separated, allowed}
 use Rattle.search.specs.declared.Chart.{Chart}

@@ -11,9 +11,10 @@ use Rattle.formula.specs.Formula.{Atom}
 use Rattle.lists.specs.Search.{first}
 use Rattle.lists.proofs.Lists.{repeated-at}
 use Rattle.evalset.specs.Bit.{bit}
-use Rattle.evalset.specs.Sets.{room, most, memAt}
+use Rattle.evalset.specs.Sets.{room, memAt}
+use Rattle.evalset.specs.Most.{most}
 use Rattle.evalset.proofs.Bits.{bit-none}
-use Rattle.contact.specs.Plan.{rows, good, firstRow}
+use Rattle.contact.specs.Check.{rows, good, firstRow}
 use Rattle.contact.specs.Tableau.{under}
 use Rattle.search.specs.declared.Chart.{Chart}
 use Rattle.search.specs.Rows.{rowBits}

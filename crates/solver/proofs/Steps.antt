@@ -9,7 +9,8 @@ use lib.ListN.{length}
 use Rattle.lists.specs.Search.{first, below}
 use Rattle.evalset.specs.declared.EvalSet.{EvalSet}
 use Rattle.evalset.specs.declared.Found.the-variants.{Nothing as NoneFound}
-use Rattle.evalset.specs.Sets.{room, most, mem, dropOf, fromOf, foundOf}
+use Rattle.evalset.specs.Sets.{room, mem, dropOf, fromOf, foundOf}
+use Rattle.evalset.specs.Most.{most}
 use Rattle.evalset.proofs.Members.{names-room}
 use Rattle.evalset.proofs.Walk.{from-zero, Step, stop}
 use Rattle.contact.specs.Row.{Row}

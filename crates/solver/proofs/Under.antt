@@ -14,10 +14,12 @@ use Rattle.lists.proofs.Below.{FirstSays, first-says}
 use Rattle.lists.proofs.Search.{first-none, none-intro, map-elim}
 use Rattle.lists.proofs.Truth.{clash, cases}
 use Rattle.evalset.specs.declared.EvalSet.{EvalSet}
-use Rattle.evalset.specs.Sets.{room, most, mem, meetOf}
+use Rattle.evalset.specs.Sets.{room, mem, meetOf}
+use Rattle.evalset.specs.Most.{most}
 use Rattle.evalset.proofs.Members.{names-room}
 use Rattle.contact.specs.Row.{Row, is}
-use Rattle.contact.specs.Plan.{rowMarks, check, rows}
+use Rattle.contact.specs.Plan.{rowMarks}
+use Rattle.contact.specs.Check.{check, rows}
 use Rattle.contact.specs.Tableau.{refutes, closes, under}
 use Rattle.contact.proofs.Searching.{closes-sound, closes-exact, extends-prefix}
 use Rattle.search.specs.Rows.{rowBits}

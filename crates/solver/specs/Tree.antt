@@ -9,9 +9,11 @@ use Rattle.formula.specs.Formula.{Atom, Form}
 use Rattle.evalset.specs.declared.EvalSet.{EvalSet}
 use Rattle.lists.specs.Search.{first}
 use Rattle.evalset.specs.Bit.{bit}
-use Rattle.evalset.specs.Sets.{most, mem}
+use Rattle.evalset.specs.Sets.{mem}
+use Rattle.evalset.specs.Most.{most}
 use Rattle.contact.specs.Row.{Row, is, unknown, PartialRow}
-use Rattle.contact.specs.Plan.{rowMarks, check, good, firstRow}
+use Rattle.contact.specs.Plan.{rowMarks}
+use Rattle.contact.specs.Check.{check, good, firstRow}
 use Rattle.contact.specs.Tableau.{refutes, closes, under}
 use Rattle.kleene.specs.Rails.{Duo, duoOf, wordRows}
 use Rattle.search.specs.declared.Chart.{Chart}

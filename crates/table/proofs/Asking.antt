@@ -18,10 +18,12 @@ use Rattle.plan.specs.declared.PlanAnswer.the-variants as PlanAnswer
 use Rattle.plan.specs.declared.PlanRead.{PlanRead}
 use Rattle.plan.specs.declared.Written.{Written}
 use Rattle.plan.specs.declared.Written.the-variants as Written
-use Rattle.plan.specs.Words.{Plan, IsPlan, wordsOf}
+use Rattle.plan.specs.Words.{Plan, IsPlan, wordsOf, over}
 use Rattle.plan.specs.Reader.{Reading, plan, refused, readOf, ReadingSays}
-use Rattle.plan.specs.Arrays.{Stored, answerOf, planIn, Reads, planBy, Writes, over}
-use Rattle.plan.specs.Given.{rowPlan, plansOf}
+use Rattle.plan.specs.Arrays.{answerOf, planIn, Reads, planBy, Writes}
+use Rattle.plan.specs.Stored.{Stored}
+use Rattle.plan.specs.Given.{rowPlan}
+use Rattle.plan.specs.Plans.{plansOf}
 use Rattle.plan.specs.Judging.{Judgement, yes, unmet, judge}
 use Rattle.plan.proofs.Claims.{given-exactly}
 use Rattle.plan.proofs.Exact.{exact}
@@ -37,7 +39,8 @@ use Rattle.table.specs.declared.AskResult.{AskResult}
 use Rattle.table.specs.declared.JudgeAnswer.{JudgeAnswer}
 use Rattle.table.specs.declared.JudgeAnswer.the-variants as JudgeAnswer
 use Rattle.table.specs.declared.JudgeResult.{JudgeResult}
-use Rattle.table.specs.Store.{Text, rulesOf}
+use Rattle.table.specs.Store.{rulesOf}
+use Rattle.table.specs.Sheet.{Text}
 use Rattle.table.specs.Calls.{formulasOf, FromUs}
 use Rattle.table.specs.Asking.{foundAnswer, askAnswer, foundWords, askWords, asked, Asks, judgementAnswer, judgePlan, judgeReading, judgeAnswer, judged, Judges}
 use Rattle.table.specs.Steps.{writtenAnswer, judgedAnswer, JudgeAnswerSays}

@@ -11,7 +11,8 @@ use Rattle.ruleset.specs.declared.Compiling.{Compiling}
 use Rattle.ruleset.specs.Texts.{Fits, CompiledTexts, NothingCompiled, Ready, WithText}
 use Rattle.ruleset.proofs.Claims.{no-texts, may-add, text-added}
 use Rattle.table.specs.declared.Table.{Table}
-use Rattle.table.specs.Store.{Text, rulesOf}
+use Rattle.table.specs.Store.{rulesOf}
+use Rattle.table.specs.Sheet.{Text}
 use Rattle.table.specs.Calls.{namesIn, atomsIn, FromUs}
 use Rattle.table.specs.Rules.{CanStand}
 use Rattle.table.proofs.Rules.{can-names, can-atoms}

@@ -7,7 +7,8 @@ use lib.ListN.{length, getD, set, replicate, length-map, drop-of-length-le, leng
 use Rattle.lists.proofs.Lists.{map-before, set-behind}
 use Rattle.table.specs.declared.Line.{Line}
 use Rattle.table.specs.declared.Table.{Table}
-use Rattle.table.specs.Store.{Text, tableOf, rulesOf, keptLine}
+use Rattle.table.specs.Store.{tableOf, rulesOf, keptLine}
+use Rattle.table.specs.Sheet.{Text}
 use Rattle.table.specs.Calls.{FromUs}
 
 -- the lines of a table with rs: those of rs, then empty ones

@@ -17,7 +17,8 @@ use Rattle.names.specs.declared.Gathered.{Gathered}
 use Rattle.names.proofs.Claims.{may-gather, known-from}
 use Rattle.table.specs.declared.Line.{Line}
 use Rattle.table.specs.declared.Table.{Table}
-use Rattle.table.specs.Store.{Text, rulesOf, keptLine, textOf}
+use Rattle.table.specs.Store.{rulesOf, keptLine, textOf}
+use Rattle.table.specs.Sheet.{Text}
 use Rattle.table.specs.Calls.{namesIn, atomsIn, FromUs}
 use Rattle.table.specs.Rules.{CanStand}
 use Rattle.table.proofs.Rules.{can-names, can-atoms}

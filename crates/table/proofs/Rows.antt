@@ -29,7 +29,7 @@ use Rattle.names.proofs.Tokens.{tokens-of-rule}
 use Rattle.table.specs.declared.AddAnswer.{AddAnswer}
 use Rattle.table.specs.declared.AddAnswer.the-variants as AddAnswer
 use Rattle.table.specs.declared.WithdrawAnswer.{WithdrawAnswer}
-use Rattle.table.specs.Store.{Text}
+use Rattle.table.specs.Sheet.{Text}
 use Rattle.table.specs.Calls.{formulasOf, namesIn, atomsIn, readAnswer, judgeNames, judgeText, judgeAdd, judgeWithdraw}
 use Rattle.table.specs.Rules.{AreRules, CanStand}
 use Rattle.table.specs.declared.Outcome.{Outcome}

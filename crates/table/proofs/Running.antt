@@ -11,7 +11,8 @@ use Rattle.table.specs.declared.AddResult.{AddResult}
 use Rattle.table.specs.declared.WithdrawResult.{WithdrawResult}
 use Rattle.table.specs.declared.LoadResult.{LoadResult}
 use Rattle.table.specs.declared.AskResult.{AskResult}
-use Rattle.table.specs.Store.{Text, tableOf, rulesOf}
+use Rattle.table.specs.Store.{tableOf, rulesOf}
+use Rattle.table.specs.Sheet.{Text}
 use Rattle.table.specs.Calls.{FromUs, Adds, Withdraws, Loads, judgeAdd, added, withdrawn, loaded}
 use Rattle.table.specs.Rules.{CanStand}
 use Rattle.table.specs.Asking.{Asks}

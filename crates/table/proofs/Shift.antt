@@ -8,7 +8,8 @@ use lib.Seq.{paste, paste-zero, paste-suc, drop-paste, getD-drop, drop-cons, set
 use Rattle.lists.proofs.Lists.{map-take, map-drop}
 use Rattle.table.specs.declared.Line.{Line}
 use Rattle.table.specs.declared.Table.{Table}
-use Rattle.table.specs.Store.{Text, tableOf, rulesOf, keptLine}
+use Rattle.table.specs.Store.{tableOf, rulesOf, keptLine}
+use Rattle.table.specs.Sheet.{Text}
 use Rattle.table.specs.Calls.{without, FromUs}
 use Rattle.table.proofs.Lines.{count-is, lines-are, linesWith, tableWith}
 

@@ -28,10 +28,9 @@ use Rattle.table.specs.declared.WithdrawAnswer.{WithdrawAnswer}
 use Rattle.table.specs.declared.WithdrawAnswer.the-variants as WithdrawAnswer
 use Rattle.table.specs.declared.LoadAnswer.{LoadAnswer}
 use Rattle.table.specs.declared.LoadAnswer.the-variants as LoadAnswer
-use Rattle.table.specs.Store.{Text}
+use Rattle.table.specs.Sheet.{Text, linesOf, blankLine, filled}
 use Rattle.table.specs.Calls.{formulasOf, namesIn, atomsIn, readAnswer, namesAnswer, ifAdded, firstRefusal, judgeNames, judgeAtoms, judgeRoom, judgeText, judgeAdd, addRules, judgeWithdraw, without, ifWithdrawn, withdrawRules, judgeLines, isNone, judgeLoad, ifLoaded, loadRules}
 use Rattle.table.specs.Rules.{CanStand}
-use Rattle.table.specs.Sheet.{linesOf, blankLine, filled}
 use Rattle.table.proofs.Fewer.{names-fewer}
 use Rattle.table.proofs.Rules.{AllRead, can-stand, can-read, can-names, can-atoms}
 

@@ -15,10 +15,9 @@ use Rattle.table.specs.declared.LoadAnswer.{LoadAnswer}
 use Rattle.table.specs.declared.LoadAnswer.the-variants as LoadAnswer
 use Rattle.table.specs.declared.Outcome.{Outcome}
 use Rattle.table.specs.declared.Outcome.the-variants as Outcome
-use Rattle.table.specs.Store.{Text}
+use Rattle.table.specs.Sheet.{Text, linesOf, filled}
 use Rattle.table.specs.Calls.{judgeAdd, judgeWithdraw, without, ifWithdrawn, withdrawRules, judgeLoad, ifLoaded, loadRules}
 use Rattle.table.specs.Rules.{CanStand}
-use Rattle.table.specs.Sheet.{linesOf, filled}
 use Rattle.table.specs.Numbers.{addOutcome, withdrawOutcome, loadOutcome}
 use Rattle.table.specs.Rows.{AddRow, WithdrawRow, LoadRow}
 use Rattle.table.specs.Stands.{Call, add, withdraw, load, ask, IsRefused, TakesOut, StandsAfter, StandsFrom, Stands}

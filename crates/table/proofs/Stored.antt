@@ -6,7 +6,8 @@ use mathlib.Mathlib.Data.List.Basic.{Function·LeftInverse·list-map}
 use lib.ListN.{length, length-map}
 use lib.Seq.{take-at}
 use Rattle.lists.proofs.Padded.{pad-taken}
-use Rattle.table.specs.Store.{Text, tableOf, rulesOf, keptLine, textOf}
+use Rattle.table.specs.Store.{tableOf, rulesOf, keptLine, textOf}
+use Rattle.table.specs.Sheet.{Text}
 use Rattle.table.specs.Calls.{FromUs}
 use Rattle.table.specs.Rules.{CanStand}
 

@@ -17,11 +17,10 @@ use Rattle.contact.specs.Meaning.{Floor, meetsAll}
 use Rattle.plan.specs.Words.{Plan, IsPlan, wordsOf, Refusal}
 use Rattle.plan.specs.Floor.{namedFloor}
 use Rattle.names.specs.Seventh.{SeventhAt, placesOf}
-use Rattle.table.specs.Store.{Text}
+use Rattle.table.specs.Sheet.{Text, linesOf, blankLine, filled}
 use Rattle.table.specs.declared.Outcome.{Outcome}
 use Rattle.table.specs.declared.Outcome.the-variants as Outcome
 use Rattle.table.specs.Rules.{AreRules, CanStand}
-use Rattle.table.specs.Sheet.{linesOf, blankLine, filled}
 use Rattle.plan.specs.Meant.{IsGiven, FirstUnmet}
 
 -- add's text s where the texts rs stand

@@ -15,7 +15,7 @@ use Rattle.plan.specs.declared.Written.{Written}
 use Rattle.plan.specs.declared.Written.the-variants as Written
 use Rattle.plan.specs.declared.PlanArrays.{PlanArrays}
 use Rattle.plan.specs.Words.{Plan, IsPlan}
-use Rattle.plan.specs.Arrays.{Stored}
+use Rattle.plan.specs.Stored.{Stored}
 use Rattle.judging.specs.declared.Judged.{Judged}
 use Rattle.judging.specs.declared.Judged.the-variants as Judged
 use Rattle.ruleset.specs.declared.Compiling.{Compiling}
@@ -29,7 +29,7 @@ use Rattle.table.specs.declared.LoadAnswer.{LoadAnswer}
 use Rattle.table.specs.declared.LoadResult.{LoadResult}
 use Rattle.table.specs.declared.Counts.{Counts}
 use Rattle.table.specs.declared.Counted.{Counted}
-use Rattle.table.specs.Store.{Text}
+use Rattle.table.specs.Sheet.{Text}
 use Rattle.table.specs.Asking.{judgePlan}
 use Rattle.table.specs.Calls.{namesIn, atomsIn, judgeAdd, addRules}
 use Rattle.table.specs.Rules.{CanStand}

@@ -1,15 +1,12 @@
--- What is computed, and of what is meant `Text`: the table as a function of the list of standing texts, and the list that a table holds.
+-- What is computed: the table as a function of the list of standing texts, and the list that a table holds.
 -- "Each entry is the rule's text as it came." Assumes nothing.
-use Prim.Native.Nat.{ℕ, _-_}
+use Prim.Native.Nat.{_-_}
 use mathlib.Core.List.{List, [], _++_, map}
 use lib.ListN.{length, take, replicate}
 use Rattle.lists.specs.Padded.{pad}
 use Rattle.table.specs.declared.Line.{Line}
 use Rattle.table.specs.declared.Table.{Table}
-
--- a text is its bytes
-abbrev pub Text : Type 0
-Text = List ℕ
+use Rattle.table.specs.Sheet.{Text}
 
 -- a text in a line, zeros after it
 unfoldable pub keptLine : Text → Line

@@ -13,7 +13,8 @@ use Rattle.syntax.proofs.Claims.{text-means}
 use Rattle.contact.specs.Meaning.{Floor, meetsAll}
 use Rattle.plan.specs.Words.{Plan, wordsOf}
 use Rattle.plan.specs.Reader.{plan}
-use Rattle.plan.specs.Given.{givenPlan, rowPlan, plansOf}
+use Rattle.plan.specs.Given.{givenPlan, rowPlan}
+use Rattle.plan.specs.Plans.{plansOf}
 use Rattle.plan.proofs.Claims.{written-read, no-plan-given, given-exactly, given-at-most-one, given-is-plan, given-meets}
 use Rattle.contact.specs.Numbering.{namesOf}
 use Rattle.contact.specs.Row.{Row, IsFirstRow}
@@ -26,7 +27,8 @@ use Rattle.table.specs.declared.WithdrawResult.{WithdrawResult}
 use Rattle.table.specs.declared.LoadResult.{LoadResult}
 use Rattle.table.specs.declared.AskResult.{AskResult}
 use Rattle.table.specs.declared.JudgeResult.{JudgeResult}
-use Rattle.table.specs.Store.{Text, tableOf, rulesOf}
+use Rattle.table.specs.Store.{tableOf, rulesOf}
+use Rattle.table.specs.Sheet.{Text}
 use Rattle.table.specs.Calls.{formulasOf, namesIn, judgeAdd, addRules, added, judgeWithdraw, withdrawRules, withdrawn, judgeLoad, loadRules, loaded, FromUs, Adds}
 use Rattle.table.specs.Rules.{AreRules, CanStand}
 use Rattle.table.proofs.Rules.{of-computed, can-rules, can-names}

@@ -19,15 +19,17 @@ use Rattle.evalset.specs.Bit.{bit}
 use Rattle.lists.proofs.Truth.{clash}
 use Rattle.lists.proofs.Lists.{map-same}
 use Rattle.contact.specs.Row.{rulesTrue}
-use Rattle.contact.specs.Plan.{separated, allowed, fills, partners, leads, check, given, pointsFor, good, firstRow}
+use Rattle.contact.specs.Plan.{separated, allowed, fills, partners, leads, given, pointsFor}
+use Rattle.contact.specs.Check.{check, good, firstRow}
 use Rattle.names.specs.Gather.{ruleTokens, withName, namesAfter, gatheredOf, gathered}
 use Rattle.names.specs.Seventh.{placesOf}
-use Rattle.plan.specs.Arrays.{pairOf, rowTo, linksTo, over}
-use Rattle.plan.specs.Words.{Plan, before, wordsOf}
-use Rattle.plan.specs.Given.{givenPlan, rowPlan, plansOf}
+use Rattle.plan.specs.Words.{over, Plan, before, wordsOf}
+use Rattle.plan.specs.Links.{pairOf, rowTo, linksTo}
+use Rattle.plan.specs.Given.{givenPlan, rowPlan}
+use Rattle.plan.specs.Plans.{plansOf}
 use Rattle.table.specs.declared.AskAnswer.{AskAnswer}
 use Rattle.table.specs.declared.AskAnswer.the-variants as AskAnswer
-use Rattle.table.specs.Store.{Text}
+use Rattle.table.specs.Sheet.{Text}
 use Rattle.table.specs.Calls.{formulasOf, namesIn, atomsIn, judgeNames, judgeAtoms, judgeRoom, judgeText, judgeAdd, addRules, judgeWithdraw, without, withdrawRules, isNone}
 use Rattle.table.specs.Stands.{adds, Stands}
 use Rattle.table.specs.Runs.{after, standingFrom, standing}

@@ -14,8 +14,9 @@ use Rattle.syntax.specs.RuleText.{IsRule}
 use Rattle.contact.specs.Meaning.{Floor, meetsAll}
 use Rattle.plan.specs.declared.PlanAnswer.the-variants as PlanAnswer
 use Rattle.plan.specs.declared.PlanRead.{PlanRead}
-use Rattle.plan.specs.Words.{Plan, wordsOf}
-use Rattle.plan.specs.Arrays.{Stored, Reads, over}
+use Rattle.plan.specs.Words.{Plan, wordsOf, over}
+use Rattle.plan.specs.Arrays.{Reads}
+use Rattle.plan.specs.Stored.{Stored}
 use Rattle.table.specs.declared.Table.{Table}
 use Rattle.table.specs.declared.Outcome.{Outcome}
 use Rattle.table.specs.declared.Outcome.the-variants as Outcome
@@ -24,7 +25,8 @@ use Rattle.table.specs.declared.WithdrawResult.{WithdrawResult}
 use Rattle.table.specs.declared.LoadResult.{LoadResult}
 use Rattle.table.specs.declared.AskResult.{AskResult}
 use Rattle.table.specs.declared.JudgeResult.{JudgeResult}
-use Rattle.table.specs.Store.{Text, tableOf}
+use Rattle.table.specs.Store.{tableOf}
+use Rattle.table.specs.Sheet.{Text}
 use Rattle.table.specs.Rules.{AreRules}
 use Rattle.table.specs.Calls.{FromUs, Adds, Withdraws, Loads}
 use Rattle.table.specs.Asking.{Asks, Judges}

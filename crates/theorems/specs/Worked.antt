@@ -5,8 +5,9 @@ use mathlib.Core.List.{List, [], _∷_, _++_}
 use Prim.Native.Nat.{ℕ, _≤_, _<_}
 use lib.ListN.{length}
 use Rattle.lexer.specs.Text.{bytes}
-use Rattle.plan.specs.Arrays.{over}
-use Rattle.table.specs.Store.{Text, rulesOf}
+use Rattle.plan.specs.Words.{over}
+use Rattle.table.specs.Store.{rulesOf}
+use Rattle.table.specs.Sheet.{Text}
 use Rattle.table.specs.Stands.{Call, withdraw, adds, Stands}
 use Rattle.table.specs.Runs.{run}
 use Rattle.table.specs.Asking.{askAnswer, askWords}

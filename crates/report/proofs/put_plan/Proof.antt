@@ -6,7 +6,8 @@ use lib.ListN.{length, take, length-append}
 use Rattle.lists.specs.Search.{collect}
 use Rattle.evalset.specs.Sets.{memAt}
 use Rattle.names.specs.Gather.{knownOf}
-use Rattle.plan.specs.Arrays.{linksTo, planBy}
+use Rattle.plan.specs.Arrays.{planBy}
+use Rattle.plan.specs.Links.{linksTo}
 use Rattle.report.specs.Output.{headLine, pointLines, contactLine, planText}
 use Rattle.report.proofs.Putting.{puts-text, fits-next, puts-more}
 use Rattle.report.proofs.Parts.{plan-parts}

@@ -7,7 +7,7 @@ use lib.ListN.{length}
 use Rattle.lists.specs.Search.{collect, below}
 use Rattle.evalset.specs.Sets.{mem}
 use Rattle.evalset.specs.declared.EvalSet.{EvalSet}
-use Rattle.plan.specs.Arrays.{pairOf}
+use Rattle.plan.specs.Links.{pairOf}
 use Rattle.report.specs.Output.{contactLine}
 use Rattle.report.specs.Putting.{Puts}
 use Rattle.report.proofs.Putting.{puts-none, puts-length, turn-fits, turn-puts, turns-put}
