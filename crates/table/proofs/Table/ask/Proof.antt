@@ -56,16 +56,20 @@ write-plan-requires : tie.Need-write-plan-requires
 write-plan-requires c κs = search needs
 
 -- the answer is the writer's
+abbrev start : tie.After-slice-known2 → tie.Start
+start c = c .before .before .before .before .before .before .before .before .before .before .before .before .before .before .before
+
 wrote : (c : tie.After-slice-known2) (a : AskAnswer) → writtenAnswer (c .before .before .write-plan .result) ≡ a
-    → Asks (c .before .before .before .before .before .before .before .before .before .before .before .before .before .before .before .args .self) (c .before .before .before .before .before .before .before .before .before .before .before .before .before .before .before .args .buffer .now) (askResult (c .before .before .before .before .before .before .before .before .before .before .before .before .before .before .before .args .self) a) (c .before .before .write-plan .last .1 .0)
+    → Asks (start c .args .self) (start c .args .buffer .now) (askResult (start c .args .self) a) (c .before .before .write-plan .last .1 .0)
 wrote c a e =
-    let t = c .before .before .before .before .before .before .before .before .before .before .before .before .before .before .before .args .self in
+    let t = start c .args .self in
     let rules = formulasOf (rulesOf t) in
+    let plan = c .before .before .before .before .plan-of .result in
     let compiled = all-compiled (c .before .before .before .before .before .before .before .before .before .before) in
-    let wrote = wrote-plan _ _ _ _ (c .before .before .write-plan .ensures) in
-    asks-some t (c .before .before .before .before .before .before .before .before .before .before .before .before .before .before .before .pre) _ (c .before .before .before .before .before .before .before .before .before .before .before .before .before .if1 .left) (planBy (c .before .before .before .before .plan-of .result) ∷ [])
+    let out = wrote-plan plan (start c .args .buffer .now) (c .before .before .write-plan .result) (c .before .before .write-plan .last .1 .0) (c .before .before .write-plan .ensures) in
+    asks-some t (start c .pre) _ (c .before .before .before .before .before .before .before .before .before .before .before .before .before .if1 .left) (planBy plan ∷ [])
     (found-plans rules _ _ _ compiled (c .before .before .before .before .before .before .before .before .row-of .ensures) ∙ ap (λ (r : RowAnswer). map (rowPlan rules) (rowsOf (c .before .before .before .before .before .before .before .before .before .before .compiled .result .chart .atoms) r)) (c .before .before .before .before .before .before .found .given .1)
-    ∙ ap (λ (p : Plan). p ∷ []) (sym (plan-is rules _ _ compiled _ _ (c .before .before .before .before .plan-of .ensures)))) _ _ (sym e ∙ wrote .0) (wrote .1)
+    ∙ ap (λ (p : Plan). p ∷ []) (sym (plan-is rules _ _ compiled _ _ (c .before .before .before .before .plan-of .ensures)))) _ _ (sym e ∙ out .0) (out .1)
 
 enum-known-written : tie.Need-enum-known-written
 enum-known-written c = search needs
