@@ -167,7 +167,7 @@ unfolding JudgeAnswerSays
 says-equal c code arrays e j says a f rules compiled p h stored = judge-equal rules c code arrays compiled p h stored e j says a f
 
 module _ (t : Table) (v : FromUs t) (words : List ℕ) where
-  judges-of : (a : JudgeAnswer) → a ≡ judgeAnswer (rulesOf t) words → Judges t words (judgeResult t a)
+  pub judges-of : (a : JudgeAnswer) → a ≡ judgeAnswer (rulesOf t) words → Judges t words (judgeResult t a)
   unfolding judged
   judges-of a e = record { result = ap₂ judgeResult (v .same) e; same = refl; from-us = v }
 
