@@ -1,6 +1,5 @@
--- What is meant, and over what is computed: the text that the program floorplan writes for a sheet (document 01, 'Worked sheets'). The
--- lines are meant; which a sheet gets, `rulesText` and `outputOf` take from `judgeLoad`, `formulasOf` and `plansOf`, which are computed.
--- Assumes nothing.
+-- What is meant, and what is computed: the lines that the program floorplan prints are meant (document 01, 'Worked sheets'); which of them a
+-- sheet gets is computed (`rulesText`, `outcomeText`, `outputOf`), and proofs/Claims.antt ties that to what is meant (Printed). Assumes nothing.
 use mathlib.Core.Bool.{cond}
 use mathlib.Core.List.{List, [], _∷_, _++_}
 use Prim.Native.Nat.{ℕ, zero, suc, _+_, _/_, _%_}
