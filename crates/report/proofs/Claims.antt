@@ -15,7 +15,8 @@ use Rattle.table.specs.Sheet.{Text, linesOf, filled}
 use Rattle.table.specs.Rules.{AreRules}
 use Rattle.table.specs.Rows.{LoadRow}
 use Rattle.table.specs.declared.Outcome.the-variants as Outcome
-use Rattle.report.specs.Output.{ended, planText, outputOf}
+use Rattle.report.specs.Output.{outputOf}
+use Rattle.report.specs.Lines.{ended, planText}
 use Rattle.report.specs.Printed.{Printed, plan-lines, no-plan-line}
 use Rattle.report.proofs.Printing as Printing
 use Rattle.report.proofs.Examples as Examples

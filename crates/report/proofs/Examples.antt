@@ -24,7 +24,8 @@ use Rattle.plan.specs.Plans.{plansOf}
 use Rattle.plan.proofs.Examples.{P1, P2}
 use Rattle.table.specs.Sheet.{onFirst, linesOf, blankByte, blankLine, filled}
 use Rattle.table.specs.Calls.{namesIn, atomsIn, judgeNames, judgeAtoms, judgeRoom, judgeText, judgeAdd, judgeLines, judgeLoad}
-use Rattle.report.specs.Output.{digits, decimal, headLine, pointNames, namesOrNone, pointLine, pointLines, contactLine, planText, rulesText, refusedText, outputOf}
+use Rattle.report.specs.Output.{rulesText, outputOf}
+use Rattle.report.specs.Lines.{digits, decimal, headLine, pointNames, namesOrNone, pointLine, pointLines, contactLine, planText, refusedText}
 
 -- a text and how it is spelled
 abbrev pub texts : List (List ℕ × String)

@@ -25,7 +25,8 @@ use Rattle.table.specs.Numbers.{loadOutcome}
 use Rattle.table.proofs.Standing.{not-loaded}
 use Rattle.table.proofs.LoadRows.{load-done}
 use Rattle.table.proofs.Claims.{formulas-computed, load-answered, load-answered-only}
-use Rattle.report.specs.Output.{ended, headLine, planText, plansText, rulesText, refusedText, outcomeText, outputOf}
+use Rattle.report.specs.Output.{plansText, rulesText, outcomeText, outputOf}
+use Rattle.report.specs.Lines.{ended, headLine, planText, refusedText}
 use Rattle.report.specs.Printed.{Printed, plan-lines, no-plan-line, refused-line}
 
 module _ (file : Text) where

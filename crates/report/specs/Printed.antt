@@ -16,7 +16,7 @@ use Rattle.table.specs.Rules.{AreRules}
 use Rattle.table.specs.Rows.{LoadRow}
 use Rattle.table.specs.declared.Outcome.{Outcome}
 use Rattle.table.specs.declared.Outcome.the-variants as Outcome
-use Rattle.report.specs.Output.{ended, planText, refusedText}
+use Rattle.report.specs.Lines.{ended, planText, refusedText}
 
 -- "The program floorplan reads one sheet": all that it prints for these bytes
 pub data Printed (file : Text) : List ℕ → Type 0 where

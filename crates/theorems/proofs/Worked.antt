@@ -1,6 +1,6 @@
 -- Every worked sheet holds: the standing rules and the words of their plan are computed from the rule texts, one equation over the
 -- table of rows, and what ask gives follows for any buffer. Assumes nothing.
-use mathlib.Core.Path.{_≡_, refl, sym, ap, _∙_, subst}
+use mathlib.Core.Path.{_≡_, refl, ap, _∙_, subst}
 use mathlib.Core.Bool.{Bool, true, false, cond}
 use mathlib.Core.List.{List, [], _∷_, map, nil≢cons, cons≢nil, head-eq-of-cons-eq}
 use Prim.Native.Nat.{ℕ}
