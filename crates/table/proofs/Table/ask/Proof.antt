@@ -1,16 +1,12 @@
 -- `table::Table::ask` meets its contract: the rules are compiled, the search finds the first row or none, and its plan is written. Assumes nothing.
 use borrow.Author.Needs.{needs}
-use mathlib.Core.Path.{refl, sym, ap, _∙_}
-use mathlib.Core.List.{[], _∷_, map}
-use Rattle.solver.specs.Tree.{rowsOf}
-use Rattle.solver.specs.declared.RowAnswer.{RowAnswer}
-use Rattle.plan.specs.Words.{Plan}
-use Rattle.plan.specs.Given.{rowPlan}
+use mathlib.Core.Path.{refl, _∙_}
+use mathlib.Core.List.{[], _∷_}
 use Rattle.plan.specs.Arrays.{planBy}
-use Rattle.ruleset.proofs.Claims.{plan-is, may-plan}
+use Rattle.ruleset.proofs.Claims.{none-given, may-plan, plan-given}
 use Rattle.table.specs.Store.{rulesOf}
 use Rattle.table.specs.Calls.{formulasOf}
-use Rattle.table.proofs.Asking.{asks-none, asks-some, found-plans, wrote-plan}
+use Rattle.table.proofs.Asking.{asks-none, asks-some, wrote-plan}
 use Rattle.table.proofs.Table.ask.Statement.{statement}
 use Rattle.table.proofs.Table.ask.Tie as tie
 
@@ -40,7 +36,7 @@ returns-2 c =
     let t = c .before .before .before .before .before .before .before .before .before .before .args .self in
     let compiled = c .before .before .before .before .compiled .ensures .rules-compiled in
     asks-some t (c .before .before .before .before .before .before .before .before .before .before .pre) _ (c .before .before .before .before .before .before .before .if1 .left) []
-    (found-plans (formulasOf (rulesOf t)) _ _ _ compiled (c .before .before .row-of .ensures) ∙ ap (λ (r : RowAnswer). map (rowPlan (formulasOf (rulesOf t))) (rowsOf (c .before .before .before .before .compiled .result .chart .atoms) r)) (c .enum-told .given .1)) _ _ refl refl
+    (none-given (formulasOf (rulesOf t)) _ _ compiled _ (c .before .before .row-of .ensures) (c .enum-told .given .1)) _ _ refl refl
 
 plan-of-requires : tie.Need-plan-of-requires
 plan-of-requires c κs = may-plan _ _ _ (c .before .before .before .before .before .compiled .ensures .rules-compiled)
@@ -57,12 +53,11 @@ same-length c = search needs
 returns-3 : tie.Need-returns-3
 returns-3 c =
     let t = c .before .before .before .before .before .before .before .before .before .before .before .before .before .before .before .before .before .args .self in
-    let rules = formulasOf (rulesOf t) in
     let compiled = c .before .before .before .before .before .before .before .before .before .before .before .compiled .ensures .rules-compiled in
     let wrote = wrote-plan _ _ _ _ (c .before .before .before .write-plan .ensures) in
     asks-some t (c .before .before .before .before .before .before .before .before .before .before .before .before .before .before .before .before .before .pre) _ (c .before .before .before .before .before .before .before .before .before .before .before .before .before .before .if1 .left) (planBy (c .before .before .before .before .before .plan-of .result) ∷ [])
-    (found-plans rules _ _ _ compiled (c .before .before .before .before .before .before .before .before .before .row-of .ensures) ∙ ap (λ (r : RowAnswer). map (rowPlan rules) (rowsOf (c .before .before .before .before .before .before .before .before .before .before .before .compiled .result .chart .atoms) r)) (c .before .before .before .before .before .before .before .found .given .1)
-    ∙ ap (λ (p : Plan). p ∷ []) (sym (plan-is rules _ _ compiled _ _ (c .before .before .before .before .before .plan-of .ensures)))) _ _ (c .written-answer .ensures ∙ wrote .0) (wrote .1)
+    (plan-given (formulasOf (rulesOf t)) _ _ compiled _ _ _ (c .before .before .before .before .before .before .before .before .before .row-of .ensures) (c .before .before .before .before .before .before .before .found .given .1)
+    (c .before .before .before .before .before .plan-of .ensures)) _ _ (c .written-answer .ensures ∙ wrote .0) (wrote .1)
 
 pub ask-spec : {M : Type 1} → statement M
 ask-spec =
