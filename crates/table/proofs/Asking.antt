@@ -40,7 +40,7 @@ use Rattle.table.specs.Store.{rulesOf}
 use Rattle.table.specs.Sheet.{Text}
 use Rattle.table.specs.Calls.{formulasOf, FromUs}
 use Rattle.table.specs.Asking.{foundAnswer, askAnswer, foundWords, askWords, asked, Asks, judgementAnswer, judgePlan, judgeReading, judgeAnswer, judged, Judges}
-use Rattle.table.specs.Steps.{writtenAnswer, judgedAnswer, JudgeAnswerSays}
+use Rattle.table.specs.Steps.{judgedAnswer}
 use Rattle.table.specs.Rows.{SomeStand}
 use Rattle.table.proofs.Lines.{count-is, none-stand}
 use Rattle.plan.specs.Meant.{IsGiven}
@@ -87,7 +87,7 @@ module _ (rs : List Text) (buffer : List ℕ) (some : SomeStand rs) where
 
 -- ---- ask
 
-abbrev askResult : Table → AskAnswer → AskResult
+abbrev pub askResult : Table → AskAnswer → AskResult
 askResult t a = record { table = t; answer = a }
 
 module _ (t : Table) (v : FromUs t) (buffer : List ℕ) where
@@ -110,6 +110,11 @@ module _ (t : Table) (v : FromUs t) (buffer : List ℕ) where
       asks-of a exit (f ∙ ap (λ (ps : List Plan). foundAnswer ps (length buffer)) (sym e) ∙ sym (asked-some (rulesOf t) some (length buffer)))
       (g ∙ ap (λ (ps : List Plan). foundWords ps buffer) (sym e) ∙ sym (words-some (rulesOf t) some buffer))
 
+-- the plan writer's answers, as ask's
+abbrev pub writtenAnswer : Written → AskAnswer
+writtenAnswer (Written.Words n) = AskAnswer.Plan n
+writtenAnswer (Written.Needs n) = AskAnswer.ShortBuffer n
+
 -- what is written is what is asked for
 pub wrote-plan : (arrays : PlanArrays) (buffer : List ℕ) (w : Written) (exit : List ℕ) → Writes arrays buffer w exit
     → (writtenAnswer w ≡ foundAnswer (planBy arrays ∷ []) (length buffer)) × (exit ≡ foundWords (planBy arrays ∷ []) buffer)
@@ -131,31 +136,24 @@ same-judgement : (j : Judgement) → judgedAnswer (judgedOf j) ≡ judgementAnsw
 same-judgement yes = refl
 same-judgement (unmet k) = refl
 
-module _ (rules : List (Formula Name)) (c : Compiling) (code : List ℕ) (arrays : PlanArrays) (compiled : CompiledRules rules c code)
-    (p : Plan) (h : IsPlan p) (stored : Stored arrays p) where
-  judge-differs : (arrays .names ≡ c .chart .names → ⊥) → JudgeAnswer.NamesDiffer (arrays .names) ≡ judgePlan rules p h
-  judge-differs differ =
+-- how a plan that arrays hold is judged by the rules, from an answer
+abbrev SaysOf : List (Formula Name) → PlanArrays → JudgeAnswer → Type 0
+SaysOf rules arrays a = (p : Plan) (h : IsPlan p) → Stored arrays p → a ≡ judgePlan rules p h
+
+module _ (rules : List (Formula Name)) (c : Compiling) (code : List ℕ) (arrays : PlanArrays) (compiled : CompiledRules rules c code) where
+  pub judge-differs : (arrays .names ≡ c .chart .names → ⊥) → SaysOf rules arrays (JudgeAnswer.NamesDiffer (arrays .names))
+  judge-differs differ p h stored =
       ap JudgeAnswer.NamesDiffer (stored .names)
       ∙ sym (ap (λ (b : Bool). cond b (judgementAnswer (judge (namedFloor rules p h) rules)) (JudgeAnswer.NamesDiffer (p .names)))
       (ne-eqb (p .names) (length (namesOf rules)) (λ e. differ (stored .names ∙ e ∙ sym (compiled .names-counted)))))
 
-  judge-equal : arrays .names ≡ c .chart .names → (j : Judged) → JudgedIs c code arrays j → (a : JudgeAnswer) → a ≡ judgedAnswer j → a ≡ judgePlan rules p h
+  pub judge-equal : arrays .names ≡ c .chart .names → (j : Judged) → JudgedIs c code arrays j → (a : JudgeAnswer) → a ≡ judgedAnswer j → SaysOf rules arrays a
   unfolding JudgedIs
-  judge-equal e j says a f =
+  judge-equal e j says a f p h stored =
       let named : p .names ≡ length (namesOf rules) = sym (stored .names) ∙ e ∙ compiled .names-counted in
       f ∙ ap judgedAnswer (says rules compiled p h named stored) ∙ same-judgement (judge (namedFloor rules p h) rules)
       ∙ sym (ap (λ (b : Bool). cond b (judgementAnswer (judge (namedFloor rules p h) rules)) (JudgeAnswer.NamesDiffer (p .names)))
       (eq-eqb (p .names) (length (namesOf rules)) named))
-
-pub says-differ : (c : Compiling) (code : List ℕ) (arrays : PlanArrays) → (arrays .names ≡ c .chart .names → ⊥)
-    → JudgeAnswerSays c code arrays (JudgeAnswer.NamesDiffer (arrays .names))
-unfolding JudgeAnswerSays
-says-differ c code arrays differ rules compiled p h stored = judge-differs rules c code arrays compiled p h stored differ
-
-pub says-equal : (c : Compiling) (code : List ℕ) (arrays : PlanArrays) → arrays .names ≡ c .chart .names → (j : Judged) → JudgedIs c code arrays j
-    → (a : JudgeAnswer) → a ≡ judgedAnswer j → JudgeAnswerSays c code arrays a
-unfolding JudgeAnswerSays
-says-equal c code arrays e j says a f rules compiled p h stored = judge-equal rules c code arrays compiled p h stored e j says a f
 
 module _ (t : Table) (v : FromUs t) (words : List ℕ) where
   pub judges-of : (a : JudgeAnswer) → a ≡ judgeAnswer (rulesOf t) words → Judges t words (judgeResult t a)
@@ -180,11 +178,9 @@ module _ (t : Table) (v : FromUs t) (words : List ℕ) where
         go (refused j) says q = let z : j ≡ at = cc in ap JudgeAnswer.NotAPlan z
 
     -- they are one
-    pub judges-plan : 0 < t .count → r .answer ≡ PlanAnswer.Plan → (c : Compiling) (code : List ℕ) → CompiledRules (formulasOf (rulesOf t)) c code
-        → (a : JudgeAnswer) → JudgeAnswerSays c code (r .plan) a → Judges t words (judgeResult t a)
-    unfolding JudgeAnswerSays
-    judges-plan h e c code compiled a says = judges-some h a (go (readOf words) (exact words) (sym (reads .answer) ∙ e) (reads .plan))
+    pub judges-plan : 0 < t .count → r .answer ≡ PlanAnswer.Plan → (a : JudgeAnswer) → SaysOf (formulasOf (rulesOf t)) (r .plan) a → Judges t words (judgeResult t a)
+    judges-plan h e a says = judges-some h a (go (readOf words) (exact words) (sym (reads .answer) ∙ e) (reads .plan))
       where
         go : (x : Reading) (s : ReadingSays words x) → answerOf x ≡ PlanAnswer.Plan → Stored (r .plan) (planIn x) → a ≡ judgeReading (formulasOf (rulesOf t)) words x s
-        go (plan p) s q stored = says (formulasOf (rulesOf t)) compiled p (s .0) stored
+        go (plan p) s q stored = says p (s .0) stored
         go (refused j) s q stored = absurd (let z : _≡_ {A = ℕ} 0 1 = cc in omega arith)

@@ -25,7 +25,7 @@ use Rattle.plan.specs.Words.{Refusal}
 use Rattle.plan.specs.Arrays.{Reads}
 use Rattle.table.specs.declared.Outcome.{Outcome}
 use Rattle.table.specs.declared.Outcome.the-variants as Outcome
-use Rattle.table.specs.Numbers.{addOutcome, withdrawOutcome, loadOutcome, askOutcome, judgeOutcome, ruleOutcome, planOutcome}
+use Rattle.table.specs.Numbers.{addOutcome, withdrawOutcome, CanCome, loadOutcome, askOutcome, judgeOutcome, ruleOutcome, planOutcome}
 use Rattle.table.specs.Rows.{AddRow, WithdrawRow, LoadRow, AskRow, JudgeRow}
 use Rattle.table.specs.Stands.{Call, add, withdraw, load, ask, judge, adds, Stands}
 use Rattle.table.specs.Runs.{step, run, after, standing, Faithful}
@@ -144,6 +144,10 @@ load-answered = LoadRows.load-row
 
 pub load-answered-only : (f : Text) (o : Outcome) → LoadRow f o → o ≡ loadOutcome (judgeLoad f)
 load-answered-only = LoadRows.load-row-only
+
+-- "The first refused line ends the load": no load answers that a line ends it and was added
+pub load-can-come : (f : Text) → CanCome (judgeLoad f)
+load-can-come = LoadRows.load-can-come
 
 pub ask-answered : (room : ℕ) (rs : List Text) (fs : List (Formula Name)) → AreRules rs fs → AskRow rs room (askOutcome (askAnswer rs room))
 ask-answered room rs fs are = AskRows.ask-row room rs (Rules.are-read rs fs are)

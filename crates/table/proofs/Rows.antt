@@ -90,7 +90,7 @@ module _ (rs : List Text) (s : Text) (h : CanStand rs) where
         let are : AreRules (rs ++ s ∷ []) (formulasOf (rs ++ s ∷ [])) = formulas-are (rs ++ s ∷ []) (read-more rs s (can-read rs h) e) in
         let fine = names-are rs s NamesAnswer.Enough f in
         cases (ltb 16 (atomsIn (rs ++ s ∷ [])))
-        (λ t. subst⁻¹ Holds (judge-atoms rs s read few fine (ltb-true _ _ t)) (many are few names (ltb-true _ _ t)))
+        (λ t. subst⁻¹ Holds (judge-atoms rs s read few fine (ltb-true _ _ t)) (many are few names (let z : 16 < atomsIn (rs ++ s ∷ []) = ltb-true _ _ t in omega arith)))
         (λ t. subst⁻¹ Holds (judge-added rs s read few fine (ltb-false _ _ t)) (stands are few names (ltb-false _ _ t)))
 
     named : (a : NamesAnswer) → gathered s (namesIn rs) .answer ≡ a → Holds (judgeAdd rs s)
@@ -160,11 +160,22 @@ module _ (rs : List Text) (s : Text) (h : CanStand rs) where
       (ap addOutcome
       (judge-added rs s (text-is s RuleAnswer.Formula (of-last are)) few (last-names are names) (omega (arith, are-atoms (rs ++ s ∷ []) fs are))))
 
+-- the reader's answers have the numbers that add gives them
+read-outcome : (a : RuleAnswer) → addOutcome (readAnswer a) ≡ ruleOutcome a
+read-outcome RuleAnswer.Formula = refl
+read-outcome RuleAnswer.TooLong = refl
+read-outcome RuleAnswer.NoToken = refl
+read-outcome (RuleAnswer.ForeignByte i) = refl
+read-outcome (RuleAnswer.LongName i) = refl
+read-outcome (RuleAnswer.Measured i) = refl
+read-outcome (RuleAnswer.GrammarAt i) = refl
+
 -- a text that is refused alone is so by add, whatever rules stand
 pub text-refused : (rs : List Text) (s : Text) (k p : ℕ) → ruleOutcome (ruleOf s .answer) ≡ Outcome.Refused k p → addOutcome (judgeAdd rs s) ≡ Outcome.Refused k p
 text-refused rs s k p e =
-    ap addOutcome (judge-text rs s (readAnswer (ruleOf s .answer)) (text-is s (ruleOf s .answer) refl) (λ f. let z : Outcome.Done ≡ Outcome.Refused k p = sym (ap addOutcome f) ∙ e in absurd (let y : _≡_ {A = ℕ} 0 1 = cc in omega arith)))
-    ∙ e
+    let told : addOutcome (readAnswer (ruleOf s .answer)) ≡ Outcome.Refused k p = read-outcome (ruleOf s .answer) ∙ e in
+    ap addOutcome (judge-text rs s (readAnswer (ruleOf s .answer)) (text-is s (ruleOf s .answer) refl) (λ f. let z : Outcome.Done ≡ Outcome.Refused k p = sym (ap addOutcome f) ∙ told in absurd (let y : _≡_ {A = ℕ} 0 1 = cc in omega arith)))
+    ∙ told
 
 -- ---- withdraw
 

@@ -4,7 +4,7 @@ use mathlib.Core.Path.{_≡_, refl, sym, ap, _∙_}
 use mathlib.Core.List.{List, [], _∷_, _++_, map, map-append}
 use native.Mathlib.Omega.{arith}
 use lib.ListN.{length, take, drop, getD, set, replicate, length-map, length-append, length-take, length-drop, length-replicate}
-use lib.Seq.{paste, paste-zero, paste-suc, drop-paste, getD-drop, drop-cons, set-at, take-at, drop-at, take-append-le, drop-append-le}
+use lib.Seq.{paste, paste-zero, paste-suc, getD-drop, drop-cons, set-at, take-at, drop-at, take-append-le, drop-append-le}
 use Rattle.lists.proofs.Lists.{map-take, map-drop}
 use Rattle.table.specs.declared.Line.{Line}
 use Rattle.table.specs.declared.Table.{Table}
@@ -17,26 +17,15 @@ use Rattle.table.proofs.Lines.{count-is, lines-are, linesWith, tableWit
 abbrev pub moved : List Line → ℕ → ℕ → List Line
 moved ls k i = paste ls (k - 1) (drop k ls) (i - k)
 
-module _ (ls : List Line) (k i : ℕ) (d : Line) (pos : 1 ≤ k) (low : k ≤ i) (h : i < length ls) where
-  reads : getD (moved ls k i) i d ≡ getD (drop k ls) (i - k) d
-  reads =
-      let a : k - 1 + (i - k) + 1 ≡ i = omega arith in
-      let b : k + (i - k) ≡ i = omega arith in
-      ap (λ (n : ℕ). getD (moved ls k i) n d) (sym a)
-      ∙ sym (getD-drop (k - 1 + (i - k)) (moved ls k i) 1 d)
-      ∙ ap (λ (l : List Line). getD l 1 d) (drop-paste ls (k - 1) (drop k ls) (i - k) (omega arith) (simp length-drop (omega arith)))
-      ∙ getD-drop (k - 1 + (i - k)) ls 1 d
-      ∙ ap (λ (n : ℕ). getD ls n d) (a ∙ sym b)
-      ∙ sym (getD-drop k ls (i - k) d)
-
-  pub moved-next : set (moved ls k i) (i - 1) (getD (moved ls k i) i d) ≡ moved ls k (i + 1)
-  moved-next =
-      let a : i - 1 ≡ k - 1 + (i - k) = omega arith in
-      let b : suc (i - k) ≡ i + 1 - k = omega arith in
-      ap (λ (x : Line). set (moved ls k i) (i - 1) x) reads
-      ∙ ap (λ (n : ℕ). set (moved ls k i) n (getD (drop k ls) (i - k) d)) a
-      ∙ paste-suc ls (k - 1) (drop k ls) (i - k) d (omega arith) (simp length-drop (omega arith))
-      ∙ ap (λ (n : ℕ). paste ls (k - 1) (drop k ls) n) b
+pub moved-next : (ls : List Line) (k i : ℕ) (d : Line) → 1 ≤ k → k ≤ i → i < length ls → set (moved ls k i) (i - 1) (getD ls i d) ≡ moved ls k (i + 1)
+moved-next ls k i d pos low h =
+    let e : i ≡ k + (i - k) = omega arith in
+    let a : i - 1 ≡ k - 1 + (i - k) = omega arith in
+    let b : suc (i - k) ≡ i + 1 - k = omega arith in
+    ap (λ (x : Line). set (moved ls k i) (i - 1) x) (ap (λ (n : ℕ). getD ls n d) e ∙ sym (getD-drop k ls (i - k) d))
+    ∙ ap (λ (n : ℕ). set (moved ls k i) n (getD (drop k ls) (i - k) d)) a
+    ∙ paste-suc ls (k - 1) (drop k ls) (i - k) d (omega arith) (simp length-drop (omega arith))
+    ∙ ap (λ (n : ℕ). paste ls (k - 1) (drop k ls) n) b
 
 pub moved-none : (ls : List Line) (k : ℕ) → ls ≡ moved ls k k
 moved-none ls k =
