@@ -1,91 +1,29 @@
--- What is computed, and for proofs what the functions ensure: the masks of evaluations, the list of the different words of pairs, and what
--- is put into a table. `ListSays` is the contract of `words_of`, which only our own crates call. Assumes nothing.
-use mathlib.Core.Bool.{Bool, true, false, not, _&&_, _||_}
+-- What is computed, and for proofs what the functions ensure: the list of the different words of pairs, and what is put into a table.
+-- `ListSays` is the contract of `words_of`, which only our own crates call. Assumes nothing.
+use mathlib.Core.Bool.{Bool, true, false, _&&_, _||_}
 use mathlib.Core.Path.{_≡_}
 use mathlib.Core.List.{List, [], _∷_}
 use mathlib.Core.Logic.{_⊎_}
 use Prim.Native.Nat.{ℕ, zero, suc, _+_, _*_, _/_, _%_, _^_, _≤_, _<_}
-use lib.Bits.{bitAnd, bitOr}
+use lib.Bits.{bitAnd}
 use lib.Dec.{eqb}
 use lib.ListN.{length, getD, take}
 use Rattle.formula.specs.Formula.{Atom}
 use Rattle.lists.specs.Search.{In, any, collect, below}
 use Rattle.evalset.specs.Bit.{bit}
-use Rattle.evalset.specs.declared.EvalSet.{EvalSet}
-use Rattle.evalset.specs.Sets.{room, memAt}
+use Rattle.evalset.specs.Sets.{room}
 use Rattle.evalset.specs.Most.{most}
 use Rattle.search.specs.declared.Chart.{Chart}
 use Rattle.search.specs.Compiled.{limit, Compiled, contactAt}
-use Rattle.pairing.specs.declared.Masks.{Masks}
-use Rattle.pairing.specs.declared.Mask.{Mask}
 use Rattle.pairing.specs.Sums.{entry}
 use Rattle.pairing.specs.Words.{Spelt, Serving, within}
 
--- ---- the masks of an evaluation
-
--- e is in the i-th set
-abbrev pub memberOf : List EvalSet → ℕ → ℕ → Bool
-memberOf sets e i = memAt sets i e
-
--- one digit more
-abbrev pub digit : Bool → ℕ
-digit true = 1
-digit false = 0
-
--- e is in the first term of contact i
-abbrev pub firstAt : Chart → ℕ → ℕ → Bool
-firstAt chart e i = contactAt chart i && memAt (chart .xs) i e
-
--- and in the second
-abbrev pub secondAt : Chart → ℕ → ℕ → Bool
-secondAt chart e i = memAt (chart .ys) i e
-
--- e alone serves atom i
-abbrev pub ownAt : Chart → ℕ → ℕ → Bool
-ownAt chart e i = memAt (chart .xs) i e && (not (contactAt chart i) || memAt (chart .ys) i e)
-
--- the masks of e: which atoms e serves alone, and which contacts have it in their first term, and in their second
-pub record MaskIs (chart : Chart) (e own first second : ℕ) : Type 0 where
-  pub own-is : Spelt (chart .atoms) (ownAt chart e) own
-  pub first-is : Spelt (chart .atoms) (firstAt chart e) first
-  pub second-is : Spelt (chart .atoms) (secondAt chart e) second
-
-abbrev pub maskSays : Chart → ℕ → Mask → Type 0
-maskSays chart e m = MaskIs chart e (m .own) (m .first) (m .second)
-
--- those of the evaluations below n
-abbrev pub MasksAre : Chart → ℕ → Masks → Type 0
-MasksAre chart n m = (e : ℕ) → e < n → MaskIs chart e (entry (m .own) e) (entry (m .first) e) (entry (m .second) e)
-
 -- ---- pairs
 
--- masks from their arrays
-abbrev pub masksOf : List ℕ → List ℕ → List ℕ → Masks
-masksOf own first second = record { own = own; first = first; second = second }
-
--- the word of a pair
-unfoldable pub pairWord : Masks → ℕ → ℕ → ℕ
-pairWord m e f =
-    bitOr (bitOr (bitOr (entry (m .own) e) (entry (m .own) f)) (bitAnd (entry (m .first) e) (entry (m .second) f)))
-    (bitAnd (entry (m .second) e) (entry (m .first) f))
-
--- those of e with the first n evaluations
-unfoldable pub pairsOf : Masks → ℕ → ℕ → List ℕ
-pairsOf m e n = collect (λ f. pairWord m e f ∷ []) (below n)
-
--- those of the first n evaluations, each with those up to it
-unfoldable pub allPairs : Masks → ℕ → List ℕ
-allPairs m n = collect (λ e. pairsOf m e (e + 1)) (below n)
-
--- how many these are
+-- how many pairs n evaluations have, each one with those up to it
 unfoldable pub pairCount : ℕ → ℕ
 pairCount zero = 0
 pairCount (suc n) = pairCount n + suc n
-
--- these stand in an array
-pub record PairsIn (m : Masks) (e n : ℕ) (words : List ℕ) : Type 0 where
-  pub long : length words ≡ 64
-  pub are : (f : ℕ) → f < n → entry words f ≡ pairWord m e f
 
 -- the first n of an array
 unfoldable pub entriesOf : List ℕ → ℕ → List ℕ

@@ -3,7 +3,7 @@
 use mathlib.Core.Path.{_≡_}
 use mathlib.Core.Bool.{Bool, not, _&&_, cond}
 use mathlib.Core.List.{List, []}
-use Prim.Native.Nat.{ℕ, min, _+_}
+use Prim.Native.Nat.{ℕ, min}
 use lib.Dec.{leb}
 use lib.ListN.{length, getD, take}
 use Rattle.lists.specs.Search.{any, below}

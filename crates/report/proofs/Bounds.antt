@@ -15,7 +15,7 @@ use Rattle.plan.specs.Words.{Plan, Rises, IsPlan, before, lastWord, wordsOf}
 use Rattle.plan.proofs.Complete.{before-length}
 use Rattle.plan.proofs.SamePlan.{in-rises}
 use Rattle.lists.proofs.Search.{collect-few, from-length, below-elim}
-use Rattle.report.specs.Output.{headLine, blanked, nameIf, pointNames, namesOrNone, pointLine, pointLines, contactLine, planText, refusedText}
+use Rattle.report.specs.Lines.{headLine, blanked, nameIf, pointNames, namesOrNone, pointLine, pointLines, contactLine, planText, refusedText}
 use Rattle.report.proofs.Digits.{decimal-few}
 use Rattle.report.proofs.Parts.{names-parts}
 

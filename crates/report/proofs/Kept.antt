@@ -14,7 +14,7 @@ use Rattle.names.specs.declared.KeptName.{KeptName}
 use Rattle.names.specs.declared.Names.{Names}
 use Rattle.names.proofs.Arrays.{bytes-back, size-back}
 use Rattle.names.proofs.Scans.{empty}
-use Rattle.report.specs.Output.{nameIf, pointNames, blanked}
+use Rattle.report.specs.Lines.{nameIf, pointNames, blanked}
 use Rattle.report.proofs.Parts.{names-parts}
 
 module _ (names : Names) (kept : Kept names) where

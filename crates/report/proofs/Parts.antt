@@ -15,7 +15,7 @@ use Rattle.plan.specs.Arrays.{planBy}
 use Rattle.plan.specs.Links.{pairOf, rowTo, linksTo}
 use Rattle.plan.specs.declared.PlanArrays.{PlanArrays}
 use Rattle.plan.proofs.Contacts.{pair-there}
-use Rattle.report.specs.Output.{labelled, ended, headLine, blanked, nameIf, pointNames, namesOrNone, pointLine, pointLines, contactLine, planText}
+use Rattle.report.specs.Lines.{labelled, ended, headLine, blanked, nameIf, pointNames, namesOrNone, pointLine, pointLines, contactLine, planText}
 
 pub names-parts : (names : List Name) (e : ℕ)
     → collect blanked (pointNames names e) ≡ collect (λ i. collect blanked (nameIf names e i)) (below (length names))

@@ -46,7 +46,8 @@ use Rattle.table.specs.Numbers.{CanCome, loadOutcome, askOutcome}
 use Rattle.table.proofs.Rules.{of-computed, can-read, can-names, can-atoms}
 use Rattle.table.proofs.Standing.{not-loaded}
 use Rattle.table.proofs.Asking.{words-written, first-words}
-use Rattle.report.specs.Output.{planText, plansText, rulesText, outcomeText, outputOf, ended}
+use Rattle.report.specs.Output.{plansText, rulesText, outcomeText, outputOf}
+use Rattle.report.specs.Lines.{planText, ended}
 use Rattle.report.specs.Putting.{Puts}
 use Rattle.report.proofs.Short.{names-short}
 use Rattle.report.proofs.Bounds.{plan-few}

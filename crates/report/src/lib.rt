@@ -1,6 +1,6 @@
-// The text that the program floorplan writes for a sheet (document 01, 'Worked sheets'). What is meant is in specs/Output.antt: one
-// function from the sheet's bytes to the text's. Here the text is put into a buffer piece by piece: each private function puts
-// one piece at a place, and answers the place after it. The buffer has room for the text of every sheet. Assumes nothing.
+// The text that the program floorplan writes for a sheet (document 01, 'Worked sheets'). What is meant is in specs/Printed.antt, what is
+// computed in specs/Output.antt: one function from the sheet's bytes to the text's. Here the text is put into a buffer piece by piece: each
+// private function puts one piece at a place, and answers the place after it. The buffer has room for the text of every sheet. Assumes nothing.
 ghost use mathlib.Core.Path.{_≡_};
 ghost use Prim.Native.Nat.{_+_, _*_, _≤_, _<_};
 ghost use lib.ListN.{length, take};
@@ -14,7 +14,8 @@ ghost use Rattle.table.specs.Store.{rulesOf};
 ghost use Rattle.table.specs.Calls.{formulasOf, FromUs};
 ghost use Rattle.table.specs.Rows.{SomeStand};
 ghost use Rattle.table.specs.Numbers.{CanCome, loadOutcome};
-ghost use Rattle.report.specs.Output.{decimal, labelled, headLine, nameIf, pointNames, namesOrNone, blanked, pointLine, pointLines, contactLine, planText, refusedText, outcomeText, rulesText, outputOf};
+ghost use Rattle.report.specs.Output.{outcomeText, rulesText, outputOf};
+ghost use Rattle.report.specs.Lines.{decimal, labelled, headLine, nameIf, pointNames, namesOrNone, blanked, pointLine, pointLines, contactLine, planText, refusedText};
 ghost use Rattle.report.specs.Putting.{Puts, Reports};
 use evalset::EvalSet;
 use names::KeptName;

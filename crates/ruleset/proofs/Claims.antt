@@ -14,8 +14,9 @@ use Rattle.lists.proofs.Search.{in-either, uncons, none-in}
 use Rattle.contact.specs.Numbering.{allAtoms, namesOf, numberedNames, numberedAtoms}
 use Rattle.contact.specs.Check.{firstRow, firstRowOf}
 use Rattle.solver.specs.declared.RowAnswer.{RowAnswer}
-use Rattle.solver.specs.Tree.{ComesFrom, Runnable, rowsOf, FirstRowSays}
-use Rattle.solver.proofs.Claims.{runnable, answer-is}
+use Rattle.solver.specs.declared.RowAnswer.the-variants.{At, Nothing}
+use Rattle.solver.specs.Tree.{ComesFrom, Runnable, answerFor, FirstRowSays}
+use Rattle.solver.proofs.Claims.{runnable, answer-is, answer-found, answer-none}
 use Rattle.search.specs.declared.RowPlan.{RowPlan}
 use Rattle.search.specs.Rows.{rowBits}
 use Rattle.search.specs.Compiled.{limit}
@@ -27,6 +28,9 @@ use Rattle.evalset.specs.Most.{most}
 use Rattle.plan.specs.Arrays.{planBy}
 use Rattle.plan.specs.Stored.{Stored}
 use Rattle.plan.specs.Given.{givenPlan, rowPlan}
+use Rattle.plan.specs.Plans.{plansOf}
+use Rattle.plan.proofs.SamePlan.{plan-again}
+use Rattle.plan.proofs.Claims.{given-is-plan}
 use Rattle.plan.specs.Judging.{judge}
 use Rattle.plan.specs.Floor.{namedFloor}
 use Rattle.judging.specs.declared.Judged.{Judged}
@@ -35,8 +39,8 @@ use Rattle.judging.specs.Judges.{JudgesSay}
 use Rattle.judging.proofs.Claims as judging
 use Rattle.compile.proofs.Searched.{compiled-search}
 use Rattle.ruleset.specs.declared.Compiling.{Compiling}
-use Rattle.ruleset.specs.Texts.{Fits, CompiledRules, CompiledTexts, OneMore, Ready, WithText, NothingCompiled, RowPlanIs, JudgedIs}
-use Rattle.ruleset.proofs.Planning.{rowArrays, plan-given}
+use Rattle.ruleset.specs.Texts.{Fits, CompiledRules, CompiledTexts, OneMore, Ready, WithText, NothingCompiled, FirstRowIs, RowPlanIs, JudgedIs}
+use Rattle.ruleset.proofs.Planning.{rowArrays, plan-stored}
 
 -- ---- for a caller of `with_text`: the texts
 
@@ -84,12 +88,19 @@ module _ (rules : List (Formula Name)) (c : Compiling) (code : List ℕ) (h : Co
   pub ends-fit : length (c .ends) ≡ 16 → c .count ≤ length (c .ends)
   ends-fit long = omega (arith, h .counted, h .fits .rules-fit)
 
-  -- the answer of `first_row` is the first row of the numbered rules
+  -- the answer of `first_row` is the number of the first row of the numbered rules
   pub answer-first-row : (r : RowAnswer) → FirstRowSays code (take (c .count) (c .ends)) (c .chart) r
-      → rowsOf (c .chart .atoms) r ≡ firstRowOf (length (namesOf rules)) (numberedNames rules)
+      → r ≡ answerFor (firstRowOf (length (namesOf rules)) (numberedNames rules))
   answer-first-row r says =
       answer-is code (take (c .count) (c .ends)) (c .chart) r says (allAtoms (numberedNames rules)) (numberedAtoms (numberedNames rules)) comes-from
-      ∙ ap (λ (n : ℕ). firstRow n (allAtoms (numberedNames rules)) (numberedAtoms (numberedNames rules))) (h .names-counted)
+      ∙ ap (λ (n : ℕ). answerFor (firstRow n (allAtoms (numberedNames rules)) (numberedAtoms (numberedNames rules)))) (h .names-counted)
+
+  -- where `row_of` finds none, no plan is given
+  pub none-given : (r : RowAnswer) → FirstRowIs c code r → r ≡ Nothing → plansOf rules ≡ []
+  unfolding FirstRowIs plansOf
+  none-given r says e =
+      ap (map (rowPlan rules))
+      (answer-none (length (namesOf rules)) (allAtoms (numberedNames rules)) (numberedAtoms (numberedNames rules)) (sym (says rules h) ∙ e))
 
   -- ---- for a caller of the plan of a row
 
@@ -99,18 +110,24 @@ module _ (rules : List (Formula Name)) (c : Compiling) (code : List ℕ) (h : Co
 
   -- what `planned` answers is, beside the number of names, the plan of the row (Planning)
   pub answer-row-plan : (row : ℕ) (r : RowPlan) → PlanSays (c .chart) row r
-      → planBy (rowArrays (c .chart .names) r) ≡ rowPlan rules (rowBits (c .chart .atoms) row)
+      → Stored (rowArrays (c .chart .names) r) (rowPlan rules (rowBits (c .chart .atoms) row))
   unfolding rowPlan
   answer-row-plan row r says =
       let atoms = allAtoms (numberedNames rules) in
       let few = planned-few (c .chart) atoms (comes-from .compiled) r row says (h .compiled .few) in
-      plan-given (c .chart .names) (marksIn (c .chart) atoms row) r (planned-is (c .chart) atoms (comes-from .compiled) row says) (omega arith)
-      ∙ ap (λ (n : ℕ). givenPlan n (marksIn (c .chart) atoms row)) (h .names-counted)
+      subst (λ (n : ℕ). Stored (rowArrays (c .chart .names) r) (givenPlan n (marksIn (c .chart) atoms row))) (h .names-counted)
+      (plan-stored (c .chart .names) (marksIn (c .chart) atoms row) r (planned-is (c .chart) atoms (comes-from .compiled) row says) (omega arith))
 
-  -- and so is the answer of `plan_of`
-  pub plan-is : (row : ℕ) (r : PlanArrays) → RowPlanIs c row r → planBy r ≡ rowPlan rules (rowBits (c .chart .atoms) row)
-  unfolding RowPlanIs
-  plan-is row r says = says rules code h
+  -- where `row_of` finds a row, the arrays of `plan_of` hold the plan that is given, and no other
+  pub plan-given : (r : RowAnswer) (row : ℕ) (arrays : PlanArrays) → FirstRowIs c code r → r ≡ At row → RowPlanIs c row arrays
+      → plansOf rules ≡ planBy arrays ∷ []
+  unfolding FirstRowIs RowPlanIs plansOf
+  plan-given r row arrays says e holds =
+      let names = length (namesOf rules) in
+      let found = answer-found names (allAtoms (numberedNames rules)) (numberedAtoms (numberedNames rules)) (c .chart .atoms) row (h .compiled .counted)
+      (sym (says rules h) ∙ e) in
+      ap (map (rowPlan rules)) found
+      ∙ ap (λ (p : Plan). p ∷ []) (sym (plan-again arrays _ (given-is-plan rules (h .fits .names-fit) _ found) (holds rules code h)))
 
   -- ---- for a caller of the judgement
 

@@ -13,11 +13,10 @@ use Rattle.names.specs.Gather.{arraysOf}
 use Rattle.contact.specs.Check.{firstRowOf}
 use Rattle.solver.specs.declared.RowAnswer.{RowAnswer}
 use Rattle.solver.specs.Coded.{Coded}
-use Rattle.solver.specs.Tree.{rowsOf}
+use Rattle.solver.specs.Tree.{answerFor}
 use Rattle.search.specs.Rows.{rowBits}
 use Rattle.plan.specs.declared.PlanArrays.{PlanArrays}
 use Rattle.plan.specs.Words.{Plan, IsPlan}
-use Rattle.plan.specs.Arrays.{planBy}
 use Rattle.plan.specs.Stored.{Stored}
 use Rattle.plan.specs.Given.{rowPlan}
 use Rattle.plan.specs.Judging.{judge}
@@ -75,16 +74,16 @@ pub record Whole (c : Compiling) (code : List ℕ) : Type 0 where
 
 -- ---- what the compiled rules answer
 
--- the answer is the first row of the rules that are compiled
+-- the answer is the number of the first row of the rules that are compiled
 unfoldable pub FirstRowIs : Compiling → List ℕ → RowAnswer → Type 0
 FirstRowIs c code r =
     (rules : List (Formula Name)) → CompiledRules rules c code
-    → rowsOf (c .chart .atoms) r ≡ firstRowOf (length (namesOf rules)) (numberedNames rules)
+    → r ≡ answerFor (firstRowOf (length (namesOf rules)) (numberedNames rules))
 
 -- the arrays hold the plan of a row of the rules that are compiled
 unfoldable pub RowPlanIs : Compiling → ℕ → PlanArrays → Type 0
 RowPlanIs c row r =
-    (rules : List (Formula Name)) (code : List ℕ) → CompiledRules rules c code → planBy r ≡ rowPlan rules (rowBits (c .chart .atoms) row)
+    (rules : List (Formula Name)) (code : List ℕ) → CompiledRules rules c code → Stored r (rowPlan rules (rowBits (c .chart .atoms) row))
 
 -- the answer is the judgement of the rules that are compiled on the floor of the plan that the arrays hold
 unfoldable pub JudgedIs : Compiling → List ℕ → PlanArrays → Judged → Type 0

@@ -1,8 +1,8 @@
--- The search from the root: arrays of zeros have room for what is seen and for the words of all pairs, and the first good row under the row of
--- no atoms is the first row. Assumes nothing.
+-- The search from the root: arrays of zeros have room for what is seen and for the words of all pairs, and what is found is the first good row
+-- under the row of no atoms. Assumes nothing.
 use mathlib.Core.Bool.{Bool, false}
 use mathlib.Core.Path.{_≡_, sym, ap, _∙_, subst}
-use mathlib.Core.List.{List, [], map-id}
+use mathlib.Core.List.{List, []}
 use Prim.Native.Nat.{ℕ, zero, suc, _+_, _-_, _*_, _/_, _%_, _^_, _≤_, min}
 use native.Mathlib.Omega.{arith}
 use lib.ListN.{length, replicate, take, length-replicate}
@@ -14,7 +14,7 @@ use Rattle.evalset.specs.Bit.{bit}
 use Rattle.evalset.specs.Sets.{room, memAt}
 use Rattle.evalset.specs.Most.{most}
 use Rattle.evalset.proofs.Bits.{bit-none}
-use Rattle.contact.specs.Check.{rows, good, firstRow}
+use Rattle.contact.specs.Check.{good}
 use Rattle.contact.specs.Tableau.{under}
 use Rattle.search.specs.declared.Chart.{Chart}
 use Rattle.search.specs.Rows.{rowBits}
@@ -24,7 +24,7 @@ use Rattle.pairing.specs.Listed.{pairCount, Listable, ListSays}
 use Rattle.solver.specs.declared.Cut.{Cut}
 use Rattle.solver.specs.declared.RowAnswer.{RowAnswer}
 use Rattle.solver.specs.Coded.{part, Coded}
-use Rattle.solver.specs.Tree.{rowsOf, CutOf, Given, Finds, evaluationCount, Unseen, Roomy, FirstRowSays}
+use Rattle.solver.specs.Tree.{answerFor, CutOf, Given, Finds, evaluationCount, Unseen, Roomy, SearchSays}
 
 -- ---- the memory
 
@@ -85,8 +85,8 @@ contacts-compiled chart atoms contacts h s =
 pub root-first : (code ends : List ℕ) (chart : Chart) (contacts : ℕ) (list list' : List ℕ) (count : ℕ) (cut : Cut) (r : RowAnswer)
     → Spelt (chart .atoms) (contactAt chart) contacts → ListSays chart list list' count → CutOf (part list' 0 count) contacts (chart .atoms) cut
     → ((g : Given code ends cut) → Serving (g .names) (g .atoms) (part list' 0 count) → Finds g 0 0 (cut .k + (cut .w + cut .r)) r)
-    → FirstRowSays code ends chart r
-unfolding FirstRowSays firstRow rowBits
+    → SearchSays code ends chart r
+unfolding SearchSays rowBits
 root-first code ends chart contacts list list' count cut r spelt words cuts finds = λ atoms rules h.
     let same : chart .atoms ≡ length atoms = h .compiled .counted in
     let z : count ≡ count - 0 = omega arith in
@@ -99,6 +99,5 @@ root-first code ends chart contacts list list' count cut r spelt words cuts find
       coded = subst (λ (n : ℕ). Coded n code ends rules) same (h .coded);
       contacts-are = subst (Contacts atoms) (sym (cuts .contacts-is)) (contacts-compiled chart atoms contacts (h .compiled) spelt);
     } in
-    ap (λ (n : ℕ). rowsOf n r) same ∙ finds given (subst (λ (x : ℕ). Serving (chart .names) atoms (take x list')) z (words .are atoms (h .compiled)))
-    ∙ ap (λ (m : ℕ). first (good (chart .names) atoms rules) (under [] m)) all
-    ∙ ap (first (good (chart .names) atoms rules)) (map-id (rows (length atoms)))
+    finds given (subst (λ (x : ℕ). Serving (chart .names) atoms (take x list')) z (words .are atoms (h .compiled)))
+    ∙ ap (λ (m : ℕ). answerFor (first (good (chart .names) atoms rules) (under [] m))) all

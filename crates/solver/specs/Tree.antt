@@ -17,7 +17,7 @@ use Rattle.contact.specs.Check.{check, good, firstRow}
 use Rattle.contact.specs.Tableau.{refutes, closes, under}
 use Rattle.kleene.specs.Rails.{Duo, duoOf, wordRows}
 use Rattle.search.specs.declared.Chart.{Chart}
-use Rattle.search.specs.Rows.{rowBits}
+use Rattle.search.specs.Rows.{rowBits, rowNumber}
 use Rattle.search.specs.Compiled.{limit, Compiled}
 use Rattle.pairing.specs.Words.{Contacts, lone, rowTest}
 use Rattle.pairing.specs.Listed.{seenAt, pairCount}
@@ -81,10 +81,10 @@ pub record Runnable (code ends : List ℕ) (chart : Chart) : Type 0 where
   pub safe : SafeFrom code 0 ends
   pub atoms-fit : chart .atoms ≤ limit
 
--- what is found, as a list of none or one
-abbrev pub rowsOf : ℕ → RowAnswer → List (List Bool)
-rowsOf n (At row) = rowBits n row ∷ []
-rowsOf n Nothing = []
+-- the answer for the row that is found, a list of none or one: its number
+abbrev pub answerFor : List Row → RowAnswer
+answerFor [] = Nothing
+answerFor (row ∷ rows) = At (rowNumber row)
 
 -- the first of a set of rows, counted from `start`
 abbrev pub answerOf : ℕ → List ℕ → RowAnswer
@@ -151,7 +151,7 @@ module _ {code ends : List ℕ} {cut : Cut} (g : Given code ends cut) where
 
   -- the answer is the first good row under the row of k atoms, s atoms more
   abbrev pub Finds : ℕ → ℕ → ℕ → RowAnswer → Type 0
-  Finds k row s r = rowsOf (length (g .atoms)) r ≡ first goodFor (under (rowBits k row) s)
+  Finds k row s r = r ≡ answerFor (first goodFor (under (rowBits k row) s))
 
 -- ---- the memory that is lent for the list
 
@@ -171,8 +171,14 @@ pub record Roomy (chart : Chart) (seen list : List ℕ) : Type 0 where
 
 -- ---- the answer
 
--- the answer is the first row, for all atoms and rules that the code and the chart come from
+-- what is found is the first good row under the row of no atoms, for all atoms and rules that the code and the chart come from
+unfoldable pub SearchSays : List ℕ → List ℕ → Chart → RowAnswer → Type 0
+SearchSays code ends chart r =
+    (atoms : List (Atom ℕ)) (rules : List (Form ℕ)) → ComesFrom code ends chart atoms rules
+    → r ≡ answerFor (first (good (chart .names) atoms rules) (under [] (length atoms)))
+
+-- so the answer is the number of the first row, or that there is none
 unfoldable pub FirstRowSays : List ℕ → List ℕ → Chart → RowAnswer → Type 0
 FirstRowSays code ends chart r =
     (atoms : List (Atom ℕ)) (rules : List (Form ℕ)) → ComesFrom code ends chart atoms rules
-    → rowsOf (chart .atoms) r ≡ firstRow (chart .names) atoms rules
+    → r ≡ answerFor (firstRow (chart .names) atoms rules)

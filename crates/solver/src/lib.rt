@@ -18,7 +18,7 @@ ghost use Rattle.search.specs.Compiled.{limit};
 ghost use Rattle.search.specs.Rows.{rowBits};
 ghost use Rattle.pairing.specs.Words.{Serving};
 ghost use Rattle.solver.specs.Coded.{part, PartSafe, SafeFrom, RuleRefuted, RefutedSays, TrueSays};
-ghost use Rattle.solver.specs.Tree.{decidedAt, Low, wordLevels, RowLeaves, WordLeaves, WholeSays, UnrefutedSays, answerOf, Fits, CutFor, Lent, Given, RowsTested, WordsTested, Left, Finds, CutOf, evaluationCount, Unseen, Roomy, Runnable, FirstRowSays};
+ghost use Rattle.solver.specs.Tree.{decidedAt, Low, wordLevels, RowLeaves, WordLeaves, WholeSays, UnrefutedSays, answerOf, Fits, CutFor, Lent, Given, RowsTested, WordsTested, Left, Finds, CutOf, evaluationCount, Unseen, Roomy, Runnable, SearchSays, FirstRowSays};
 use evalset::EvalSet;
 use evalset::Found;
 use evalset::NAMES;
@@ -378,7 +378,7 @@ fn searched(
     list: &mut [u16],
 ) -> RowAnswer
     requires { ⌜ Runnable (now code) (now ends) chart × Roomy chart (now seen) (now list) ⌝ }
-    ensures { λ r. ⌜ FirstRowSays (now (code .entry)) (now (ends .entry)) chart r ⌝ }
+    ensures { λ r. ⌜ SearchSays (now (code .entry)) (now (ends .entry)) chart r ⌝ }
 {
     let contacts = pairing::contacts_of(chart);
     let top = all_evaluations(chart.names);
@@ -393,7 +393,7 @@ fn searched(
 // The same with room for the list of words by the number of names: sheets of few names do not clear more than they need.
 fn listed(code: &[u8], ends: &[usize], chart: Chart, seen: &mut [u64]) -> RowAnswer
     requires { ⌜ Runnable (now code) (now ends) chart × Unseen chart (now seen) ⌝ }
-    ensures { λ r. ⌜ FirstRowSays (now (code .entry)) (now (ends .entry)) chart r ⌝ }
+    ensures { λ r. ⌜ SearchSays (now (code .entry)) (now (ends .entry)) chart r ⌝ }
 {
     if chart.names <= 4 {
         let mut few = [0u16; 136];

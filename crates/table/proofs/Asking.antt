@@ -1,9 +1,9 @@
--- Ask and judge meet their definitions: the rows that the search finds are those of the standing rules, their plan is the one that is
--- written, and words that are read are judged as a plan. Assumes nothing.
+-- Ask and judge meet their definitions: the plans given of the standing rules are none, or one that is written, and words that are read are
+-- judged as a plan. Assumes nothing.
 use Prim.Native.Nat.{ℕ, _≤_, _<_}
 use mathlib.Core.Path.{_≡_, refl, sym, ap, ap₂, _∙_}
 use mathlib.Core.Bool.{Bool, true, false, cond}
-use mathlib.Core.List.{List, [], _∷_, map}
+use mathlib.Core.List.{List, [], _∷_}
 use native.Mathlib.Omega.{arith}
 use lib.Dec.{leb}
 use lib.ListN.{length, take}
@@ -11,8 +11,6 @@ use lib.Seq.{take-append-seam}
 use borrow.Author.Tests.{le-leb, lt-leb, eq-eqb, ne-eqb}
 use Rattle.formula.specs.Formula.{Formula, Name}
 use Rattle.contact.specs.Numbering.{namesOf}
-use Rattle.solver.specs.declared.RowAnswer.{RowAnswer}
-use Rattle.solver.specs.Tree.{rowsOf}
 use Rattle.plan.specs.declared.PlanArrays.{PlanArrays}
 use Rattle.plan.specs.declared.PlanAnswer.the-variants as PlanAnswer
 use Rattle.plan.specs.declared.PlanRead.{PlanRead}
@@ -22,7 +20,6 @@ use Rattle.plan.specs.Words.{Plan, IsPlan, wordsOf, over}
 use Rattle.plan.specs.Reader.{Reading, plan, refused, readOf, ReadingSays}
 use Rattle.plan.specs.Arrays.{answerOf, planIn, Reads, planBy, Writes}
 use Rattle.plan.specs.Stored.{Stored}
-use Rattle.plan.specs.Given.{rowPlan}
 use Rattle.plan.specs.Plans.{plansOf}
 use Rattle.plan.specs.Judging.{Judgement, yes, unmet, judge}
 use Rattle.plan.proofs.Claims.{given-exactly}
@@ -31,7 +28,7 @@ use Rattle.plan.specs.Floor.{namedFloor}
 use Rattle.judging.specs.declared.Judged.{Judged}
 use Rattle.judging.specs.Values.{judgedOf}
 use Rattle.ruleset.specs.declared.Compiling.{Compiling}
-use Rattle.ruleset.specs.Texts.{CompiledRules, FirstRowIs, JudgedIs}
+use Rattle.ruleset.specs.Texts.{CompiledRules, JudgedIs}
 use Rattle.table.specs.declared.Table.{Table}
 use Rattle.table.specs.declared.AskAnswer.{AskAnswer}
 use Rattle.table.specs.declared.AskAnswer.the-variants as AskAnswer
@@ -113,12 +110,6 @@ module _ (t : Table) (v : FromUs t) (buffer : List ℕ) where
       asks-of a exit (f ∙ ap (λ (ps : List Plan). foundAnswer ps (length buffer)) (sym e) ∙ sym (asked-some (rulesOf t) some (length buffer)))
       (g ∙ ap (λ (ps : List Plan). foundWords ps buffer) (sym e) ∙ sym (words-some (rulesOf t) some buffer))
 
--- the plans of the rows that are found
-pub found-plans : (rules : List (Formula Name)) (c : Compiling) (code : List ℕ) (r : RowAnswer) → CompiledRules rules c code → FirstRowIs c code r
-    → plansOf rules ≡ map (rowPlan rules) (rowsOf (c .chart .atoms) r)
-unfolding plansOf FirstRowIs
-found-plans rules c code r h says = ap (map (rowPlan rules)) (sym (says rules h))
-
 -- the plan writer's answers, as ask's
 abbrev pub writtenAnswer : Written → AskAnswer
 writtenAnswer (Written.Words n) = AskAnswer.Plan n
@@ -165,7 +156,7 @@ module _ (rules : List (Formula Name)) (c : Compiling) (code : List ℕ) (arrays
       (eq-eqb (p .names) (length (namesOf rules)) named))
 
 module _ (t : Table) (v : FromUs t) (words : List ℕ) where
-  judges-of : (a : JudgeAnswer) → a ≡ judgeAnswer (rulesOf t) words → Judges t words (judgeResult t a)
+  pub judges-of : (a : JudgeAnswer) → a ≡ judgeAnswer (rulesOf t) words → Judges t words (judgeResult t a)
   unfolding judged
   judges-of a e = record { result = ap₂ judgeResult (v .same) e; same = refl; from-us = v }
 

@@ -15,7 +15,7 @@ abbrev μ-loop : tie.MeasureT-loop
 μ-loop sheet₀ done₀ sheet done = length sheet₀ - done
 
 -- what a read gave is within the sheet
-read-within : (c : tie.After-got Inv-loop μ-loop) → c .before .before .before .before .before .before .before .loop .done + c .got .given .0 .0 ≤ length (c .before .before .before .before .before .before .before .loop .chart)
+read-within : (c : tie.After-got Inv-loop μ-loop) → c .before .before .before .before .before .before .before .loop .done + c .got .given .0 .0 ≤ length (c .before .before .before .before .before .before .before .loop .sheet)
 read-within c = subst (Within _ _) (c .got .given .1) (c .before .before .before .before .read-on .ensures .0)
 
 loop-holds : tie.Need-loop-holds Inv-loop μ-loop

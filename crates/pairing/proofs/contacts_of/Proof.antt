@@ -21,7 +21,7 @@ element-copy-out-contact : tie.Need-element-copy-out-contact Inv-loop μ-loop
 element-copy-out-contact c = omega arith
 
 pushed-requires : tie.Need-pushed-requires Inv-loop μ-loop
-pushed-requires c κs = spelt-few _ _ _ (c .before .before .loop .inv .1) (omega arith)
+pushed-requires c κs = let l = spelt-few _ _ _ (c .before .before .loop .inv .1) (omega arith) in omega (arith, l)
 
 add-i : tie.Need-add-i Inv-loop μ-loop
 add-i c = omega arith

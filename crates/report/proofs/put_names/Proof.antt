@@ -7,7 +7,7 @@ use lib.ListN.{length}
 use Rattle.lists.specs.Search.{collect, below}
 use Rattle.names.specs.Gather.{knownOf}
 use Rattle.names.specs.declared.Names.{Names}
-use Rattle.report.specs.Output.{nameIf, blanked}
+use Rattle.report.specs.Lines.{nameIf, blanked}
 use Rattle.report.specs.Putting.{Puts}
 use Rattle.report.proofs.Putting.{puts-none, puts-length, turn-fits, turn-puts, turns-put}
 use Rattle.report.proofs.Kept.{names-turns}

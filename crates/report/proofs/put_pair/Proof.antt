@@ -5,7 +5,7 @@ use lib.ListN.{length}
 use Rattle.lists.specs.Search.{collect}
 use Rattle.evalset.specs.Sets.{mem}
 use Rattle.plan.proofs.Contacts.{pair-early, pair-apart}
-use Rattle.report.specs.Output.{contactLine}
+use Rattle.report.specs.Lines.{contactLine}
 use Rattle.report.proofs.Putting.{puts-none, puts-text}
 use Rattle.report.proofs.Parts.{pair-text}
 use borrow.Author.Needs.{needs}

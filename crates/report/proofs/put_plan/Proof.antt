@@ -8,7 +8,7 @@ use Rattle.evalset.specs.Sets.{memAt}
 use Rattle.names.specs.Gather.{knownOf}
 use Rattle.plan.specs.Arrays.{planBy}
 use Rattle.plan.specs.Links.{linksTo}
-use Rattle.report.specs.Output.{headLine, pointLines, contactLine, planText}
+use Rattle.report.specs.Lines.{headLine, pointLines, contactLine, planText}
 use Rattle.report.proofs.Putting.{puts-text, fits-next, puts-more}
 use Rattle.report.proofs.Parts.{plan-parts}
 use borrow.Author.Needs.{needs}

@@ -9,7 +9,7 @@ use lib.Seq.{getD-take}
 use Rattle.lists.specs.Search.{collect, below}
 use Rattle.names.specs.Gather.{knownOf}
 use Rattle.names.specs.declared.Names.{Names}
-use Rattle.report.specs.Output.{pointLine}
+use Rattle.report.specs.Lines.{pointLine}
 use Rattle.report.specs.Putting.{Puts}
 use Rattle.report.proofs.Putting.{puts-none, puts-text, puts-length, turn-fits, turn-puts, turns-put}
 use Rattle.report.proofs.Parts.{points-parts}

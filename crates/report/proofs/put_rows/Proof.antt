@@ -8,7 +8,7 @@ use lib.ListN.{length}
 use Rattle.lists.specs.Search.{collect, below}
 use Rattle.evalset.specs.Sets.{memAt}
 use Rattle.plan.specs.Links.{rowTo}
-use Rattle.report.specs.Output.{contactLine}
+use Rattle.report.specs.Lines.{contactLine}
 use Rattle.report.specs.Putting.{Puts}
 use Rattle.report.proofs.Putting.{puts-none, puts-length, turn-fits, turn-puts, turns-put}
 use Rattle.report.proofs.Parts.{rows-parts}

@@ -1,20 +1,16 @@
 -- `table::Table::ask` meets its contract: the rules are compiled, the search finds the first row or none, and its plan is written. Assumes nothing.
 use borrow.Author.Needs.{needs}
 use mathlib.Core.Path.{_≡_, refl, sym, ap, _∙_}
-use mathlib.Core.List.{[], _∷_, map}
-use Rattle.solver.specs.Tree.{rowsOf}
-use Rattle.solver.specs.declared.RowAnswer.{RowAnswer}
-use Rattle.plan.specs.Words.{Plan}
-use Rattle.plan.specs.Given.{rowPlan}
+use mathlib.Core.List.{[], _∷_}
 use Rattle.plan.specs.Arrays.{planBy}
 use Rattle.ruleset.specs.Texts.{CompiledRules}
-use Rattle.ruleset.proofs.Claims.{plan-is}
+use Rattle.ruleset.proofs.Claims.{none-given, plan-given}
 use Rattle.table.specs.Store.{rulesOf}
 use Rattle.table.specs.declared.AskAnswer.{AskAnswer}
 use Rattle.table.specs.Calls.{formulasOf}
 use Rattle.table.specs.Asking.{Asks}
 use Rattle.table.proofs.Compiled.{reached-all}
-use Rattle.table.proofs.Asking.{askResult, asks-none, asks-some, found-plans, writtenAnswer, wrote-plan}
+use Rattle.table.proofs.Asking.{askResult, asks-none, asks-some, writtenAnswer, wrote-plan}
 use Rattle.table.proofs.Table.ask.Statement.{statement}
 use Rattle.table.proofs.Table.ask.Tie as tie
 
@@ -47,7 +43,7 @@ returns-2 : tie.Need-returns-2
 returns-2 c =
     let t = c .before .before .before .before .before .before .before .before .before .args .self in
     asks-some t (c .before .before .before .before .before .before .before .before .before .pre) _ (c .before .before .before .before .before .before .before .if1 .left) []
-    (found-plans (formulasOf (rulesOf t)) _ _ _ (all-compiled (c .before .before .before .before)) (c .before .before .row-of .ensures) ∙ ap (λ (r : RowAnswer). map (rowPlan (formulasOf (rulesOf t))) (rowsOf (c .before .before .before .before .compiled .result .chart .atoms) r)) (c .enum-told .given .1)) _ _ refl refl
+    (none-given (formulasOf (rulesOf t)) _ _ (all-compiled (c .before .before .before .before)) _ (c .before .before .row-of .ensures) (c .enum-told .given .1)) _ _ refl refl
 
 plan-of-requires : tie.Need-plan-of-requires
 plan-of-requires c κs = search needs
@@ -63,13 +59,10 @@ wrote : (c : tie.After-slice-known2) (a : AskAnswer) → writtenAnswer (c .befor
     → Asks (start c .args .self) (start c .args .buffer .now) (askResult (start c .args .self) a) (c .before .before .write-plan .last .1 .0)
 wrote c a e =
     let t = start c .args .self in
-    let rules = formulasOf (rulesOf t) in
     let plan = c .before .before .before .before .plan-of .result in
-    let compiled = all-compiled (c .before .before .before .before .before .before .before .before .before .before) in
     let out = wrote-plan plan (start c .args .buffer .now) (c .before .before .write-plan .result) (c .before .before .write-plan .last .1 .0) (c .before .before .write-plan .ensures) in
     asks-some t (start c .pre) _ (c .before .before .before .before .before .before .before .before .before .before .before .before .before .if1 .left) (planBy plan ∷ [])
-    (found-plans rules _ _ _ compiled (c .before .before .before .before .before .before .before .before .row-of .ensures) ∙ ap (λ (r : RowAnswer). map (rowPlan rules) (rowsOf (c .before .before .before .before .before .before .before .before .before .before .compiled .result .chart .atoms) r)) (c .before .before .before .before .before .before .found .given .1)
-    ∙ ap (λ (p : Plan). p ∷ []) (sym (plan-is rules _ _ compiled _ _ (c .before .before .before .before .plan-of .ensures)))) _ _ (sym e ∙ out .0) (out .1)
+    (plan-given (formulasOf (rulesOf t)) _ _ (all-compiled (c .before .before .before .before .before .before .before .before .before .before)) _ _ _ (c .before .before .before .before .before .before .before .before .row-of .ensures) (c .before .before .before .before .before .before .found .given .1) (c .before .before .before .before .plan-of .ensures)) _ _ (sym e ∙ out .0) (out .1)
 
 enum-known-written : tie.Need-enum-known-written
 enum-known-written c = search needs
