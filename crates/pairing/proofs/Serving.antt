@@ -107,6 +107,28 @@ sets-serve names c x y (Atom.empty t) (z, h) v e f le lf =
 
 -- ---- the word of two masks
 
+-- it has no atom that is in neither high half
+pub pair-small : (n contacts a b : ℕ) → contacts < 65536 → a / 65536 < 2 ^ n → b / 65536 < 2 ^ n → pairWord (65535 - contacts) a b < 2 ^ n
+unfolding pairWord
+pair-small n contacts a b small la lb = go (bitAnd (either / 2 ^ 16) either) (and-le-l (either / 2 ^ 16) either)
+  where
+    zeros : ℕ
+    zeros = 65535 - contacts
+
+    either : ℕ
+    either = bitOr (bitOr a zeros) b
+
+    none : zeros / 2 ^ 16 ≡ 0
+    none = omega arith
+
+    halves : either / 2 ^ 16 ≡ bitOr (a / 65536) (b / 65536)
+    halves =
+        or-shr (bitOr a zeros) b 16
+        ∙ ap (λ (z : ℕ). bitOr z (b / 65536)) (or-shr a zeros 16 ∙ ap (bitOr (a / 65536)) none ∙ or-zero-r (a / 65536))
+
+    go : (w : ℕ) → w ≤ either / 2 ^ 16 → w < 2 ^ n
+    go w l = omega (arith, halves, or-lt n (a / 65536) (b / 65536) la lb)
+
 module _ (chart : Chart) (contacts a b e f : ℕ) (few : chart .atoms ≤ 16) (c : Spelt (chart .atoms) (contactAt chart) contacts)
     (x : MaskIs (chart .xs) (chart .ys) (chart .atoms) e a) (y : MaskIs (chart .xs) (chart .ys) (chart .atoms) f b) where
   abbrev zeros : ℕ
@@ -114,21 +136,6 @@ module _ (chart : Chart) (contacts a b e f : ℕ) (few : chart .atoms ≤ 16) (c
 
   small : contacts < 65536
   small = spelt-few (contactAt chart) (chart .atoms) contacts c few
-
-  pub pair-small : pairWord zeros a b < 2 ^ (chart .atoms)
-  unfolding pairWord
-  pair-small = go (bitAnd (bitOr (bitOr a zeros) b / 2 ^ 16) (bitOr (bitOr a zeros) b)) (and-le-l (bitOr (bitOr a zeros) b / 2 ^ 16) (bitOr (bitOr a zeros) b))
-    where
-      none : zeros / 2 ^ 16 ≡ 0
-      none = omega arith
-
-      halves : bitOr (bitOr a zeros) b / 2 ^ 16 ≡ bitOr (a / 65536) (b / 65536)
-      halves =
-          or-shr (bitOr a zeros) b 16
-          ∙ ap (λ (z : ℕ). bitOr z (b / 65536)) (or-shr a zeros 16 ∙ ap (bitOr (a / 65536)) none ∙ or-zero-r (a / 65536))
-
-      go : (w : ℕ) → w ≤ bitOr (bitOr a zeros) b / 2 ^ 16 → w < 2 ^ (chart .atoms)
-      go w l = omega (arith, halves, or-lt (chart .atoms) (a / 65536) (b / 65536) (x .first-is .small) (y .first-is .small))
 
   module _ (atoms : List (Atom ℕ)) (h : Compiled chart atoms) (le : e < 2 ^ (chart .names)) (lf : f < 2 ^ (chart .names)) where
     pair-bits : (p : ℕ) → p < chart .atoms → bit (pairWord zeros a b) p ≡ servesAt atoms e f (chart .atoms - 1 - p)
@@ -145,7 +152,7 @@ module _ (chart : Chart) (contacts a b e f : ℕ) (few : chart .atoms ≤ 16) (c
         ∙ sets-serve (chart .names) (contactAt chart i) (memAt (chart .xs) i) (memAt (chart .ys) i) (atomAt atoms i) (h .atom-is i (omega (arith, h .counted))) true e f le lf
 
     pub pair-spelt : IsWord atoms e f (pairWord zeros a b)
-    pair-spelt = subst (λ (n : ℕ). Spelt n (servesAt atoms e f) (pairWord zeros a b)) (h .counted) (record { small = pair-small; bits = pair-bits })
+    pair-spelt = subst (λ (n : ℕ). Spelt n (servesAt atoms e f) (pairWord zeros a b)) (h .counted) (record { small = pair-small (chart .atoms) contacts a b small (x .first-is .small) (y .first-is .small); bits = pair-bits })
 
 -- the pair the other way round
 pub serves-turned : (e f : ℕ) (m : Mark) → serves e f m ≡ serves f e m

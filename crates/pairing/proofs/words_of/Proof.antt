@@ -51,9 +51,10 @@ note-words-requires c κs =
     let masks = k .before .before .before .masks-of in
     let kept = k .before .keep-different in
     let chart = s .args .chart in
+    let few = spelt-few _ (chart .atoms) (s .args .contacts) (s .pre .contacts-are) (s .pre .few) in
     let e = k .loop .e in
     let words = c .before .before .before .pair-words .ensures in
-    let member = class-member (chart .xs) (chart .ys) (chart .atoms) (s .args .top) (masks .result) (kept .last .0) (kept .result)
+    let member = class-member _ _ (chart .atoms) (s .args .top) (masks .result) (kept .last .0) (kept .result)
     (omega (arith, masks .ensures .0, s .pre .fits)) (masks .ensures .1) (kept .ensures) in (
       omega (arith, s .pre .fits, kept .ensures .few),
       omega (
@@ -68,7 +69,7 @@ note-words-requires c κs =
       λ f l.
           let a = member e (omega arith) in
           let b = member f (omega arith) in
-          let small = pair-small chart (s .args .contacts) (entry (kept .last .0) e) (entry (kept .last .0) f) (a .0) (b .0) (s .pre .few) (s .pre .contacts-are) (a .2) (b .2) in
+          let small = pair-small (chart .atoms) (s .args .contacts) (entry (kept .last .0) e) (entry (kept .last .0) f) few (a .2 .first-is .small) (b .2 .first-is .small) in
           let is = words .are f (omega arith) in
           (omega (arith, is, small, pow-mono {i = chart .atoms} {j = 16} (s .pre .few)), omega (arith, is, small, s .pre .bits, k .loop .inv .2 .long-seen)),
     )
