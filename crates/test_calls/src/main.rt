@@ -19,6 +19,17 @@ use table::AskAnswer;
 use table::Outcome;
 use table::Table;
 use table::WithdrawAnswer;
+use test_kit::no_text;
+use test_kit::no_words;
+use test_kit::put_byte;
+use test_kit::put_every;
+use test_kit::put_times;
+use test_kit::put_word;
+use test_kit::same_words;
+use test_kit::write_bytes;
+use test_kit::write_labelled;
+use test_kit::write_refusal;
+use test_kit::write_words;
 
 // What a line of a script is.
 enum Command {
@@ -33,40 +44,6 @@ enum Command {
 
 // ---- writing
 
-fn write_bytes(bytes: &[u8]) {
-    io::write_all(libc::STDOUT_FILENO, bytes);
-}
-
-fn write_number(n: usize) {
-    io::print_decimal(libc::STDOUT_FILENO, n as u64);
-}
-
-fn write_labelled(label: &[u8], n: usize) {
-    write_bytes(label);
-    write_number(n);
-}
-
-// Writes the capital hexadecimal digit of a number modulo 16.
-fn write_digit(d: u32) {
-    let digits = b"0123456789ABCDEF";
-    let i = (d % 16) as usize;
-    let one = [digits[i]];
-    write_bytes(&one);
-}
-
-// Writes a blank and a word in eight digits.
-fn write_word(w: u32) {
-    write_bytes(b" ");
-    write_digit(w / 0x1000_0000);
-    write_digit(w / 0x100_0000);
-    write_digit(w / 0x10_0000);
-    write_digit(w / 0x1_0000);
-    write_digit(w / 0x1000);
-    write_digit(w / 0x100);
-    write_digit(w / 0x10);
-    write_digit(w);
-}
-
 // Writes an answer by document 01's number and what it carries, or `done` where the call was done.
 fn write_outcome(done: &[u8], said: Outcome) {
     match said {
@@ -74,8 +51,7 @@ fn write_outcome(done: &[u8], said: Outcome) {
             write_bytes(done);
         }
         Outcome::Plan(n) => {
-            write_bytes(b"plan of ");
-            write_number(n);
+            write_labelled(b"plan of ", n);
             write_bytes(b" words");
         }
         Outcome::NoPlan => {
@@ -88,8 +64,7 @@ fn write_outcome(done: &[u8], said: Outcome) {
             write_labelled(b"unmet rule ", k);
         }
         Outcome::Refused(number, carried) => {
-            write_labelled(b"refused ", number);
-            write_labelled(b" at ", carried);
+            write_refusal(number, carried);
         }
         Outcome::RefusedLine(number, line, place) => {
             write_labelled(b"refused ", number);
@@ -183,13 +158,6 @@ fn number_of(s: &[u8]) -> usize {
 
 // ---- texts
 
-// A text with nothing in it.
-fn no_text() -> [u8; 8200]
-    ensures { λ r. ⌜ length r ≡ 8200 ⌝ }
-{
-    [0u8; 8200]
-}
-
 // The value of a capital hexadecimal digit, 0 for another byte.
 fn digit_of(b: u8) -> u8
     ensures { λ r. ⌜ r < 16 ⌝ }
@@ -223,22 +191,10 @@ fn sign_byte(sign: &[u8]) -> u8 {
     }
 }
 
-// Puts a byte after the first `at` of a text, where there is room, and answers how many are used.
-fn put_byte(text: &mut [u8; 8200], at: usize, b: u8) -> usize
-    requires { ⌜ at ≤ 8200 ⌝ }
-    ensures { λ r. ⌜ r ≤ 8200 ⌝ }
-{
-    if at < 8200 {
-        text[at] = b;
-        return at + 1;
-    }
-    at
-}
-
 // Puts the bytes of signs after the first `at` of a text.
-fn put_signs(text: &mut [u8; 8200], at: usize, signs: &[u8]) -> usize
-    requires { ⌜ at ≤ 8200 ⌝ }
-    ensures { λ r. ⌜ r ≤ 8200 ⌝ }
+fn put_signs(text: &mut [u8], at: usize, signs: &[u8]) -> usize
+    requires { ⌜ at ≤ length (now text) ⌝ }
+    ensures { λ r. ⌜ (r ≤ length (now (text .exit))) × (length (now (text .exit)) ≡ length (now (text .entry))) ⌝ }
 {
     let mut end = at;
     let mut i: usize = 0;
@@ -250,31 +206,19 @@ fn put_signs(text: &mut [u8; 8200], at: usize, signs: &[u8]) -> usize
     end
 }
 
-// Puts the bytes of signs n times after the first `at` of a text.
-fn put_times(text: &mut [u8; 8200], at: usize, signs: &[u8], n: usize) -> usize
-    requires { ⌜ at ≤ 8200 ⌝ }
-    ensures { λ r. ⌜ r ≤ 8200 ⌝ }
-{
-    let mut end = at;
-    let mut i: usize = 0;
-    while i < n {
-        end = put_signs(text, end, signs);
-        i += 1;
-    }
-    end
-}
-
 // Puts a sign, or a part with its number of times, after the first `at` of a text.
-fn put_part(text: &mut [u8; 8200], at: usize, part: &[u8]) -> usize
-    requires { ⌜ (at ≤ 8200) × (0 < length (now part)) ⌝ }
-    ensures { λ r. ⌜ r ≤ 8200 ⌝ }
+fn put_part(text: &mut [u8], at: usize, part: &[u8]) -> usize
+    requires { ⌜ (at ≤ length (now text)) × (0 < length (now part)) ⌝ }
+    ensures { λ r. ⌜ (r ≤ length (now (text .exit))) × (length (now (text .exit)) ≡ length (now (text .entry))) ⌝ }
 {
     if part[0] == b'{' {
         let n = number_of(&part[1..]);
         let start = after(part, 0, b':');
         let signs = &part[start..];
         let len = without_last(signs, b'}');
-        return put_times(text, at, &signs[0..len], n);
+        let mut once = no_text();
+        let end = put_signs(&mut once, 0, &signs[0..len]);
+        return put_times(text, at, &once[0..end], n);
     }
     put_signs(text, at, part)
 }
@@ -291,8 +235,8 @@ fn after_part(s: &[u8], i: usize) -> usize
 }
 
 // Puts the bytes that a line says, and answers how many there are.
-fn put_text(text: &mut [u8; 8200], line: &[u8]) -> usize
-    ensures { λ r. ⌜ r ≤ 8200 ⌝ }
+fn put_text(text: &mut [u8], line: &[u8]) -> usize
+    ensures { λ r. ⌜ (r ≤ length (now (text .exit))) × (length (now (text .exit)) ≡ length (now (text .entry))) ⌝ }
 {
     let mut end: usize = 0;
     let mut i: usize = 0;
@@ -306,13 +250,6 @@ fn put_text(text: &mut [u8; 8200], line: &[u8]) -> usize
 
 // ---- words
 
-// Room for the words of the largest plan, and one more.
-fn no_plan() -> [u32; 2083]
-    ensures { λ r. ⌜ length r ≡ 2083 ⌝ }
-{
-    [0u32; 2083]
-}
-
 // The word that the digits of a text make, its last eight.
 fn word_of(s: &[u8]) -> u32 {
     let mut w: u32 = 0;
@@ -324,21 +261,9 @@ fn word_of(s: &[u8]) -> u32 {
     w
 }
 
-// Puts a word after the first `at`, where there is room, and answers how many are used.
-fn put_word(words: &mut [u32; 2083], at: usize, w: u32) -> usize
-    requires { ⌜ at ≤ 2083 ⌝ }
-    ensures { λ r. ⌜ r ≤ 2083 ⌝ }
-{
-    if at < 2083 {
-        words[at] = w;
-        return at + 1;
-    }
-    at
-}
-
 // Puts the words of a line, parted by one blank, and answers how many there are.
-fn put_words(words: &mut [u32; 2083], line: &[u8]) -> usize
-    ensures { λ r. ⌜ r ≤ 2083 ⌝ }
+fn put_words(words: &mut [u32], line: &[u8]) -> usize
+    ensures { λ r. ⌜ (r ≤ length (now (words .exit))) × (length (now (words .exit)) ≡ length (now (words .entry))) ⌝ }
 {
     let mut end: usize = 0;
     let mut i: usize = 0;
@@ -352,20 +277,13 @@ fn put_words(words: &mut [u32; 2083], line: &[u8]) -> usize
     end
 }
 
-// Words with nothing in them.
-fn no_words() -> [u32; 600]
-    ensures { λ r. ⌜ length r ≡ 600 ⌝ }
-{
-    [0u32; 600]
-}
-
 // Words that all differ, none of which a plan has.
-fn marked() -> [u32; 600]
-    ensures { λ r. ⌜ length r ≡ 600 ⌝ }
+fn marked() -> [u32; 2083]
+    ensures { λ r. ⌜ length r ≡ 2083 ⌝ }
 {
     let mut words = no_words();
     let mut i: usize = 0;
-    while i < 600 {
+    while i < 2083 {
         words[i] = 0xE000_0000 + i as u32;
         i += 1;
     }
@@ -373,9 +291,9 @@ fn marked() -> [u32; 600]
 }
 
 // Whether the words from a place on are as `marked` gives them.
-fn kept_from(words: [u32; 600], from: usize) -> bool {
+fn kept_from(words: [u32; 2083], from: usize) -> bool {
     let mut i = from;
-    while i < 600 {
+    while i < 2083 {
         if words[i] != 0xE000_0000 + i as u32 {
             return false;
         }
@@ -384,20 +302,8 @@ fn kept_from(words: [u32; 600], from: usize) -> bool {
     true
 }
 
-// Writes the first n words.
-fn write_words(words: [u32; 600], n: usize) {
-    let mut i: usize = 0;
-    while i < 600 {
-        if n <= i {
-            return;
-        }
-        write_word(words[i]);
-        i += 1;
-    }
-}
-
 // Writes whether the words from a place on are kept.
-fn write_kept(words: [u32; 600], from: usize) {
+fn write_kept(words: [u32; 2083], from: usize) {
     if kept_from(words, from) {
         write_bytes(b"; kept");
     } else {
@@ -412,10 +318,8 @@ fn at_most(n: usize, most: usize) -> usize
     if n < most { n } else { most }
 }
 
-// Two to the power of a number of names, at most six.
-fn points_over(names: usize) -> usize
-    ensures { λ r. ⌜ r ≤ 64 ⌝ }
-{
+// Two to the power of a number of names.
+fn points_over(names: u8) -> u8 {
     match names {
         0 => 1,
         1 => 2,
@@ -427,75 +331,9 @@ fn points_over(names: usize) -> usize
     }
 }
 
-// Puts a point at each of the first evaluations.
-fn put_points(words: &mut [u32; 2083], at: usize, points: usize) -> usize
-    requires { ⌜ (at ≤ 2083) × (points ≤ 64) ⌝ }
-    ensures { λ r. ⌜ r ≤ 2083 ⌝ }
-{
-    let mut end = at;
-    let mut e: usize = 0;
-    while e < points {
-        end = put_word(words, end, 0x2000_0000 + e as u32);
-        e += 1;
-    }
-    end
-}
-
-// Puts the contacts of a position with all later ones.
-fn put_row(words: &mut [u32; 2083], at: usize, i: usize, points: usize) -> usize
-    requires { ⌜ (at ≤ 2083) × (i < 64) × (points ≤ 64) ⌝ }
-    ensures { λ r. ⌜ r ≤ 2083 ⌝ }
-{
-    let mut end = at;
-    let mut j = i + 1;
-    while j < points {
-        end = put_word(words, end, 0x3000_0000 + (i * 256 + j) as u32);
-        j += 1;
-    }
-    end
-}
-
-// Puts the contacts of every two positions.
-fn put_rows(words: &mut [u32; 2083], at: usize, points: usize) -> usize
-    requires { ⌜ (at ≤ 2083) × (points ≤ 64) ⌝ }
-    ensures { λ r. ⌜ r ≤ 2083 ⌝ }
-{
-    let mut end = at;
-    let mut i: usize = 0;
-    while i < points {
-        end = put_row(words, end, i, points);
-        i += 1;
-    }
-    end
-}
-
-// Puts the plan over some names, at most six, that has every point and every contact.
-fn put_every(words: &mut [u32; 2083], names: usize) -> usize
-    ensures { λ r. ⌜ r ≤ 2083 ⌝ }
-{
-    let names = at_most(names, 6);
-    let points = points_over(names);
-    let first = put_word(words, 0, 0x1000_0000 + (names * 256 + points) as u32);
-    let pointed = put_points(words, first, points);
-    let end = put_rows(words, pointed, points);
-    put_word(words, end, 0x4000_0000 + end as u32)
-}
-
 // ---- the same table
 
-// Whether two buffers have the same words.
-fn same_words(a: [u32; 600], b: [u32; 600]) -> bool {
-    let mut i: usize = 0;
-    while i < 600 {
-        if a[i] != b[i] {
-            return false;
-        }
-        i += 1;
-    }
-    true
-}
-
-// An answer of ask as one number; a plan has three words at least, and a buffer of 600 words is never short.
+// An answer of ask as one number; a plan has three words at least, and a buffer of 2,083 words is never short.
 fn code_of(a: AskAnswer) -> usize {
     match a {
         AskAnswer::Plan(n) => n,
@@ -518,7 +356,7 @@ fn same_plan(a: Table, b: Table) -> bool
     if code_of(answer) != code_of(other) {
         return false;
     }
-    same_words(one, two)
+    same_words(&one, &two)
 }
 
 // Whether a rule was withdrawn.
@@ -578,25 +416,17 @@ fn write_changed(done: &[u8], said: Outcome, before: Table, after: Table)
     };
 }
 
-// Adds the first n bytes.
-fn add_first(t: Table, text: [u8; 8200], n: usize) -> Table
-    requires { ⌜ FromUs t × (n ≤ 8200) ⌝ }
-    ensures { λ r. ⌜ FromUs r ⌝ }
-{
-    let r = t.add(&text[0..n]);
-    let next = r.table;
-    let answer = r.answer;
-    write_changed(b"added", table::add_outcome(answer), t, next);
-    next
-}
-
 fn add_rule(t: Table, rest: &[u8]) -> Table
     requires { ⌜ FromUs t ⌝ }
     ensures { λ r. ⌜ FromUs r ⌝ }
 {
     let mut text = no_text();
     let n = put_text(&mut text, rest);
-    add_first(t, text, n)
+    let r = t.add(&text[0..n]);
+    let next = r.table;
+    let answer = r.answer;
+    write_changed(b"added", table::add_outcome(answer), t, next);
+    next
 }
 
 fn withdraw_rule(t: Table, rest: &[u8]) -> Table
@@ -610,11 +440,12 @@ fn withdraw_rule(t: Table, rest: &[u8]) -> Table
     next
 }
 
-// Loads the first n bytes.
-fn load_first(t: Table, text: [u8; 8200], n: usize) -> Table
-    requires { ⌜ FromUs t × (n ≤ 8200) ⌝ }
+fn load_sheet(t: Table, rest: &[u8]) -> Table
+    requires { ⌜ FromUs t ⌝ }
     ensures { λ r. ⌜ FromUs r ⌝ }
 {
+    let mut text = no_text();
+    let n = put_text(&mut text, rest);
     let r = t.load(&text[0..n]);
     let next = r.table;
     let answer = r.answer;
@@ -622,21 +453,11 @@ fn load_first(t: Table, text: [u8; 8200], n: usize) -> Table
     next
 }
 
-fn load_sheet(t: Table, rest: &[u8]) -> Table
+fn judge(t: Table, words: &[u32]) -> Table
     requires { ⌜ FromUs t ⌝ }
     ensures { λ r. ⌜ FromUs r ⌝ }
 {
-    let mut text = no_text();
-    let n = put_text(&mut text, rest);
-    load_first(t, text, n)
-}
-
-// Judges the first n words.
-fn judge_first(t: Table, words: [u32; 2083], n: usize) -> Table
-    requires { ⌜ FromUs t × (n ≤ 2083) ⌝ }
-    ensures { λ r. ⌜ FromUs r ⌝ }
-{
-    let r = t.judge(&words[0..n]);
+    let r = t.judge(words);
     let next = r.table;
     let answer = r.answer;
     write_outcome(b"", table::judge_outcome(answer));
@@ -648,9 +469,9 @@ fn judge_words(t: Table, rest: &[u8]) -> Table
     requires { ⌜ FromUs t ⌝ }
     ensures { λ r. ⌜ FromUs r ⌝ }
 {
-    let mut words = no_plan();
+    let mut words = no_words();
     let n = put_words(&mut words, rest);
-    judge_first(t, words, n)
+    judge(t, &words[0..n])
 }
 
 // Judges the plan over some names, at most six, that has every point and every contact.
@@ -658,25 +479,14 @@ fn judge_every(t: Table, rest: &[u8]) -> Table
     requires { ⌜ FromUs t ⌝ }
     ensures { λ r. ⌜ FromUs r ⌝ }
 {
-    let mut words = no_plan();
-    let n = put_every(&mut words, number_of(rest));
-    judge_first(t, words, n)
-}
-
-// Writes how the first n words are judged, which are a plan of ask.
-fn write_judged(t: Table, words: [u32; 600], n: usize)
-    requires { ⌜ FromUs t ⌝ }
-{
-    if n <= 600 {
-        let r = t.judge(&words[0..n]);
-        let answer = r.answer;
-        write_bytes(b"; judged ");
-        write_outcome(b"", table::judge_outcome(answer));
-    }
+    let mut words = no_words();
+    let names = at_most(number_of(rest), 6) as u8;
+    let n = put_every(&mut words, names, points_over(names));
+    judge(t, &words[0..n])
 }
 
 // Writes what ask answered, with its words and whether the others are kept, and how its own plan is judged.
-fn write_asked(a: AskAnswer, t: Table, words: [u32; 600])
+fn write_asked(a: AskAnswer, t: Table, words: [u32; 2083])
     requires { ⌜ FromUs t ⌝ }
 {
     write_outcome(b"", table::ask_outcome(a));
@@ -684,17 +494,22 @@ fn write_asked(a: AskAnswer, t: Table, words: [u32; 600])
         write_kept(words, 0);
         return;
     };
-    write_words(words, n);
-    write_kept(words, n);
-    write_judged(t, words, n);
+    if n <= 2083 {
+        write_words(b" ", &words[0..n], b"");
+        write_kept(words, n);
+        let r = t.judge(&words[0..n]);
+        let answer = r.answer;
+        write_bytes(b"; judged ");
+        write_outcome(b"", table::judge_outcome(answer));
+    }
 }
 
-// Asks with the first n words of a buffer, at most 600.
+// Asks with the first n words of a buffer, at most 2083.
 fn ask_plan(t: Table, rest: &[u8]) -> Table
     requires { ⌜ FromUs t ⌝ }
     ensures { λ r. ⌜ FromUs r ⌝ }
 {
-    let n = at_most(number_of(rest), 600);
+    let n = at_most(number_of(rest), 2083);
     let mut words = marked();
     let r = t.ask(&mut words[0..n]);
     let next = r.table;

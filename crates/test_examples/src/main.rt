@@ -2,10 +2,7 @@
 // a sheet can get, and for the longest sheets. The file `stdout` has the texts that document 01 asks for, worked out by hand.
 ghost use mathlib.Core.Path.{_≡_};
 ghost use lib.ListN.{length};
-
-fn write_bytes(bytes: &[u8]) {
-    io::write_all(libc::STDOUT_FILENO, bytes);
-}
+use test_kit::write_bytes;
 
 // Room for the text.
 fn no_text() -> [u8; 16384]
@@ -21,7 +18,7 @@ fn show(title: &[u8], sheet: &[u8]) {
     write_bytes(b"\n");
     let mut text = no_text();
     let len = report::report(sheet, &mut text);
-    write_bytes(&text[..len]);
+    write_bytes(&text[0..len]);
 }
 
 // The sheets of the folder examples.

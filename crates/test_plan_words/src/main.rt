@@ -5,46 +5,17 @@ use evalset::EvalSet;
 use plan::PlanAnswer;
 use plan::PlanArrays;
 use plan::Written;
+use test_kit::no_words;
+use test_kit::put_every;
+use test_kit::put_word;
+use test_kit::same_words;
+use test_kit::write_bytes;
+use test_kit::write_labelled;
+use test_kit::write_number;
+use test_kit::write_refusal;
+use test_kit::write_words;
 
 const NONE: [u32; 1] = [0];
-
-// Writes bytes as they are.
-fn write_bytes(bytes: &[u8]) {
-    io::write_all(libc::STDOUT_FILENO, bytes);
-}
-
-fn write_number(n: usize) {
-    io::print_decimal(libc::STDOUT_FILENO, n as u64);
-}
-
-// Writes the capital hexadecimal digit of a number modulo 16.
-fn write_digit(d: u32) {
-    let digits = b"0123456789ABCDEF";
-    let i = (d % 16) as usize;
-    let one = [digits[i]];
-    write_bytes(&one);
-}
-
-// Writes a word in eight digits and a blank.
-fn write_word(w: u32) {
-    write_digit(w / 0x1000_0000);
-    write_digit(w / 0x100_0000);
-    write_digit(w / 0x10_0000);
-    write_digit(w / 0x1_0000);
-    write_digit(w / 0x1000);
-    write_digit(w / 0x100);
-    write_digit(w / 0x10);
-    write_digit(w);
-    write_bytes(b" ");
-}
-
-fn write_words(words: &[u32]) {
-    let mut i: usize = 0;
-    while i < words.len() {
-        write_word(words[i]);
-        i += 1;
-    }
-}
 
 fn wide(b: u8) -> usize {
     b as usize
@@ -59,17 +30,14 @@ fn write_points(p: PlanArrays) {
         if count <= i {
             return;
         }
-        write_bytes(b" ");
-        write_number(wide(points[i]));
+        write_labelled(b" ", wide(points[i]));
         i += 1;
     }
 }
 
 fn write_contact(i: usize, j: usize) {
-    write_bytes(b" ");
-    write_number(i);
-    write_bytes(b"-");
-    write_number(j);
+    write_labelled(b" ", i);
+    write_labelled(b"-", j);
 }
 
 // Whether position i, of this row, is in contact with a later position j.
@@ -119,20 +87,10 @@ fn write_contacts(p: PlanArrays) {
 
 // Whether the first n of the written words are the given ones, and no more.
 fn same(words: &[u32], written: &[u32], n: usize) -> bool {
-    if n != words.len() {
-        return false;
+    if n <= written.len() {
+        return same_words(words, &written[0..n]);
     }
-    let mut i: usize = 0;
-    while i < words.len() {
-        if written.len() <= i {
-            return false;
-        }
-        if words[i] != written[i] {
-            return false;
-        }
-        i += 1;
-    }
-    true
+    false
 }
 
 // Writes a plan's words again and whether they are the same.
@@ -154,8 +112,7 @@ fn write_again(words: &[u32], p: PlanArrays) {
 }
 
 fn write_plan(words: &[u32], p: PlanArrays) {
-    write_bytes(b"plan of ");
-    write_number(wide(p.names));
+    write_labelled(b"plan of ", wide(p.names));
     write_bytes(b" names; points");
     write_points(p);
     write_bytes(b"; contacts");
@@ -164,14 +121,9 @@ fn write_plan(words: &[u32], p: PlanArrays) {
     write_again(words, p);
 }
 
-fn write_refusal(i: usize) {
-    write_bytes(b"refused 13 at ");
-    write_number(i);
-}
-
 // Shows what a list of words is.
 fn show(words: &[u32]) {
-    write_words(words);
+    write_words(b"", words, b" ");
     write_bytes(b"=> ");
     let r = plan::read_plan(words);
     let a = r.answer;
@@ -181,7 +133,7 @@ fn show(words: &[u32]) {
             write_plan(words, p);
         }
         PlanAnswer::Refused(i) => {
-            write_refusal(i);
+            write_refusal(13, i);
         }
     }
     write_bytes(b"\n");
@@ -190,12 +142,10 @@ fn show(words: &[u32]) {
 fn write_written(w: Written) {
     match w {
         Written::Words(n) => {
-            write_bytes(b"words ");
-            write_number(n);
+            write_labelled(b"words ", n);
         }
         Written::Needs(n) => {
-            write_bytes(b"needs ");
-            write_number(n);
+            write_labelled(b"needs ", n);
         }
     }
     write_bytes(b"; ");
@@ -207,7 +157,7 @@ fn into_buffer(buffer: &mut [u32]) {
     let p = r.plan;
     let w = plan::write_plan(p, buffer);
     write_written(w);
-    write_words(buffer);
+    write_words(b"", buffer, b" ");
     write_bytes(b"\n");
 }
 
@@ -223,91 +173,36 @@ fn buffers() {
     into_buffer(&mut six);
 }
 
-// The word of the contact of positions i and j.
-fn contact_word(i: usize, j: usize) -> u32 {
-    0x3000_0000 + (i % 64 * 256 + j % 64) as u32
-}
-
-fn put(words: &mut [u32; 2083], at: usize, w: u32) -> usize {
-    if at < 2083 {
-        words[at] = w;
-        return at + 1;
-    }
-    at
-}
-
-fn put_points(words: &mut [u32; 2083]) {
-    let mut e: usize = 0;
-    while e < 64 {
-        words[e + 1] = 0x2000_0000 + e as u32;
-        e += 1;
-    }
-}
-
-// Puts the contacts of position i with all later ones.
-fn put_row(words: &mut [u32; 2083], at: usize, i: usize) -> usize {
-    let mut end = at;
-    let mut j: usize = 0;
-    while j < 64 {
-        if i < j {
-            end = put(words, end, contact_word(i, j));
-        }
-        j += 1;
-    }
-    end
-}
-
-fn put_rows(words: &mut [u32; 2083]) -> usize {
-    let mut end: usize = 65;
-    let mut i: usize = 0;
-    while i < 64 {
-        end = put_row(words, end, i);
-        i += 1;
-    }
-    end
-}
-
-// Shows what the first n words are, without the words.
-fn show_long(words: &[u32], n: usize) {
-    if words.len() < n {
-        return;
-    }
-    let part = &words[..n];
-    write_number(n);
+// Shows what words are, without the words.
+fn show_long(words: &[u32]) {
+    write_number(words.len());
     write_bytes(b" words => ");
-    let r = plan::read_plan(part);
+    let r = plan::read_plan(words);
     let a = r.answer;
     let p = r.plan;
     match a {
         PlanAnswer::Plan => {
             write_number(p.count);
             write_bytes(b" points; ");
-            write_again(part, p);
+            write_again(words, p);
         }
         PlanAnswer::Refused(i) => {
-            write_refusal(i);
+            write_refusal(13, i);
         }
     }
     write_bytes(b"\n");
 }
 
-fn show_first(words: &[u32; 2083], n: usize) {
-    show_long(words, n);
-}
-
 // The largest plan: 64 points, every two in contact; without its last word, with one word more, and with
 // its last word one off.
 fn largest() {
-    let mut words = [0u32; 2083];
-    words[0] = 0x1000_0640;
-    put_points(&mut words);
-    let end = put_rows(&mut words);
-    let after = put(&mut words, end, 0x4000_0821);
-    show_first(&words, after);
-    show_first(&words, 2081);
-    show_first(&words, 2083);
-    words[2081] = 0x4000_0822;
-    show_first(&words, 2082);
+    let mut words = no_words();
+    let n = put_every(&mut words, 6, 64);
+    show_long(&words[0..n]);
+    show_long(&words[0..2081]);
+    show_long(&words);
+    let n = put_word(&mut words, 2081, 0x4000_0822);
+    show_long(&words[0..n]);
 }
 
 // The plans of document 01: P1, P2, P3 and P9.

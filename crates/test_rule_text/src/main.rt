@@ -6,29 +6,23 @@ use lexer::NAME;
 use lexer::Tokens;
 use syntax::Rule;
 use syntax::RuleAnswer;
+use test_kit::no_text;
+use test_kit::put_times;
+use test_kit::word_digits;
+use test_kit::write_bytes;
+use test_kit::write_refusal;
 
 // Writes one byte as it is.
 fn write_byte(b: u8) {
     let one = [b];
-    io::write_all(libc::STDOUT_FILENO, &one);
-}
-
-// The capital hexadecimal digit of a number below 16.
-fn hex_digit(d: u8) -> u8 {
-    if d < 10 {
-        return 48 + d;
-    }
-    if d < 16 {
-        return 55 + d;
-    }
-    b'?'
+    write_bytes(&one);
 }
 
 // Writes a byte as a backslash and two hexadecimal digits.
 fn write_code(b: u8) {
+    let digits = word_digits(b as u32);
     write_byte(b'\\');
-    write_byte(hex_digit(b / 16));
-    write_byte(hex_digit(b % 16));
+    write_bytes(&digits[6..]);
 }
 
 // Writes a byte so that a line of text shows it.
@@ -80,11 +74,6 @@ fn name_from(kinds: [u8; 256], from: usize) -> usize {
         t += 1;
     }
     256
-}
-
-// Writes bytes as they are.
-fn write_bytes(bytes: &[u8]) {
-    io::write_all(libc::STDOUT_FILENO, bytes);
 }
 
 // Writes a sign or constant by its kind.
@@ -147,18 +136,10 @@ fn after(t: usize) -> usize {
     if t < 256 { t + 1 } else { 256 }
 }
 
-// Writes the number of a refusal and what it carries.
-fn write_refusal(number: u8, place: usize) {
-    io::write_all(libc::STDOUT_FILENO, b"refused ");
-    io::print_decimal(libc::STDOUT_FILENO, number as u64);
-    io::write_all(libc::STDOUT_FILENO, b" at ");
-    io::print_decimal(libc::STDOUT_FILENO, place as u64);
-}
-
 // Writes the line of a text.
 fn show(text: &[u8]) {
     write_text(text);
-    io::write_all(libc::STDOUT_FILENO, b" => ");
+    write_bytes(b" => ");
     let rule = syntax::read_rule(text);
     let answer = rule.answer;
     match answer {
@@ -195,78 +176,19 @@ fn show_each(list: &[u8]) {
     }
 }
 
-// Puts a byte after the first `at` of a buffer, where there is room, and answers how many are used.
-fn put_byte(buf: &mut [u8; 300], at: usize, b: u8) -> usize {
-    if at < 300 {
-        buf[at] = b;
-        return at + 1;
-    }
-    at
-}
-
-// Puts the bytes of `unit` after the first `at` of a buffer.
-fn put(buf: &mut [u8; 300], at: usize, unit: &[u8]) -> usize {
-    let mut end = at;
-    let mut i: usize = 0;
-    while i < unit.len() {
-        end = put_byte(buf, end, unit[i]);
-        i += 1;
-    }
-    end
-}
-
-// Puts a byte n times after the first `at` of a buffer.
-fn put_run(buf: &mut [u8; 300], at: usize, b: u8, n: usize) -> usize {
-    let mut end = at;
-    let mut i: usize = 0;
-    while i < n {
-        end = put_byte(buf, end, b);
-        i += 1;
-    }
-    end
-}
-
-// Puts the bytes of `unit` n times after the first `at` of a buffer.
-fn put_times(buf: &mut [u8; 300], at: usize, unit: &[u8], n: usize) -> usize {
-    let mut end = at;
-    let mut i: usize = 0;
-    while i < n {
-        end = put(buf, end, unit);
-        i += 1;
-    }
-    end
-}
-
-// Shows the first `end` bytes of a buffer.
-fn show_first(buf: [u8; 300], end: usize) {
-    if end <= 300 {
-        show(&buf[0..end]);
-    }
+// Shows the text of n times `unit`, then `last`, then m times a byte.
+fn chain(unit: &[u8], n: usize, last: &[u8], after: u8, m: usize) {
+    let mut text = no_text();
+    let one = [after];
+    let start = put_times(&mut text, 0, unit, n);
+    let end = put_times(&mut text, start, last, 1);
+    let all = put_times(&mut text, end, &one, m);
+    show(&text[0..all]);
 }
 
 // Shows the text of n times one byte.
 fn run(b: u8, n: usize) {
-    let mut buf = [0u8; 300];
-    let end = put_run(&mut buf, 0, b, n);
-    show_first(buf, end);
-}
-
-// Shows the text of n times a byte, then `middle`, then m times another byte.
-fn around(before: u8, n: usize, middle: &[u8], after: u8, m: usize) {
-    let mut buf = [0u8; 300];
-    let start = put_run(&mut buf, 0, before, n);
-    let end = put(&mut buf, start, middle);
-    let all = put_run(&mut buf, end, after, m);
-    show_first(buf, all);
-}
-
-// Shows the text of n times `unit`, then `last`, then m times a byte.
-fn chain(unit: &[u8], n: usize, last: &[u8], after: u8, m: usize) {
-    let mut buf = [0u8; 300];
-    let start = put_times(&mut buf, 0, unit, n);
-    let end = put(&mut buf, start, last);
-    let all = put_run(&mut buf, end, after, m);
-    show_first(buf, all);
+    chain(b"", 0, b"", b, n);
 }
 
 // Shows each of the 256 byte values as a text by itself: every class of bytes.
@@ -977,38 +899,38 @@ fn limits_of_one_byte() {
 
 // A rule of 256 bytes, blanks included, is read; one blank more gives 2.
 fn limits_of_blanks() {
-    around(b'~', 255, b"T", b' ', 0);
-    around(b'~', 255, b"T", b' ', 1);
-    around(b'~', 254, b"T", b' ', 1);
-    around(b' ', 255, b"T", b' ', 0);
-    around(b' ', 256, b"T", b' ', 0);
-    around(b' ', 0, b"T", b'\t', 255);
-    around(b' ', 0, b"T", b'\t', 256);
-    around(b'(', 255, b"", b' ', 1);
-    around(b'~', 254, b"a", b' ', 1);
+    chain(b"~", 255, b"T", b' ', 0);
+    chain(b"~", 255, b"T", b' ', 1);
+    chain(b"~", 254, b"T", b' ', 1);
+    chain(b" ", 255, b"T", b' ', 0);
+    chain(b" ", 256, b"T", b' ', 0);
+    chain(b" ", 0, b"T", b'\t', 255);
+    chain(b" ", 0, b"T", b'\t', 256);
+    chain(b"(", 255, b"", b' ', 1);
+    chain(b"~", 254, b"a", b' ', 1);
 }
 
 // The deepest nesting, whole and broken.
 fn limits_of_nesting() {
-    around(b'(', 127, b"T", b')', 127);
-    around(b'(', 127, b"T", b')', 126);
-    around(b'(', 127, b"T", b')', 128);
-    around(b'(', 128, b"T", b')', 127);
-    around(b'(', 126, b"a", b')', 126);
-    around(b'(', 126, b"a=0", b')', 126);
-    around(b'(', 126, b"a=0", b')', 127);
-    around(b'(', 127, b"a", b')', 128);
-    around(b'(', 63, b"a", b')', 63);
+    chain(b"(", 127, b"T", b')', 127);
+    chain(b"(", 127, b"T", b')', 126);
+    chain(b"(", 127, b"T", b')', 128);
+    chain(b"(", 128, b"T", b')', 127);
+    chain(b"(", 126, b"a", b')', 126);
+    chain(b"(", 126, b"a=0", b')', 126);
+    chain(b"(", 126, b"a=0", b')', 127);
+    chain(b"(", 127, b"a", b')', 128);
+    chain(b"(", 63, b"a", b')', 63);
 }
 
 // 255 prefix signs, and a refusal at the last byte.
 fn limits_of_prefixes() {
-    around(b'-', 253, b"a=0", b' ', 0);
-    around(b'~', 253, b"a=0", b' ', 0);
-    around(b'~', 255, b"a", b' ', 0);
-    around(b'~', 255, b")", b' ', 0);
-    around(b'~', 255, b"$", b' ', 0);
-    around(b'-', 255, b"T", b' ', 0);
+    chain(b"-", 253, b"a=0", b' ', 0);
+    chain(b"~", 253, b"a=0", b' ', 0);
+    chain(b"~", 255, b"a", b' ', 0);
+    chain(b"~", 255, b")", b' ', 0);
+    chain(b"~", 255, b"$", b' ', 0);
+    chain(b"-", 255, b"T", b' ', 0);
 }
 
 // Binary signs, relations and refused tokens up to the last byte.

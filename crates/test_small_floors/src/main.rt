@@ -12,6 +12,9 @@ ghost use Rattle.table.specs.Calls.{FromUs};
 use table::AddAnswer;
 use table::AskAnswer;
 use table::Table;
+use test_kit::write_bytes;
+use test_kit::write_number;
+use test_kit::write_words;
 
 // ---- the signs of a sheet's form
 
@@ -1247,10 +1250,6 @@ enum Finding {
     Disagrees,
 }
 
-fn write_bytes(bytes: &[u8]) {
-    io::write_all(libc::STDOUT_FILENO, bytes);
-}
-
 // Writes why a sheet disagrees.
 fn disagree(why: &[u8]) -> Finding {
     write_bytes(b"disagrees: ");
@@ -1337,8 +1336,17 @@ const GROUPS: usize = 26;
 
 const COMMAS: usize = 27;
 
-// Byte j of what count i is called.
-fn label_byte(i: usize, j: usize) -> u8 {
+// Writes part i of labels of 14 bytes each.
+fn write_part(labels: &[u8], i: usize) {
+    let start = i % 28 * 14;
+    let end = start + 14;
+    if end <= labels.len() {
+        write_bytes(&labels[start..end]);
+    }
+}
+
+// Writes what count i is called.
+fn write_label(i: usize) {
     let labels = b"sheets        \
         no name       \
         one name      \
@@ -1367,34 +1375,25 @@ fn label_byte(i: usize, j: usize) -> u8 {
         with a name   \
         with ()       \
         with ,        ";
-    labels[i % 28 * 14 + j % 14]
+    write_part(labels, i);
 }
 
-fn write_label(i: usize) {
-    let mut j: usize = 0;
-    while j < 14 {
-        let one = [label_byte(i, j)];
-        write_bytes(&one);
-        j += 1;
-    }
-}
-
-fn write_counts(counts: [u64; 28]) {
+fn write_counts(counts: [usize; 28]) {
     let mut i: usize = 0;
     while i < 28 {
         write_label(i);
-        io::print_decimal(libc::STDOUT_FILENO, counts[i]);
+        write_number(counts[i]);
         write_bytes(b"\n");
         i += 1;
     }
 }
 
 // Raises count i by n; no count comes near the bound.
-fn raise(counts: &mut [u64; 28], i: usize, n: usize) {
-    counts[i % 28] = counts[i % 28] % 0x1_0000_0000 + (n % 0x1_0000) as u64;
+fn raise(counts: &mut [usize; 28], i: usize, n: usize) {
+    counts[i % 28] = counts[i % 28] % 0x1_0000_0000 + n % 0x1_0000;
 }
 
-fn raise_if(counts: &mut [u64; 28], i: usize, b: bool) {
+fn raise_if(counts: &mut [usize; 28], i: usize, b: bool) {
     if b {
         raise(counts, i, 1);
     }
@@ -1436,7 +1435,7 @@ fn is_grouped(file: &[u8]) -> bool {
 }
 
 // One more for each sign that a sheet has; a sheet with a name has the first.
-fn count_signs(counts: &mut [u64; 28], code: &[u8]) {
+fn count_signs(counts: &mut [usize; 28], code: &[u8]) {
     let mut sign: usize = 0;
     while sign < 17 {
         raise_if(counts, SIGNS + sign, occurs(code, sign as u8));
@@ -1444,7 +1443,7 @@ fn count_signs(counts: &mut [u64; 28], code: &[u8]) {
     }
 }
 
-fn count_sheet(counts: &mut [u64; 28], file: &[u8], code: &[u8], names: usize) {
+fn count_sheet(counts: &mut [usize; 28], file: &[u8], code: &[u8], names: usize) {
     raise(counts, 0, 1);
     raise(counts, NAMES + names % 4, 1);
     count_signs(counts, code);
@@ -1453,7 +1452,7 @@ fn count_sheet(counts: &mut [u64; 28], file: &[u8], code: &[u8], names: usize) {
 }
 
 // A sheet that disagrees is written with its rules.
-fn count_finding(counts: &mut [u64; 28], f: Finding, file: &[u8]) {
+fn count_finding(counts: &mut [usize; 28], f: Finding, file: &[u8]) {
     match f {
         Finding::Plan(n) => {
             raise(counts, PLANS, 1);
@@ -1471,18 +1470,10 @@ fn count_finding(counts: &mut [u64; 28], f: Finding, file: &[u8]) {
 
 // ---- the checks: the sheets
 
-fn write_word(w: u32) {
-    write_bytes(b" ");
-    io::print_hex(libc::STDOUT_FILENO, w as u64, 8);
-}
-
-fn write_words(words: &[u32; 530], n: usize) {
-    let mut i: usize = 0;
-    while i < 530 {
-        if i < n {
-            write_word(words[i]);
-        }
-        i += 1;
+// Writes the first n words, a blank before each.
+fn write_first(words: &[u32], n: usize) {
+    if n <= words.len() {
+        write_words(b" ", &words[0..n], b"");
     }
 }
 
@@ -1493,7 +1484,7 @@ fn write_answer(label: &[u8], f: Finding, words: &[u32; 530]) {
     }
     write_bytes(label);
     match f {
-        Finding::Plan(n) => write_words(words, n),
+        Finding::Plan(n) => write_first(words, n),
         Finding::NoPlan => write_bytes(b" no plan"),
         Finding::Disagrees => write_bytes(b" disagrees"),
     }
@@ -1501,7 +1492,7 @@ fn write_answer(label: &[u8], f: Finding, words: &[u32; 530]) {
 }
 
 // Tests a sheet: its lines, the number of the one that is withdrawn or 0, its form without that one, and how many names.
-fn test(counts: &mut [u64; 28], label: &[u8], file: &[u8], k: usize, code: &[u8], names: usize) {
+fn test(counts: &mut [usize; 28], label: &[u8], file: &[u8], k: usize, code: &[u8], names: usize) {
     let mut words = [UNWRITTEN; 530];
     let answer = asked(file, k, &mut words);
     let f = check(code, names, answer, &words);
@@ -1511,7 +1502,7 @@ fn test(counts: &mut [u64; 28], label: &[u8], file: &[u8], k: usize, code: &[u8]
 }
 
 // Document 01, 'Worked sheets': P1 and P2.
-fn first_sheets(counts: &mut [u64; 28]) {
+fn first_sheets(counts: &mut [usize; 28]) {
     test(counts, b"P1:", b"T\n", 0, &[RULE, TRUE], 0);
     test(
         counts,
@@ -1524,7 +1515,7 @@ fn first_sheets(counts: &mut [u64; 28]) {
 }
 
 // P3 to P5.
-fn withdrawn_sheets(counts: &mut [u64; 28]) {
+fn withdrawn_sheets(counts: &mut [usize; 28]) {
     let code = [
         RULE,
         NOT,
@@ -1552,7 +1543,7 @@ fn withdrawn_sheets(counts: &mut [u64; 28]) {
 }
 
 // P6 to P9.
-fn plain_sheets(counts: &mut [u64; 28]) {
+fn plain_sheets(counts: &mut [usize; 28]) {
     test(
         counts,
         b"P6:",
@@ -1581,7 +1572,7 @@ fn plain_sheets(counts: &mut [u64; 28]) {
 }
 
 // P10 to P12.
-fn grouped_sheets(counts: &mut [u64; 28]) {
+fn grouped_sheets(counts: &mut [usize; 28]) {
     let code = [
         RULE,
         NOT,
@@ -1613,7 +1604,7 @@ fn grouped_sheets(counts: &mut [u64; 28]) {
 }
 
 // Tests a sheet that was made: the first bytes of a text and of a form.
-fn test_made(counts: &mut [u64; 28], text: &[u8; 1100], form: &[u8; 512], m: Maker) {
+fn test_made(counts: &mut [usize; 28], text: &[u8; 1100], form: &[u8; 512], m: Maker) {
     let text = &text[..];
     let form = &form[..];
     let end = m.text;
@@ -1630,7 +1621,7 @@ fn test_made(counts: &mut [u64; 28], text: &[u8; 1100], form: &[u8; 512], m: Mak
     count_finding(counts, disagree(b"a sheet is not made"), b"");
 }
 
-fn test_generated(counts: &mut [u64; 28], k: u64) {
+fn test_generated(counts: &mut [usize; 28], k: u64) {
     let mut text = [0u8; 1100];
     let mut form = [0u8; 512];
     let m = with_rules(sheet_maker(k), &mut text, &mut form);
@@ -1640,7 +1631,7 @@ fn test_generated(counts: &mut [u64; 28], k: u64) {
 // How many sheets are generated.
 const SHEETS: u64 = 3000;
 
-fn generated_sheets(counts: &mut [u64; 28]) {
+fn generated_sheets(counts: &mut [usize; 28]) {
     let mut k: u64 = 0;
     while k < SHEETS {
         test_generated(counts, k);
@@ -1649,7 +1640,7 @@ fn generated_sheets(counts: &mut [u64; 28]) {
 }
 
 fn main() {
-    let mut counts = [0u64; 28];
+    let mut counts = [0usize; 28];
     first_sheets(&mut counts);
     withdrawn_sheets(&mut counts);
     plain_sheets(&mut counts);

@@ -7,10 +7,10 @@ use Rattle.test_calls.proofs.marked.Statement.{statement}
 use Rattle.test_calls.proofs.marked.Tie as tie
 
 abbrev Inv-loop : tie.InvT-loop
-Inv-loop words₀ i₀ words i = length words ≡ 600
+Inv-loop words₀ i₀ words i = length words ≡ 2083
 
 abbrev μ-loop : tie.MeasureT-loop
-μ-loop words₀ i₀ words i = 600 - i
+μ-loop words₀ i₀ words i = 2083 - i
 
 no-words-requires : tie.Need-no-words-requires Inv-loop μ-loop
 no-words-requires c κs = search needs

@@ -1,12 +1,13 @@
 -- `test_calls::put_signs` meets its contract: `put_byte` stays within the text, and a sign is at least one byte, so the bytes left fall. Assumes nothing.
 use borrow.Author.Needs.{needs}
+use mathlib.Core.Path.{_≡_}
 use Prim.Native.Nat.{_-_, _≤_}
 use lib.ListN.{length}
 use Rattle.test_calls.proofs.put_signs.Statement.{statement}
 use Rattle.test_calls.proofs.put_signs.Tie as tie
 
 abbrev Inv-loop : tie.InvT-loop
-Inv-loop text₀ at signs end₀ i₀ text end i = end ≤ 8200
+Inv-loop text₀ at signs end₀ i₀ text end i = (end ≤ length text) × (length text ≡ length text₀)
 
 abbrev μ-loop : tie.MeasureT-loop
 μ-loop text₀ at signs end₀ i₀ text end i = length signs - i
@@ -38,6 +39,9 @@ loop-less c = search needs
 loop-again : tie.Need-loop-again Inv-loop μ-loop
 loop-again c = search needs
 
+same-length : tie.Need-same-length Inv-loop μ-loop
+same-length c = search needs
+
 returns : tie.Need-returns Inv-loop μ-loop
 returns c = search needs
 
@@ -56,4 +60,5 @@ put-signs-spec =
     put-byte-requires
     loop-less
     loop-again
+    same-length
     returns)

@@ -1,12 +1,13 @@
 -- `test_calls::put_words` meets its contract: `put_word` stays within the words, and each turn takes at least one byte, so the bytes left fall. Assumes nothing.
 use borrow.Author.Needs.{needs}
+use mathlib.Core.Path.{_≡_}
 use Prim.Native.Nat.{_-_, _≤_}
 use lib.ListN.{length}
 use Rattle.test_calls.proofs.put_words.Statement.{statement}
 use Rattle.test_calls.proofs.put_words.Tie as tie
 
 abbrev Inv-loop : tie.InvT-loop
-Inv-loop words₀ line end₀ i₀ words end i = end ≤ 2083
+Inv-loop words₀ line end₀ i₀ words end i = (end ≤ length words) × (length words ≡ length words₀)
 
 abbrev μ-loop : tie.MeasureT-loop
 μ-loop words₀ line end₀ i₀ words end i = length line - i
@@ -50,6 +51,9 @@ loop-less c = search needs
 loop-again : tie.Need-loop-again Inv-loop μ-loop
 loop-again c = search needs
 
+same-length : tie.Need-same-length Inv-loop μ-loop
+same-length c = search needs
+
 returns : tie.Need-returns Inv-loop μ-loop
 returns c = search needs
 
@@ -72,4 +76,5 @@ put-words-spec =
     put-word-requires
     loop-less
     loop-again
+    same-length
     returns)

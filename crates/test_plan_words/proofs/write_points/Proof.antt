@@ -16,11 +16,8 @@ loop-holds c = search needs
 returns : tie.Need-returns Inv-loop μ-loop
 returns c = search needs
 
-slice-aggregate-write-bytes : tie.Need-slice-aggregate-write-bytes Inv-loop μ-loop
-slice-aggregate-write-bytes c = search needs
-
-write-bytes-requires : tie.Need-write-bytes-requires Inv-loop μ-loop
-write-bytes-requires c κs = search needs
+slice-aggregate-write-labelled : tie.Need-slice-aggregate-write-labelled Inv-loop μ-loop
+slice-aggregate-write-labelled c = search needs
 
 array-read-wide : tie.Need-array-read-wide Inv-loop μ-loop
 array-read-wide c = search needs
@@ -28,8 +25,8 @@ array-read-wide c = search needs
 wide-requires : tie.Need-wide-requires Inv-loop μ-loop
 wide-requires c κs = search needs
 
-write-number-requires : tie.Need-write-number-requires Inv-loop μ-loop
-write-number-requires c κs = search needs
+write-labelled-requires : tie.Need-write-labelled-requires Inv-loop μ-loop
+write-labelled-requires c κs = search needs
 
 add-i : tie.Need-add-i Inv-loop μ-loop
 add-i c = search needs
@@ -51,11 +48,10 @@ write-points-spec =
     μ-loop
     loop-holds
     returns
-    slice-aggregate-write-bytes
-    write-bytes-requires
+    slice-aggregate-write-labelled
     array-read-wide
     wide-requires
-    write-number-requires
+    write-labelled-requires
     add-i
     loop-less
     loop-again

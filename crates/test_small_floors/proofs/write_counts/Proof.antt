@@ -16,14 +16,14 @@ loop-holds c = search needs
 write-label-requires : tie.Need-write-label-requires Inv-loop μ-loop
 write-label-requires c κs = search needs
 
-mul-print-decimal : tie.Need-mul-print-decimal Inv-loop μ-loop
-mul-print-decimal c = search needs
+mul-write-number : tie.Need-mul-write-number Inv-loop μ-loop
+mul-write-number c = search needs
 
-array-read-print-decimal : tie.Need-array-read-print-decimal Inv-loop μ-loop
-array-read-print-decimal c = search needs
+array-read-write-number : tie.Need-array-read-write-number Inv-loop μ-loop
+array-read-write-number c = search needs
 
-print-decimal-requires : tie.Need-print-decimal-requires Inv-loop μ-loop
-print-decimal-requires c κs = search needs
+write-number-requires : tie.Need-write-number-requires Inv-loop μ-loop
+write-number-requires c κs = search needs
 
 slice-aggregate-write-bytes : tie.Need-slice-aggregate-write-bytes Inv-loop μ-loop
 slice-aggregate-write-bytes c = search needs
@@ -51,9 +51,9 @@ write-counts-spec =
     μ-loop
     loop-holds
     write-label-requires
-    mul-print-decimal
-    array-read-print-decimal
-    print-decimal-requires
+    mul-write-number
+    array-read-write-number
+    write-number-requires
     slice-aggregate-write-bytes
     write-bytes-requires
     add-i
