@@ -1,5 +1,6 @@
--- A word that was seen is in the list, and one that was not is put behind it; so in the end the list has the words of all pairs, and
--- no other. Assumes nothing.
+-- A word that was seen is in the list, and one that was not is put behind it; so in the end the list has the words of all pairs of classes.
+-- Each evaluation is of a class and each class has an evaluation, so these are the words of all pairs of evaluations, and no other.
+-- Assumes nothing.
 use mathlib.Core.Bool.{true, false}
 use mathlib.Core.Path.{_≡_, refl, sym, ap, _∙_, subst}
 use mathlib.Core.List.{List, [], _∷_, _++_}
@@ -125,6 +126,7 @@ module _ (words : List ℕ) where
       ∙ omega (arith, entries-length n)
 
 module _ (zeros : ℕ) (masks : List ℕ) where
+  -- the word of the masks at e and at f
   abbrev wordAt : ℕ → ℕ → ℕ
   wordAt e f = pairWord zeros (entry masks e) (entry masks f)
 
@@ -151,7 +153,7 @@ module _ (zeros : ℕ) (masks : List ℕ) where
   unfolding allPairs
   all-next e = collect-more (λ e. pairsOf zeros masks e (e + 1)) e
 
-  -- the pairs of one evaluation more
+  -- the pairs of one mask more
   pub all-noted : {seen list seen' list' seen'' list'' : List ℕ} {count r q : ℕ} (e : ℕ) (words : List ℕ) → PairsIn zeros masks e (e + 1) words
       → Noted (allPairs zeros masks e) seen list count seen' list' r → Noted (entriesOf words (e + 1)) seen' list' r seen'' list'' q
       → Noted (allPairs zeros masks (e + 1)) seen list count seen'' list'' q
