@@ -29,6 +29,7 @@ outcomeText (Outcome.Plan words) = []
 outcomeText Outcome.NoPlan = []
 outcomeText Outcome.Yes = []
 outcomeText (Outcome.Unmet rule) = []
+outcomeText (Outcome.Text n) = []
 outcomeText (Outcome.Refused number carried) = []
 outcomeText (Outcome.RefusedLine number line place) = refusedText number line place
 
