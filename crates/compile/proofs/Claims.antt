@@ -1,4 +1,4 @@
--- What is proved of compiling: the pass over a formula's order makes its atoms and its code, a compiled sheet has at each
+-- What is proved of compiling: the pass over a formula's order makes its atoms and its code, a compiled chart has at each
 -- evaluation what the terms say, and what was read can be compiled. Assumes nothing.
 use mathlib.Core.Bool.{Bool, _&&_}
 use mathlib.Core.Path.{_≡_, sym, ap, _∙_}
@@ -21,10 +21,10 @@ use Rattle.syntax.proofs.Claims.{length-codes, text-read}
 use Rattle.evalset.specs.Sets.{room, memAt}
 use Rattle.contact.specs.Numbering.{mapAtom, mapForm, numberForm}
 use Rattle.contact.specs.Plan.{at}
-use Rattle.search.specs.declared.Sheet.{Sheet}
+use Rattle.search.specs.declared.Chart.{Chart}
 use Rattle.search.specs.Compiled.{atomAt}
 use Rattle.kleene.specs.Code.{postfix as postfixCode}
-use Rattle.compile.specs.Sheet.{setOf, firstTerm, secondSet, CompiledFrom}
+use Rattle.compile.specs.Chart.{setOf, firstTerm, secondSet, CompiledFrom}
 use Rattle.compile.specs.Machine.{start, run}
 use Rattle.compile.proofs.Orders.{formula-run}
 
@@ -36,20 +36,20 @@ pub order-compiled : {N : Type 0} (g : N → ℕ) (f : Formula N) (atoms : List 
 unfolding run
 order-compiled g f atoms = formula-run g f [] (start atoms)
 
--- ---- a compiled sheet
+-- ---- a compiled chart
 
 -- a set has of the evaluations below room those in which its term holds
 pub set-members : (t : Term ℕ) (e : ℕ) → e < room → setOf t e ≡ at t e
 unfolding setOf
 set-members t e l = ap (λ (b : Bool). b && at t e) (lt-ltb e room l)
 
-module _ {sheet : Sheet} {atoms : List (Atom ℕ)} (c : CompiledFrom sheet atoms) (i e : ℕ) (l : e < room) where
+module _ {chart : Chart} {atoms : List (Atom ℕ)} (c : CompiledFrom chart atoms) (i e : ℕ) (l : e < room) where
   -- the first set of an atom, the zero term's of a zero atom
-  pub first-members : memAt (sheet .xs) i e ≡ at (firstTerm (atomAt atoms i)) e
+  pub first-members : memAt (chart .xs) i e ≡ at (firstTerm (atomAt atoms i)) e
   first-members = congr-fun (c .firsts i) e ∙ set-members (firstTerm (atomAt atoms i)) e l
 
   -- the second set of a contact
-  pub second-members : (x y : Term ℕ) → atomAt atoms i ≡ Atom.contact x y → memAt (sheet .ys) i e ≡ at y e
+  pub second-members : (x y : Term ℕ) → atomAt atoms i ≡ Atom.contact x y → memAt (chart .ys) i e ≡ at y e
   second-members x y h = congr-fun (c .seconds i ∙ ap secondSet h) e ∙ set-members y e l
 
 -- ---- what was read

@@ -1,5 +1,5 @@
 pub mod Sets
-pub mod Sheets
+pub mod Charts
 pub mod Orders
 pub mod Heights
 pub mod Steps

@@ -8,7 +8,7 @@ use Rattle.formula.specs.Formula.{Term}
 use Rattle.evalset.specs.Sets.{room, noneOf, fullOf, nameSet, meetOf, joinOf, minusOf}
 use Rattle.contact.specs.Meaning.{partTerm}
 use Rattle.contact.specs.Plan.{at}
-use Rattle.compile.specs.Sheet.{setOf}
+use Rattle.compile.specs.Chart.{setOf}
 
 pub of-zero : noneOf ≡ setOf Term.zero
 unfolding setOf

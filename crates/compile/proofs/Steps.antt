@@ -1,4 +1,4 @@
--- One symbol: the stack of sets follows the stack of terms, the sheet the atoms and the array the code. Assumes nothing.
+-- One symbol: the stack of sets follows the stack of terms, the chart the atoms and the array the code. Assumes nothing.
 use mathlib.Core.Bool.{Bool, true, false, cond}
 use mathlib.Core.Path.{_≡_, refl, sym, ap, ap₂, _∙_}
 use mathlib.Core.List.{List, [], _∷_, _++_}
@@ -17,12 +17,12 @@ use Rattle.evalset.specs.declared.EvalSet.{EvalSet}
 use Rattle.evalset.specs.Sets.{mem, memAt, fullOf, meetOf, joinOf, minusOf}
 use Rattle.lists.proofs.Truth.{clash, cases}
 use Rattle.evalset.proofs.Arrays.{mem-at-same, mem-at-other}
-use Rattle.search.specs.declared.Sheet.{Sheet}
+use Rattle.search.specs.declared.Chart.{Chart}
 use Rattle.compile.specs.Kinds.{takenBy, termKind, atomKind, namesBy, setBy, firstBy, secondBy, signBy}
-use Rattle.compile.specs.Sheet.{setOf, CompiledFrom, Grows}
+use Rattle.compile.specs.Chart.{setOf, CompiledFrom, Grows}
 use Rattle.compile.specs.Machine.{State, withSign, step}
 use Rattle.compile.proofs.Sets.{of-zero, of-one, of-name, of-intersection, of-union, of-part, of-complement}
-use Rattle.compile.proofs.Sheets.{grows-same, compiled-more}
+use Rattle.compile.proofs.Charts.{grows-same, compiled-more}
 use Rattle.compile.proofs.Heights.{Proper}
 
 -- ---- the stack
@@ -99,16 +99,16 @@ module _ (g : Name → ℕ) (st : List EvalSet) (set-r : EvalSet) (k n h : ℕ) 
   term-step (relation contact) ts q e l d s w m = clash q refl
   term-step (relation part) ts q e l d s w m = clash q refl
 
--- what the sign of an atom leaves: h is the height, r the sheet, c the code
-pub record Made (st : List EvalSet) (h c : ℕ) (r : Sheet) (s q : State) : Type 0 where
+-- what the sign of an atom leaves: h is the height, r the chart, c the code
+pub record Made (st : List EvalSet) (h c : ℕ) (r : Chart) (s q : State) : Type 0 where
   pub stacked : Stacked st (q .terms)
   pub high : h ≡ length (q .terms)
   pub compiled : CompiledFrom r (q .atoms)
   pub coded : q .code ≡ s .code ++ c ∷ []
 
-module _ (g : Name → ℕ) (st : List EvalSet) (n h : ℕ) (atoms : List (Atom ℕ)) (cs : List ℕ) {sheet r : Sheet} (from : CompiledFrom sheet atoms) (room : length atoms < 16) where
+module _ (g : Name → ℕ) (st : List EvalSet) (n h : ℕ) (atoms : List (Atom ℕ)) (cs : List ℕ) {chart r : Chart} (from : CompiledFrom chart atoms) (room : length atoms < 16) where
   pub atom-step : (x : Sym) (ts : List (Term ℕ)) → atomKind (code x) ≡ true → n ≡ length ts → takenBy (code x) ≤ n → h ≡ n - takenBy (code x)
-      → Stacked st ts → Grows sheet r (eqb (code x) 14) (firstBy (code x) (memAt st h) (memAt st (h + 1))) (secondBy (code x) (memAt st (h + 1)))
+      → Stacked st ts → Grows chart r (eqb (code x) 14) (firstBy (code x) (memAt st h) (memAt st (h + 1))) (secondBy (code x) (memAt st (h + 1)))
       → Made st h (signBy (code x) (length atoms)) r (record { terms = ts; atoms = atoms; code = cs }) (step g x (record { terms = ts; atoms = atoms; code = cs }))
   unfolding takenBy atomKind firstBy secondBy signBy
   atom-step isZero [] q e l d s w = absurd (omega arith)

@@ -11,10 +11,10 @@ use Rattle.formula.specs.Names.{formulaNames}
 use Rattle.syntax.specs.Postfix.{postfix}
 use Rattle.syntax.specs.Reader.{codes}
 use Rattle.contact.specs.Numbering.{mapForm, mapAtom, numberForm}
-use Rattle.search.specs.declared.Sheet.{Sheet}
+use Rattle.search.specs.declared.Chart.{Chart}
 use Rattle.compile.specs.declared.CompiledRule.{CompiledRule}
 use Rattle.kleene.specs.Code.{postfix as postfixCode}
-use Rattle.compile.specs.Sheet.{CompiledFrom}
+use Rattle.compile.specs.Chart.{CompiledFrom}
 
 -- the atoms once those of the formula, its names numbered by g, stand behind them
 abbrev pub atomsAfter : (Name → ℕ) → Formula Name → List (Atom ℕ) → List (Atom ℕ)
@@ -24,31 +24,31 @@ atomsAfter g f atoms = atoms ++ atomsOf (mapForm (mapAtom g) f)
 abbrev pub codeAfter : Formula Name → List (Atom ℕ) → List ℕ
 codeAfter f atoms = postfixCode (numberForm (length atoms) f)
 
--- the order and the numbers are those of the formula, the sheet that of the atoms, and there is room for the formula's atoms
-pub record Given (order numbers : List ℕ) (sheet : Sheet) (f : Formula Name) (g : Name → ℕ) (atoms : List (Atom ℕ)) : Type 0 where
+-- the order and the numbers are those of the formula, the chart that of the atoms, and there is room for the formula's atoms
+pub record Given (order numbers : List ℕ) (chart : Chart) (f : Formula Name) (g : Name → ℕ) (atoms : List (Atom ℕ)) : Type 0 where
   pub order-is : order ≡ codes (postfix f)
   pub numbers-are : numbers ≡ map g (formulaNames f)
-  pub compiled : CompiledFrom sheet atoms
+  pub compiled : CompiledFrom chart atoms
   pub few : length (atomsAfter g f atoms) ≤ 16
 
 -- there are such a formula, numbering and atoms, and the code has room
-pub record Asked (order numbers : List ℕ) (sheet : Sheet) (from : ℕ) : Type 0 where
+pub record Asked (order numbers : List ℕ) (chart : Chart) (from : ℕ) : Type 0 where
   pub formula : Formula Name
   pub numbering : Name → ℕ
   pub atoms : List (Atom ℕ)
-  pub given : Given order numbers sheet formula numbering atoms
+  pub given : Given order numbers chart formula numbering atoms
   pub short : length order ≤ 256
   pub fits : from + length order ≤ 4096
 
 -- the formula's atoms and code stand behind those before, and all else is as it was
-pub record Result (f : Formula Name) (g : Name → ℕ) (atoms : List (Atom ℕ)) (sheet : Sheet) (buf : List ℕ) (from : ℕ) (r : CompiledRule) (out : List ℕ) : Type 0 where
-  pub names-kept : r .sheet .names ≡ sheet .names
-  pub compiled : CompiledFrom (r .sheet) (atomsAfter g f atoms)
+pub record Result (f : Formula Name) (g : Name → ℕ) (atoms : List (Atom ℕ)) (chart : Chart) (buf : List ℕ) (from : ℕ) (r : CompiledRule) (out : List ℕ) : Type 0 where
+  pub names-kept : r .chart .names ≡ chart .names
+  pub compiled : CompiledFrom (r .chart) (atomsAfter g f atoms)
   pub ends : r .end ≡ from + length (codeAfter f atoms)
   pub wrote : out ≡ sets buf from (codeAfter f atoms)
 
 -- the answer is right for each formula, numbering and atoms that were given
-unfoldable pub Compiles : List ℕ → List ℕ → Sheet → List ℕ → ℕ → CompiledRule → List ℕ → Type 0
-Compiles order numbers sheet buf from r out =
-    (f : Formula Name) (g : Name → ℕ) (atoms : List (Atom ℕ)) → Given order numbers sheet f g atoms
-    → Result f g atoms sheet buf from r out
+unfoldable pub Compiles : List ℕ → List ℕ → Chart → List ℕ → ℕ → CompiledRule → List ℕ → Type 0
+Compiles order numbers chart buf from r out =
+    (f : Formula Name) (g : Name → ℕ) (atoms : List (Atom ℕ)) → Given order numbers chart f g atoms
+    → Result f g atoms chart buf from r out

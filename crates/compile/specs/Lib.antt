@@ -1,4 +1,4 @@
 pub mod Kinds
-pub mod Sheet
+pub mod Chart
 pub mod Machine
 pub mod Compiles

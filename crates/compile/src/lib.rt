@@ -9,7 +9,7 @@ ghost use lib.Dec.{eqb};
 ghost use lib.ListN.{length, getD};
 ghost use Rattle.evalset.specs.Sets.{mem};
 ghost use Rattle.compile.specs.Kinds.{takenBy, termKind, atomKind, namesBy, setBy, firstBy, secondBy, signBy};
-ghost use Rattle.compile.specs.Sheet.{CompiledFrom, Grows};
+ghost use Rattle.compile.specs.Chart.{CompiledFrom, Grows};
 ghost use Rattle.compile.specs.Compiles.{Asked, Compiles};
 use evalset::EvalSet;
 use lexer::AND;
@@ -29,22 +29,22 @@ use lexer::TIMES;
 use lexer::TRUTH;
 use lexer::ZERO;
 use search::ATOMS;
-use search::Sheet;
+use search::Chart;
 
-// The sheet with the rule's atoms behind those before, and the place after the rule's code.
+// The chart with the rule's atoms behind those before, and the place after the rule's code.
 pub struct CompiledRule {
-    pub sheet: Sheet,
+    pub chart: Chart,
     pub end: usize,
 }
 
-// The sheet of no atoms.
-pub fn blank_sheet(names: usize) -> Sheet
+// The chart of no atoms.
+pub fn blank_chart(names: usize) -> Chart
     ensures { λ r. ⌜ (r .names ≡ names) × CompiledFrom r [] ⌝ }
 {
     let none = evalset::empty();
     let contact = [false; ATOMS];
     let sets = [none; ATOMS];
-    Sheet {
+    Chart {
         names,
         atoms: 0,
         contact,
@@ -123,13 +123,13 @@ fn term_set(kind: u8, number: usize, x: EvalSet, y: EvalSet) -> EvalSet
     }
 }
 
-// The sheet with one atom more.
-fn added(sheet: Sheet, contact: bool, x: EvalSet, y: EvalSet) -> Sheet
-    requires { ⌜ sheet .atoms < 16 ⌝ }
-    ensures { λ r. ⌜ Grows sheet r contact (mem x) (mem y) ⌝ }
+// The chart with one atom more.
+fn added(chart: Chart, contact: bool, x: EvalSet, y: EvalSet) -> Chart
+    requires { ⌜ chart .atoms < 16 ⌝ }
+    ensures { λ r. ⌜ Grows chart r contact (mem x) (mem y) ⌝ }
 {
-    let mut grown = sheet;
-    let i = sheet.atoms;
+    let mut grown = chart;
+    let i = chart.atoms;
     grown.contact[i] = contact;
     grown.xs[i] = x;
     grown.ys[i] = y;
@@ -137,15 +137,15 @@ fn added(sheet: Sheet, contact: bool, x: EvalSet, y: EvalSet) -> Sheet
     grown
 }
 
-// The sheet with the atom of =0, C or <= on these sets; "<=(x,y) means x*-y=0".
-fn with_atom(sheet: Sheet, kind: u8, x: EvalSet, y: EvalSet) -> Sheet
-    requires { ⌜ sheet .atoms < 16 ⌝ }
-    ensures { λ r. ⌜ Grows sheet r (eqb kind 14) (firstBy kind (mem x) (mem y)) (secondBy kind (mem y)) ⌝ }
+// The chart with the atom of =0, C or <= on these sets; "<=(x,y) means x*-y=0".
+fn with_atom(chart: Chart, kind: u8, x: EvalSet, y: EvalSet) -> Chart
+    requires { ⌜ chart .atoms < 16 ⌝ }
+    ensures { λ r. ⌜ Grows chart r (eqb kind 14) (firstBy kind (mem x) (mem y)) (secondBy kind (mem y)) ⌝ }
 {
     match kind {
-        CONTACT => added(sheet, true, x, y),
-        PART => added(sheet, false, evalset::minus(x, y), evalset::empty()),
-        _ => added(sheet, false, x, evalset::empty()),
+        CONTACT => added(chart, true, x, y),
+        PART => added(chart, false, evalset::minus(x, y), evalset::empty()),
+        _ => added(chart, false, x, evalset::empty()),
     }
 }
 
@@ -175,23 +175,23 @@ fn empty_stack() -> [EvalSet; 172]
     [none; 172]
 }
 
-// The rule with this order, whose names have these numbers at their places: its atoms go behind those of the sheet, its code
-// into the array from a place on. The requires asks for the order of a formula, a compiled sheet, and room for the rule's atoms
+// The rule with this order, whose names have these numbers at their places: its atoms go behind those of the chart, its code
+// into the array from a place on. The requires asks for the order of a formula, a compiled chart, and room for the rule's atoms
 // and code: a caller has them of what was read (`order-read` and `order-short` of proofs/Claims.antt) and counted.
 pub fn compile_rule(
     order: &[u8],
     numbers: &[u8],
-    sheet: Sheet,
+    chart: Chart,
     code: &mut [u8; 4096],
     from: usize,
 ) -> CompiledRule
-    requires { ⌜ Asked (now order) (now numbers) sheet from ⌝ }
-    ensures { λ r. ⌜ Compiles (now (order .entry)) (now (numbers .entry)) sheet (now (code .entry)) from r (now (code .exit)) ⌝ }
+    requires { ⌜ Asked (now order) (now numbers) chart from ⌝ }
+    ensures { λ r. ⌜ Compiles (now (order .entry)) (now (numbers .entry)) chart (now (code .entry)) from r (now (code .exit)) ⌝ }
 {
     let mut stack = empty_stack();
     let mut height: usize = 0;
     let mut used: usize = 0;
-    let mut grown = sheet;
+    let mut grown = chart;
     let mut end = from;
     let mut i: usize = 0;
     while i < order.len() {
@@ -214,5 +214,5 @@ pub fn compile_rule(
             grown = with_atom(grown, kind, x, y);
         }
     }
-    CompiledRule { sheet: grown, end }
+    CompiledRule { chart: grown, end }
 }

@@ -17,7 +17,8 @@ use Rattle.lists.proofs.Truth.{clash, cases}
 use Rattle.contact.specs.Meaning.{Floor, atomOn, meetsAll}
 use Rattle.contact.specs.Numbering.{allAtoms, numberedAtoms, AtomBelow, RulesBelow}
 use Rattle.contact.specs.Row.{IsFirstRow, Row, Realises, Realisable, rulesTrue, Before}
-use Rattle.contact.specs.Plan.{rowMarks, check, rows, good, firstRow, firstRowOf}
+use Rattle.contact.specs.Plan.{rowMarks}
+use Rattle.contact.specs.Check.{check, rows, good, firstRow, firstRowOf}
 use Rattle.contact.proofs.Numbered.{Faithful, numbered-faithful}
 use Rattle.contact.proofs.Realise.{marksFloor, plan-row, row-check}
 

@@ -7,13 +7,14 @@ use mathlib.Core.List.{List, [], _∷_, map}
 use Prim.Native.Nat.{ℕ, _+_, _*_, _^_, _≤_, _<_, max}
 use lib.ListN.{length, getD}
 use Rattle.formula.specs.Formula.{Atom, Form, Formula, Name}
-use Rattle.lists.specs.Search.{In, first, gather, below}
+use Rattle.lists.specs.Search.{In, first, collect, below}
 use Rattle.evalset.specs.Bit.{bit}
 use Rattle.contact.specs.Meaning.{Floor, atomOn, meetsAll}
 use Rattle.formula.specs.Names.{atomNames}
 use Rattle.contact.specs.Numbering.{allAtoms, sameName, namesOf, numberOf, nameOf, numberedNames, numberedAtoms, AtomBelow, RulesBelow}
 use Rattle.contact.specs.Row.{IsFirstRow, Row, Realises, Realisable, PartialRow, RealisesPart, rulesTrue, Sound, Exact}
-use Rattle.contact.specs.Plan.{Mark, marksOf, rowMarks, separated, check, pointsFor, rows, good, firstRowOf, trueContacts, falseZeros}
+use Rattle.contact.specs.Plan.{Mark, marksOf, rowMarks, separated, pointsFor, trueContacts, falseZeros}
+use Rattle.contact.specs.Check.{check, rows, good, firstRowOf}
 use Rattle.contact.specs.Pairs.{pairCheck}
 use Rattle.contact.specs.Tableau.{refutes, closes, search}
 use Rattle.contact.proofs.Bits
@@ -39,7 +40,7 @@ pub same-name : (x y : Name) → (sameName x y ≡ true) ↔ (x ≡ y)
 same-name = Naming.same-name
 
 -- each name of the rules has a number below how many names they have, and is found at it
-pub name-found : (rules : List (Formula Name)) {x : Name} → In x (gather atomNames (allAtoms rules))
+pub name-found : (rules : List (Formula Name)) {x : Name} → In x (collect atomNames (allAtoms rules))
     → (numberOf rules x < length (namesOf rules)) × (nameOf rules (numberOf rules x) ≡ x)
 name-found rules i = Naming.name-found rules i
 

@@ -5,8 +5,8 @@ use Prim.Native.Nat.{ℕ, _+_, _*_, _≤_, max, _^_}
 use native.Mathlib.Omega.{arith}
 use lib.ListN.{length, length-append}
 use Rattle.formula.specs.Formula.{Term, Atom}
-use Rattle.lists.specs.Search.{first, gather}
-use Rattle.lists.proofs.Search.{first-short, or-else-length, gather-few, keep-elems}
+use Rattle.lists.specs.Search.{first, collect}
+use Rattle.lists.proofs.Search.{first-short, or-else-length, collect-few, keep-elems}
 use Rattle.contact.specs.Row.{PartialRow, is, unknown}
 use Rattle.contact.specs.Plan.{Mark, touching, apart, vacant, inhabited, marksOf, allowed, fills, partners, leads, evaluations, withPartner, gives, given, pointsFor, trueContacts, falseZeros}
 
@@ -14,21 +14,21 @@ module _ (n : ℕ) (all : List Mark) where
   pair-short : (y : Term ℕ) (p : ℕ) → length (withPartner n all y p) ≤ 2
   pair-short y p = omega (arith, first-short (partners n all y p) (evaluations n))
 
-  gather-gives : (ms : List Mark) → length (gather (gives n all) ms) ≤ 2 * trueContacts ms + falseZeros ms
-  gather-gives [] = omega arith
-  gather-gives (touching x y ∷ ms) =
-      rw (length-append (gives n all (touching x y)) (gather (gives n all) ms))
+  collect-gives : (ms : List Mark) → length (collect (gives n all) ms) ≤ 2 * trueContacts ms + falseZeros ms
+  collect-gives [] = omega arith
+  collect-gives (touching x y ∷ ms) =
+      rw (length-append (gives n all (touching x y)) (collect (gives n all) ms))
       (omega (
         arith,
-        gather-gives ms,
-        gather-few (withPartner n all y) 2 (first (leads n all x y) (evaluations n)) (λ p i. pair-short y p),
+        collect-gives ms,
+        collect-few (withPartner n all y) 2 (first (leads n all x y) (evaluations n)) (λ p i. pair-short y p),
         first-short (leads n all x y) (evaluations n),
       ))
-  gather-gives (apart x y ∷ ms) = gather-gives ms
-  gather-gives (vacant t ∷ ms) = gather-gives ms
-  gather-gives (inhabited t ∷ ms) =
-      rw (length-append (gives n all (inhabited t)) (gather (gives n all) ms))
-      (omega (arith, gather-gives ms, first-short (fills n all t) (evaluations n)))
+  collect-gives (apart x y ∷ ms) = collect-gives ms
+  collect-gives (vacant t ∷ ms) = collect-gives ms
+  collect-gives (inhabited t ∷ ms) =
+      rw (length-append (gives n all (inhabited t)) (collect (gives n all) ms))
+      (omega (arith, collect-gives ms, first-short (fills n all t) (evaluations n)))
 
 -- "With c true contacts and z false zero atoms there are at most max(1, 2 times c + z) points."
 pub point-bound : (n : ℕ) (ms : List Mark) → length (pointsFor n ms) ≤ max 1 (2 * trueContacts ms + falseZeros ms)
@@ -37,7 +37,7 @@ point-bound n ms =
     omega (
       arith,
       keep-elems (given n ms) 0 (2 ^ n),
-      or-else-length (gather (gives n ms) ms) (first (allowed n ms) (evaluations n)) _ (gather-gives n ms ms) (first-short (allowed n ms) (evaluations n)),
+      or-else-length (collect (gives n ms) ms) (first (allowed n ms) (evaluations n)) _ (collect-gives n ms ms) (first-short (allowed n ms) (evaluations n)),
     )
 
 marks-count : (ms : List Mark) → trueContacts ms + falseZeros ms ≤ length ms

@@ -11,7 +11,8 @@ use Rattle.formula.specs.Formula.{Term}
 use Rattle.lists.specs.Search.{In, any, all}
 use Rattle.lists.proofs.Search.{any-intro, any-wider, none-intro, all-intro, all-elim}
 use Rattle.lists.proofs.Truth.{clash}
-use Rattle.contact.specs.Plan.{at, Mark, touching, apart, vacant, inhabited, evaluations, parts, empties, separated, allowed, fills, partners, leads, witnessed, check}
+use Rattle.contact.specs.Plan.{at, Mark, touching, apart, vacant, inhabited, evaluations, parts, empties, separated, allowed, fills, partners, leads}
+use Rattle.contact.specs.Check.{witnessed, check}
 
 module _ (n : ℕ) (ms fewer : List Mark) (sub : (m : Mark) → In m fewer → In m ms) where
   none-fewer : (p : Mark → Bool) → not (any p ms) ≡ true → not (any p fewer) ≡ true

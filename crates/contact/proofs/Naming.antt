@@ -13,8 +13,8 @@ use lib.Dec.{eqb}
 use lib.ListN.{length, getD}
 use borrow.Author.Tests.{eqb-true, eq-eqb}
 use Rattle.formula.specs.Formula.{Term, Atom, Form, Formula, Name}
-use Rattle.lists.specs.Search.{In, here, next, any, all, gather, below}
-use Rattle.lists.proofs.Search.{none-in, uncons, at-head, in-left, in-right, map-elim, all-map, keep-intro, keep-elim, gather-intro}
+use Rattle.lists.specs.Search.{In, here, next, any, all, collect, below}
+use Rattle.lists.proofs.Search.{none-in, uncons, at-head, in-left, in-right, map-elim, all-map, keep-intro, keep-elim, collect-intro}
 use Rattle.lists.proofs.Once.{Once, once-fits, once-kept}
 use Rattle.contact.specs.Meaning.{Floor, holds, within, partTerm, atomOn, value, meets, meetsAll, renamed}
 use Rattle.formula.specs.Atoms.{atomsOf}
@@ -22,7 +22,7 @@ use Rattle.formula.specs.Names.{termNames, atomNames}
 use Rattle.contact.specs.Numbering.{allAtoms, distinct, position, sameName, namesOf, mapTerm, mapAtom, mapForm, numberedNames, numberedAtoms, TermBelow, AtomBelow, RulesBelow, numberOf, nameOf}
 use Rattle.lists.proofs.Truth.{clash, cases}
 use Rattle.contact.specs.Row.{IsFirstRow, Row, Realises, Realisable, rulesTrue}
-use Rattle.contact.specs.Plan.{firstRowOf}
+use Rattle.contact.specs.Check.{firstRowOf}
 use Rattle.contact.proofs.Numbered.{all-atoms-map, numbered-map}
 use Rattle.contact.proofs.Answer.{first-row, first-row-only, rowFloor, plan-gives-row, plan-meets, no-plan-exactly}
 
@@ -201,23 +201,23 @@ module _ {N : Type 0} (same : N → N → Bool) (decides : Decides same) where
 
 module _ (rules : List (Formula Name)) where
   -- each name of the rules has a number below how many they are, and is found at it
-  pub name-found : {x : Name} → In x (gather atomNames (allAtoms rules))
+  pub name-found : {x : Name} → In x (collect atomNames (allAtoms rules))
       → (numberOf rules x < length (namesOf rules)) × (nameOf rules (numberOf rules x) ≡ x)
   name-found i =
-      position-found sameName same-name [] (namesOf rules) (distinct-in sameName same-name (gather atomNames (allAtoms rules)) i)
+      position-found sameName same-name [] (namesOf rules) (distinct-in sameName same-name (collect atomNames (allAtoms rules)) i)
 
   -- the numbered rules' names are below that number
   pub numbered-below : RulesBelow (length (namesOf rules)) (numberedNames rules)
   numbered-below a i =
       let r = map-elim (mapAtom (numberOf rules)) (allAtoms rules) (subst (In a) (all-atoms-map (mapAtom (numberOf rules)) rules) i) in
       subst (AtomBelow (length (namesOf rules))) (sym (r .1))
-      (atom-below (numberOf rules) (length (namesOf rules)) (r .0) (λ x j. name-found (gather-intro atomNames (r .2) j) .0))
+      (atom-below (numberOf rules) (length (namesOf rules)) (r .0) (λ x j. name-found (collect-intro atomNames (r .2) j) .0))
 
   -- with the names put back they are the rules as read
   names-back : map (mapForm (mapAtom (nameOf rules))) (numberedNames rules) ≡ rules
   names-back =
       forms-back (mapAtom (numberOf rules)) (mapAtom (nameOf rules)) rules
-      (λ a i. atom-back (numberOf rules) (nameOf rules) a (λ x j. name-found (gather-intro atomNames i j) .1))
+      (λ a i. atom-back (numberOf rules) (nameOf rules) a (λ x j. name-found (collect-intro atomNames i j) .1))
 
   -- a floor over numbers, as one over names, gives the rules' atoms the same values and meets the same rules
   pub numbers-row : (F : Floor ℕ) → map (atomOn (renamed (numberOf rules) F)) (allAtoms rules) ≡ map (atomOn F) (allAtoms (numberedNames rules))

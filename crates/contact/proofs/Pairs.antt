@@ -11,7 +11,8 @@ use Rattle.formula.specs.Formula.{Term}
 use Rattle.lists.specs.Search.{any, all}
 use Rattle.lists.proofs.Search.{any-intro, any-elim, none-elim, none-intro, all-elim, all-intro, below-intro, below-elim}
 use Rattle.lists.proofs.Truth.{clash, or-cases}
-use Rattle.contact.specs.Plan.{at, evaluations, Mark, touching, apart, vacant, inhabited, parts, separated, empties, allowed, fills, partners, leads, witnessed, check}
+use Rattle.contact.specs.Plan.{at, evaluations, Mark, touching, apart, vacant, inhabited, parts, separated, empties, allowed, fills, partners, leads}
+use Rattle.contact.specs.Check.{witnessed, check}
 use Rattle.contact.specs.Pairs.{serves, restricts, lives, somePair, served, pairCheck}
 use Rattle.contact.proofs.Realise.{separated-symmetric, allowed-elim, allowed-intro, fills-elim, fills-intro, partners-elim, partners-intro, leads-elim, leads-intro, check-elim, check-intro}
 

@@ -12,14 +12,15 @@ use lib.ListN.{length, getD, length-map}
 use lib.Dec.{ltb}
 use borrow.Author.Tests.{not-true, not-false, ltb-true, lt-ltb}
 use Rattle.formula.specs.Formula.{Term, Atom}
-use Rattle.lists.specs.Search.{In, here, next, any, all, first, gather, below, elem}
+use Rattle.lists.specs.Search.{In, here, next, any, all, first, collect, below, elem}
 use Rattle.evalset.specs.Bit.{bit}
-use Rattle.lists.proofs.Search.{any-intro, any-elim, none-elim, none-intro, all-elim, all-intro, first-some, first-in, keep-intro, keep-elim, uncons, none-in, place, placed, gather-intro, gather-elim, below-intro, below-elim, elem-intro, elem-elim, or-else-left, or-else-cases, or-else-some}
+use Rattle.lists.proofs.Search.{any-intro, any-elim, none-elim, none-intro, all-elim, all-intro, first-some, first-in, keep-intro, keep-elim, uncons, none-in, place, placed, collect-intro, collect-elim, below-intro, below-elim, elem-intro, elem-elim, or-else-left, or-else-cases, or-else-some}
 use Rattle.lists.proofs.Truth.{clash, or-cases}
 use Rattle.contact.specs.Meaning.{Floor, within, isEmpty, touches, atomOn}
 use Rattle.contact.specs.Numbering.{TermBelow, AtomBelow}
 use Rattle.contact.specs.Row.{Row, Realises, Realisable, is, unknown, PartialRow, Extends, RealisesPart}
-use Rattle.contact.specs.Plan.{at, evaluations, Mark, touching, apart, vacant, inhabited, mark, marksOf, rowMarks, parts, separated, empties, allowed, fills, partners, leads, witnessed, check, withPartner, gives, given, pointsFor}
+use Rattle.contact.specs.Plan.{at, evaluations, Mark, touching, apart, vacant, inhabited, mark, marksOf, rowMarks, parts, separated, empties, allowed, fills, partners, leads, withPartner, gives, given, pointsFor}
+use Rattle.contact.specs.Check.{witnessed, check}
 use Rattle.contact.proofs.Bits.{encode, encode-lt, bit-encode, holds-same}
 
 -- ---- what marks say of a floor
@@ -169,7 +170,7 @@ module _ (n : ℕ) (ms : List Mark) where
 
   gives-ok : (m : Mark) {e : ℕ} → In e (gives n ms m) → In e es × (allowed n ms e ≡ true)
   gives-ok (touching x y) {e} i =
-      let r = gather-elim (withPartner n ms y) (first (leads n ms x y) es) i in
+      let r = collect-elim (withPartner n ms y) (first (leads n ms x y) es) i in
       let p = first-in (leads n ms x y) es (r .1) in
       ⊎-elim
       (λ q. (subst (λ z. In z es) (sym q) (p .0), ap (allowed n ms) q ∙ fills-elim n ms x (r .0) (leads-elim n ms x y (r .0) (p .1) .0) .0))
@@ -183,8 +184,8 @@ module _ (n : ℕ) (ms : List Mark) where
   given-ok : {e : ℕ} → In e (given n ms) → In e es × (allowed n ms e ≡ true)
   unfolding given
   given-ok i =
-      ⊎-elim (λ j. let r = gather-elim (gives n ms) ms j in gives-ok (r .0) (r .2)) (λ j. first-in (allowed n ms) es j)
-      (or-else-cases (gather (gives n ms) ms) (first (allowed n ms) es) i)
+      ⊎-elim (λ j. let r = collect-elim (gives n ms) ms j in gives-ok (r .0) (r .2)) (λ j. first-in (allowed n ms) es j)
+      (or-else-cases (collect (gives n ms) ms) (first (allowed n ms) es) i)
 
   -- the plan's points are the evaluations given
   pub point-allowed : {e : ℕ} → In e (pointsFor n ms) → allowed n ms e ≡ true
@@ -197,14 +198,14 @@ module _ (n : ℕ) (ms : List Mark) where
 
   gives-point : {m : Mark} {e : ℕ} → In m ms → In e (gives n ms m) → In e (pointsFor n ms)
   unfolding given
-  gives-point i j = given-point (or-else-left (first (allowed n ms) es) (gather-intro (gives n ms) i j))
+  gives-point i j = given-point (or-else-left (first (allowed n ms) es) (collect-intro (gives n ms) i j))
 
   module _ (checked : check n ms ≡ true) where
     some-given : (e : ℕ) × In e (given n ms)
     unfolding given
     some-given =
         let r = first-some (allowed n ms) es (check-elim n ms checked .0) in
-        or-else-some (gather (gives n ms) ms) (first (allowed n ms) es) (r .0, subst (In (r .0)) (sym (r .1)) here)
+        or-else-some (collect (gives n ms) ms) (first (allowed n ms) es) (r .0, subst (In (r .0)) (sym (r .1)) here)
 
     pub points-some : 0 < length (pointsFor n ms)
     points-some = let r = place 0 (given-point (some-given .1)) in omega (arith, r .1)
@@ -246,7 +247,7 @@ module _ (n : ℕ) (ms : List Mark) where
         let hq = partners-elim n ms y p q (s .3) in
         let p-in = subst (In p) (sym (r .1)) here in
         let pair : (e : ℕ) → In e (withPartner n ms y p) → In e (pointsFor n ms) =
-        λ e j. gives-point i (gather-intro (withPartner n ms y) p-in j) in
+        λ e j. gives-point i (collect-intro (withPartner n ms y) p-in j) in
         any-intro (meetsOn x y) (pair p here)
         (and-intro (fills-elim n ms x p (hp .0) .1)
         (any-intro (reach y p) (pair q (next (subst (In q) (sym (s .1)) here)))

@@ -20,7 +20,8 @@ use Rattle.contact.specs.Meaning.{value}
 use Rattle.formula.specs.Atoms.{atomsOf}
 use Rattle.contact.specs.Numbering.{allAtoms, numberedAtoms}
 use Rattle.contact.specs.Row.{Row, rulesTrue, Three, is, unknown, PartialRow, Extends, Sound, Exact}
-use Rattle.contact.specs.Plan.{Mark, mark, marksOf, rowMarks, check, rows, good, firstRow, firstRowOf}
+use Rattle.contact.specs.Plan.{Mark, mark, marksOf, rowMarks}
+use Rattle.contact.specs.Check.{check, rows, good, firstRow, firstRowOf}
 use Rattle.contact.specs.Tableau.{kleeneNot, kleeneAnd, kleeneOr, kleeneIff, kleeneValue, refuted, refutes, closes, under, search}
 use Rattle.contact.proofs.Numbered.{NumbersBelow, numbers-below}
 use Rattle.contact.proofs.Fewer.{check-fewer}

@@ -2,5 +2,6 @@ pub mod Meaning
 pub mod Numbering
 pub mod Row
 pub mod Plan
+pub mod Check
 pub mod Pairs
 pub mod Tableau

@@ -8,12 +8,12 @@ use lib.ListN.{length, getD}
 use Rattle.formula.specs.Formula.{Term, Atom, Form, Formula, Name}
 use Rattle.formula.specs.Atoms.{atomsOf}
 use Rattle.formula.specs.Names.{atomNames}
-use Rattle.lists.specs.Search.{In, keep, gather}
+use Rattle.lists.specs.Search.{In, keep, collect}
 
 module _ {A : Type 0} where
   -- the atoms of the rules, in their order
   abbrev pub allAtoms : List (Form A) → List A
-  allAtoms rules = gather atomsOf rules
+  allAtoms rules = collect atomsOf rules
 
 -- each element once, at its first place
 module _ {N : Type 0} (same : N → N → Bool) where
@@ -35,7 +35,7 @@ sameName (a ∷ v) (b ∷ w) = let r = sameName v w in eqb a b && r
 
 -- the names of the rules in the order of their numbers
 abbrev pub namesOf : List (Formula Name) → List Name
-namesOf rules = distinct sameName (gather atomNames (allAtoms rules))
+namesOf rules = distinct sameName (collect atomNames (allAtoms rules))
 
 -- the number of a name
 abbrev pub numberOf : List (Formula Name) → Name → ℕ

@@ -1,19 +1,15 @@
--- What is meant, and what is computed: document 01, 'The plan that is given'. Of the points that paper gives the rule itself: `separated`,
--- `allowed`, `gives` and `pointsFor` are its sentences. Computed are the check of a row, whole or partial (`check`), and the first row that
--- passes it (`firstRow`); proofs/Claims.antt ties them to Row. Rules and atoms have numbers for names. Facts hold for any number of names.
--- Assumes nothing.
+-- What is meant: document 01, 'The plan that is given': of the points that paper gives the rule itself, and `separated`, `allowed`, `gives` and
+-- `pointsFor` are its sentences. Rules and atoms have numbers for names. Facts hold for any number of names. Assumes nothing.
 use mathlib.Core.Bool.{Bool, true, false, not, _&&_, _||_}
 use mathlib.Core.Path.{_≡_}
-use mathlib.Core.List.{List, [], _∷_, _++_, map}
-use Prim.Native.Nat.{ℕ, zero, suc, _^_, _<_}
+use mathlib.Core.List.{List, [], _∷_, map}
+use Prim.Native.Nat.{ℕ, suc, _^_, _<_}
 use lib.Dec.{ltb}
-use lib.ListN.{length}
-use Rattle.formula.specs.Formula.{Term, Atom, Form, Formula}
-use Rattle.lists.specs.Search.{any, all, first, keep, orElse, gather, below, elem}
+use Rattle.formula.specs.Formula.{Term, Atom}
+use Rattle.lists.specs.Search.{any, first, keep, orElse, collect, below, elem}
 use Rattle.evalset.specs.Bit.{bit}
 use Rattle.contact.specs.Meaning.{holds, partTerm}
-use Rattle.contact.specs.Numbering.{allAtoms, numberedAtoms}
-use Rattle.contact.specs.Row.{Row, is, unknown, PartialRow, rulesTrue}
+use Rattle.contact.specs.Row.{Row, is, unknown, PartialRow}
 
 -- "An evaluation is a number whose bit i is set if the point lies in name i." The term holds there.
 abbrev pub at : Term ℕ → ℕ → Bool
@@ -92,17 +88,6 @@ partners names ms y p q = fills names ms y q && not (separated ms p q)
 unfoldable pub leads : ℕ → List Mark → Term ℕ → Term ℕ → ℕ → Bool
 leads names ms x y p = fills names ms x p && any (partners names ms y p) (evaluations names)
 
--- the mark has its witness
-abbrev pub witnessed : ℕ → List Mark → Mark → Bool
-witnessed names ms (touching x y) = any (leads names ms x y) (evaluations names)
-witnessed names ms (apart x y) = true
-witnessed names ms (vacant t) = true
-witnessed names ms (inhabited t) = any (fills names ms t) (evaluations names)
-
--- the check: some evaluation is allowed, and every mark has its witness
-unfoldable pub check : ℕ → List Mark → Bool
-check names ms = any (allowed names ms) (evaluations names) && all (witnessed names ms) ms
-
 -- p, "and then its least partner"
 abbrev pub withPartner : ℕ → List Mark → Term ℕ → ℕ → List ℕ
 withPartner names ms y p = p ∷ first (partners names ms y p) (evaluations names)
@@ -110,35 +95,18 @@ withPartner names ms y p = p ∷ first (partners names ms y p) (evaluations name
 -- "Each false zero atom gives the least allowed evaluation in its term .. Each true contact gives p, the least allowed one in
 -- its first term with an allowed, unseparated partner in the second, and then its least partner."
 abbrev pub gives : ℕ → List Mark → Mark → List ℕ
-gives names ms (touching x y) = gather (withPartner names ms y) (first (leads names ms x y) (evaluations names))
+gives names ms (touching x y) = collect (withPartner names ms y) (first (leads names ms x y) (evaluations names))
 gives names ms (apart x y) = []
 gives names ms (vacant t) = []
 gives names ms (inhabited t) = first (fills names ms t) (evaluations names)
 
 -- what the marks give, or the least allowed evaluation where that is none
 unfoldable pub given : ℕ → List Mark → List ℕ
-given names ms = orElse (gather (gives names ms) ms) (first (allowed names ms) (evaluations names))
+given names ms = orElse (collect (gives names ms) ms) (first (allowed names ms) (evaluations names))
 
 -- "The points are these evaluations, ascending, each once; if there are none, the least allowed evaluation."
 unfoldable pub pointsFor : ℕ → List Mark → List ℕ
 pointsFor names ms = keep (λ e. elem e (given names ms)) (evaluations names)
-
--- the rows of n atoms in their order
-abbrev pub rows : ℕ → List Row
-rows zero = [] ∷ []
-rows (suc n) = map (λ row. true ∷ row) (rows n) ++ map (λ row. false ∷ row) (rows n)
-
--- the row makes the rules true and passes the check
-unfoldable pub good : ℕ → List (Atom ℕ) → List (Form ℕ) → Row → Bool
-good names atoms rules row = rulesTrue rules row && check names (rowMarks atoms row)
-
--- "The answer uses the first realisable row that makes all rules true": a list of one; the empty list is 'no plan'
-unfoldable pub firstRow : ℕ → List (Atom ℕ) → List (Form ℕ) → List Row
-firstRow names atoms rules = first (good names atoms rules) (rows (length atoms))
-
--- the same of rules with numbers for names
-abbrev pub firstRowOf : ℕ → List (Formula ℕ) → List Row
-firstRowOf names rules = firstRow names (allAtoms rules) (numberedAtoms rules)
 
 -- "With c true contacts and z false zero atoms there are at most max(1, 2 times c + z) points."
 abbrev pub trueContacts : List Mark → ℕ

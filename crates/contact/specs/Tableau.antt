@@ -8,7 +8,8 @@ use lib.ListN.{getD}
 use Rattle.formula.specs.Formula.{Atom, Form}
 use Rattle.lists.specs.Search.{any, orElse}
 use Rattle.contact.specs.Row.{Row, Three, is, unknown, PartialRow}
-use Rattle.contact.specs.Plan.{marksOf, check, rows}
+use Rattle.contact.specs.Plan.{marksOf}
+use Rattle.contact.specs.Check.{check, rows}
 
 -- ---- Kleene's strong tables
 

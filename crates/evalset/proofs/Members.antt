@@ -13,7 +13,8 @@ use Rattle.lists.proofs.Below.{any-cut, first-cut, keep-cut}
 use Rattle.evalset.specs.declared.EvalSet.{EvalSet}
 use Rattle.evalset.specs.Bit.{bit}
 use Rattle.lists.specs.Search.{any, first, keep, below}
-use Rattle.evalset.specs.Sets.{most, room, mem, noneOf, fullOf, nameSet, belowOf, dropOf, addOf, shiftOf}
+use Rattle.evalset.specs.Sets.{room, mem, noneOf, fullOf, nameSet, belowOf, dropOf, addOf, shiftOf}
+use Rattle.evalset.specs.Most.{most}
 use Rattle.lists.proofs.Truth.{clash, side}
 use Rattle.evalset.proofs.Bits.{bit-above, same-bits}
 

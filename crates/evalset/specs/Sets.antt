@@ -1,5 +1,4 @@
--- What is computed, and of what is meant `most`, the six names, and `nameSet`, the sets that the six masks are: sets of evaluations, known
--- by their members. `mem` alone ties a machine word to a set: all else here speaks of members, as a test on numbers. Assumes nothing.
+-- What is computed: sets of evaluations, known by their members; `nameSet` is what the six masks are. `mem` alone ties a machine word to a set: all else here speaks of members, as a test on numbers. Assumes nothing.
 use mathlib.Core.Bool.{Bool, false, not, _&&_, _||_}
 use mathlib.Core.List.{List, [], _∷_}
 use Prim.Native.Nat.{ℕ, _+_, _^_}
@@ -9,10 +8,6 @@ use Rattle.evalset.specs.declared.EvalSet.{EvalSet}
 use Rattle.evalset.specs.declared.Found.{Found}
 use Rattle.evalset.specs.declared.Found.the-variants.{At, Nothing}
 use Rattle.evalset.specs.Bit.{bit}
-
--- the most names
-abbrev pub most : ℕ
-most = 6
 
 -- evaluations are below room, which is 2 ^ most; not unfolded by itself, so that what is searched below it stays short
 unfoldable pub room : ℕ

@@ -1,4 +1,4 @@
--- The value of the sheet's atom on the arrays is that of the rules' atom on the floor of the plan that they hold: the sheet's sets are
+-- The value of the chart's atom on the arrays is that of the rules' atom on the floor of the plan that they hold: the chart's sets are
 -- the atom's terms, below 2 ^ names, and there plan's laws apply. A store of one value more keeps those before it. Assumes nothing.
 use mathlib.Core.Bool.{Bool}
 use mathlib.Core.Path.{_≡_, sym, ap, _∙_, subst}
@@ -13,11 +13,11 @@ use Rattle.contact.specs.Meaning.{partTerm, atomOn}
 use Rattle.kleene.specs.declared.Two.{Two}
 use Rattle.kleene.specs.Rails.{sure, duoAt, leafAt}
 use Rattle.kleene.proofs.Turns.{two-same, two-other}
-use Rattle.search.specs.declared.Sheet.{Sheet}
+use Rattle.search.specs.declared.Chart.{Chart}
 use Rattle.search.specs.Compiled.{AtomIs, atomAt, contactAt, Compiled}
 use Rattle.plan.specs.declared.PlanArrays.{PlanArrays}
 use Rattle.plan.specs.Words.{Plan, IsPlan}
-use Rattle.plan.specs.Arrays.{Stored}
+use Rattle.plan.specs.Stored.{Stored}
 use Rattle.plan.specs.Floor.{planFloor}
 use Rattle.plan.proofs.Judged.{touches-meant, vacant-meant}
 use Rattle.judging.specs.Values.{atomOf, valueOf, Sure}
@@ -33,12 +33,12 @@ module _ (p : Plan) (h : IsPlan p) (r : PlanArrays) (s : Stored r p) where
   atom-is contact x y (Atom.empty t) m =
       ap (λ (b : Bool). atomOf r b x y) (m .0) ∙ vacant-meant p h r s x t (m .1)
 
-pub value-is : (p : Plan) (h : IsPlan p) (r : PlanArrays) → Stored r p → (sheet : Sheet) (atoms : List (Atom ℕ)) → Compiled sheet atoms
-    → p .names ≡ sheet .names → (i : ℕ) → i < length atoms → valueOf r sheet i ≡ atomOn (planFloor p h) (atomAt atoms i)
+pub value-is : (p : Plan) (h : IsPlan p) (r : PlanArrays) → Stored r p → (chart : Chart) (atoms : List (Atom ℕ)) → Compiled chart atoms
+    → p .names ≡ chart .names → (i : ℕ) → i < length atoms → valueOf r chart i ≡ atomOn (planFloor p h) (atomAt atoms i)
 unfolding valueOf
-value-is p h r s sheet atoms c q i l =
-    atom-is p h r s (contactAt sheet i) (memAt (sheet .xs) i) (memAt (sheet .ys) i) (atomAt atoms i)
-    (subst (λ (n : ℕ). AtomIs n (contactAt sheet i) (memAt (sheet .xs) i) (memAt (sheet .ys) i) (atomAt atoms i)) (sym q) (c .atom-is i l))
+value-is p h r s chart atoms c q i l =
+    atom-is p h r s (contactAt chart i) (memAt (chart .xs) i) (memAt (chart .ys) i) (atomAt atoms i)
+    (subst (λ (n : ℕ). AtomIs n (contactAt chart i) (memAt (chart .xs) i) (memAt (chart .ys) i) (atomAt atoms i)) (sym q) (c .atom-is i l))
 
 -- ---- one value more
 

@@ -8,10 +8,10 @@ use Prim.Native.Nat.{ℕ}
 use Rattle.formula.specs.Formula.{Formula, Name}
 use Rattle.contact.specs.Meaning.{meetsAll}
 use Rattle.contact.specs.Numbering.{allAtoms, numberedNames, numberedAtoms, numberOf}
-use Rattle.search.specs.declared.Sheet.{Sheet}
+use Rattle.search.specs.declared.Chart.{Chart}
 use Rattle.plan.specs.declared.PlanArrays.{PlanArrays}
 use Rattle.plan.specs.Words.{Plan, IsPlan}
-use Rattle.plan.specs.Arrays.{Stored}
+use Rattle.plan.specs.Stored.{Stored}
 use Rattle.plan.specs.Judging.{Judgement, yes, unmet, judge}
 use Rattle.plan.specs.Floor.{planFloor, namedFloor}
 use Rattle.plan.proofs.Claims.{judge-yes, judge-unmet}
@@ -33,8 +33,8 @@ judged-unmet : (j : Judgement) (k : ℕ) → judgedOf j ≡ Unmet k → j ≡ un
 judged-unmet yes k e = cc
 judged-unmet (unmet n) k e = cc
 
-module _ (plan : PlanArrays) (sheet : Sheet) (code ends : List ℕ) (r : Judged) (says : JudgesSay plan sheet code ends r)
-    (rules : List (Formula ℕ)) (from : ComesFrom code ends sheet (allAtoms rules) (numberedAtoms rules)) (p : Plan) (is : IsPlan p) (named : p .names ≡ sheet .names)
+module _ (plan : PlanArrays) (chart : Chart) (code ends : List ℕ) (r : Judged) (says : JudgesSay plan chart code ends r)
+    (rules : List (Formula ℕ)) (from : ComesFrom code ends chart (allAtoms rules) (numberedAtoms rules)) (p : Plan) (is : IsPlan p) (named : p .names ≡ chart .names)
     (stored : Stored plan p) where
   -- the answer is the judgement (Judging)
   pub answer-is : r ≡ judgedOf (judge (planFloor p is) rules)

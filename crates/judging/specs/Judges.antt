@@ -1,14 +1,14 @@
--- For proofs: the contract of `judge_plan`, which only our own crates call: what judging a plan ensures, of all rules that the sheet and
+-- For proofs: the contract of `judge_plan`, which only our own crates call: what judging a plan ensures, of all rules that the chart and
 -- the code may be of. Assumes nothing.
 use mathlib.Core.Path.{_≡_}
 use mathlib.Core.List.{List}
 use Prim.Native.Nat.{ℕ}
 use Rattle.formula.specs.Formula.{Formula}
 use Rattle.contact.specs.Numbering.{allAtoms, numberedAtoms}
-use Rattle.search.specs.declared.Sheet.{Sheet}
+use Rattle.search.specs.declared.Chart.{Chart}
 use Rattle.plan.specs.declared.PlanArrays.{PlanArrays}
 use Rattle.plan.specs.Words.{Plan, IsPlan}
-use Rattle.plan.specs.Arrays.{Stored}
+use Rattle.plan.specs.Stored.{Stored}
 use Rattle.plan.specs.Judging.{judge}
 use Rattle.solver.specs.Tree.{ComesFrom}
 use Rattle.plan.specs.Floor.{planFloor}
@@ -16,7 +16,7 @@ use Rattle.judging.specs.declared.Judged.{Judged}
 use Rattle.judging.specs.Values.{judgedOf}
 
 -- the judgement of the rules on the floor of the plan that the arrays hold
-unfoldable pub JudgesSay : PlanArrays → Sheet → List ℕ → List ℕ → Judged → Type 0
-JudgesSay plan sheet code ends r =
-    (rules : List (Formula ℕ)) → ComesFrom code ends sheet (allAtoms rules) (numberedAtoms rules)
-    → (p : Plan) (h : IsPlan p) → p .names ≡ sheet .names → Stored plan p → r ≡ judgedOf (judge (planFloor p h) rules)
+unfoldable pub JudgesSay : PlanArrays → Chart → List ℕ → List ℕ → Judged → Type 0
+JudgesSay plan chart code ends r =
+    (rules : List (Formula ℕ)) → ComesFrom code ends chart (allAtoms rules) (numberedAtoms rules)
+    → (p : Plan) (h : IsPlan p) → p .names ≡ chart .names → Stored plan p → r ≡ judgedOf (judge (planFloor p h) rules)

@@ -12,7 +12,7 @@ use Rattle.contact.specs.Meaning.{value}
 use Rattle.kleene.specs.declared.Two.{Two}
 use Rattle.kleene.specs.Code.{postfix}
 use Rattle.kleene.specs.Rails.{sure, leafAt}
-use Rattle.search.specs.declared.Sheet.{Sheet}
+use Rattle.search.specs.declared.Chart.{Chart}
 use Rattle.search.specs.Compiled.{contactAt}
 use Rattle.plan.specs.declared.PlanArrays.{PlanArrays}
 use Rattle.plan.specs.Arrays.{touchesOf, vacantOf}
@@ -33,17 +33,17 @@ abbrev pub atomOf : PlanArrays → Bool → (ℕ → Bool) → (ℕ → Bool) �
 atomOf plan true x y = touchesOf plan x y
 atomOf plan false x y = vacantOf plan x
 
--- that of the sheet's atom i
-unfoldable pub valueOf : PlanArrays → Sheet → ℕ → Bool
-valueOf plan sheet i = atomOf plan (contactAt sheet i) (memAt (sheet .xs) i) (memAt (sheet .ys) i)
+-- that of the chart's atom i
+unfoldable pub valueOf : PlanArrays → Chart → ℕ → Bool
+valueOf plan chart i = atomOf plan (contactAt chart i) (memAt (chart .xs) i) (memAt (chart .ys) i)
 
 -- at evaluation 0, by which rules are judged, the atoms below n are surely what w says
 unfoldable pub Sure : List Two → ℕ → (ℕ → Bool) → Type 0
 Sure leaves n w = (i : ℕ) → i < n → leafAt leaves 0 i ≡ sure (w i)
 
--- the atoms of the sheet have their values on the plan
-unfoldable pub LeavesSay : PlanArrays → Sheet → List Two → Type 0
-LeavesSay plan sheet leaves = Sure leaves (sheet .atoms) (valueOf plan sheet)
+-- the atoms of the chart have their values on the plan
+unfoldable pub LeavesSay : PlanArrays → Chart → List Two → Type 0
+LeavesSay plan chart leaves = Sure leaves (chart .atoms) (valueOf plan chart)
 
 -- ---- rules
 

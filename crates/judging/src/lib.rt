@@ -1,7 +1,7 @@
 // A plan judged by whole rules (document 01: "Judge answers yes or the lowest unmet rule, from 1").
-// The plan gives each atom of the sheet its value, and the code of each rule is run on these values. What is judged, `judge`, is
-// the plan crate's, on the floor of the plan that the arrays hold. The sheet and the code come from our own crates: `judge_plan`
-// requires that they can be run, as compiled sheets and the codes of rules can (`runnable` of solver/proofs/Claims.antt). Assumes nothing.
+// The plan gives each atom of the chart its value, and the code of each rule is run on these values. What is judged, `judge`, is
+// the plan crate's, on the floor of the plan that the arrays hold. The chart and the code come from our own crates: `judge_plan`
+// requires that they can be run, as the charts and the codes of rules can (`runnable` of solver/proofs/Claims.antt). Assumes nothing.
 ghost use mathlib.Core.Path.{_≡_};
 ghost use Prim.Native.Nat.{_≤_};
 ghost use Rattle.evalset.specs.Sets.{mem};
@@ -14,7 +14,7 @@ use evalset::EvalSet;
 use kleene::Two;
 use plan::PlanArrays;
 use search::ATOMS;
-use search::Sheet;
+use search::Chart;
 
 // What judging a plan answers: it meets every rule, or the number of the lowest rule that it does not meet, from 1.
 pub enum Judged {
@@ -33,19 +33,19 @@ fn atom_value(plan: PlanArrays, contact: bool, x: EvalSet, y: EvalSet) -> bool
     }
 }
 
-// The values of the sheet's atoms on the plan.
-fn leaves(plan: PlanArrays, sheet: Sheet) -> [Two; ATOMS]
-    requires { ⌜ sheet .atoms ≤ limit ⌝ }
-    ensures { λ r. ⌜ LeavesSay plan sheet r ⌝ }
+// The values of the chart's atoms on the plan.
+fn leaves(plan: PlanArrays, chart: Chart) -> [Two; ATOMS]
+    requires { ⌜ chart .atoms ≤ limit ⌝ }
+    ensures { λ r. ⌜ LeavesSay plan chart r ⌝ }
 {
-    let n = sheet.atoms;
+    let n = chart.atoms;
     let none = kleene::settled(false);
     let mut out = [none; ATOMS];
     let mut i: usize = 0;
     while i < n {
-        let contact = sheet.contact[i];
-        let x = sheet.xs[i];
-        let y = sheet.ys[i];
+        let contact = chart.contact[i];
+        let x = chart.xs[i];
+        let y = chart.ys[i];
         out[i] = kleene::settled(atom_value(plan, contact, x, y));
         i += 1;
     }
@@ -80,12 +80,12 @@ fn first_unmet(code: &[u8], ends: &[usize], atoms: [Two; ATOMS]) -> Judged
     Judged::Yes
 }
 
-// Judges the plan by the rules of this code, whose atoms the sheet has. Only our own crates call it: `Runnable` asks that the sheet has at
+// Judges the plan by the rules of this code, whose atoms the chart has. Only our own crates call it: `Runnable` asks that the chart has at
 // most 16 atoms and that each part of the code is safe to run, as the codes of rules of at most 256 signs are (`runnable` of solver).
-pub fn judge_plan(plan: PlanArrays, sheet: Sheet, code: &[u8], ends: &[usize]) -> Judged
-    requires { ⌜ Runnable (now code) (now ends) sheet ⌝ }
-    ensures { λ r. ⌜ JudgesSay plan sheet (now (code .entry)) (now (ends .entry)) r ⌝ }
+pub fn judge_plan(plan: PlanArrays, chart: Chart, code: &[u8], ends: &[usize]) -> Judged
+    requires { ⌜ Runnable (now code) (now ends) chart ⌝ }
+    ensures { λ r. ⌜ JudgesSay plan chart (now (code .entry)) (now (ends .entry)) r ⌝ }
 {
-    let atoms = leaves(plan, sheet);
+    let atoms = leaves(plan, chart);
     first_unmet(code, ends, atoms)
 }

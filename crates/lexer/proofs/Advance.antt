@@ -9,7 +9,7 @@ use lib.ListN.{length, getD, drop, set, replicate, drop-of-length-le}
 use lib.Seq.{drop-drop}
 use Rattle.lists.specs.Padded.{pad}
 use Rattle.lexer.specs.Token.{tokenOf}
-use Rattle.lexer.specs.Cutting.{Cutting, tokens, refused, first}
+use Rattle.lexer.specs.Cutting.{Cutting, tokens, refused, withToken}
 use Rattle.lexer.specs.Cutter.{pieceOf, more, put, cutFrom}
 use Rattle.lexer.specs.Arrays.{codeOf, tokensOf}
 use Rattle.lexer.specs.Steps.{arrays, push, fill, refusal, finish, resume}
@@ -40,25 +40,25 @@ module _ (i b : ℕ) (s : List ℕ) where
   unfolding cutFrom
   by-piece p e = ap (λ (q : Piece). put q i (cutFrom (i + 1) (more q) s)) e
 
-  pub by-token : (k : Kind) (n : ℕ) (r : Cutting) → pieceOf (b ∷ s) ≡ Piece.Token k n → r ≡ cutFrom (i + n) 0 (drop n (b ∷ s)) → first (tokenOf k i n) r ≡ cutFrom i 0 (b ∷ s)
+  pub by-token : (k : Kind) (n : ℕ) (r : Cutting) → pieceOf (b ∷ s) ≡ Piece.Token k n → r ≡ cutFrom (i + n) 0 (drop n (b ∷ s)) → withToken (tokenOf k i n) r ≡ cutFrom i 0 (b ∷ s)
   by-token k n r e f = go n refl
     where
       z : Sized (Piece.Token k n) (suc (length s))
       z = subst (λ (p : Piece). Sized p (suc (length s))) e (sized b s)
 
-      go : (m : ℕ) → n ≡ m → first (tokenOf k i n) r ≡ cutFrom i 0 (b ∷ s)
+      go : (m : ℕ) → n ≡ m → withToken (tokenOf k i n) r ≡ cutFrom i 0 (b ∷ s)
       go ℕ.zero g = absurd (omega (arith, z .0))
       go (suc m) g =
           let j : n - 1 ≡ m = omega arith in
           let l : i + 1 + m ≡ i + n = omega arith in
-          ap (first (tokenOf k i n))
+          ap (withToken (tokenOf k i n))
           (f ∙ ap (λ (a : ℕ). cutFrom (i + n) 0 (drop a (b ∷ s))) g ∙ ap (λ (a : ℕ). cutFrom a 0 (drop m s)) (sym l)
           ∙ sym (skip m (i + 1) s (omega (arith, z .1))) ∙ ap (λ (a : ℕ). cutFrom (i + 1) a s) (sym j))
           ∙ sym (by-piece (Piece.Token k n) e)
 
 -- ---- one piece at a place of a text
 
-resume-first : (t : Tokens) (k : Kind) (i n : ℕ) (r : Cutting) → resume t (first (tokenOf k i n) r) ≡ resume (push t k i n) r
+resume-first : (t : Tokens) (k : Kind) (i n : ℕ) (r : Cutting) → resume t (withToken (tokenOf k i n) r) ≡ resume (push t k i n) r
 unfolding resume fill
 resume-first t k i n (tokens ts) = refl
 resume-first t k i n (refused a) = refl
@@ -93,7 +93,7 @@ module _ (s : List ℕ) (i : ℕ) where
     unfolding resume
     at-measured t e = sym (ap (resume t) (here Piece.Measured e))
 
-    after-token : (k : Kind) (n : ℕ) → Piece.Token k n ≡ pieceOf (drop i s) → cutFrom i 0 (drop i s) ≡ first (tokenOf k i n) (cutFrom (i + n) 0 (drop (i + n) s))
+    after-token : (k : Kind) (n : ℕ) → Piece.Token k n ≡ pieceOf (drop i s) → cutFrom i 0 (drop i s) ≡ withToken (tokenOf k i n) (cutFrom (i + n) 0 (drop (i + n) s))
     after-token k n e =
         let d = rest s i 0 h in
         ap (cutFrom i 0) d

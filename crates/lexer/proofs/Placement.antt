@@ -8,7 +8,7 @@ use lib.ListN.{length, take, drop, getD, length-append, length-drop}
 use lib.Seq.{drop-drop, take-append-seam, drop-append-seam}
 use Rattle.lexer.specs.Token.{Token, tokenOf}
 use Rattle.lexer.specs.Spelling.{token, Spelling, signs, runKind}
-use Rattle.lexer.specs.Cutting.{Cutting, tokens, refused, first, match, Longest, AllAlphanumeric, AllBlank, Run, Cut, end, blank, run, longName, sign, measuredSign, noSign, foreign}
+use Rattle.lexer.specs.Cutting.{Cutting, tokens, refused, withToken, match, Longest, AllAlphanumeric, AllBlank, Run, Cut, end, blank, run, longName, sign, measuredSign, noSign, foreign}
 use Rattle.lexer.specs.Placement.{TokenIn, Placed}
 use Rattle.lexer.specs.Arrays.{codeOf}
 use Rattle.lexer.specs.declared.Kind.{Kind}
@@ -16,7 +16,7 @@ use Rattle.lexer.specs.declared.LexAnswer.{LexAnswer}
 use Rattle.lexer.proofs.Longest.{every-at}
 use Rattle.lexer.proofs.Pieces.{NoName, Shape, signs-shape, starts-fits}
 
-after-first : (t : Token) (r : Cutting) (ts : List Token) → first t r ≡ tokens ts → (us : List Token) × (r ≡ tokens us) × (ts ≡ t ∷ us)
+after-first : (t : Token) (r : Cutting) (ts : List Token) → withToken t r ≡ tokens ts → (us : List Token) × (r ≡ tokens us) × (ts ≡ t ∷ us)
 after-first t (tokens us) ts e = (us, refl, cc)
 after-first t (refused a) ts e = let z : _≡_ {A = ℕ} 0 1 = cc in absurd (omega arith)
 
@@ -54,7 +54,7 @@ module _ (text : List ℕ) (i : ℕ) where
       }
 
   -- a token before tokens that are placed
-  joined : (t : Token) (r : Cutting) (ts : List Token) → TokenIn text i t → ((us : List Token) → r ≡ tokens us → Placed text (t .start + t .len) us) → first t r ≡ tokens ts → Placed text i ts
+  joined : (t : Token) (r : Cutting) (ts : List Token) → TokenIn text i t → ((us : List Token) → r ≡ tokens us → Placed text (t .start + t .len) us) → withToken t r ≡ tokens ts → Placed text i ts
   joined t r ts h p e = let f = after-first t r ts e in subst (Placed text i) (sym (f .2)) (h, p (f .0) (f .1))
 
 pub placed-from : {i : ℕ} {t : List ℕ} {r : Cutting} → Cut i t r → (text : List ℕ) → t ≡ drop i text → (ts : List Token) → r ≡ tokens ts → Placed text i ts
@@ -78,7 +78,7 @@ pub blank-cut : (s : List ℕ) (i : ℕ) → AllBlank s → Cut i s (tokens [])
 blank-cut [] i h = end
 blank-cut (b ∷ s) i h = blank (h .0) (blank-cut s (i + 1) (h .1))
 
-no-first : (t : Token) (r : Cutting) → first t r ≡ tokens [] → ⊥
+no-first : (t : Token) (r : Cutting) → withToken t r ≡ tokens [] → ⊥
 no-first t r e = let f = after-first t r [] e in let g : [] ≡ t ∷ f .0 = f .2 in let z : _≡_ {A = ℕ} 0 1 = cc in omega arith
 
 pub cut-blank : {i : ℕ} {s : List ℕ} {r : Cutting} → Cut i s r → r ≡ tokens [] → AllBlank s

@@ -13,7 +13,7 @@ use borrow.Author.Tests.{ltb-true, ltb-false}
 use Rattle.lexer.specs.Class.{classOf}
 use Rattle.lexer.specs.Token.{tokenOf}
 use Rattle.lexer.specs.Spelling.{Meaning, token, measured, Spelling, signs, runKind}
-use Rattle.lexer.specs.Cutting.{Cutting, first, Match, nothing, match, Longest, AllAlphanumeric, NoAlphanumericFirst, Run, Cut, end, blank, run, longName, sign, measuredSign, noSign, foreign}
+use Rattle.lexer.specs.Cutting.{Cutting, withToken, Match, nothing, match, Longest, AllAlphanumeric, NoAlphanumericFirst, Run, Cut, end, blank, run, longName, sign, measuredSign, noSign, foreign}
 use Rattle.lexer.specs.Cutter.{meaningPiece, matchPiece, longest, signPiece, inRun, runLength, runPiece, byClass, pieceOf, more, put, cutFrom, cutting}
 use Rattle.lexer.specs.declared.Class.{Class}
 use Rattle.lexer.specs.declared.Class.the-variants as Class
@@ -89,7 +89,7 @@ module _ (b : ℕ) (s : List ℕ) (i : ℕ) (ih : Claim s) where
       go : (t : Bool) → ltb 16 (runLength (b ∷ s)) ≡ t → Cut i (b ∷ s) (put (piece t) i (after (piece t)))
       go true e = longName whole (omega (arith, size, ltb-true 16 (runLength (b ∷ s)) e))
       go false e =
-          subst (λ (n : ℕ). Cut i (b ∷ s) (first (tokenOf (runKind w) i n) (after (piece false)))) size
+          subst (λ (n : ℕ). Cut i (b ∷ s) (withToken (tokenOf (runKind w) i n) (after (piece false)))) size
           (run whole (omega (arith, size, ltb-false 16 (runLength (b ∷ s)) e))
           (subst (λ (n : ℕ). Cut (i + n) (drop (runLength (b ∷ s)) (b ∷ s)) (after (piece false))) (sym size) (next (runLength (b ∷ s)) l (run-fits (b ∷ s)))))
 

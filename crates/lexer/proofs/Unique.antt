@@ -13,7 +13,7 @@ use Rattle.lists.proofs.Truth.{clash}
 use Rattle.lexer.specs.Class.{classOf}
 use Rattle.lexer.specs.Token.{tokenOf}
 use Rattle.lexer.specs.Spelling.{Meaning, Spelling, signs, starts, runKind}
-use Rattle.lexer.specs.Cutting.{Cutting, refused, first, Match, nothing, match, Every, Longest, AllAlphanumeric, NoAlphanumericFirst, Run, Cut, end, blank, run, longName, sign, measuredSign, noSign, foreign}
+use Rattle.lexer.specs.Cutting.{Cutting, refused, withToken, Match, nothing, match, Every, Longest, AllAlphanumeric, NoAlphanumericFirst, Run, Cut, end, blank, run, longName, sign, measuredSign, noSign, foreign}
 use Rattle.lexer.specs.Cutter.{meaningPiece, matchPiece, longest, signPiece, inRun, runLength, runPiece, pieceOf, cutFrom}
 use Rattle.lexer.specs.declared.Class.{Class}
 use Rattle.lexer.specs.declared.Class.the-variants as Class
@@ -104,7 +104,7 @@ long-at b w s a h l =
     ∙ ap (λ (n : ℕ). cond (ltb 16 n) Piece.LongName (Piece.Token (runKind (take n ((b ∷ w) ++ s))) n)) (run-whole (b ∷ w) s a h)
     ∙ ap (λ (t : Bool). cond t Piece.LongName (Piece.Token (runKind (take (length (b ∷ w)) ((b ∷ w) ++ s))) (length (b ∷ w)))) (lt-ltb 16 (length (b ∷ w)) l)
 
-on-run : (i : ℕ) (w s t : List ℕ) (r : Cutting) → Run w s t → length w ≤ 16 → r ≡ cutFrom (i + length w) 0 s → first (tokenOf (runKind w) i (length w)) r ≡ cutFrom i 0 t
+on-run : (i : ℕ) (w s t : List ℕ) (r : Cutting) → Run w s t → length w ≤ 16 → r ≡ cutFrom (i + length w) 0 s → withToken (tokenOf (runKind w) i (length w)) r ≡ cutFrom i 0 t
 on-run i [] s t r h l e = absurd (omega (arith, h .some))
 on-run i (b ∷ w) s t r h l e =
     by-token i b (w ++ s) (runKind (b ∷ w)) (length (b ∷ w)) r (run-at b w s (h .all) (h .ends) l)

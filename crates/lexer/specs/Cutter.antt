@@ -7,7 +7,7 @@ use lib.ListN.{length, take}
 use Rattle.lexer.specs.Class.{classOf}
 use Rattle.lexer.specs.Token.{Token, tokenOf}
 use Rattle.lexer.specs.Spelling.{Meaning, token, measured, Spelling, signs, starts, runKind}
-use Rattle.lexer.specs.Cutting.{Cutting, tokens, refused, first, Match, nothing, match}
+use Rattle.lexer.specs.Cutting.{Cutting, tokens, refused, withToken, Match, nothing, match}
 use Rattle.lexer.specs.declared.Class.{Class}
 use Rattle.lexer.specs.declared.Class.the-variants as Class
 use Rattle.lexer.specs.declared.Piece.{Piece}
@@ -78,7 +78,7 @@ more Piece.Measured = 0
 -- a piece at place i, where what stands after it is cut as r
 abbrev pub put : Piece → ℕ → Cutting → Cutting
 put Piece.Blank i r = r
-put (Piece.Token k n) i r = first (tokenOf k i n) r
+put (Piece.Token k n) i r = withToken (tokenOf k i n) r
 put Piece.Foreign i r = refused (LexAnswer.ForeignByte i)
 put Piece.LongName i r = refused (LexAnswer.LongName i)
 put Piece.Measured i r = refused (LexAnswer.Measured i)

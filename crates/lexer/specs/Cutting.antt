@@ -19,9 +19,9 @@ pub data Cutting : Type 0 where
   refused : LexAnswer → Cutting
 
 -- a token before what follows it; a later refusal refuses the whole text
-abbrev pub first : Token → Cutting → Cutting
-first t (tokens ts) = tokens (t ∷ ts)
-first t (refused a) = refused a
+abbrev pub withToken : Token → Cutting → Cutting
+withToken t (tokens ts) = tokens (t ∷ ts)
+withToken t (refused a) = refused a
 
 abbrev pub Every : {A : Type 0} → (A → Type 0) → List A → Type 0
 Every P [] = Unit {0}
@@ -61,11 +61,11 @@ pub data Cut : ℕ → List ℕ → Cutting → Type 0 where
   end : {i : ℕ} → Cut i [] (tokens [])
   blank : {i b : ℕ} {s : List ℕ} {r : Cutting} → classOf b ≡ Class.Blank → Cut (i + 1) s r → Cut i (b ∷ s) r
   -- "A run of letters and digits is one token."
-  run : {i : ℕ} {w s t : List ℕ} {r : Cutting} → Run w s t → length w ≤ 16 → Cut (i + length w) s r → Cut i t (first (tokenOf (runKind w) i (length w)) r)
+  run : {i : ℕ} {w s t : List ℕ} {r : Cutting} → Run w s t → length w ≤ 16 → Cut (i + length w) s r → Cut i t (withToken (tokenOf (runKind w) i (length w)) r)
   -- refusal 4: "name over 16 bytes", "its first byte"
   longName : {i : ℕ} {w s t : List ℕ} → Run w s t → 16 < length w → Cut i t (refused (LexAnswer.LongName i))
   sign : {i b : ℕ} {s : List ℕ} {x : Spelling} {k : Kind} {r : Cutting} → classOf b ≡ Class.Sign → Longest signs (b ∷ s) (match x) → x .means ≡ token k
-      → Cut (i + length (x .bytes)) (drop (length (x .bytes)) (b ∷ s)) r → Cut i (b ∷ s) (first (tokenOf k i (length (x .bytes))) r)
+      → Cut (i + length (x .bytes)) (drop (length (x .bytes)) (b ∷ s)) r → Cut i (b ∷ s) (withToken (tokenOf k i (length (x .bytes))) r)
   -- refusal 5: ""<=m"", "its first byte"
   measuredSign : {i b : ℕ} {s : List ℕ} {x : Spelling} → classOf b ≡ Class.Sign → Longest signs (b ∷ s) (match x) → x .means ≡ measured
       → Cut i (b ∷ s) (refused (LexAnswer.Measured i))

@@ -8,9 +8,9 @@ use Prim.Native.Nat.{ℕ, zero, suc, _+_, _-_, _*_, _≤_, _<_}
 use native.Mathlib.Nat.{zero-add, eq-or-lt-of-le}
 use native.Mathlib.Omega.{arith}
 use lib.ListN.{length, length-append}
-use Rattle.lists.specs.Search.{In, any, all, first, keep, orElse, gather, from, below}
+use Rattle.lists.specs.Search.{In, any, all, first, keep, orElse, collect, from, below}
 use Rattle.lists.proofs.Truth.{clash}
-use Rattle.lists.proofs.Search.{any-intro, none-intro, any-append, any-last, all-elim, first-none, first-append, keep-nothing, keep-append, gather-append, gather-last, gather-few, from-length, from-elim, from-append, below-intro}
+use Rattle.lists.proofs.Search.{any-intro, none-intro, any-append, any-last, all-elim, first-none, first-append, keep-nothing, keep-append, collect-append, collect-last, collect-few, from-length, from-elim, from-append, below-intro}
 
 -- ---- the numbers in two parts
 below-add : (m n : ℕ) → below (m + n) ≡ below m ++ from m n
@@ -123,20 +123,20 @@ module _ (p : ℕ → Bool) (n : ℕ) where
 
 -- ---- what is gathered from numbers in rising order
 module _ (f : ℕ → List ℕ) where
-  pub gather-more : (n : ℕ) → gather f (below n) ++ f n ≡ gather f (below (n + 1))
-  gather-more n = sym (ap (gather f) (below-add n 1) ∙ gather-last f (below n) n)
+  pub collect-more : (n : ℕ) → collect f (below n) ++ f n ≡ collect f (below (n + 1))
+  collect-more n = sym (ap (collect f) (below-add n 1) ∙ collect-last f (below n) n)
 
   -- from fewer numbers no more is gathered
-  pub gather-within : (m n : ℕ) → m ≤ n → length (gather f (below m)) ≤ length (gather f (below n))
-  gather-within m n l =
+  pub collect-within : (m n : ℕ) → m ≤ n → length (collect f (below m)) ≤ length (collect f (below n))
+  collect-within m n l =
       let z : n ≡ m + (n - m) = omega arith in
-      let e : gather f (below n) ≡ gather f (below m) ++ gather f (from m (n - m)) =
-      ap (λ (x : ℕ). gather f (below x)) z ∙ ap (gather f) (below-add m (n - m)) ∙ gather-append f (below m) (from m (n - m)) in
-      omega (arith, ap length e, length-append (gather f (below m)) (gather f (from m (n - m))))
+      let e : collect f (below n) ≡ collect f (below m) ++ collect f (from m (n - m)) =
+      ap (λ (x : ℕ). collect f (below x)) z ∙ ap (collect f) (below-add m (n - m)) ∙ collect-append f (below m) (from m (n - m)) in
+      omega (arith, ap length e, length-append (collect f (below m)) (collect f (from m (n - m))))
 
-  pub gather-small : (c : ℕ) → ((x : ℕ) → length (f x) ≤ c) → (k n : ℕ) → length (gather f (from k n)) ≤ n * c
-  gather-small c h k n =
-      subst (λ (m : ℕ). length (gather f (from k n)) ≤ m * c) (from-length k n) (gather-few f c (from k n) (λ x i. h x))
+  pub collect-small : (c : ℕ) → ((x : ℕ) → length (f x) ≤ c) → (k n : ℕ) → length (collect f (from k n)) ≤ n * c
+  collect-small c h k n =
+      subst (λ (m : ℕ). length (collect f (from k n)) ≤ m * c) (from-length k n) (collect-few f c (from k n) (λ x i. h x))
 
 -- ---- what the members met so far, and their number, grow by
 module _ (i e : ℕ) (p : ℕ → Bool) (l : i ≤ e) (passes : p e ≡ true) (between : (d : ℕ) → i ≤ d → d < e → p d ≡ false) where

@@ -10,7 +10,7 @@ use native.Mathlib.Omega.{arith}
 use lib.ListN.{length, getD, take, drop, length-append}
 use lib.Dec.{eqb}
 use borrow.Author.Tests.{eqb-true, eqb-false, eq-eqb, ne-eqb}
-use Rattle.lists.specs.Search.{In, here, next, any, all, first, keep, orElse, gather, from, below, elem}
+use Rattle.lists.specs.Search.{In, here, next, any, all, first, keep, orElse, collect, from, below, elem}
 use Rattle.lists.proofs.Truth.{clash, cases, or-cases}
 
 -- ---- membership
@@ -249,41 +249,41 @@ module _ {A : Type 0} where
   or-else-length (x ∷ xs) ys m h k = omega arith
 
 module _ {A B : Type 0} where
-  pub gather-intro : (f : A → List B) {xs : List A} {x : A} {y : B} → In x xs → In y (f x) → In y (gather f xs)
-  gather-intro f (here {xs}) j = in-left (gather f xs) j
-  gather-intro f (next {x} {xs} i) j = in-right (f x) (gather-intro f i j)
+  pub collect-intro : (f : A → List B) {xs : List A} {x : A} {y : B} → In x xs → In y (f x) → In y (collect f xs)
+  collect-intro f (here {xs}) j = in-left (collect f xs) j
+  collect-intro f (next {x} {xs} i) j = in-right (f x) (collect-intro f i j)
 
-  pub gather-elim : (f : A → List B) (xs : List A) {y : B} → In y (gather f xs) → (x : A) × In x xs × In y (f x)
-  gather-elim f [] j = none-in j
-  gather-elim f (z ∷ xs) j =
-      ⊎-elim (λ k. (z, here, k)) (λ k. let r = gather-elim f xs k in (r .0, next (r .1), r .2))
-      (in-either (f z) (gather f xs) j)
+  pub collect-elim : (f : A → List B) (xs : List A) {y : B} → In y (collect f xs) → (x : A) × In x xs × In y (f x)
+  collect-elim f [] j = none-in j
+  collect-elim f (z ∷ xs) j =
+      ⊎-elim (λ k. (z, here, k)) (λ k. let r = collect-elim f xs k in (r .0, next (r .1), r .2))
+      (in-either (f z) (collect f xs) j)
 
-  pub gather-append : (f : A → List B) (xs ys : List A) → gather f (xs ++ ys) ≡ gather f xs ++ gather f ys
-  gather-append f [] ys = refl
-  gather-append f (x ∷ xs) ys =
-      ap (λ (l : List B). f x ++ l) (gather-append f xs ys) ∙ sym (append-assoc (f x) (gather f xs) (gather f ys))
+  pub collect-append : (f : A → List B) (xs ys : List A) → collect f (xs ++ ys) ≡ collect f xs ++ collect f ys
+  collect-append f [] ys = refl
+  collect-append f (x ∷ xs) ys =
+      ap (λ (l : List B). f x ++ l) (collect-append f xs ys) ∙ sym (append-assoc (f x) (collect f xs) (collect f ys))
 
-  pub gather-last : (f : A → List B) (xs : List A) (x : A) → gather f (xs ++ x ∷ []) ≡ gather f xs ++ f x
-  gather-last f xs x = gather-append f xs (x ∷ []) ∙ ap (λ (l : List B). gather f xs ++ l) (append-nil (f x))
+  pub collect-last : (f : A → List B) (xs : List A) (x : A) → collect f (xs ++ x ∷ []) ≡ collect f xs ++ f x
+  collect-last f xs x = collect-append f xs (x ∷ []) ∙ ap (λ (l : List B). collect f xs ++ l) (append-nil (f x))
 
   -- the function may be changed for one that is the same at the elements
-  pub gather-same : (f g : A → List B) (xs : List A) → ((x : A) → In x xs → f x ≡ g x) → gather f xs ≡ gather g xs
-  gather-same f g [] h = refl
-  gather-same f g (x ∷ xs) h = ap₂ _++_ (h x here) (gather-same f g xs (λ y i. h y (next i)))
+  pub collect-same : (f g : A → List B) (xs : List A) → ((x : A) → In x xs → f x ≡ g x) → collect f xs ≡ collect g xs
+  collect-same f g [] h = refl
+  collect-same f g (x ∷ xs) h = ap₂ _++_ (h x here) (collect-same f g xs (λ y i. h y (next i)))
 
-  -- lists that are short gather to a list that is
-  pub gather-few : (f : A → List B) (c : ℕ) (xs : List A) → ((x : A) → In x xs → length (f x) ≤ c)
-      → length (gather f xs) ≤ length xs * c
-  gather-few f c [] h = omega arith
-  gather-few f c (x ∷ xs) h =
+  -- lists that are short collect to a list that is
+  pub collect-few : (f : A → List B) (c : ℕ) (xs : List A) → ((x : A) → In x xs → length (f x) ≤ c)
+      → length (collect f xs) ≤ length xs * c
+  collect-few f c [] h = omega arith
+  collect-few f c (x ∷ xs) h =
       let z : suc (length xs) * c ≡ c + length xs * c = omega arith in
-      omega (arith, length-append (f x) (gather f xs), h x here, gather-few f c xs (λ y i. h y (next i)))
+      omega (arith, length-append (f x) (collect f xs), h x here, collect-few f c xs (λ y i. h y (next i)))
 
 -- what is gathered from gathered lists is gathered list by list
-pub gather-gather : {A B C : Type 0} (g : B → List C) (f : A → List B) (xs : List A) → gather g (gather f xs) ≡ gather (λ x. gather g (f x)) xs
-gather-gather g f [] = refl
-gather-gather {C = C} g f (x ∷ xs) = gather-append g (f x) (gather f xs) ∙ ap (λ (l : List C). gather g (f x) ++ l) (gather-gather g f xs)
+pub collect-collect : {A B C : Type 0} (g : B → List C) (f : A → List B) (xs : List A) → collect g (collect f xs) ≡ collect (λ x. collect g (f x)) xs
+collect-collect g f [] = refl
+collect-collect {C = C} g f (x ∷ xs) = collect-append g (f x) (collect f xs) ∙ ap (λ (l : List C). collect g (f x) ++ l) (collect-collect g f xs)
 
 -- ---- numbers in rising order
 
@@ -324,9 +324,9 @@ elem-intro e i = any-intro (eqb e) i (eq-eqb e e refl)
 pub elem-elim : (e : ℕ) (xs : List ℕ) → elem e xs ≡ true → In e xs
 elem-elim e xs h = let r = any-elim (eqb e) xs h in subst (λ z. In z xs) (sym (eqb-true e (r .0) (r .2))) (r .1)
 
-pub elem-gather-last : {A : Type 0} (f : A → List ℕ) (xs : List A) (x : A) (e : ℕ)
-    → elem e (gather f (xs ++ x ∷ [])) ≡ (elem e (gather f xs) || elem e (f x))
-elem-gather-last f xs x e = ap (elem e) (gather-last f xs x) ∙ any-append (eqb e) (gather f xs) (f x)
+pub elem-collect-last : {A : Type 0} (f : A → List ℕ) (xs : List A) (x : A) (e : ℕ)
+    → elem e (collect f (xs ++ x ∷ [])) ≡ (elem e (collect f xs) || elem e (f x))
+elem-collect-last f xs x e = ap (elem e) (collect-last f xs x) ∙ any-append (eqb e) (collect f xs) (f x)
 
 -- a number stands once in a rising run
 keep-one : (w k n : ℕ) → length (keep (λ e. eqb e w) (from k n)) ≤ 1

@@ -38,9 +38,9 @@ module _ {A : Type 0} where
 
 module _ {A B : Type 0} where
   -- the lists that f gives, one after the other
-  abbrev pub gather : (A → List B) → List A → List B
-  gather f [] = []
-  gather f (x ∷ xs) = f x ++ gather f xs
+  abbrev pub collect : (A → List B) → List A → List B
+  collect f [] = []
+  collect f (x ∷ xs) = f x ++ collect f xs
 
 -- n numbers in rising order, k the first
 abbrev pub from : ℕ → ℕ → List ℕ

@@ -16,19 +16,19 @@ use Rattle.lists.specs.Padded.{pad}
 use Rattle.lists.proofs.Lists.{set-behind}
 use Rattle.lists.proofs.Padded.{pad-taken}
 use Rattle.formula.specs.Formula.{Name}
-use Rattle.evalset.specs.Sets.{most}
+use Rattle.evalset.specs.Most.{most}
 use Rattle.contact.specs.Numbering.{position, sameName}
 use Rattle.contact.proofs.Naming.{same-name}
 use Rattle.names.specs.declared.KeptName.{KeptName}
 use Rattle.names.specs.declared.Names.{Names}
-use Rattle.names.specs.Gather.{isIn, withName, nameOf, arraysOf, bytesIn, knownOf, Kept}
+use Rattle.names.specs.Gather.{isIn, withName, keptName, arraysOf, bytesIn, knownOf, Kept}
 use Rattle.names.specs.Steps.{sameKept, placeIn, push, withKept}
 use Rattle.names.proofs.Distinct.{position-in, position-out}
 
 -- ---- one name
 
-same-kept : (v w : Name) → sameKept (nameOf v) w ≡ sameName v w
-unfolding sameKept nameOf
+same-kept : (v w : Name) → sameKept (keptName v) w ≡ sameName v w
+unfolding sameKept keptName
 same-kept v w = go (ℕ-discrete (length v) (length w))
   where
     go : Dec (length v ≡ length w) → (eqb (length v) (length w) && sameName (take (length w) (pad 16 v)) w) ≡ sameName v w
@@ -40,24 +40,24 @@ same-kept v w = go (ℕ-discrete (length v) (length w))
         ∙ sym (eq-false-of-not-eq-true (λ h. n (ap length (same-name v w .0 h))))
 
 -- its bytes and its length are found again
-pub bytes-back : (w : Name) → bytesIn (nameOf w) ≡ w
-unfolding nameOf
+pub bytes-back : (w : Name) → bytesIn (keptName w) ≡ w
+unfolding keptName
 bytes-back w = pad-taken 16 w (length w) refl
 
-pub size-back : (w : Name) → nameOf w .len ≡ length w
-unfolding nameOf
+pub size-back : (w : Name) → keptName w .len ≡ length w
+unfolding keptName
 size-back w = refl
 
 -- ---- the names
 
-place-in : (w : Name) (ks : List Name) → placeIn w (map nameOf ks) ≡ position sameName ks w
+place-in : (w : Name) (ks : List Name) → placeIn w (map keptName ks) ≡ position sameName ks w
 unfolding placeIn
 place-in w [] = refl
 place-in w (k ∷ ks) = ap₂ (λ (t : Bool) (n : ℕ). cond t 0 (suc n)) (same-kept k w) (place-in w ks)
 
-kept-list : (ks : List Name) → take (arraysOf ks .count) (arraysOf ks .list) ≡ map nameOf ks
+kept-list : (ks : List Name) → take (arraysOf ks .count) (arraysOf ks .list) ≡ map keptName ks
 unfolding arraysOf
-kept-list ks = take-at (map nameOf ks) (replicate (most - length ks) (nameOf [])) (length ks) (length-map ks nameOf)
+kept-list ks = take-at (map keptName ks) (replicate (most - length ks) (keptName [])) (length ks) (length-map ks keptName)
 
 pub kept-count : (ks : List Name) → arraysOf ks .count ≡ length ks
 unfolding arraysOf
@@ -66,7 +66,7 @@ kept-count ks = refl
 -- the names that arrays hold are those that were put into them
 pub known-back : (ks : List Name) → knownOf (arraysOf ks) ≡ ks
 unfolding knownOf
-known-back ks = ap (map bytesIn) (kept-list ks) ∙ Function·LeftInverse·list-map bytesIn nameOf bytes-back ks
+known-back ks = ap (map bytesIn) (kept-list ks) ∙ Function·LeftInverse·list-map bytesIn keptName bytes-back ks
 
 pub kept-names : (ks : List Name) → length ks ≤ most → Kept (arraysOf ks)
 kept-names ks h = record { canonical = ap arraysOf (sym (known-back ks)); few = omega (arith, kept-count ks) }
@@ -78,16 +78,16 @@ number-kept ks w = ap (placeIn w) (kept-list ks) ∙ place-in w ks
 abbrev names : List KeptName → ℕ → Names
 names l n = record { list = l; count = n }
 
-push-kept : (ks : List Name) (w : Name) → length ks < most → push (arraysOf ks) (nameOf w) ≡ arraysOf (ks ++ w ∷ [])
+push-kept : (ks : List Name) (w : Name) → length ks < most → push (arraysOf ks) (keptName w) ≡ arraysOf (ks ++ w ∷ [])
 unfolding push arraysOf
 push-kept ks w h =
     let n : length (ks ++ w ∷ []) ≡ length ks + 1 = length-append ks (w ∷ []) in
     let m : most - length ks - 1 ≡ most - length (ks ++ w ∷ []) = omega (arith, n) in
     ap (λ (l : List KeptName). names l (length ks + 1))
-    (set-behind (map nameOf ks) (nameOf []) (nameOf w) (most - length ks) (length ks) (length-map ks nameOf) (omega arith)
-    ∙ ap (λ (k : ℕ). map nameOf ks ++ nameOf w ∷ [] ++ replicate k (nameOf [])) m
-    ∙ ap (λ (l : List KeptName). l ++ replicate (most - length (ks ++ w ∷ [])) (nameOf [])) (sym (map-append nameOf ks (w ∷ []))))
-    ∙ ap (names (map nameOf (ks ++ w ∷ []) ++ replicate (most - length (ks ++ w ∷ [])) (nameOf []))) (sym n)
+    (set-behind (map keptName ks) (keptName []) (keptName w) (most - length ks) (length ks) (length-map ks keptName) (omega arith)
+    ∙ ap (λ (k : ℕ). map keptName ks ++ keptName w ∷ [] ++ replicate k (keptName [])) m
+    ∙ ap (λ (l : List KeptName). l ++ replicate (most - length (ks ++ w ∷ [])) (keptName [])) (sym (map-append keptName ks (w ∷ []))))
+    ∙ ap (names (map keptName (ks ++ w ∷ []) ++ replicate (most - length (ks ++ w ∷ [])) (keptName []))) (sym n)
 
 module _ (ks : List Name) (w : Name) (few : length ks ≤ most) where
   abbrev number : ℕ
@@ -98,15 +98,15 @@ module _ (ks : List Name) (w : Name) (few : length ks ≤ most) where
   unfolding withKept withName
   with-kept h = go (isIn sameName ks w) refl
     where
-      go : (b : Bool) → isIn sameName ks w ≡ b → cond (ltb number (arraysOf ks .count)) (arraysOf ks) (push (arraysOf ks) (nameOf w)) ≡ arraysOf (cond b ks (ks ++ w ∷ []))
+      go : (b : Bool) → isIn sameName ks w ≡ b → cond (ltb number (arraysOf ks .count)) (arraysOf ks) (push (arraysOf ks) (keptName w)) ≡ arraysOf (cond b ks (ks ++ w ∷ []))
       go true e =
           let l : number < arraysOf ks .count = omega (arith, position-in sameName ks w e, kept-count ks) in
-          ap (λ (t : Bool). cond t (arraysOf ks) (push (arraysOf ks) (nameOf w))) (lt-ltb number (arraysOf ks .count) l)
+          ap (λ (t : Bool). cond t (arraysOf ks) (push (arraysOf ks) (keptName w))) (lt-ltb number (arraysOf ks .count) l)
       go false e =
           let f : number ≡ length ks = position-out sameName ks w e in
           let l : arraysOf ks .count ≤ number = omega (arith, kept-count ks) in
           let r : length ks < most = omega arith in
-          ap (λ (t : Bool). cond t (arraysOf ks) (push (arraysOf ks) (nameOf w))) (le-ltb number (arraysOf ks .count) l)
+          ap (λ (t : Bool). cond t (arraysOf ks) (push (arraysOf ks) (keptName w))) (le-ltb number (arraysOf ks .count) l)
           ∙ push-kept ks w r
 
   -- with it there are too many exactly if its number is too high

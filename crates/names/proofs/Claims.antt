@@ -13,8 +13,8 @@ use Rattle.formula.specs.Names.{atomNames, formulaNames}
 use Rattle.syntax.specs.RuleText.{IsRule}
 use Rattle.syntax.specs.Rule.{ruleOf}
 use Rattle.syntax.specs.declared.Rule.{Rule}
-use Rattle.lists.specs.Search.{In, gather}
-use Rattle.evalset.specs.Sets.{most}
+use Rattle.lists.specs.Search.{In, collect}
+use Rattle.evalset.specs.Most.{most}
 use Rattle.contact.specs.Numbering.{allAtoms, distinct, position, sameName, namesOf}
 use Rattle.contact.proofs.Naming.{same-name}
 use Rattle.names.specs.declared.Names.{Names}
@@ -90,7 +90,7 @@ number-stays = position-distinct sameName same-name
 
 -- one rule more
 pub names-with : (rules : List (Formula Name)) (f : Formula Name)
-    → namesOf (rules ++ f ∷ []) ≡ distinct sameName (gather atomNames (allAtoms rules) ++ formulaNames f)
+    → namesOf (rules ++ f ∷ []) ≡ distinct sameName (collect atomNames (allAtoms rules) ++ formulaNames f)
 names-with rules f = ap (distinct sameName) (every-name-last rules f)
 
 module _ (rules : List (Formula Name)) (few : length (namesOf rules) ≤ most) (s : List ℕ) (f : Formula Name) (rule : IsRule s f) where
@@ -104,11 +104,11 @@ module _ (rules : List (Formula Name)) (few : length (namesOf rules) ≤ most) (
   pub rule-gathered : gathered s (namesOf rules) .answer ≡ NamesAnswer.Enough → gathered s (namesOf rules) ≡ enoughOf (namesOf (rules ++ f ∷ [])) (formulaNames f)
   rule-gathered e = enough-gathered s f rule (everyName rules) few e ∙ ap (λ (ks : List Name). enoughOf ks (formulaNames f)) (sym (names-with rules f))
 
-  pub rule-seventh : (p : ℕ) → (gathered s (namesOf rules) .answer ≡ NamesAnswer.SeventhName p) ↔ SeventhAt (gather atomNames (allAtoms rules)) (placesOf s (ruleTokens s)) p
+  pub rule-seventh : (p : ℕ) → (gathered s (namesOf rules) .answer ≡ NamesAnswer.SeventhName p) ↔ SeventhAt (collect atomNames (allAtoms rules)) (placesOf s (ruleTokens s)) p
   rule-seventh p = seventh-exactly s f rule (everyName rules) few p
 
 -- later rules change no number
-pub rules-number-stays : (rules more : List (Formula Name)) (w : Name) → In w (gather atomNames (allAtoms rules))
+pub rules-number-stays : (rules more : List (Formula Name)) (w : Name) → In w (collect atomNames (allAtoms rules))
     → position sameName (namesOf (rules ++ more)) w ≡ position sameName (namesOf rules) w
 rules-number-stays rules more w i =
     ap (λ (l : List Name). position sameName (distinct sameName l) w) (every-name-append rules more)

@@ -28,7 +28,7 @@ use Rattle.names.specs.Steps.{placeIn, withKept}
 use Rattle.names.proofs.Distinct.{position-most}
 use Rattle.names.proofs.Arrays.{kept-count, number-kept, with-kept, too-many, not-too-many}
 use Rattle.names.proofs.Tokens.{rule-tokens, tokens-lie, past, token-within, at-name, at-other, at-end}
-use Rattle.evalset.specs.Sets.{most}
+use Rattle.evalset.specs.Most.{most}
 
 pub record Going (text kinds starts lens : List ℕ) (n : ℕ) (first : Names) (known : Names) (numbers : List ℕ) (m i : ℕ) : Type 0 where
   pub tokens : arrays kinds starts lens n ≡ tokensOf (ruleTokens text)

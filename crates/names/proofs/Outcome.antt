@@ -10,7 +10,7 @@ use lib.Dec.{ltb}
 use lib.ListN.{length, length-append}
 use borrow.Author.Tests.{lt-ltb, le-ltb, ltb-true, ltb-false}
 use Rattle.formula.specs.Formula.{Name}
-use Rattle.evalset.specs.Sets.{most}
+use Rattle.evalset.specs.Most.{most}
 use Rattle.contact.specs.Numbering.{position, sameName}
 use Rattle.contact.proofs.Naming.{same-name}
 use Rattle.names.specs.declared.NamesAnswer.{NamesAnswer}

@@ -9,7 +9,7 @@ use Prim.Native.Nat.{ℕ, _≤_}
 use native.Mathlib.Omega.{arith}
 use lib.ListN.{length}
 use Rattle.formula.specs.Formula.{Name}
-use Rattle.evalset.specs.Sets.{most}
+use Rattle.evalset.specs.Most.{most}
 use Rattle.lists.proofs.Truth.{clash}
 use Rattle.contact.specs.Numbering.{distinct, sameName}
 use Rattle.contact.proofs.Naming.{same-name}

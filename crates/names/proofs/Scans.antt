@@ -14,7 +14,7 @@ use Rattle.formula.specs.Formula.{Name}
 use Rattle.contact.specs.Numbering.{sameName}
 use Rattle.names.specs.declared.KeptName.{KeptName}
 use Rattle.names.specs.declared.Names.{Names}
-use Rattle.names.specs.Gather.{nameOf}
+use Rattle.names.specs.Gather.{keptName}
 use Rattle.names.specs.Steps.{sameKept, placeIn, push, withKept}
 
 -- ---- same
@@ -82,8 +82,8 @@ module _ (w : Name) (list : List KeptName) (count i : ℕ) (fits : count ≤ len
 module _ (ns : Names) (w : Name) (n : ℕ) where
   pub name-there : n < ns .count → ns ≡ withKept ns w n
   unfolding withKept
-  name-there h = sym (ap (λ (t : Bool). cond t ns (push ns (nameOf w))) (lt-ltb n (ns .count) h))
+  name-there h = sym (ap (λ (t : Bool). cond t ns (push ns (keptName w))) (lt-ltb n (ns .count) h))
 
-  pub name-new : ns .count ≤ n → (k : KeptName) → k ≡ nameOf w → push ns k ≡ withKept ns w n
+  pub name-new : ns .count ≤ n → (k : KeptName) → k ≡ keptName w → push ns k ≡ withKept ns w n
   unfolding withKept
-  name-new h k e = ap (push ns) e ∙ sym (ap (λ (t : Bool). cond t ns (push ns (nameOf w))) (le-ltb n (ns .count) h))
+  name-new h k e = ap (push ns) e ∙ sym (ap (λ (t : Bool). cond t ns (push ns (keptName w))) (le-ltb n (ns .count) h))

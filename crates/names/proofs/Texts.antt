@@ -9,11 +9,11 @@ use Rattle.formula.specs.Atoms.{atomsOf}
 use Rattle.formula.specs.Names.{atomNames, formulaNames}
 use Rattle.lexer.specs.Token.{Token, bytesOf}
 use Rattle.syntax.specs.Symbol.{symbolOf}
-use Rattle.syntax.specs.Postfix.{symbolNames, namesIn}
+use Rattle.syntax.specs.Postfix.{symbolNames, namesAmong}
 use Rattle.syntax.specs.RuleText.{symbolsOf, IsRule}
 use Rattle.syntax.proofs.Claims.{token-names}
-use Rattle.lists.specs.Search.{gather}
-use Rattle.lists.proofs.Search.{gather-append}
+use Rattle.lists.specs.Search.{collect}
+use Rattle.lists.proofs.Search.{collect-append}
 use Rattle.contact.specs.Numbering.{allAtoms}
 use Rattle.names.specs.Gather.{ruleTokens}
 use Rattle.names.specs.Seventh.{namesAt, NameAt, nameAt, placesOf}
@@ -21,8 +21,8 @@ use Rattle.names.proofs.Tokens.{tokens-of-rule}
 
 -- ---- the names of a text
 
-names-of-places : (s : List ℕ) (ts : List Token) → namesAt (placesOf s ts) ≡ namesIn (symbolsOf s ts)
-unfolding placesOf namesIn
+names-of-places : (s : List ℕ) (ts : List Token) → namesAt (placesOf s ts) ≡ namesAmong (symbolsOf s ts)
+unfolding placesOf namesAmong
 names-of-places s [] = refl
 names-of-places s (t ∷ ts) =
     map-append (λ (x : NameAt). x .name) (map (nameAt (t .start)) (symbolNames (symbolOf (t .kind) (bytesOf s t)))) (placesOf s ts)
@@ -38,11 +38,11 @@ names-of-rule s f h =
 
 module _ {N : Type 0} where
   -- the two sides of a binary sign
-  sides : (f g : Formula N) → gather atomNames (atomsOf f) ≡ formulaNames f → gather atomNames (atomsOf g) ≡ formulaNames g
-      → gather atomNames (atomsOf f ++ atomsOf g) ≡ formulaNames f ++ formulaNames g
-  sides f g p q = gather-append atomNames (atomsOf f) (atomsOf g) ∙ ap₂ _++_ p q
+  sides : (f g : Formula N) → collect atomNames (atomsOf f) ≡ formulaNames f → collect atomNames (atomsOf g) ≡ formulaNames g
+      → collect atomNames (atomsOf f ++ atomsOf g) ≡ formulaNames f ++ formulaNames g
+  sides f g p q = collect-append atomNames (atomsOf f) (atomsOf g) ∙ ap₂ _++_ p q
 
-  pub atoms-names : (f : Formula N) → gather atomNames (atomsOf f) ≡ formulaNames f
+  pub atoms-names : (f : Formula N) → collect atomNames (atomsOf f) ≡ formulaNames f
   atoms-names Form.truth = refl
   atoms-names Form.falsity = refl
   atoms-names (Form.atom a) = append-nil (atomNames a)
@@ -54,12 +54,12 @@ module _ {N : Type 0} where
 
 -- the names of the rules, every place
 abbrev pub everyName : List (Formula Name) → List Name
-everyName rules = gather atomNames (allAtoms rules)
+everyName rules = collect atomNames (allAtoms rules)
 
 pub every-name-append : (rules more : List (Formula Name)) → everyName (rules ++ more) ≡ everyName rules ++ everyName more
-every-name-append rules more = ap (gather atomNames) (gather-append atomsOf rules more) ∙ gather-append atomNames (allAtoms rules) (allAtoms more)
+every-name-append rules more = ap (collect atomNames) (collect-append atomsOf rules more) ∙ collect-append atomNames (allAtoms rules) (allAtoms more)
 
 pub every-name-last : (rules : List (Formula Name)) (f : Formula Name) → everyName (rules ++ f ∷ []) ≡ everyName rules ++ formulaNames f
 every-name-last rules f =
     every-name-append rules (f ∷ [])
-    ∙ ap (λ (l : List Name). everyName rules ++ l) (ap (gather atomNames) (append-nil (atomsOf f)) ∙ atoms-names f)
+    ∙ ap (λ (l : List Name). everyName rules ++ l) (ap (collect atomNames) (append-nil (atomsOf f)) ∙ atoms-names f)

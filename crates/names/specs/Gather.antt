@@ -15,7 +15,7 @@ use Rattle.syntax.specs.declared.RuleAnswer.{RuleAnswer}
 use Rattle.syntax.specs.declared.RuleAnswer.the-variants as RuleAnswer
 use Rattle.syntax.specs.declared.Rule.{Rule}
 use Rattle.lists.specs.Search.{any}
-use Rattle.evalset.specs.Sets.{most}
+use Rattle.evalset.specs.Most.{most}
 use Rattle.contact.specs.Numbering.{position, sameName}
 use Rattle.names.specs.Seventh.{NameAt, placesOf}
 use Rattle.names.specs.declared.KeptName.{KeptName}
@@ -79,12 +79,12 @@ namesAfter ks (x ∷ xs) =
 -- ---- as arrays
 
 -- a name as it is kept
-unfoldable pub nameOf : Name → KeptName
-nameOf w = record { bytes = pad 16 w; len = length w }
+unfoldable pub keptName : Name → KeptName
+keptName w = record { bytes = pad 16 w; len = length w }
 
 -- names as they are kept
 unfoldable pub arraysOf : List Name → Names
-arraysOf ks = record { list = map nameOf ks ++ replicate (most - length ks) (nameOf []); count = length ks }
+arraysOf ks = record { list = map keptName ks ++ replicate (most - length ks) (keptName []); count = length ks }
 
 -- the names that arrays hold
 abbrev pub bytesIn : KeptName → Name

@@ -8,7 +8,7 @@ use Rattle.formula.specs.Formula.{Name}
 use Rattle.lexer.specs.Token.{Token, bytesOf}
 use Rattle.syntax.specs.Symbol.{symbolOf, symbolNames}
 use Rattle.lists.specs.Search.{In}
-use Rattle.evalset.specs.Sets.{most}
+use Rattle.evalset.specs.Most.{most}
 use Rattle.contact.specs.Numbering.{distinct, sameName}
 
 -- a name and the place of its first byte

@@ -7,7 +7,7 @@ use lib.Dec.{eqb, ltb}
 use lib.ListN.{length, take, set}
 use Rattle.formula.specs.Formula.{Name}
 use Rattle.contact.specs.Numbering.{sameName}
-use Rattle.names.specs.Gather.{nameOf}
+use Rattle.names.specs.Gather.{keptName}
 use Rattle.names.specs.declared.KeptName.{KeptName}
 use Rattle.names.specs.declared.Names.{Names}
 
@@ -26,4 +26,4 @@ push ns k = record { list = set (ns .list) (ns .count) k; count = ns .count + 1 
 
 -- with the name of number n
 unfoldable pub withKept : Names → Name → ℕ → Names
-withKept ns w n = cond (ltb n (ns .count)) ns (push ns (nameOf w))
+withKept ns w n = cond (ltb n (ns .count)) ns (push ns (keptName w))

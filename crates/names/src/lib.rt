@@ -8,8 +8,8 @@ ghost use mathlib.Core.Path.{_≡_};
 ghost use Prim.Native.Nat.{_≤_, _<_};
 ghost use mathlib.Core.List.{[]};
 ghost use lib.ListN.{length, take};
-ghost use Rattle.evalset.specs.Sets.{most};
-ghost use Rattle.names.specs.Gather.{arraysOf, nameOf, knownOf, Gathers, gathered};
+ghost use Rattle.evalset.specs.Most.{most};
+ghost use Rattle.names.specs.Gather.{arraysOf, keptName, knownOf, Gathers, gathered};
 ghost use Rattle.names.specs.Steps.{sameKept, placeIn, withKept};
 use evalset::NAMES;
 use lexer::NAME;
@@ -92,7 +92,7 @@ fn number_of(names: Names, w: &[u8]) -> usize
 // A name as it is kept.
 fn name_of(w: &[u8]) -> KeptName
     requires { ⌜ length (now w) ≤ 16 ⌝ }
-    ensures { λ r. ⌜ r ≡ nameOf (now (w .entry)) ⌝ }
+    ensures { λ r. ⌜ r ≡ keptName (now (w .entry)) ⌝ }
 {
     let mut bytes = [0u8; 16];
     let mut i: usize = 0;

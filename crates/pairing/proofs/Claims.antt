@@ -13,9 +13,10 @@ use Rattle.lists.specs.Search.{In}
 use Rattle.contact.specs.Meaning.{Floor}
 use Rattle.contact.specs.Numbering.{AtomBelow}
 use Rattle.contact.specs.Row.{is, RealisesPart}
-use Rattle.contact.specs.Plan.{rowMarks, check}
+use Rattle.contact.specs.Plan.{rowMarks}
+use Rattle.contact.specs.Check.{check}
 use Rattle.contact.proofs.Claims as contact
-use Rattle.search.specs.declared.Sheet.{Sheet}
+use Rattle.search.specs.declared.Chart.{Chart}
 use Rattle.search.specs.Rows.{rowBits}
 use Rattle.search.specs.Compiled.{Compiled, contactAt}
 use Rattle.search.proofs.Rows.{row-length}
@@ -26,12 +27,12 @@ use Rattle.pairing.proofs.Serving
 -- ---- the list (Listing, Serving)
 
 -- words_of lists the words of the pairs of evaluations, each pair's and no other
-pub listed-serves : (sheet : Sheet) (list list' : List ℕ) (r : ℕ) → ListSays sheet list list' r → (atoms : List (Atom ℕ)) → Compiled sheet atoms
-    → Serving (sheet .names) atoms (take r list')
-listed-serves sheet list list' r says = says .are
+pub listed-serves : (chart : Chart) (list list' : List ℕ) (r : ℕ) → ListSays chart list list' r → (atoms : List (Atom ℕ)) → Compiled chart atoms
+    → Serving (chart .names) atoms (take r list')
+listed-serves chart list list' r says = says .are
 
 -- contacts_of has the atoms that are contacts
-pub contacts-are : (sheet : Sheet) (atoms : List (Atom ℕ)) (w : ℕ) → Compiled sheet atoms → Spelt (sheet .atoms) (contactAt sheet) w → Contacts atoms w
+pub contacts-are : (chart : Chart) (atoms : List (Atom ℕ)) (w : ℕ) → Compiled chart atoms → Spelt (chart .atoms) (contactAt chart) w → Contacts atoms w
 contacts-are = Serving.contacts-spelt
 
 -- ---- the test (Judging)

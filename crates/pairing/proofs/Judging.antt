@@ -20,7 +20,8 @@ use Rattle.lists.proofs.Search.{any-same, any-intro, any-elim, none-elim, none-
 use Rattle.lists.proofs.Truth.{clash, cases, or-cases, side}
 use Rattle.evalset.specs.Bit.{bit}
 use Rattle.evalset.proofs.Bits.{bit-xor, bit-or, bit-and, bit-none, bit-above, bit-ones, same-bits}
-use Rattle.contact.specs.Plan.{Mark, mark, rowMarks, check}
+use Rattle.contact.specs.Plan.{Mark, mark, rowMarks}
+use Rattle.contact.specs.Check.{check}
 use Rattle.contact.specs.Pairs.{serves, restricts, lives, somePair, served, pairCheck}
 use Rattle.contact.proofs.Pairs.{pair-intro, pair-elim, check-pairs}
 use Rattle.search.specs.Rows.{rowBits}

@@ -1,10 +1,11 @@
--- A word that was seen is in the list, and one that was not is put behind it; so in the end the list has the words of all pairs, and
--- no other. Assumes nothing.
+-- A word that was seen is in the list, and one that was not is put behind it; so in the end the list has the words of all pairs of classes.
+-- Each evaluation is of a class and each class has an evaluation, so these are the words of all pairs of evaluations, and no other.
+-- Assumes nothing.
 use mathlib.Core.Bool.{true, false}
 use mathlib.Core.Path.{_≡_, refl, sym, ap, _∙_, subst}
 use mathlib.Core.List.{List, [], _∷_, _++_}
 use mathlib.Core.Logic.{_⊎_, inl, inr, ⊎-elim}
-use Prim.Native.Nat.{ℕ, zero, suc, _+_, _*_, _/_, _%_, _^_, _≤_, _<_}
+use Prim.Native.Nat.{ℕ, zero, suc, _+_, _-_, _*_, _/_, _%_, _^_, _≤_, _<_}
 use native.Mathlib.Nat.{mod-lt, div-add-mod', zero-lt-suc}
 use native.Mathlib.Numerals.{add-one}
 use native.Mathlib.Decide.{ℕ-discrete as decEq}
@@ -16,17 +17,18 @@ use lib.Seq.{getD-set-same, getD-set-other, take-suc-set}
 use borrow.Author.Tests.{eqb-true}
 use Rattle.formula.specs.Formula.{Atom}
 use Rattle.lists.specs.Search.{In, here, below}
-use Rattle.lists.proofs.Search.{none-in, in-one, in-left, in-right, in-either, gather-intro, gather-elim, gather-same, below-intro, below-elim}
-use Rattle.lists.proofs.Below.{gather-more}
+use Rattle.lists.proofs.Search.{none-in, in-one, in-left, in-right, in-either, collect-intro, collect-elim, collect-same, below-intro, below-elim}
+use Rattle.lists.proofs.Below.{collect-more}
 use Rattle.lists.proofs.Truth.{side, clash, or-cases}
 use Rattle.evalset.specs.Bit.{bit}
 use Rattle.evalset.proofs.Bits.{bit-add}
-use Rattle.search.specs.declared.Sheet.{Sheet}
-use Rattle.search.specs.Compiled.{Compiled}
+use Rattle.search.specs.declared.Chart.{Chart}
+use Rattle.search.specs.Compiled.{Compiled, contactAt}
 use Rattle.pairing.specs.Sums.{entry}
-use Rattle.pairing.specs.declared.Masks.{Masks}
-use Rattle.pairing.specs.Words.{IsWord, Serving}
-use Rattle.pairing.specs.Listed.{MasksAre, pairWord, pairsOf, allPairs, pairCount, PairsIn, entriesOf, seenAt, Seen, Noted}
+use Rattle.pairing.specs.Words.{Spelt, IsWord, Serving}
+use Rattle.pairing.specs.Masks.{MaskIs, MasksAre, Kept, pairWord, pairsOf, allPairs, PairsIn}
+use Rattle.pairing.specs.Listed.{pairCount, entriesOf, seenAt, Seen, Noted}
+use Rattle.pairing.proofs.Masking.{class-member, class-of}
 use Rattle.pairing.proofs.Serving.{pair-spelt, word-turned}
 
 -- ---- one word
@@ -109,7 +111,7 @@ noted-more {ks} {js} a b =
 module _ (words : List ℕ) where
   entries-next : (f : ℕ) → entriesOf words f ++ (entry words f ∷ []) ≡ entriesOf words (f + 1)
   unfolding entriesOf
-  entries-next f = gather-more (λ f. entry words f ∷ []) f
+  entries-next f = collect-more (λ f. entry words f ∷ []) f
 
   pub entry-noted : {seen list seen' list' seen'' list'' : List ℕ} {count r q : ℕ} (f : ℕ) → Noted (entriesOf words f) seen list count seen' list' r
       → Noted (entry words f ∷ []) seen' list' r seen'' list'' q → Noted (entriesOf words (f + 1)) seen list count seen'' list'' q
@@ -123,50 +125,54 @@ module _ (words : List ℕ) where
       ap (λ (x : ℕ). length (entriesOf words x)) (sym (add-one n)) ∙ ap length (sym (entries-next n)) ∙ length-append (entriesOf words n) (entry words n ∷ [])
       ∙ omega (arith, entries-length n)
 
-module _ (m : Masks) where
+module _ (zeros : ℕ) (masks : List ℕ) where
+  -- the word of the masks at e and at f
+  abbrev wordAt : ℕ → ℕ → ℕ
+  wordAt e f = pairWord zeros (entry masks e) (entry masks f)
+
   -- the pairs of e are put into an array
-  pub pairs-in-none : (e : ℕ) (words : List ℕ) → length words ≡ 64 → PairsIn m e 0 words
+  pub pairs-in-none : (e : ℕ) (words : List ℕ) → length words ≡ 64 → PairsIn zeros masks e 0 words
   pairs-in-none e words h = record { long = h; are = λ f l. absurd (omega arith) }
 
-  pub pairs-in-more : (e n : ℕ) (words : List ℕ) → PairsIn m e n words → n < 64 → PairsIn m e (n + 1) (set words n (pairWord m e n))
+  pub pairs-in-more : (e n : ℕ) (words : List ℕ) → PairsIn zeros masks e n words → n < 64 → PairsIn zeros masks e (n + 1) (set words n (wordAt e n))
   pairs-in-more e n words h l =
-      record { long = length-set words n (pairWord m e n) ∙ h .long; are = λ f k. go f k (decEq f n) }
+      record { long = length-set words n (wordAt e n) ∙ h .long; are = λ f k. go f k (decEq f n) }
     where
-      go : (f : ℕ) → f < n + 1 → Dec (f ≡ n) → entry (set words n (pairWord m e n)) f ≡ pairWord m e f
+      go : (f : ℕ) → f < n + 1 → Dec (f ≡ n) → entry (set words n (wordAt e n)) f ≡ wordAt e f
       go f k (yes z) =
-          ap (entry (set words n (pairWord m e n))) z ∙ getD-set-same words n (pairWord m e n) 0 (omega (arith, h .long)) ∙ ap (pairWord m e) (sym z)
-      go f k (no ne) = getD-set-other words n f (pairWord m e n) 0 ne ∙ h .are f (omega (arith, ne))
+          ap (entry (set words n (wordAt e n))) z ∙ getD-set-same words n (wordAt e n) 0 (omega (arith, h .long)) ∙ ap (wordAt e) (sym z)
+      go f k (no ne) = getD-set-other words n f (wordAt e n) 0 ne ∙ h .are f (omega (arith, ne))
 
   -- an array with the pairs of e has their words
-  entries-pairs : (e n : ℕ) (words : List ℕ) → PairsIn m e n words → entriesOf words n ≡ pairsOf m e n
+  entries-pairs : (e n : ℕ) (words : List ℕ) → PairsIn zeros masks e n words → entriesOf words n ≡ pairsOf zeros masks e n
   unfolding entriesOf pairsOf
   entries-pairs e n words h =
-      gather-same (λ f. entry words f ∷ []) (λ f. pairWord m e f ∷ []) (below n) (λ f i. ap (λ (w : ℕ). w ∷ []) (h .are f (below-elim n f i)))
+      collect-same (λ f. entry words f ∷ []) (λ f. wordAt e f ∷ []) (below n) (λ f i. ap (λ (w : ℕ). w ∷ []) (h .are f (below-elim n f i)))
 
-  all-next : (e : ℕ) → allPairs m e ++ pairsOf m e (e + 1) ≡ allPairs m (e + 1)
+  all-next : (e : ℕ) → allPairs zeros masks e ++ pairsOf zeros masks e (e + 1) ≡ allPairs zeros masks (e + 1)
   unfolding allPairs
-  all-next e = gather-more (λ e. pairsOf m e (e + 1)) e
+  all-next e = collect-more (λ e. pairsOf zeros masks e (e + 1)) e
 
-  -- the pairs of one evaluation more
-  pub all-noted : {seen list seen' list' seen'' list'' : List ℕ} {count r q : ℕ} (e : ℕ) (words : List ℕ) → PairsIn m e (e + 1) words
-      → Noted (allPairs m e) seen list count seen' list' r → Noted (entriesOf words (e + 1)) seen' list' r seen'' list'' q
-      → Noted (allPairs m (e + 1)) seen list count seen'' list'' q
+  -- the pairs of one mask more
+  pub all-noted : {seen list seen' list' seen'' list'' : List ℕ} {count r q : ℕ} (e : ℕ) (words : List ℕ) → PairsIn zeros masks e (e + 1) words
+      → Noted (allPairs zeros masks e) seen list count seen' list' r → Noted (entriesOf words (e + 1)) seen' list' r seen'' list'' q
+      → Noted (allPairs zeros masks (e + 1)) seen list count seen'' list'' q
   all-noted {seen} {list} {seen'} {list'} {seen''} {list''} {count} {r} {q} e words h a b =
       subst (λ (ks : List ℕ). Noted ks seen list count seen'' list'' q)
-      (ap (λ (ks : List ℕ). allPairs m e ++ ks) (entries-pairs e (e + 1) words h) ∙ all-next e) (noted-more a b)
+      (ap (λ (ks : List ℕ). allPairs zeros masks e ++ ks) (entries-pairs e (e + 1) words h) ∙ all-next e) (noted-more a b)
 
-  pairs-length : (e n : ℕ) → length (pairsOf m e n) ≡ n
+  pairs-length : (e n : ℕ) → length (pairsOf zeros masks e n) ≡ n
   unfolding pairsOf
   pairs-length e zero = refl
   pairs-length e (suc n) =
-      ap (λ (x : ℕ). length (pairsOf m e x)) (sym (add-one n)) ∙ ap length (sym (gather-more (λ f. pairWord m e f ∷ []) n))
-      ∙ length-append (pairsOf m e n) (pairWord m e n ∷ []) ∙ omega (arith, pairs-length e n)
+      ap (λ (x : ℕ). length (pairsOf zeros masks e x)) (sym (add-one n)) ∙ ap length (sym (collect-more (λ f. wordAt e f ∷ []) n))
+      ∙ length-append (pairsOf zeros masks e n) (wordAt e n ∷ []) ∙ omega (arith, pairs-length e n)
 
-  pub all-length : (n : ℕ) → length (allPairs m n) ≡ pairCount n
+  pub all-length : (n : ℕ) → length (allPairs zeros masks n) ≡ pairCount n
   unfolding allPairs pairCount
   all-length zero = refl
   all-length (suc n) =
-      ap (λ (x : ℕ). length (allPairs m x)) (sym (add-one n)) ∙ ap length (sym (all-next n)) ∙ length-append (allPairs m n) (pairsOf m n (n + 1))
+      ap (λ (x : ℕ). length (allPairs zeros masks x)) (sym (add-one n)) ∙ ap length (sym (all-next n)) ∙ length-append (allPairs zeros masks n) (pairsOf zeros masks n (n + 1))
       ∙ omega (arith, all-length n, pairs-length n (n + 1))
 
 pub count-next : (e top : ℕ) → e < top → pairCount e + e + 1 ≤ pairCount top
@@ -179,39 +185,67 @@ count-grows e top l = ⊎-elim (λ k. omega (arith, count-next e top k)) (λ k. 
 
 -- ---- the whole list
 
-module _ (sheet : Sheet) (atoms : List (Atom ℕ)) (h : Compiled sheet atoms) (m : Masks) (masks : MasksAre sheet (2 ^ (sheet .names)) m)
-    (seen list seen' list' : List ℕ) (r : ℕ) (none : (k : ℕ) → seenAt seen k ≡ false) (noted : Noted (allPairs m (2 ^ (sheet .names))) seen list 0 seen' list' r) where
+module _ (chart : Chart) (atoms : List (Atom ℕ)) (h : Compiled chart atoms) (contacts : ℕ) (few : chart .atoms ≤ 16) (c : Spelt (chart .atoms) (contactAt chart) contacts)
+    (masks classes : List ℕ) (n : ℕ) (fits : 2 ^ (chart .names) ≤ length masks) (are : MasksAre (chart .xs) (chart .ys) (chart .atoms) (2 ^ (chart .names)) masks)
+    (kept : Kept (2 ^ (chart .names)) masks classes n) (seen list seen' list' : List ℕ) (r : ℕ) (none : (k : ℕ) → seenAt seen k ≡ false)
+    (noted : Noted (allPairs (65535 - contacts) classes n) seen list 0 seen' list' r) where
   abbrev top : ℕ
-  top = 2 ^ (sheet .names)
+  top = 2 ^ (chart .names)
+
+  abbrev zeros : ℕ
+  zeros = 65535 - contacts
+
+  -- the word of two classes
+  abbrev joint : ℕ → ℕ → ℕ
+  joint = wordAt zeros classes
+
+  -- e is of class i
+  abbrev Of : ℕ → ℕ → Type 0
+  Of e i = MaskIs (chart .xs) (chart .ys) (chart .atoms) e (entry classes i)
 
   unseen : Seen seen []
   unseen k t = clash t (none k)
 
-  spelt : (e f : ℕ) → e < top → f < top → IsWord atoms e f (pairWord m e f)
-  spelt e f le lf = pair-spelt sheet atoms h m e f le lf (masks e le) (masks f lf)
+  member : (i : ℕ) → i < n → (e : ℕ) × (e < top) × Of e i
+  member = class-member (chart .xs) (chart .ys) (chart .atoms) top masks classes n fits are kept
 
-  -- a pair with the lesser evaluation second
-  listed : (e f : ℕ) → e < top → f ≤ e → In (pairWord m e f) (take r list')
+  class : (e : ℕ) → e < top → (i : ℕ) × (i < n) × Of e i
+  class = class-of (chart .xs) (chart .ys) (chart .atoms) top masks classes n fits are kept
+
+  spelt : (i j e f : ℕ) → e < top → f < top → Of e i → Of f j → IsWord atoms e f (joint i j)
+  spelt i j e f le lf x y = pair-spelt chart contacts (entry classes i) (entry classes j) e f few c x y atoms h le lf
+
+  -- a pair with the lesser class second
+  listed : (i j : ℕ) → i < n → j ≤ i → In (joint i j) (take r list')
   unfolding pairsOf allPairs
-  listed e f le lf =
-      noted .there unseen (inr (gather-intro (λ e. pairsOf m e (e + 1)) (below-intro top e le)
-      (gather-intro (λ f. pairWord m e f ∷ []) (below-intro (e + 1) f (omega arith)) here)))
+  listed i j li lj =
+      noted .there unseen (inr (collect-intro (λ i. pairsOf zeros classes i (i + 1)) (below-intro n i li)
+      (collect-intro (λ j. joint i j ∷ []) (below-intro (i + 1) j (omega arith)) here)))
 
-  pair-of : (w : ℕ) → In w (allPairs m top) → (e : ℕ) × (f : ℕ) × (e < top) × (f < top) × IsWord atoms e f w
+  pair-of : (w : ℕ) → In w (allPairs zeros classes n) → (e : ℕ) × (f : ℕ) × (e < top) × (f < top) × IsWord atoms e f w
   unfolding pairsOf allPairs
   pair-of w i =
-      let a = gather-elim (λ e. pairsOf m e (e + 1)) (below top) i in
-      let b = gather-elim (λ f. pairWord m (a .0) f ∷ []) (below (a .0 + 1)) (a .2) in
-      let le : a .0 < top = below-elim top (a .0) (a .1) in
-      let lf : b .0 < top = (let l = below-elim (a .0 + 1) (b .0) (b .1) in omega (arith, l, le)) in
-      (a .0, b .0, le, lf, subst (IsWord atoms (a .0) (b .0)) (sym (in-one (b .2))) (spelt (a .0) (b .0) le lf))
+      let a = collect-elim (λ i. pairsOf zeros classes i (i + 1)) (below n) i in
+      let b = collect-elim (λ j. joint (a .0) j ∷ []) (below (a .0 + 1)) (a .2) in
+      let le : a .0 < n = below-elim n (a .0) (a .1) in
+      let lf : b .0 < n = (let l = below-elim (a .0 + 1) (b .0) (b .1) in omega (arith, l, le)) in
+      let e = member (a .0) le in
+      let f = member (b .0) lf in
+      (e .0, f .0, e .1, f .1, subst (IsWord atoms (e .0) (f .0)) (sym (in-one (b .2))) (spelt (a .0) (b .0) (e .0) (f .0) (e .1) (f .1) (e .2) (f .2)))
 
-  pub list-serves : Serving (sheet .names) atoms (take r list')
+  pub list-serves : Serving (chart .names) atoms (take r list')
   list-serves =
       record {
         each = λ {w} i. ⊎-elim none-in (pair-of w) (noted .only i);
         every = λ e f le lf.
+            let i = class e le in
+            let j = class f lf in
             ⊎-elim
-            (λ l. (pairWord m f e, listed f e lf (omega arith), word-turned atoms f e (pairWord m f e) (spelt f e lf le)))
-            (λ l. (pairWord m e f, listed e f le l, spelt e f le lf)) (side e f);
+            (λ l. (
+              joint (j .0) (i .0),
+              listed (j .0) (i .0) (j .1) (omega arith),
+              word-turned atoms f e (joint (j .0) (i .0)) (spelt (j .0) (i .0) f e lf le (j .2) (i .2)),
+            ))
+            (λ l. (joint (i .0) (j .0), listed (i .0) (j .0) (i .1) l, spelt (i .0) (j .0) e f le lf (i .2) (j .2)))
+            (side (i .0) (j .0));
       }

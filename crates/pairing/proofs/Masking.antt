@@ -1,86 +1,139 @@
--- The masks of an evaluation, bit by bit, and arrays of them. Assumes nothing.
-use mathlib.Core.Bool.{Bool, true, false, not, _&&_, _||_, and-comm}
-use mathlib.Core.Path.{_≡_, refl, sym, ap, ap₂, _∙_, subst}
-use mathlib.Core.List.{List}
-use Prim.Native.Nat.{ℕ, _+_, _-_, _^_, _≤_, _<_}
-use native.Mathlib.Omega.{arith}
-use lib.Bits.{bitAnd, bitOr, and-lt, or-lt, and-le-l}
-use lib.Pow.{pow-mono}
-use lib.ListN.{length, set}
-use lib.Seq.{getD-set-same, getD-set-other}
+-- The masks of evaluations, atom by atom: each takes a digit in each half. Of these the different ones are kept: one that is among those
+-- before it is left out. Assumes nothing.
+use mathlib.Core.Bool.{true, false}
+use mathlib.Core.Path.{_≡_, refl, sym, ap, _∙_, subst}
+use mathlib.Core.List.{List, [], _∷_, _++_}
+use mathlib.Core.Logic.{⊎-elim}
+use Prim.Native.Nat.{ℕ, _+_, _/_, _%_, _^_, _≤_, _<_}
+use native.Mathlib.Numerals.{add-one}
 use native.Mathlib.Decide.{ℕ-discrete as decEq}
-use Rattle.evalset.proofs.Bits.{bit-or, bit-and, bit-minus}
-use Rattle.evalset.specs.Bit.{bit}
-use Rattle.evalset.specs.Sets.{memAt}
-use Rattle.search.specs.declared.Sheet.{Sheet}
-use Rattle.search.specs.Compiled.{contactAt}
+use native.Mathlib.Omega.{arith}
+use lib.Pow.{pow-mono}
+use lib.ListN.{length, take, set, length-set, length-take}
+use lib.Seq.{getD-set-same, getD-set-other, getD-take, length-take-le, take-suc-set}
+use Rattle.lists.specs.Search.{In, elem}
+use Rattle.lists.proofs.Lists.{take-next}
+use Rattle.lists.proofs.Search.{in-one, in-left, in-right, in-either, place, placed, elem-intro, elem-elim}
+use Rattle.lists.proofs.Truth.{clash}
+use Rattle.evalset.specs.declared.EvalSet.{EvalSet}
+use Rattle.evalset.specs.Sets.{mem, memAt}
 use Rattle.pairing.specs.Sums.{entry}
 use Rattle.pairing.specs.Words.{Spelt}
-use Rattle.pairing.specs.Listed.{memberOf, MaskIs}
+use Rattle.pairing.specs.Masks.{memberOf, Spare, Marked, MarkedTo, MaskIs, MasksAre, Kept}
+use Rattle.pairing.proofs.Words.{spelt-none, spelt-more}
 
 -- ---- the masks
 
-own-bit : (x c y : Bool) → ((x && not c) || ((x && c) && y)) ≡ (x && (not c || y))
-own-bit true true true = refl
-own-bit true true false = refl
-own-bit true false y = refl
-own-bit false c y = refl
+module _ (xs ys : List EvalSet) (e : ℕ) where
+  pub mask-none : MaskIs xs ys 0 e 0
+  mask-none = record { first-is = spelt-none (memberOf xs e); second-is = spelt-none (memberOf ys e) }
 
-module _ (sheet : Sheet) (e contacts a b : ℕ) (few : sheet .atoms ≤ 16) (c : Spelt (sheet .atoms) (contactAt sheet) contacts)
-    (x : Spelt (sheet .atoms) (memberOf (sheet .xs) e) a) (y : Spelt (sheet .atoms) (memberOf (sheet .ys) e) b) where
-  abbrev n : ℕ
-  n = sheet .atoms
+  pub mask-spare : (i m : ℕ) → i < 16 → MaskIs xs ys i e m → Spare m
+  mask-spare i m l h =
+      let few : 2 ^ i ≤ 2 ^ 15 = pow-mono {i = i} {j = 15} (omega arith) in (omega (arith, h .second-is .small), omega (arith, h .first-is .small))
 
-  small : (w : ℕ) → w < 2 ^ n → w < 65536
-  small w l = omega (arith, pow-mono {i = n} {j = 16} few)
-
-  lower : (u v : ℕ) → u < 2 ^ n → bitAnd u v < 2 ^ n
-  lower u v l = go (bitAnd u v) (and-le-l u v)
-    where
-      go : (z : ℕ) → z ≤ u → z < 2 ^ n
-      go z k = omega arith
-
-  pub mask-law : MaskIs sheet e (bitOr (bitAnd a (4294967295 - contacts)) (bitAnd (bitAnd a contacts) b)) (bitAnd a contacts) b
-  mask-law =
-      let la : a < 65536 = small a (x .small) in
-      let lc : contacts < 65536 = small contacts (c .small) in
+  pub mask-more : (i m r : ℕ) → MaskIs xs ys i e m → Marked (memAt xs i e) (memAt ys i e) m r → MaskIs xs ys (i + 1) e r
+  mask-more i m r h k =
       record {
-        own-is = record {
-          small = or-lt n (bitAnd a (4294967295 - contacts)) (bitAnd (bitAnd a contacts) b) (lower a (4294967295 - contacts) (x .small))
-              (lower (bitAnd a contacts) b (lower a contacts (x .small)));
-          bits = λ p l.
-              bit-or (bitAnd a (4294967295 - contacts)) (bitAnd (bitAnd a contacts) b) p
-              ∙ ap₂ _||_ (bit-minus 32 a contacts p (omega arith) (omega arith))
-              (bit-and (bitAnd a contacts) b p ∙ ap (λ (z : Bool). z && bit b p) (bit-and a contacts p))
-              ∙ own-bit (bit a p) (bit contacts p) (bit b p)
-              ∙ ap₂ (λ (s t : Bool). s && (not t || bit b p)) (x .bits p l) (c .bits p l)
-              ∙ ap (λ (t : Bool). memAt (sheet .xs) (n - 1 - p) e && (not (contactAt sheet (n - 1 - p)) || t)) (y .bits p l);
-        };
-        first-is = record {
-          small = and-lt n a contacts (x .small) (c .small);
-          bits = λ p l. bit-and a contacts p ∙ ap₂ _&&_ (x .bits p l) (c .bits p l) ∙ and-comm (memAt (sheet .xs) (n - 1 - p) e) (contactAt sheet (n - 1 - p));
-        };
-        second-is = record { small = y .small; bits = λ p l. y .bits p l };
+        first-is = subst (Spelt (i + 1) (memberOf xs e)) (sym (k .high)) (spelt-more (memberOf xs e) i (m / 65536) (memAt xs i e) (h .first-is) refl);
+        second-is = subst (Spelt (i + 1) (memberOf ys e)) (sym (k .low)) (spelt-more (memberOf ys e) i (m % 65536) (memAt ys i e) (h .second-is) refl);
       }
 
--- ---- arrays of masks
+module _ (x y : EvalSet) (masks : List ℕ) where
+  pub marked-none : MarkedTo x y 0 masks masks
+  marked-none = record { long = refl; marked = λ e l. absurd (omega arith); others = λ e l. refl }
 
-module _ (sheet : Sheet) (e : ℕ) (own first second : List ℕ) (a b c : ℕ) (la : e < length own) (lb : e < length first) (lc : e < length second) where
-  pub masks-more : ((d : ℕ) → d < e → MaskIs sheet d (entry own d) (entry first d) (entry second d)) → MaskIs sheet e a b c
-      → (d : ℕ) → d < e + 1 → MaskIs sheet d (entry (set own e a) d) (entry (set first e b) d) (entry (set second e c) d)
-  masks-more h k d l = go (decEq d e)
+  pub marked-next : (e v : ℕ) (masks' : List ℕ) → MarkedTo x y e masks masks' → e < length masks → Marked (mem x e) (mem y e) (entry masks' e) v
+      → MarkedTo x y (e + 1) masks (set masks' e v)
+  marked-next e v masks' h l k =
+      record {
+        long = length-set masks' e v ∙ h .long;
+        marked = λ d ld. go d ld (decEq d e);
+        others = λ d ld. getD-set-other masks' e d v 0 (λ z. omega arith) ∙ h .others d (omega arith);
+      }
     where
-      there : entry (set own e a) d ≡ a → entry (set first e b) d ≡ b → entry (set second e c) d ≡ c → MaskIs sheet d a b c
-          → MaskIs sheet d (entry (set own e a) d) (entry (set first e b) d) (entry (set second e c) d)
-      there p q r m =
-          subst (λ (x : ℕ). MaskIs sheet d x (entry (set first e b) d) (entry (set second e c) d)) (sym p)
-          (subst (λ (x : ℕ). MaskIs sheet d a x (entry (set second e c) d)) (sym q) (subst (λ (x : ℕ). MaskIs sheet d a b x) (sym r) m))
+      go : (d : ℕ) → d < e + 1 → Dec (d ≡ e) → Marked (mem x d) (mem y d) (entry masks d) (entry (set masks' e v) d)
+      go d ld (yes z) =
+          subst (λ (i : ℕ). Marked (mem x i) (mem y i) (entry masks i) (entry (set masks' e v) i)) (sym z)
+          (subst (λ (m : ℕ). Marked (mem x e) (mem y e) m (entry (set masks' e v) e)) (h .others e (omega arith))
+          (subst (Marked (mem x e) (mem y e) (entry masks' e)) (sym (getD-set-same masks' e v 0 (omega (arith, h .long)))) k))
+      go d ld (no ne) =
+          subst (Marked (mem x d) (mem y d) (entry masks d)) (sym (getD-set-other masks' e d v 0 ne)) (h .marked d (omega (arith, ne)))
 
-      go : Dec (d ≡ e) → MaskIs sheet d (entry (set own e a) d) (entry (set first e b) d) (entry (set second e c) d)
-      go (yes z) =
-          there (ap (entry (set own e a)) z ∙ getD-set-same own e a 0 la) (ap (entry (set first e b)) z ∙ getD-set-same first e b 0 lb)
-          (ap (entry (set second e c)) z ∙ getD-set-same second e c 0 lc) (subst (λ (x : ℕ). MaskIs sheet x a b c) (sym z) k)
-      go (no ne) =
-          subst (λ (x : ℕ). MaskIs sheet d x (entry (set first e b) d) (entry (set second e c) d)) (sym (getD-set-other own e d a 0 ne))
-          (subst (λ (x : ℕ). MaskIs sheet d (entry own d) x (entry (set second e c) d)) (sym (getD-set-other first e d b 0 ne))
-          (subst (λ (x : ℕ). MaskIs sheet d (entry own d) (entry first d) x) (sym (getD-set-other second e d c 0 ne)) (h d (omega (arith, ne)))))
+-- ---- the places of an array's first elements
+
+module _ (xs : List ℕ) (n : ℕ) where
+  at-place : (i : ℕ) → i < n → n ≤ length xs → In (entry xs i) (take n xs)
+  at-place i l k =
+      subst (λ (m : ℕ). In m (take n xs)) (getD-take n xs i 0 l) (placed 0 (take n xs) i (omega (arith, length-take-le n xs k)))
+
+  place-of : {m : ℕ} → In m (take n xs) → (i : ℕ) × (i < n) × (entry xs i ≡ m)
+  place-of j =
+      let p = place 0 j in
+      let l : p .0 < n = omega (arith, p .1, length-take n xs) in
+      (p .0, l, sym (getD-take n xs (p .0) 0 l) ∙ p .2)
+
+-- ---- the different ones
+
+pub kept-none : (masks : List ℕ) → Kept 0 masks masks 0
+kept-none masks = record { long = refl; few = omega arith; only = λ i. i; there = λ i. i; once = λ i j l k. absurd (omega arith) }
+
+module _ (n : ℕ) (masks masks' : List ℕ) (r : ℕ) (h : Kept n masks masks' r) (l : n < length masks) (same : entry masks' n ≡ entry masks n) where
+  abbrev m : ℕ
+  m = entry masks' n
+
+  next : take (n + 1) masks ≡ take n masks ++ m ∷ []
+  next = take-next masks n 0 l ∙ ap (λ (x : ℕ). take n masks ++ x ∷ []) (sym same)
+
+  -- it is among those before it
+  pub kept-out : elem m (take r masks') ≡ true → Kept (n + 1) masks masks' r
+  kept-out t =
+      record {
+        long = h .long;
+        few = omega (arith, h .few);
+        only = λ {m = x} i. subst (In x) (sym next) (in-left (m ∷ []) (h .only i));
+        there = λ {m = x} i.
+            ⊎-elim (h .there) (λ j. subst (λ (y : ℕ). In y (take r masks')) (sym (in-one j)) (elem-elim m (take r masks') t))
+            (in-either (take n masks) (m ∷ []) (subst (In x) next i));
+        once = h .once;
+      }
+
+  -- it is not
+  pub kept-in : elem m (take r masks') ≡ false → Kept (n + 1) masks (set masks' r m) (r + 1)
+  kept-in t =
+      record {
+        long = length-set masks' r m ∙ h .long;
+        few = omega (arith, h .few);
+        only = λ {m = x} i.
+            subst (In x) (sym next)
+            (⊎-elim (λ j. in-left (m ∷ []) (h .only j)) (in-right (take n masks)) (in-either (take r masks') (m ∷ []) (subst (In x) front i)));
+        there = λ {m = x} i.
+            subst (In x) (sym front)
+            (⊎-elim (λ j. in-left (m ∷ []) (h .there j)) (in-right (take r masks')) (in-either (take n masks) (m ∷ []) (subst (In x) next i)));
+        once = λ i j li lj z. go i j li lj (decEq j r) (sym (getD-set-other masks' r i m 0 (λ y. omega arith)) ∙ z);
+      }
+    where
+      fits : r < length masks'
+      fits = omega (arith, h .few, h .long)
+
+      front : take (r + 1) (set masks' r m) ≡ take r masks' ++ m ∷ []
+      front = ap (λ (x : ℕ). take x (set masks' r m)) (add-one r) ∙ take-suc-set masks' r m fits
+
+      go : (i j : ℕ) → i < j → j < r + 1 → Dec (j ≡ r) → entry masks' i ≡ entry (set masks' r m) j → ⊥
+      go i j li lj (yes y) z =
+          let e : entry masks' i ≡ m = z ∙ ap (entry (set masks' r m)) y ∙ getD-set-same masks' r m 0 fits in
+          clash (elem-intro m (subst (λ (x : ℕ). In x (take r masks')) e (at-place masks' r i (omega arith) (omega (arith, fits))))) t
+      go i j li lj (no ne) z = h .once i j li (omega (arith, ne)) (z ∙ getD-set-other masks' r j m 0 ne)
+
+-- each class has an evaluation, and each evaluation a class
+module _ (xs ys : List EvalSet) (n top : ℕ) (masks classes : List ℕ) (r : ℕ) (fits : top ≤ length masks) (are : MasksAre xs ys n top masks)
+    (kept : Kept top masks classes r) where
+  pub class-member : (i : ℕ) → i < r → (e : ℕ) × (e < top) × MaskIs xs ys n e (entry classes i)
+  class-member i l =
+      let p = place-of masks top (kept .only (at-place classes r i l (omega (arith, kept .few, kept .long)))) in
+      (p .0, p .1, subst (MaskIs xs ys n (p .0)) (p .2) (are (p .0) (p .1)))
+
+  pub class-of : (e : ℕ) → e < top → (i : ℕ) × (i < r) × MaskIs xs ys n e (entry classes i)
+  class-of e l =
+      let p = place-of classes r (kept .there (at-place masks top e l fits)) in
+      (p .0, p .1, subst (MaskIs xs ys n e) (sym (p .2)) (are e l))

@@ -4,9 +4,10 @@ use mathlib.Core.Bool.{Bool, true, false, not, _&&_, _||_, or-comm}
 use mathlib.Core.Path.{_≡_, refl, sym, ap, ap₂, _∙_, subst}
 use mathlib.Core.List.{List, [], _∷_}
 use mathlib.Core.Logic.{⊎-elim}
-use Prim.Native.Nat.{ℕ, suc, _+_, _-_, _/_, _^_, _≤_, _<_}
+use Prim.Native.Nat.{ℕ, suc, _+_, _-_, _/_, _%_, _^_, _≤_, _<_}
+use native.Mathlib.Nat.{div-add-mod'}
 use native.Mathlib.Omega.{arith}
-use lib.Bits.{bitAnd, bitOr, bitXor, xor-lt, and-lt, or-lt}
+use lib.Bits.{bitAnd, bitOr, bitXor, xor-lt, or-lt, or-shr, or-zero-r, and-le-l}
 use lib.ListN.{length, getD}
 use lib.Pow.{shr-lt}
 use Rattle.formula.specs.Formula.{Atom}
@@ -14,65 +15,73 @@ use Rattle.lists.specs.Search.{In}
 use Rattle.lists.proofs.Search.{none-in, uncons}
 use Rattle.evalset.specs.Bit.{bit}
 use Rattle.evalset.specs.Sets.{memAt}
-use Rattle.evalset.proofs.Bits.{bit-xor, bit-or, bit-and, bit-shr}
+use Rattle.evalset.proofs.Bits.{bit-xor, bit-or, bit-and, bit-not, bit-above, bit-shr}
 use Rattle.contact.specs.Row.{Row}
 use Rattle.contact.specs.Meaning.{partTerm}
 use Rattle.contact.specs.Plan.{at, Mark, touching, apart, vacant, inhabited, mark, rowMarks}
 use Rattle.contact.specs.Pairs.{serves, restricts}
-use Rattle.search.specs.declared.Sheet.{Sheet}
+use Rattle.search.specs.declared.Chart.{Chart}
 use Rattle.search.specs.Rows.{rowBits}
 use Rattle.search.specs.Compiled.{Compiled, AtomIs, atomAt, contactAt}
 use Rattle.search.proofs.Rows.{row-length, row-at, mark-in}
-use Rattle.pairing.specs.Sums.{entry}
-use Rattle.pairing.specs.declared.Masks.{Masks}
 use Rattle.pairing.specs.Words.{Spelt, isContact, Contacts, servesAt, IsWord}
-use Rattle.pairing.specs.Listed.{firstAt, secondAt, ownAt, MaskIs, pairWord}
-use Rattle.pairing.proofs.Words.{differs}
+use Rattle.pairing.specs.Masks.{MaskIs, pairWord}
+use Rattle.pairing.proofs.Words.{differs, bit-lower, spelt-few}
 
 -- ---- the bits of a pair's word
 
-module _ (m : Masks) (e f p : ℕ) where
-  pub pair-bit : bit (pairWord m e f) p
-      ≡ (((bit (entry (m .own) e) p || bit (entry (m .own) f) p) || (bit (entry (m .first) e) p && bit (entry (m .second) f) p))
-      || (bit (entry (m .second) e) p && bit (entry (m .first) f) p))
+high-bit : (m p : ℕ) → bit m (16 + p) ≡ bit (m / 65536) p
+high-bit m p = sym (bit-shr m 16 p)
+
+low-bit : (m p : ℕ) → p < 16 → bit m p ≡ bit (m % 65536) p
+low-bit m p l = ap (λ (x : ℕ). bit x p) (sym (div-add-mod' m 65536)) ∙ bit-lower 16 (m / 65536) (m % 65536) p l
+
+module _ (zeros a b p : ℕ) where
+  either-bit : (q : ℕ) → bit (bitOr (bitOr a zeros) b) q ≡ ((bit a q || bit zeros q) || bit b q)
+  either-bit q = bit-or (bitOr a zeros) b q ∙ ap (λ (x : Bool). x || bit b q) (bit-or a zeros q)
+
+  pair-bit : bit (pairWord zeros a b) p ≡ (((bit a (16 + p) || bit zeros (16 + p)) || bit b (16 + p)) && ((bit a p || bit zeros p) || bit b p))
   unfolding pairWord
   pair-bit =
-      bit-or (bitOr (bitOr (entry (m .own) e) (entry (m .own) f)) (bitAnd (entry (m .first) e) (entry (m .second) f))) (bitAnd (entry (m .second) e) (entry (m .first) f)) p
-      ∙ ap₂ _||_ (bit-or (bitOr (entry (m .own) e) (entry (m .own) f)) (bitAnd (entry (m .first) e) (entry (m .second) f)) p
-      ∙ ap₂ _||_ (bit-or (entry (m .own) e) (entry (m .own) f) p) (bit-and (entry (m .first) e) (entry (m .second) f) p))
-      (bit-and (entry (m .second) e) (entry (m .first) f) p)
+      bit-and (bitOr (bitOr a zeros) b / 2 ^ 16) (bitOr (bitOr a zeros) b) p
+      ∙ ap₂ _&&_ (bit-shr (bitOr (bitOr a zeros) b) 16 p ∙ either-bit (16 + p)) (either-bit p)
+
+-- the zero atoms' bits are those that the contacts do not have
+module _ (contacts p : ℕ) (small : contacts < 65536) where
+  zeros-high : bit (65535 - contacts) (16 + p) ≡ false
+  zeros-high = bit-above 16 (65535 - contacts) (16 + p) (omega arith) (omega arith)
+
+  zeros-low : p < 16 → bit (65535 - contacts) p ≡ not (bit contacts p)
+  zeros-low l = bit-not 16 contacts p small l
 
 -- a contact's bits, from x and y at e and at f
-contact-bits : (a b c d : Bool) → ((((a && b) || (c && d)) || (a && d)) || (b && c)) ≡ (((a && d) || (c && b)) || ((a && b) || (c && d)))
+contact-bits : (a b c d : Bool) → (((a || false) || c) && ((b || false) || d)) ≡ (((a && d) || (c && b)) || ((a && b) || (c && d)))
 contact-bits true true true true = refl
 contact-bits true true true false = refl
-contact-bits true true false d = ends d
-  where
-    ends : (d : Bool) → ((((true && true) || (false && d)) || (true && d)) || (true && false)) ≡ (((true && d) || (false && true)) || ((true && true) || (false && d)))
-    ends true = refl
-    ends false = refl
+contact-bits true true false true = refl
+contact-bits true true false false = refl
 contact-bits true false true true = refl
 contact-bits true false true false = refl
 contact-bits true false false true = refl
 contact-bits true false false false = refl
 contact-bits false true true true = refl
 contact-bits false true true false = refl
-contact-bits false true false d = refl
 contact-bits false false true true = refl
 contact-bits false false true false = refl
-contact-bits false false false d = refl
+contact-bits false b false d = refl
 
-zero-bits : (a b c d : Bool) → ((((a && true) || (c && true)) || (false && d)) || (b && false)) ≡ (a || c)
-zero-bits true b c d = refl
-zero-bits false b true d = refl
-zero-bits false true false d = refl
-zero-bits false false false d = refl
+zero-bits : (a b c d : Bool) → (((a || false) || c) && ((b || true) || d)) ≡ (a || c)
+zero-bits true true c d = refl
+zero-bits true false c d = refl
+zero-bits false true true d = refl
+zero-bits false false true d = refl
+zero-bits false b false d = refl
 
--- from the sheet's sets to the terms
+-- from the chart's sets to the terms
 sets-serve : (names : ℕ) (c : Bool) (x y : ℕ → Bool) (atom : Atom ℕ) → AtomIs names c x y atom → (v : Bool) (e f : ℕ) → e < 2 ^ names → f < 2 ^ names
-    → ((((x e && (not c || y e)) || (x f && (not c || y f))) || ((c && x e) && y f)) || (y e && (c && x f))) ≡ serves e f (mark atom v)
+    → (((x e || false) || x f) && ((y e || not c) || y f)) ≡ serves e f (mark atom v)
 sets-serve names c x y (Atom.contact s t) (z, h, k) v e f le lf =
-    ap (λ (b : Bool). (((x e && (not b || y e)) || (x f && (not b || y f))) || ((b && x e) && y f)) || (y e && (b && x f))) z
+    ap (λ (b : Bool). ((x e || false) || x f) && ((y e || not b) || y f)) z
     ∙ contact-bits (x e) (y e) (x f) (y f)
     ∙ ap₂ (λ (a b : Bool). ((a && y f) || (x f && b)) || ((a && b) || (x f && y f))) (h e le) (k e le)
     ∙ ap₂ (λ (a b : Bool). ((at s e && b) || (a && at t e)) || ((at s e && at t e) || (a && b))) (h f lf) (k f lf)
@@ -82,46 +91,68 @@ sets-serve names c x y (Atom.contact s t) (z, h, k) v e f le lf =
     same true = refl
     same false = refl
 sets-serve names c x y (Atom.part s t) (z, h) v e f le lf =
-    ap (λ (b : Bool). (((x e && (not b || y e)) || (x f && (not b || y f))) || ((b && x e) && y f)) || (y e && (b && x f))) z
+    ap (λ (b : Bool). ((x e || false) || x f) && ((y e || not b) || y f)) z
     ∙ zero-bits (x e) (y e) (x f) (y f) ∙ ap₂ _||_ (h e le) (h f lf) ∙ same v
   where
     same : (v : Bool) → serves e f (vacant (partTerm s t)) ≡ serves e f (mark (Atom.part s t) v)
     same true = refl
     same false = refl
 sets-serve names c x y (Atom.empty t) (z, h) v e f le lf =
-    ap (λ (b : Bool). (((x e && (not b || y e)) || (x f && (not b || y f))) || ((b && x e) && y f)) || (y e && (b && x f))) z
+    ap (λ (b : Bool). ((x e || false) || x f) && ((y e || not b) || y f)) z
     ∙ zero-bits (x e) (y e) (x f) (y f) ∙ ap₂ _||_ (h e le) (h f lf) ∙ same v
   where
     same : (v : Bool) → serves e f (vacant t) ≡ serves e f (mark (Atom.empty t) v)
     same true = refl
     same false = refl
 
-pub pair-small : (sheet : Sheet) (m : Masks) (e f : ℕ) → MaskIs sheet e (entry (m .own) e) (entry (m .first) e) (entry (m .second) e)
-    → MaskIs sheet f (entry (m .own) f) (entry (m .first) f) (entry (m .second) f) → pairWord m e f < 2 ^ (sheet .atoms)
+-- ---- the word of two masks
+
+-- it has no atom that is in neither high half
+pub pair-small : (n contacts a b : ℕ) → contacts < 65536 → a / 65536 < 2 ^ n → b / 65536 < 2 ^ n → pairWord (65535 - contacts) a b < 2 ^ n
 unfolding pairWord
-pair-small sheet m e f a b =
-    or-lt (sheet .atoms) _ _
-    (or-lt (sheet .atoms) _ _ (or-lt (sheet .atoms) _ _ (a .own-is .small) (b .own-is .small))
-    (and-lt (sheet .atoms) (entry (m .first) e) (entry (m .second) f) (a .first-is .small) (b .second-is .small)))
-    (and-lt (sheet .atoms) (entry (m .second) e) (entry (m .first) f) (a .second-is .small) (b .first-is .small))
+pair-small n contacts a b small la lb = go (bitAnd (either / 2 ^ 16) either) (and-le-l (either / 2 ^ 16) either)
+  where
+    zeros : ℕ
+    zeros = 65535 - contacts
 
-module _ (sheet : Sheet) (atoms : List (Atom ℕ)) (h : Compiled sheet atoms) (m : Masks) (e f : ℕ) (le : e < 2 ^ (sheet .names)) (lf : f < 2 ^ (sheet .names))
-    (a : MaskIs sheet e (entry (m .own) e) (entry (m .first) e) (entry (m .second) e))
-    (b : MaskIs sheet f (entry (m .own) f) (entry (m .first) f) (entry (m .second) f)) where
-  abbrev n : ℕ
-  n = sheet .atoms
+    either : ℕ
+    either = bitOr (bitOr a zeros) b
 
-  pair-bits : (p : ℕ) → p < n → bit (pairWord m e f) p ≡ servesAt atoms e f (n - 1 - p)
-  pair-bits p l =
-      let i : ℕ = n - 1 - p in
-      pair-bit m e f p
-      ∙ ap₂ (λ (u v : Bool). ((u || v) || (bit (entry (m .first) e) p && bit (entry (m .second) f) p)) || (bit (entry (m .second) e) p && bit (entry (m .first) f) p)) (a .own-is .bits p l) (b .own-is .bits p l)
-      ∙ ap₂ (λ (u v : Bool). ((ownAt sheet e i || ownAt sheet f i) || (u && v)) || (bit (entry (m .second) e) p && bit (entry (m .first) f) p)) (a .first-is .bits p l) (b .second-is .bits p l)
-      ∙ ap₂ (λ (u v : Bool). ((ownAt sheet e i || ownAt sheet f i) || (firstAt sheet e i && secondAt sheet f i)) || (u && v)) (a .second-is .bits p l) (b .first-is .bits p l)
-      ∙ sets-serve (sheet .names) (contactAt sheet i) (memAt (sheet .xs) i) (memAt (sheet .ys) i) (atomAt atoms i) (h .atom-is i (omega (arith, h .counted))) true e f le lf
+    none : zeros / 2 ^ 16 ≡ 0
+    none = omega arith
 
-  pub pair-spelt : IsWord atoms e f (pairWord m e f)
-  pair-spelt = subst (λ (x : ℕ). Spelt x (servesAt atoms e f) (pairWord m e f)) (h .counted) (record { small = pair-small sheet m e f a b; bits = pair-bits })
+    halves : either / 2 ^ 16 ≡ bitOr (a / 65536) (b / 65536)
+    halves =
+        or-shr (bitOr a zeros) b 16
+        ∙ ap (λ (z : ℕ). bitOr z (b / 65536)) (or-shr a zeros 16 ∙ ap (bitOr (a / 65536)) none ∙ or-zero-r (a / 65536))
+
+    go : (w : ℕ) → w ≤ either / 2 ^ 16 → w < 2 ^ n
+    go w l = omega (arith, halves, or-lt n (a / 65536) (b / 65536) la lb)
+
+module _ (chart : Chart) (contacts a b e f : ℕ) (few : chart .atoms ≤ 16) (c : Spelt (chart .atoms) (contactAt chart) contacts)
+    (x : MaskIs (chart .xs) (chart .ys) (chart .atoms) e a) (y : MaskIs (chart .xs) (chart .ys) (chart .atoms) f b) where
+  abbrev zeros : ℕ
+  zeros = 65535 - contacts
+
+  small : contacts < 65536
+  small = spelt-few (contactAt chart) (chart .atoms) contacts c few
+
+  module _ (atoms : List (Atom ℕ)) (h : Compiled chart atoms) (le : e < 2 ^ (chart .names)) (lf : f < 2 ^ (chart .names)) where
+    pair-bits : (p : ℕ) → p < chart .atoms → bit (pairWord zeros a b) p ≡ servesAt atoms e f (chart .atoms - 1 - p)
+    pair-bits p l =
+        let i : ℕ = chart .atoms - 1 - p in
+        let lp : p < 16 = omega arith in
+        pair-bit zeros a b p
+        ∙ ap₂ (λ (u v : Bool). ((u || bit zeros (16 + p)) || v) && ((bit a p || bit zeros p) || bit b p)) (high-bit a p ∙ x .first-is .bits p l)
+        (high-bit b p ∙ y .first-is .bits p l)
+        ∙ ap₂ (λ (u v : Bool). ((memAt (chart .xs) i e || bit zeros (16 + p)) || memAt (chart .xs) i f) && ((u || bit zeros p) || v))
+        (low-bit a p lp ∙ x .second-is .bits p l) (low-bit b p lp ∙ y .second-is .bits p l)
+        ∙ ap₂ (λ (u v : Bool). ((memAt (chart .xs) i e || u) || memAt (chart .xs) i f) && ((memAt (chart .ys) i e || v) || memAt (chart .ys) i f))
+        (zeros-high contacts p small) (zeros-low contacts p small lp ∙ ap not (c .bits p l))
+        ∙ sets-serve (chart .names) (contactAt chart i) (memAt (chart .xs) i) (memAt (chart .ys) i) (atomAt atoms i) (h .atom-is i (omega (arith, h .counted))) true e f le lf
+
+    pub pair-spelt : IsWord atoms e f (pairWord zeros a b)
+    pair-spelt = subst (λ (n : ℕ). Spelt n (servesAt atoms e f) (pairWord zeros a b)) (h .counted) (record { small = pair-small (chart .atoms) contacts a b small (x .first-is .small) (y .first-is .small); bits = pair-bits })
 
 -- the pair the other way round
 pub serves-turned : (e f : ℕ) (m : Mark) → serves e f m ≡ serves f e m
@@ -152,16 +183,16 @@ atom-restricts (Atom.part s t) false = refl
 atom-restricts (Atom.empty t) true = refl
 atom-restricts (Atom.empty t) false = refl
 
--- the sheet's contacts are the atoms'
+-- the chart's contacts are the atoms'
 pub contact-is : (names : ℕ) (c : Bool) (x y : ℕ → Bool) (a : Atom ℕ) → AtomIs names c x y a → c ≡ isContact a
 contact-is names c x y (Atom.contact s t) (z, h, k) = z
 contact-is names c x y (Atom.part s t) (z, h) = z
 contact-is names c x y (Atom.empty t) (z, h) = z
 
-pub contacts-spelt : (sheet : Sheet) (atoms : List (Atom ℕ)) (w : ℕ) → Compiled sheet atoms → Spelt (sheet .atoms) (contactAt sheet) w → Contacts atoms w
-contacts-spelt sheet atoms w h s =
+pub contacts-spelt : (chart : Chart) (atoms : List (Atom ℕ)) (w : ℕ) → Compiled chart atoms → Spelt (chart .atoms) (contactAt chart) w → Contacts atoms w
+contacts-spelt chart atoms w h s =
     subst (λ (x : ℕ). Spelt x (λ i. isContact (atomAt atoms i)) w) (h .counted)
-    (record { small = s .small; bits = λ p l. s .bits p l ∙ contact-is (sheet .names) _ _ _ (atomAt atoms (sheet .atoms - 1 - p)) (h .atom-is _ (omega (arith, h .counted))) })
+    (record { small = s .small; bits = λ p l. s .bits p l ∙ contact-is (chart .names) _ _ _ (atomAt atoms (chart .atoms - 1 - p)) (h .atom-is _ (omega (arith, h .counted))) })
 
 -- ---- a word without its last atoms
 

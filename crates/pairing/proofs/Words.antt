@@ -22,7 +22,8 @@ use Rattle.evalset.specs.Bit.{bit}
 use Rattle.evalset.proofs.Bits.{bit-zero, bit-suc, bit-or, bit-none, bit-minus, same-bits}
 use Rattle.pairing.specs.Sums.{entry}
 use Rattle.pairing.specs.Words.{Spelt, within, rowTest}
-use Rattle.pairing.specs.Listed.{digit, puts, putsAll, Takes}
+use Rattle.pairing.specs.Masks.{digit}
+use Rattle.pairing.specs.Listed.{puts, putsAll, Takes}
 
 -- one or the other but not both, as `bit-xor` has it
 abbrev pub differs : Bool → Bool → Bool
@@ -52,6 +53,10 @@ bit-upper (suc d) h e (suc p) l k =
 pub spelt-none : (f : ℕ → Bool) → Spelt 0 f 0
 spelt-none f = record { small = omega arith; bits = λ p l. absurd (omega arith) }
 
+pub digit-small : (b : Bool) → digit b < 2
+digit-small true = omega arith
+digit-small false = omega arith
+
 pub spelt-more : (f : ℕ → Bool) (i k : ℕ) (b : Bool) → Spelt i f k → b ≡ f i → Spelt (i + 1) f (k * 2 + digit b)
 spelt-more f i k b s e =
     record {
@@ -61,10 +66,6 @@ spelt-more f i k b s e =
   where
     pow-one : 2 ^ (i + 1) ≡ 2 * 2 ^ i
     pow-one = let y : i + 1 ≡ suc i = omega arith in ap (λ (x : ℕ). 2 ^ x) y ∙ (let w : 2 ^ suc i ≡ 2 * 2 ^ i = omega (arith, pow-suc 2 i) in w)
-
-    digit-small : (b : Bool) → digit b < 2
-    digit-small true = omega arith
-    digit-small false = omega arith
 
     digit-is : (b : Bool) → eqb (digit b) 1 ≡ b
     digit-is true = refl

@@ -1,94 +1,33 @@
--- What is computed, and for proofs what the functions ensure: the masks of evaluations, the list of the different words of pairs, and what
--- is put into a table. `ListSays` is the contract of `words_of`, which only our own crates call. Assumes nothing.
-use mathlib.Core.Bool.{Bool, true, false, not, _&&_, _||_}
+-- What is computed, and for proofs what the functions ensure: the list of the different words of pairs, and what is put into a table.
+-- `ListSays` is the contract of `words_of`, which only our own crates call. Assumes nothing.
+use mathlib.Core.Bool.{Bool, true, false, _&&_, _||_}
 use mathlib.Core.Path.{_≡_}
 use mathlib.Core.List.{List, [], _∷_}
 use mathlib.Core.Logic.{_⊎_}
 use Prim.Native.Nat.{ℕ, zero, suc, _+_, _*_, _/_, _%_, _^_, _≤_, _<_}
-use lib.Bits.{bitAnd, bitOr}
+use lib.Bits.{bitAnd}
 use lib.Dec.{eqb}
 use lib.ListN.{length, getD, take}
 use Rattle.formula.specs.Formula.{Atom}
-use Rattle.lists.specs.Search.{In, any, gather, below}
+use Rattle.lists.specs.Search.{In, any, collect, below}
 use Rattle.evalset.specs.Bit.{bit}
-use Rattle.evalset.specs.declared.EvalSet.{EvalSet}
-use Rattle.evalset.specs.Sets.{room, most, memAt}
-use Rattle.search.specs.declared.Sheet.{Sheet}
+use Rattle.evalset.specs.Sets.{room}
+use Rattle.evalset.specs.Most.{most}
+use Rattle.search.specs.declared.Chart.{Chart}
 use Rattle.search.specs.Compiled.{limit, Compiled, contactAt}
-use Rattle.pairing.specs.declared.Masks.{Masks}
-use Rattle.pairing.specs.declared.Mask.{Mask}
 use Rattle.pairing.specs.Sums.{entry}
 use Rattle.pairing.specs.Words.{Spelt, Serving, within}
 
--- ---- the masks of an evaluation
-
--- e is in the i-th set
-abbrev pub memberOf : List EvalSet → ℕ → ℕ → Bool
-memberOf sets e i = memAt sets i e
-
--- one digit more
-abbrev pub digit : Bool → ℕ
-digit true = 1
-digit false = 0
-
--- e is in the first term of contact i
-abbrev pub firstAt : Sheet → ℕ → ℕ → Bool
-firstAt sheet e i = contactAt sheet i && memAt (sheet .xs) i e
-
--- and in the second
-abbrev pub secondAt : Sheet → ℕ → ℕ → Bool
-secondAt sheet e i = memAt (sheet .ys) i e
-
--- e alone serves atom i
-abbrev pub ownAt : Sheet → ℕ → ℕ → Bool
-ownAt sheet e i = memAt (sheet .xs) i e && (not (contactAt sheet i) || memAt (sheet .ys) i e)
-
--- the masks of e: which atoms e serves alone, and which contacts have it in their first term, and in their second
-pub record MaskIs (sheet : Sheet) (e own first second : ℕ) : Type 0 where
-  pub own-is : Spelt (sheet .atoms) (ownAt sheet e) own
-  pub first-is : Spelt (sheet .atoms) (firstAt sheet e) first
-  pub second-is : Spelt (sheet .atoms) (secondAt sheet e) second
-
-abbrev pub maskSays : Sheet → ℕ → Mask → Type 0
-maskSays sheet e m = MaskIs sheet e (m .own) (m .first) (m .second)
-
--- those of the evaluations below n
-abbrev pub MasksAre : Sheet → ℕ → Masks → Type 0
-MasksAre sheet n m = (e : ℕ) → e < n → MaskIs sheet e (entry (m .own) e) (entry (m .first) e) (entry (m .second) e)
-
 -- ---- pairs
 
--- masks from their arrays
-abbrev pub masksOf : List ℕ → List ℕ → List ℕ → Masks
-masksOf own first second = record { own = own; first = first; second = second }
-
--- the word of a pair
-unfoldable pub pairWord : Masks → ℕ → ℕ → ℕ
-pairWord m e f =
-    bitOr (bitOr (bitOr (entry (m .own) e) (entry (m .own) f)) (bitAnd (entry (m .first) e) (entry (m .second) f)))
-    (bitAnd (entry (m .second) e) (entry (m .first) f))
-
--- those of e with the first n evaluations
-unfoldable pub pairsOf : Masks → ℕ → ℕ → List ℕ
-pairsOf m e n = gather (λ f. pairWord m e f ∷ []) (below n)
-
--- those of the first n evaluations, each with those up to it
-unfoldable pub allPairs : Masks → ℕ → List ℕ
-allPairs m n = gather (λ e. pairsOf m e (e + 1)) (below n)
-
--- how many these are
+-- how many pairs n evaluations have, each one with those up to it
 unfoldable pub pairCount : ℕ → ℕ
 pairCount zero = 0
 pairCount (suc n) = pairCount n + suc n
 
--- these stand in an array
-pub record PairsIn (m : Masks) (e n : ℕ) (words : List ℕ) : Type 0 where
-  pub long : length words ≡ 64
-  pub are : (f : ℕ) → f < n → entry words f ≡ pairWord m e f
-
 -- the first n of an array
 unfoldable pub entriesOf : List ℕ → ℕ → List ℕ
-entriesOf words n = gather (λ f. entry words f ∷ []) (below n)
+entriesOf words n = collect (λ f. entry words f ∷ []) (below n)
 
 -- the words up to e fit the list, and have a bit each among the words that are seen
 abbrev pub Small : List ℕ → ℕ → ℕ → Type 0
@@ -113,21 +52,21 @@ pub record Noted (ks seen list : List ℕ) (count : ℕ) (seen' list' : List ℕ
   pub noted : Seen seen (take count list) → Seen seen' (take r list')
   pub there : Seen seen (take count list) → {w : ℕ} → In w (take count list) ⊎ In w ks → In w (take r list')
 
--- nothing was seen yet, and there is room for every word; the evaluations are the sheet's
-pub record Listable (sheet : Sheet) (contacts top : ℕ) (seen list : List ℕ) : Type 0 where
-  pub few : sheet .atoms ≤ limit
-  pub contacts-are : Spelt (sheet .atoms) (contactAt sheet) contacts
+-- nothing was seen yet, and there is room for every word; the evaluations are the chart's
+pub record Listable (chart : Chart) (contacts top : ℕ) (seen list : List ℕ) : Type 0 where
+  pub few : chart .atoms ≤ limit
+  pub contacts-are : Spelt (chart .atoms) (contactAt chart) contacts
   pub fits : top ≤ room
-  pub top-is : sheet .names ≤ most → top ≡ 2 ^ (sheet .names)
+  pub top-is : chart .names ≤ most → top ≡ 2 ^ (chart .names)
   pub none : (k : ℕ) → seenAt seen k ≡ false
-  pub bits : 2 ^ (sheet .atoms) ≤ 64 * length seen
+  pub bits : 2 ^ (chart .atoms) ≤ 64 * length seen
   pub places : pairCount top ≤ length list
 
--- the first r places have the words of the sheet's pairs
-pub record ListSays (sheet : Sheet) (list list' : List ℕ) (r : ℕ) : Type 0 where
+-- the first r places have the words of the chart's pairs
+pub record ListSays (chart : Chart) (list list' : List ℕ) (r : ℕ) : Type 0 where
   pub long : length list' ≡ length list
   pub fits : r ≤ length list'
-  pub are : (atoms : List (Atom ℕ)) → Compiled sheet atoms → Serving (sheet .names) atoms (take r list')
+  pub are : (atoms : List (Atom ℕ)) → Compiled chart atoms → Serving (chart .names) atoms (take r list')
 
 -- ---- a table
 

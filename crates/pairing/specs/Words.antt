@@ -11,7 +11,8 @@ use lib.ListN.{length}
 use Rattle.formula.specs.Formula.{Atom}
 use Rattle.lists.specs.Search.{In, any}
 use Rattle.evalset.specs.Bit.{bit}
-use Rattle.contact.specs.Plan.{mark, rowMarks, check}
+use Rattle.contact.specs.Plan.{mark, rowMarks}
+use Rattle.contact.specs.Check.{check}
 use Rattle.contact.specs.Pairs.{serves}
 use Rattle.search.specs.Rows.{rowBits}
 use Rattle.search.specs.Compiled.{atomAt}

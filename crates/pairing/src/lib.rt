@@ -1,117 +1,124 @@
-// Which rows of a compiled sheet are realisable, up to 1,024 at once (document 01, 'The plan that is given'). A pair of evaluations serves
+// Which rows of a compiled chart are realisable, up to 1,024 at once (document 01, 'The plan that is given'). A pair of evaluations serves
 // some atoms (contact's specs/Pairs.antt), and its word has their bits. What a row demands, its true contacts and false zero atoms, is a
 // word too: the row passes the check exactly if its word is the union of the words of pairs that lie within it, one at least. The
-// different words are listed once a search; a table has the unions for all rows of a block by sums over subsets, for rows of some of
-// the atoms too. A requires asks only that indices are in range: our own crates alone call these functions. Assumes nothing.
+// different words are listed once a search, from one evaluation of each class of those that lie in the same terms; a table has the
+// unions for all rows of a block by sums over subsets, for rows of some of the atoms too. A requires asks only that indices are in range: our own crates alone call these functions. Assumes nothing.
 ghost use mathlib.Core.Path.{_≡_};
 ghost use mathlib.Core.Bool.{_&&_, cond};
 ghost use Prim.Native.Nat.{ℕ, _+_, _*_, _/_, _-_, _^_, _≤_, _<_};
-ghost use lib.ListN.{length};
+ghost use lib.ListN.{length, take};
 ghost use mathlib.Core.List.{[], _∷_};
+ghost use Rattle.lists.specs.Search.{elem};
 ghost use Rattle.evalset.specs.Sets.{room, mem, dropOf};
 ghost use Rattle.search.specs.Compiled.{limit, contactAt};
 ghost use Rattle.pairing.specs.Sums.{Joined, Sums, entry};
 ghost use Rattle.pairing.specs.Words.{Spelt, lone, rowTest, Judges};
-ghost use Rattle.pairing.specs.Listed.{digit, memberOf, maskSays, MasksAre, masksOf, Small, Noted, PairsIn, entriesOf, Listable, ListSays, Takes, puts, putsAll};
+ghost use Rattle.pairing.specs.Masks.{digit, Spare, Marked, MarkedTo, MasksAre, Kept, PairsIn};
+ghost use Rattle.pairing.specs.Listed.{Small, Noted, entriesOf, Listable, ListSays, Takes, puts, putsAll};
 use evalset::EvalSet;
 use evalset::Found;
 use evalset::ROOM;
-use search::Sheet;
+use search::Chart;
 
 // The places of a table: 2 ^ 10.
 pub const PLACES: usize = 1024;
 
-// The masks of an evaluation: the atoms that it serves alone, the contacts that have it in their first term, and in their second.
-struct Mask {
-    own: u32,
-    first: u32,
-    second: u32,
-}
-
-// The masks of all evaluations.
-struct Masks {
-    own: [u32; ROOM],
-    first: [u32; ROOM],
-    second: [u32; ROOM],
-}
-
-// ---- masks
+// ---- masks: the terms that an evaluation lies in, the atoms' first terms in the high 16 bits and their second terms in the low ones
 
 // One digit more.
 fn pushed(k: u32, value: bool) -> u32
-    requires { ⌜ k < 65536 ⌝ }
+    requires { ⌜ k < 2147483648 ⌝ }
     ensures { λ r. ⌜ r ≡ k * 2 + digit value ⌝ }
 {
     if value { k * 2 + 1 } else { k * 2 }
 }
 
-// The atoms of whose set e is a member.
-fn side(sets: [EvalSet; 16], n: usize, e: usize) -> u32
-    requires { ⌜ n ≤ limit ⌝ }
-    ensures { λ r. ⌜ Spelt n (memberOf sets e) r ⌝ }
-{
-    let mut k: u32 = 0;
-    let mut i: usize = 0;
-    while i < n {
-        let s = sets[i];
-        k = pushed(k, evalset::contains(s, e));
-        i += 1;
-    }
-    k
-}
-
 // The contacts.
-pub fn contacts_of(sheet: Sheet) -> u32
-    requires { ⌜ sheet .atoms ≤ limit ⌝ }
-    ensures { λ r. ⌜ Spelt (sheet .atoms) (contactAt sheet) r ⌝ }
+pub fn contacts_of(chart: Chart) -> u32
+    requires { ⌜ chart .atoms ≤ limit ⌝ }
+    ensures { λ r. ⌜ Spelt (chart .atoms) (contactAt chart) r ⌝ }
 {
-    let n = sheet.atoms;
+    let n = chart.atoms;
     let mut k: u32 = 0;
     let mut i: usize = 0;
     while i < n {
-        let contact = sheet.contact[i];
+        let contact = chart.contact[i];
         k = pushed(k, contact);
         i += 1;
     }
     k
 }
 
-// The masks of e.
-fn mask_of(sheet: Sheet, contacts: u32, e: usize) -> Mask
-    requires { ⌜ (sheet .atoms ≤ limit) × Spelt (sheet .atoms) (contactAt sheet) contacts ⌝ }
-    ensures { λ r. ⌜ maskSays sheet e r ⌝ }
+// A mask with one atom more, whether the evaluation lies in its first term and in its second.
+fn marked(m: u32, first: bool, second: bool) -> u32
+    requires { ⌜ Spare m ⌝ }
+    ensures { λ r. ⌜ Marked first second m r ⌝ }
 {
-    let n = sheet.atoms;
-    let xs = sheet.xs;
-    let ys = sheet.ys;
-    let a = side(xs, n, e);
-    let b = side(ys, n, e);
-    let out = a & !contacts;
-    let first = a & contacts;
-    Mask {
-        own: out | (first & b),
-        first,
-        second: b,
+    let k = pushed(m, second);
+    if first { k + 65536 } else { k }
+}
+
+// The masks of the first `top` evaluations with one atom more, whose terms are x and y.
+fn mark_each(masks: &mut [u32; ROOM], x: EvalSet, y: EvalSet, top: usize)
+    requires { ⌜ (top ≤ room) × (length (now masks) ≡ 64) × ((e : ℕ) → e < top → Spare (entry (now masks) e)) ⌝ }
+    ensures { λ _. ⌜ MarkedTo x y top (now (masks .entry)) (now (masks .exit)) ⌝ }
+{
+    let mut e: usize = 0;
+    while e < top {
+        masks[e] = marked(masks[e], evalset::contains(x, e), evalset::contains(y, e));
+        e += 1;
     }
 }
 
-// The masks of the first `top` evaluations.
-fn masks_of(sheet: Sheet, contacts: u32, top: usize) -> Masks
-    requires { ⌜ (sheet .atoms ≤ limit) × Spelt (sheet .atoms) (contactAt sheet) contacts × (top ≤ room) ⌝ }
-    ensures { λ r. ⌜ MasksAre sheet top r ⌝ }
+// The masks of the first `top` evaluations, by the first and the second terms of n atoms.
+fn masks_of(xs: [EvalSet; 16], ys: [EvalSet; 16], n: usize, top: usize) -> [u32; ROOM]
+    requires { ⌜ (n ≤ limit) × (top ≤ room) ⌝ }
+    ensures { λ r. ⌜ (length r ≡ 64) × MasksAre xs ys n top r ⌝ }
 {
-    let mut own = [0u32; ROOM];
-    let mut first = [0u32; ROOM];
-    let mut second = [0u32; ROOM];
+    let mut masks = [0u32; ROOM];
+    let mut i: usize = 0;
+    while i < n {
+        let x = xs[i];
+        let y = ys[i];
+        mark_each(&mut masks, x, y, top);
+        i += 1;
+    }
+    masks
+}
+
+// ---- classes: evaluations that lie in the same terms have the same mask
+
+// Whether m is one of the first `count` masks. It is compared with each of them, so that several are compared at once.
+fn among(masks: &[u32; ROOM], count: usize, m: u32) -> bool
+    requires { ⌜ (count ≤ room) × (length (now masks) ≡ 64) ⌝ }
+    ensures { λ r. ⌜ r ≡ elem m (take count (now (masks .entry))) ⌝ }
+{
+    let mut there = false;
+    let mut i: usize = 0;
+    while i < count {
+        there = there | (m == masks[i]);
+        i += 1;
+    }
+    there
+}
+
+// The different ones of the first `top` masks, in the first places, each once; their number is answered.
+fn keep_different(masks: &mut [u32; ROOM], top: usize) -> usize
+    requires { ⌜ (top ≤ room) × (length (now masks) ≡ 64) ⌝ }
+    ensures { λ r. ⌜ Kept top (now (masks .entry)) (now (masks .exit)) r ⌝ }
+{
+    let mut count: usize = 0;
     let mut e: usize = 0;
     while e < top {
-        let m = mask_of(sheet, contacts, e);
-        own[e] = m.own;
-        first[e] = m.first;
-        second[e] = m.second;
+        let m = masks[e];
         e += 1;
+        if among(masks, count, m) {
+            continue;
+        }
+        masks[count] = m;
+        count += 1;
     }
-    Masks { own, first, second }
+    count
 }
 
 // ---- the list of words
@@ -132,23 +139,17 @@ fn note(seen: &mut [u64], list: &mut [u16], count: usize, k: u32) -> usize
     count + 1
 }
 
-// The words of the pairs of e with the evaluations up to it. They are made apart from the list, so that several are made at once.
-fn pair_words(
-    words: &mut [u32; ROOM],
-    own: &[u32; ROOM],
-    first: &[u32; ROOM],
-    second: &[u32; ROOM],
-    e: usize,
-)
+// The words of the pairs of class e with the classes up to it: an atom is served if one of the two is in its first term, and one in its
+// second, or it is one of the zero atoms. They are made apart from the list, so that several are made at once.
+fn pair_words(words: &mut [u32; ROOM], masks: &[u32; ROOM], zeros: u32, e: usize)
     requires { ⌜ (e < room) × (length (now words) ≡ 64) ⌝ }
-    ensures { λ _. ⌜ PairsIn (masksOf (now (own .entry)) (now (first .entry)) (now (second .entry))) e (e + 1) (now (words .exit)) ⌝ }
+    ensures { λ _. ⌜ PairsIn zeros (now (masks .entry)) e (e + 1) (now (words .exit)) ⌝ }
 {
-    let o = own[e];
-    let x = first[e];
-    let y = second[e];
+    let m = masks[e] | zeros;
     let mut f: usize = 0;
     while f <= e {
-        words[f] = o | own[f] | (x & second[f]) | (y & first[f]);
+        let k = m | masks[f];
+        words[f] = (k >> 16) & k;
         f += 1;
     }
 }
@@ -173,26 +174,28 @@ fn note_words(
     noted
 }
 
-// The different words of the pairs of the first `top` evaluations, in the list's first places; their number is answered.
+// The different words of the pairs of the first `top` evaluations, in the list's first places; their number is answered. One evaluation
+// of each class is paired, with itself too.
 pub fn words_of(
-    sheet: Sheet,
+    chart: Chart,
     contacts: u32,
     top: usize,
     seen: &mut [u64],
     list: &mut [u16],
 ) -> usize
-    requires { ⌜ Listable sheet contacts top (now seen) (now list) ⌝ }
-    ensures { λ r. ⌜ ListSays sheet (now (list .entry)) (now (list .exit)) r ⌝ }
+    requires { ⌜ Listable chart contacts top (now seen) (now list) ⌝ }
+    ensures { λ r. ⌜ ListSays chart (now (list .entry)) (now (list .exit)) r ⌝ }
 {
-    let m = masks_of(sheet, contacts, top);
-    let own = m.own;
-    let first = m.first;
-    let second = m.second;
+    let xs = chart.xs;
+    let ys = chart.ys;
+    let mut masks = masks_of(xs, ys, chart.atoms, top);
+    let classes = keep_different(&mut masks, top);
+    let zeros = 65535 - contacts;
     let mut words = [0u32; ROOM];
     let mut count: usize = 0;
     let mut e: usize = 0;
-    while e < top {
-        pair_words(&mut words, &own, &first, &second, e);
+    while e < classes {
+        pair_words(&mut words, &masks, zeros, e);
         count = note_words(seen, list, count, &words, e);
         e += 1;
     }

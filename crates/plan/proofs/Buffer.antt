@@ -7,8 +7,7 @@ use native.Mathlib.Nat.{add-zero}
 use lib.ListN.{length, take, drop, set, getD, length-append, length-map, take-append-drop, length-drop}
 use lib.Seq.{drop-cons, set-at, take-at, drop-drop, drop-append-add, length-take-le}
 use Rattle.lists.proofs.Lists.{take-next}
-use Rattle.plan.specs.Words.{contactWord, pointWord}
-use Rattle.plan.specs.Arrays.{over}
+use Rattle.plan.specs.Words.{contactWord, pointWord, over}
 use Rattle.plan.specs.Private.{written, Wrote}
 
 -- ---- buffers

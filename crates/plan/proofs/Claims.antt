@@ -8,11 +8,13 @@ use lib.ListN.{length, take}
 use native.Mathlib.Omega.{arith}
 use Rattle.formula.specs.Formula.{Term, Atom, Formula, Name}
 use Rattle.evalset.specs.declared.EvalSet.{EvalSet}
-use Rattle.evalset.specs.Sets.{mem, memAt, most}
+use Rattle.evalset.specs.Sets.{mem, memAt}
+use Rattle.evalset.specs.Most.{most}
 use Rattle.contact.specs.Meaning.{Floor, atomOn, meetsAll}
 use Rattle.contact.specs.Numbering.{allAtoms, namesOf, numberedNames}
 use Rattle.contact.specs.Row.{Row, Realises}
-use Rattle.contact.specs.Plan.{Means, firstRowOf}
+use Rattle.contact.specs.Plan.{Means}
+use Rattle.contact.specs.Check.{firstRowOf}
 use Rattle.plan.specs.declared.PlanArrays.{PlanArrays}
 use Rattle.plan.specs.declared.PlanAnswer.the-variants as answer-is
 use Rattle.plan.specs.declared.PlanRead.{PlanRead}
@@ -20,8 +22,10 @@ use Rattle.plan.specs.Words.{Plan, Ascends, IsPlan, wordsOf, Refusal}
 use Rattle.plan.specs.Floor.{touching, planFloor, namedFloor}
 use Rattle.plan.specs.Judging.{yes, unmet, judge}
 use Rattle.plan.specs.Reader.{Reading, plan, refused, readOf, ReadingSays}
-use Rattle.plan.specs.Arrays.{Stored, answerOf, planIn, Reads, countOf, planBy, touchesOf, vacantOf}
-use Rattle.plan.specs.Given.{rowPlan, plansOf}
+use Rattle.plan.specs.Arrays.{answerOf, planIn, Reads, countOf, planBy, touchesOf, vacantOf}
+use Rattle.plan.specs.Stored.{Stored}
+use Rattle.plan.specs.Given.{rowPlan}
+use Rattle.plan.specs.Plans.{plansOf}
 use Rattle.plan.proofs.Exact.{exact, plan-read, refusal-read}
 use Rattle.plan.proofs.Contacts.{arrays-plan}
 use Rattle.plan.proofs.SamePlan.{plan-again, rows-kept}

@@ -8,13 +8,15 @@ use native.Mathlib.Omega.{arith}
 use lib.Dec.{ltb}
 use lib.ListN.{length, take, length-take}
 use borrow.Author.Tests.{ltb-true, lt-ltb, le-ltb}
-use Rattle.lists.proofs.Below.{gather-more, gather-within, gather-small}
-use Rattle.lists.specs.Search.{gather, from, below}
-use Rattle.lists.proofs.Search.{below-elim, gather-same}
-use Rattle.evalset.specs.Sets.{memAt, most}
+use Rattle.lists.proofs.Below.{collect-more, collect-within, collect-small}
+use Rattle.lists.specs.Search.{collect, from, below}
+use Rattle.lists.proofs.Search.{below-elim, collect-same}
+use Rattle.evalset.specs.Sets.{memAt}
+use Rattle.evalset.specs.Most.{most}
 use Rattle.plan.specs.declared.PlanArrays.{PlanArrays}
 use Rattle.plan.specs.Words.{Ascends, Rises, IsPlan}
-use Rattle.plan.specs.Arrays.{countOf, pairOf, rowTo, linksTo, planBy}
+use Rattle.plan.specs.Arrays.{countOf, planBy}
+use Rattle.plan.specs.Links.{pairOf, rowTo, linksTo}
 
 -- ---- the contacts that rows give
 pub pair-early : (i j : ℕ) (t : ℕ → Bool) → j ≤ i → pairOf i j t ≡ []
@@ -43,16 +45,16 @@ row-none i t = refl
 
 pub row-more : (j i : ℕ) (t : ℕ → Bool) → rowTo j i t ++ pairOf i j t ≡ rowTo (j + 1) i t
 unfolding rowTo
-row-more j i t = gather-more (λ b. pairOf i b t) j
+row-more j i t = collect-more (λ b. pairOf i b t) j
 
 pub row-small : (j i : ℕ) (t : ℕ → Bool) → length (rowTo j i t) ≤ j
 unfolding rowTo
-row-small j i t = omega (arith, gather-small (λ b. pairOf i b t) 1 (λ b. pair-small i b t) 0 j)
+row-small j i t = omega (arith, collect-small (λ b. pairOf i b t) 1 (λ b. pair-small i b t) 0 j)
 
 -- what is written by then fits, where the whole does
 pub row-within : (j n i : ℕ) (t : ℕ → Bool) → j ≤ n → length (rowTo j i t) ≤ length (rowTo n i t)
 unfolding rowTo
-row-within j n i t h = gather-within (λ b. pairOf i b t) j n h
+row-within j n i t h = collect-within (λ b. pairOf i b t) j n h
 
 pub links-none : (n : ℕ) (t : ℕ → ℕ → Bool) → linksTo 0 n t ≡ []
 unfolding linksTo
@@ -60,23 +62,23 @@ links-none n t = refl
 
 pub links-more : (i n : ℕ) (t : ℕ → ℕ → Bool) → linksTo i n t ++ rowTo n i (t i) ≡ linksTo (i + 1) n t
 unfolding linksTo
-links-more i n t = gather-more (λ a. rowTo n a (t a)) i
+links-more i n t = collect-more (λ a. rowTo n a (t a)) i
 
 -- rows that agree below n have the same contacts there
 pub links-same : (n : ℕ) (s t : ℕ → ℕ → Bool) → ((i j : ℕ) → i < n → j < n → s i j ≡ t i j) → linksTo n n s ≡ linksTo n n t
 unfolding linksTo rowTo pairOf
 links-same n s t h =
-    gather-same (λ i. rowTo n i (s i)) (λ i. rowTo n i (t i)) (below n)
-    (λ i a. gather-same (λ j. pairOf i j (s i)) (λ j. pairOf i j (t i)) (below n)
+    collect-same (λ i. rowTo n i (s i)) (λ i. rowTo n i (t i)) (below n)
+    (λ i a. collect-same (λ j. pairOf i j (s i)) (λ j. pairOf i j (t i)) (below n)
     (λ j b. ap (λ (x : Bool). cond (ltb i j && x) ((i * 256 + j) ∷ []) []) (h i j (below-elim n i a) (below-elim n j b))))
 
 pub links-within : (i m n : ℕ) (t : ℕ → ℕ → Bool) → i ≤ m → length (linksTo i n t) ≤ length (linksTo m n t)
 unfolding linksTo
-links-within i m n t h = gather-within (λ a. rowTo n a (t a)) i m h
+links-within i m n t h = collect-within (λ a. rowTo n a (t a)) i m h
 
 pub links-small : (i n : ℕ) (t : ℕ → ℕ → Bool) → n ≤ 64 → length (linksTo i n t) ≤ i * 64
 unfolding linksTo
-links-small i n t h = gather-small (λ a. rowTo n a (t a)) 64 (λ a. omega (arith, row-small n a (t a))) 0 i
+links-small i n t h = collect-small (λ a. rowTo n a (t a)) 64 (λ a. omega (arith, row-small n a (t a))) 0 i
 
 -- ---- they rise
 rises-from : (low low′ n : ℕ) (ks : List ℕ) → low ≤ low′ → Rises low′ n ks → Rises low n ks
@@ -98,19 +100,19 @@ pair-rises i j n t js h f r = go (ltb i j && t j) refl
     go false e = rises-from (i * 256 + j) (i * 256 + suc j) n js (omega arith) r
 
 row-rises : (m j i n : ℕ) (t : ℕ → Bool) (js : List ℕ) → j + m ≤ n → n ≤ 256 → Rises (i * 256 + n) n js
-    → Rises (i * 256 + j) n (gather (λ b. pairOf i b t) (from j m) ++ js)
+    → Rises (i * 256 + j) n (collect (λ b. pairOf i b t) (from j m) ++ js)
 row-rises zero j i n t js h f r = rises-from (i * 256 + j) (i * 256 + n) n js (omega arith) r
 row-rises (suc m) j i n t js h f r =
-    subst (Rises (i * 256 + j) n) (sym (append-assoc (pairOf i j t) (gather (λ b. pairOf i b t) (from (suc j) m)) js))
-    (pair-rises i j n t (gather (λ b. pairOf i b t) (from (suc j) m) ++ js) (omega arith) f
+    subst (Rises (i * 256 + j) n) (sym (append-assoc (pairOf i j t) (collect (λ b. pairOf i b t) (from (suc j) m)) js))
+    (pair-rises i j n t (collect (λ b. pairOf i b t) (from (suc j) m) ++ js) (omega arith) f
     (row-rises m (suc j) i n t js (omega arith) f r))
 
-rows-rise : (m i n : ℕ) (t : ℕ → ℕ → Bool) → n ≤ 256 → Rises (i * 256 + 0) n (gather (λ a. rowTo n a (t a)) (from i m))
+rows-rise : (m i n : ℕ) (t : ℕ → ℕ → Bool) → n ≤ 256 → Rises (i * 256 + 0) n (collect (λ a. rowTo n a (t a)) (from i m))
 unfolding rowTo
 rows-rise zero i n t f = tt
 rows-rise (suc m) i n t f =
-    row-rises n 0 i n (t i) (gather (λ a. rowTo n a (t a)) (from (suc i) m)) (omega arith) f
-    (rises-from (i * 256 + n) (suc i * 256 + 0) n (gather (λ a. rowTo n a (t a)) (from (suc i) m)) (omega arith)
+    row-rises n 0 i n (t i) (collect (λ a. rowTo n a (t a)) (from (suc i) m)) (omega arith) f
+    (rises-from (i * 256 + n) (suc i * 256 + 0) n (collect (λ a. rowTo n a (t a)) (from (suc i) m)) (omega arith)
     (rows-rise m (suc i) n t f))
 
 pub links-rise : (m n : ℕ) (t : ℕ → ℕ → Bool) → n ≤ 256 → Rises 0 n (linksTo m n t)

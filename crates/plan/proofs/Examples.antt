@@ -7,8 +7,8 @@ use Rattle.plan.specs.Reader.{Reading, plan, refused, kindOf, readFrom, 
 use Rattle.plan.specs.Private.{planOf}
 
 -- words and what they are read to
-abbrev pub Sheet : Type 0
-Sheet = List ℕ × Reading
+abbrev pub Example : Type 0
+Example = List ℕ × Reading
 
 abbrev pub P1 : Plan
 P1 = planOf 0 (0 ∷ []) []
@@ -19,8 +19,8 @@ P2 = planOf 2 (1 ∷ 2 ∷ []) (1 ∷ [])
 abbrev pub P3 : Plan
 P3 = planOf 2 (1 ∷ 2 ∷ []) []
 
-abbrev pub sheets : List Sheet
-sheets =
+abbrev pub examples : List Example
+examples =
     -- P1, P2 and P3
     (0x10000001 ∷ 0x20000000 ∷ 0x40000002 ∷ [], plan P1)
     ∷ (0x10000202 ∷ 0x20000001 ∷ 0x20000002 ∷ 0x30000001 ∷ 0x40000004 ∷ [], plan P2)
@@ -57,6 +57,6 @@ sheets =
     ∷ []
 
 -- all of them, computed; by `read-is-plan` the words of P1, P2 and P3 are then those of document 01
-pub sheets-read : map (λ s. readOf (s .0)) sheets ≡ map (λ s. s .1) sheets
+pub examples-read : map (λ s. readOf (s .0)) examples ≡ map (λ s. s .1) examples
 unfolding kindOf readFrom readOf
-sheets-read = refl
+examples-read = refl

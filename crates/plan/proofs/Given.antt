@@ -10,16 +10,17 @@ use native.Mathlib.Omega.{arith}
 use native.Mathlib.Nat.{mul-suc, suc-mul, mul-le-mul}
 use lib.ListN.{length, getD, length-append, length-map}
 use lib.Pow.{pow-mono}
-use Rattle.lists.proofs.Below.{keep-length, gather-small}
+use Rattle.lists.proofs.Below.{keep-length, collect-small}
 use Rattle.lists.proofs.Search.{first-short}
 use Rattle.lists.proofs.Truth.{side}
 use Rattle.lists.proofs.Lists.{map-one}
 use Rattle.formula.specs.Formula.{Formula, Name}
-use Rattle.lists.specs.Search.{keep, gather, from, elem}
+use Rattle.lists.specs.Search.{keep, collect, from, elem}
 use Rattle.contact.specs.Meaning.{Floor, meetsAll}
 use Rattle.contact.specs.Numbering.{allAtoms, namesOf, mapAtom, numberedNames, numberedAtoms, numberOf}
 use Rattle.contact.specs.Row.{Row, Realises, is}
-use Rattle.contact.specs.Plan.{Mark, rowMarks, separated, check, given, pointsFor, rows, good, firstRow, firstRowOf}
+use Rattle.contact.specs.Plan.{Mark, rowMarks, separated, given, pointsFor}
+use Rattle.contact.specs.Check.{check, rows, good, firstRow, firstRowOf}
 use Rattle.contact.proofs.Realise.{marksFloor, points-some, plan-points, plan-touch, plan-lies}
 use Rattle.contact.proofs.Numbered.{all-atoms-map}
 use Rattle.contact.proofs.Answer.{row-found, rowFloor, plan-gives-row, plan-meets}
@@ -27,10 +28,11 @@ use Rattle.contact.proofs.Naming.{numbers-row, numbers-meet, first-row-named, f
 use Rattle.contact.proofs.Count.{points-at-most}
 use Rattle.contact.proofs.SameFloor.{SameFloor, row-same, meets-same}
 use Rattle.plan.specs.Words.{Plan, Ascends, IsPlan, lastWord, before, wordsOf}
-use Rattle.evalset.specs.Sets.{most}
+use Rattle.evalset.specs.Most.{most}
 use Rattle.plan.specs.Floor.{liesIn, planFloor, namedFloor}
-use Rattle.plan.specs.Arrays.{pairOf, rowTo, linksTo}
-use Rattle.plan.specs.Given.{givenPlan, rowPlan, plansOf}
+use Rattle.plan.specs.Links.{pairOf, rowTo, linksTo}
+use Rattle.plan.specs.Given.{givenPlan, rowPlan}
+use Rattle.plan.specs.Plans.{plansOf}
 use Rattle.plan.proofs.Complete.{before-length}
 use Rattle.plan.proofs.Contacts.{pair-early, pair-small, links-rise}
 use Rattle.plan.proofs.Judged.{few-points}
@@ -162,29 +164,29 @@ module _ (rules : List (Formula Name)) where
 
 -- ---- how many points and words
 -- the contacts of position i are with later ones
-row-count : (i : ℕ) (row : ℕ → Bool) (k n : ℕ) → length (gather (λ j. pairOf i j row) (from k n)) ≤ k + n - suc i
+row-count : (i : ℕ) (row : ℕ → Bool) (k n : ℕ) → length (collect (λ j. pairOf i j row) (from k n)) ≤ k + n - suc i
 row-count i row k zero = omega arith
 row-count i row k (suc n) =
     ⊎-elim
     (λ l. omega (
       arith,
-      length-append (pairOf i k row) (gather (λ j. pairOf i j row) (from (suc k) n)),
+      length-append (pairOf i k row) (collect (λ j. pairOf i j row) (from (suc k) n)),
       pair-small i k row,
-      gather-small (λ j. pairOf i j row) 1 (λ j. pair-small i j row) (suc k) n,
+      collect-small (λ j. pairOf i j row) 1 (λ j. pair-small i j row) (suc k) n,
     ))
     (λ l. rw (pair-early i k row l) (omega (arith, row-count i row (suc k) n)))
     (side i k)
 
 -- so n points have at most n(n - 1)/2 contacts
 links-count : (rows : ℕ → ℕ → Bool) (size k n : ℕ) → k + n ≡ size
-    → 2 * length (gather (λ i. rowTo size i (rows i)) (from k n)) ≤ n * (n - 1)
+    → 2 * length (collect (λ i. rowTo size i (rows i)) (from k n)) ≤ n * (n - 1)
 unfolding rowTo
 links-count rows size k zero e = omega arith
 links-count rows size k (suc n) e =
     omega (
       arith,
       squares n,
-      length-append (rowTo size k (rows k)) (gather (λ i. rowTo size i (rows i)) (from (suc k) n)),
+      length-append (rowTo size k (rows k)) (collect (λ i. rowTo size i (rows i)) (from (suc k) n)),
       row-count k (rows k) 0 size,
       links-count rows size (suc k) n (omega arith),
     )

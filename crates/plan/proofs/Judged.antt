@@ -18,7 +18,8 @@ use Rattle.contact.specs.Plan.{Means}
 use Rattle.plan.specs.declared.PlanArrays.{PlanArrays}
 use Rattle.plan.specs.Words.{Plan, Ascends, IsPlan}
 use Rattle.plan.specs.Floor.{touching, liesIn, planFloor}
-use Rattle.plan.specs.Arrays.{square, Stored, countOf, pointAt, touchesOf, vacantOf}
+use Rattle.plan.specs.Arrays.{countOf, pointAt, touchesOf, vacantOf}
+use Rattle.plan.specs.Stored.{square, Stored}
 use Rattle.plan.proofs.Complete.{ascends-room}
 
 pub few-points : (p : Plan) → IsPlan p → length (p .points) ≤ 64

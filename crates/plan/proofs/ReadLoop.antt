@@ -16,7 +16,8 @@ use Rattle.plan.specs.declared.PlanAnswer.the-variants as answer-is
 use Rattle.plan.specs.declared.PlanRead.{PlanRead}
 use Rattle.plan.specs.Words.{Plan}
 use Rattle.plan.specs.Reader.{kindOf, State, start, pointing, linking, whole, dead, step, Reading, plan, refused, ended, unless, readFrom, readOf}
-use Rattle.plan.specs.Arrays.{Stored, answerOf, planIn, Reads}
+use Rattle.plan.specs.Arrays.{answerOf, planIn, Reads}
+use Rattle.plan.specs.Stored.{Stored}
 use Rattle.plan.specs.Private.{planOf, Holds, SomeState}
 use Rattle.plan.proofs.Exact.{IsDead}
 use Rattle.plan.proofs.Steps.{other-phase}

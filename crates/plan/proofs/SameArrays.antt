@@ -14,7 +14,8 @@ use Rattle.plan.specs.declared.PlanAnswer.{PlanAnswer}
 use Rattle.plan.specs.declared.PlanRead.{PlanRead}
 use Rattle.plan.specs.Words.{Plan}
 use Rattle.plan.specs.Reader.{readOf}
-use Rattle.plan.specs.Arrays.{Stored, planIn, Reads}
+use Rattle.plan.specs.Arrays.{planIn, Reads}
+use Rattle.plan.specs.Stored.{Stored}
 
 -- what the type says of each value of it: 64 rows, each a word of 64 bits
 pub record InRange (r : PlanArrays) : Type 0 where

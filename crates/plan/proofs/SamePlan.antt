@@ -18,12 +18,14 @@ use Rattle.evalset.specs.Sets.{memAt}
 use Rattle.plan.specs.declared.PlanArrays.{PlanArrays}
 use Rattle.plan.specs.Words.{Plan, Rises, IsPlan}
 use Rattle.plan.specs.Floor.{between, touching}
-use Rattle.plan.specs.Arrays.{square, Stored, countOf, pairOf, rowTo, linksTo, planBy}
+use Rattle.plan.specs.Arrays.{countOf, planBy}
+use Rattle.plan.specs.Links.{pairOf, rowTo, linksTo}
+use Rattle.plan.specs.Stored.{square, Stored}
 use Rattle.plan.specs.Private.{planOf}
 use Rattle.plan.proofs.Squares.{Related, square-elim, square-intro}
 use Rattle.plan.proofs.Contacts.{links-rise}
 use Rattle.plan.proofs.Judged.{few-points, count-is}
-use Rattle.lists.proofs.Search.{none-in, in-one, in-tail, any-intro, any-elim, gather-intro, gather-elim, below-intro, below-elim}
+use Rattle.lists.proofs.Search.{none-in, in-one, in-tail, any-intro, any-elim, collect-intro, collect-elim, below-intro, below-elim}
 use Rattle.lists.proofs.Truth.{or-cases, side}
 
 -- ---- rising lists
@@ -71,15 +73,15 @@ pair-intro i j row l e =
 links-elim : (k n : ℕ) (rows : ℕ → ℕ → Bool) → In k (linksTo n n rows) → (i : ℕ) × (j : ℕ) × Linked k n i j (rows i)
 unfolding linksTo rowTo
 links-elim k n rows x =
-    let r = gather-elim (λ i. rowTo n i (rows i)) (below n) x in
-    let s = gather-elim (λ j. pairOf (r .0) j (rows (r .0))) (below n) (r .2) in
+    let r = collect-elim (λ i. rowTo n i (rows i)) (below n) x in
+    let s = collect-elim (λ j. pairOf (r .0) j (rows (r .0))) (below n) (r .2) in
     (r .0, s .0, pair-elim k n (r .0) (s .0) (rows (r .0)) (below-elim n (s .0) (s .1)) (s .2))
 
 links-intro : (n i j : ℕ) (rows : ℕ → ℕ → Bool) → i < j → j < n → rows i j ≡ true → In (i * 256 + j) (linksTo n n rows)
 unfolding linksTo rowTo
 links-intro n i j rows l m e =
-    gather-intro (λ a. rowTo n a (rows a)) (below-intro n i (omega arith))
-    (gather-intro (λ b. pairOf i b (rows i)) (below-intro n j m) (pair-intro i j (rows i) l e))
+    collect-intro (λ a. rowTo n a (rows a)) (below-intro n i (omega arith))
+    (collect-intro (λ b. pairOf i b (rows i)) (below-intro n j m) (pair-intro i j (rows i) l e))
 
 -- ---- the contacts of a plan's square are its contacts
 module _ (p : Plan) (few : length (p .points) ≤ 256) (rise : Rises 0 (length (p .points)) (p .contacts)) where

@@ -18,7 +18,7 @@ use Rattle.evalset.proofs.Members.{add-in}
 use Rattle.evalset.proofs.Arrays.{empty-rows, mem-at-same, mem-at-other}
 use Rattle.plan.specs.Words.{Plan}
 use Rattle.plan.specs.Floor.{between, touching}
-use Rattle.plan.specs.Arrays.{square}
+use Rattle.plan.specs.Stored.{square}
 use Rattle.plan.specs.Private.{planOf, addAt, joinedOf}
 use Rattle.lists.proofs.Search.{any-last}
 use Rattle.lists.proofs.Truth.{or-cases}

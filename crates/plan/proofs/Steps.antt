@@ -23,7 +23,7 @@ use Rattle.plan.specs.declared.Phase.the-variants as phase
 use Rattle.plan.specs.declared.Progress.{Progress}
 use Rattle.plan.specs.Reader.{State, start, pointing, linking, whole, dead, opened, went, pointed, linked, step}
 use Rattle.evalset.specs.Sets.{memAt}
-use Rattle.plan.specs.Arrays.{Stored}
+use Rattle.plan.specs.Stored.{Stored}
 use Rattle.plan.specs.Private.{planOf, joinedOf, Adds, HeldPoints, HeldLinks, Holds, SomePoints, SomeLinks, SomeState}
 use Rattle.plan.proofs.Complete.{open-by, point-by, link-by, last-by}
 use Rattle.plan.proofs.Squares.{square-point, square-link}

@@ -11,9 +11,10 @@ use lib.ListN.{length, take, set, length-append, length-map, length-take, length
 use borrow.Author.Tests.{le-leb, lt-leb}
 use Rattle.plan.specs.declared.PlanArrays.{PlanArrays}
 use Rattle.plan.specs.declared.Written.the-variants.{Words, Needs}
-use Rattle.plan.specs.Words.{firstWord, pointWord, contactWord, lastWord, before, wordsOf}
+use Rattle.plan.specs.Words.{firstWord, pointWord, contactWord, lastWord, before, wordsOf, over}
 use Rattle.evalset.specs.Sets.{memAt}
-use Rattle.plan.specs.Arrays.{countOf, linksTo, planBy, over, Writes}
+use Rattle.plan.specs.Arrays.{countOf, planBy, Writes}
+use Rattle.plan.specs.Links.{linksTo}
 use Rattle.plan.specs.Private.{written, Wrote}
 use Rattle.plan.proofs.Complete.{before-length}
 use Rattle.plan.proofs.Contacts.{links-small}

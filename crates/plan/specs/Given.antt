@@ -1,15 +1,14 @@
--- What is meant, by document 01's own rule (`givenPlan`, `rowPlan`), and what is computed (`plansOf`): the plan that is given for rules, as
--- plan words have it. Assumes nothing.
+-- What is meant, by document 01's own rule: the plan of a row, as plan words have it. Assumes nothing.
 use mathlib.Core.Bool.{not}
-use mathlib.Core.List.{List, map}
+use mathlib.Core.List.{List}
 use Prim.Native.Nat.{ℕ}
 use lib.ListN.{length, getD}
 use Rattle.formula.specs.Formula.{Formula, Name}
 use Rattle.contact.specs.Numbering.{allAtoms, namesOf, numberedNames}
 use Rattle.contact.specs.Row.{Row}
-use Rattle.contact.specs.Plan.{Mark, rowMarks, separated, pointsFor, firstRowOf}
+use Rattle.contact.specs.Plan.{Mark, rowMarks, separated, pointsFor}
 use Rattle.plan.specs.Words.{Plan}
-use Rattle.plan.specs.Arrays.{linksTo}
+use Rattle.plan.specs.Links.{linksTo}
 
 -- the plan of the marks of a row: its points, and "All unseparated pairs are in contact."
 unfoldable pub givenPlan : ℕ → List Mark → Plan
@@ -24,7 +23,3 @@ givenPlan names ms =
 -- the plan of a row of the rules as read
 unfoldable pub rowPlan : List (Formula Name) → Row → Plan
 rowPlan rules row = givenPlan (length (namesOf rules)) (rowMarks (allAtoms (numberedNames rules)) row)
-
--- "The answer uses the first realisable row that makes all rules true": a list of one plan; the empty list is 'no plan'
-unfoldable pub plansOf : List (Formula Name) → List Plan
-plansOf rules = map (rowPlan rules) (firstRowOf (length (namesOf rules)) (numberedNames rules))

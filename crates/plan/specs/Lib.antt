@@ -2,7 +2,10 @@ pub mod Words
 pub mod Floor
 pub mod Judging
 pub mod Reader
+pub mod Stored
+pub mod Links
 pub mod Arrays
 pub mod Private
 pub mod Given
+pub mod Plans
 pub mod Meant

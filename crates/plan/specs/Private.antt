@@ -8,13 +8,14 @@ use lib.Dec.{eqb}
 use lib.ListN.{length, getD, take, drop}
 use Rattle.lists.specs.Padded.{pad}
 use Rattle.lists.specs.Search.{any, below}
-use Rattle.evalset.specs.Sets.{room, memAt, meetOf, most}
+use Rattle.evalset.specs.Sets.{room, memAt, meetOf}
+use Rattle.evalset.specs.Most.{most}
 use Rattle.plan.specs.declared.PlanArrays.{PlanArrays}
 use Rattle.plan.specs.declared.Phase.the-variants as phase
 use Rattle.plan.specs.declared.Progress.{Progress}
 use Rattle.plan.specs.Words.{Plan, contactWord}
 use Rattle.plan.specs.Reader.{State, start, pointing, linking, whole, dead}
-use Rattle.plan.specs.Arrays.{Stored}
+use Rattle.plan.specs.Stored.{Stored}
 
 -- ---- reading
 abbrev pub planOf : ℕ → List ℕ → List ℕ → Plan

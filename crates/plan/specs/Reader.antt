@@ -9,7 +9,7 @@ use lib.ListN.{length}
 use Rattle.plan.specs.declared.Word.{Word}
 use Rattle.plan.specs.declared.Word.the-variants.{First, Point, Contact, Last, Other}
 use Rattle.plan.specs.Words.{Plan, IsPlan, wordsOf, Refusal}
-use Rattle.evalset.specs.Sets.{most}
+use Rattle.evalset.specs.Most.{most}
 
 -- a word by its kind and the rest of its bits; Other where an unnamed bit is set
 abbrev pub byKind : ℕ → ℕ → Word

@@ -2,8 +2,8 @@
 use mathlib.Core.Path.{_≡_}
 use mathlib.Core.List.{List, [], _∷_, _++_, map}
 use Prim.Native.Nat.{ℕ, suc, _+_, _*_, _^_, _/_, _%_, _≤_, _<_}
-use lib.ListN.{length}
-use Rattle.evalset.specs.Sets.{most}
+use lib.ListN.{length, drop}
+use Rattle.evalset.specs.Most.{most}
 
 -- A plan as it is written: the number of names, the points' evaluations, and the contacts of two points. A contact is one
 -- number, the smaller position times 256 and the larger one, so that its order is "by smaller then larger".
@@ -53,6 +53,10 @@ before p = firstWord (p .names) (length (p .points)) ∷ (map pointWord (p .poin
 -- the words of a plan
 unfoldable pub wordsOf : Plan → List ℕ
 wordsOf p = before p ++ (lastWord (length (before p)) ∷ [])
+
+-- a list over the first words of a buffer; the others keep their values
+unfoldable pub over : List ℕ → List ℕ → List ℕ
+over ws buf = ws ++ drop (length ws) buf
 
 -- "Words begin a plan only if some plan has them as its first words"
 pub record Begins (ws : List ℕ) : Type 0 where

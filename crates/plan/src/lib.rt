@@ -7,11 +7,14 @@ ghost use mathlib.Core.Bool.{cond};
 ghost use mathlib.Core.List.{List, [], map};
 ghost use Prim.Native.Nat.{ℕ, min, _+_, _*_, _<_, _≤_, _^_};
 ghost use lib.ListN.{length, take};
-ghost use Rattle.evalset.specs.Sets.{most, mem, memAt, addOf};
+ghost use Rattle.evalset.specs.Sets.{mem, memAt, addOf};
+ghost use Rattle.evalset.specs.Most.{most};
 ghost use Rattle.evalset.specs.Arrays.{positionsOf};
 ghost use Rattle.plan.specs.Words.{pointWord};
 ghost use Rattle.plan.specs.Reader.{kindOf, State, step, opened, pointed, linked};
-ghost use Rattle.plan.specs.Arrays.{Stored, Reads, pairOf, rowTo, linksTo, Writes, touchesOf, vacantOf};
+ghost use Rattle.plan.specs.Arrays.{Reads, Writes, touchesOf, vacantOf};
+ghost use Rattle.plan.specs.Links.{pairOf, rowTo, linksTo};
+ghost use Rattle.plan.specs.Stored.{Stored};
 ghost use Rattle.plan.specs.Private.{planOf, joinedOf, Adds, Holds, HeldPoints, HeldLinks, SomePoints, SomeLinks, SomeState, written, Wrote, reachesOf, reachedOf};
 use evalset::EvalSet;
 
@@ -62,7 +65,7 @@ enum Word {
     Other,
 }
 
-// The kind in the top four bits decides what the rest means.
+// "the kind in the top four bits decides what the rest means, and unnamed bits are zero"
 fn kind_of(word: u32) -> Word
     ensures { λ r. ⌜ r ≡ kindOf word ⌝ }
 {
@@ -147,7 +150,7 @@ fn dead() -> Progress
     }
 }
 
-// The first word.
+// The first word: "names (0 to 6)" and "points (1 to 2^names)", so at most 64.
 fn open(word: Word) -> Progress
     ensures { λ r. ⌜ Holds 1 r (opened word) ⌝ }
 {
@@ -155,23 +158,22 @@ fn open(word: Word) -> Progress
         return dead();
     };
     match names {
-        0..=6 => {}
-        _ => {
-            return dead();
-        }
-    }
-    if points < 1 {
-        return dead();
-    }
-    let few = names as u8;
-    if evaluations(few) < points {
-        return dead();
-    }
-    Progress {
-        phase: Phase::Points,
-        left: points - 1,
-        low: 0,
-        plan: blank(few),
+        0..=6 => match points {
+            1..=64 => {
+                let few = names as u8;
+                if evaluations(few) < points {
+                    return dead();
+                }
+                Progress {
+                    phase: Phase::Points,
+                    left: points - 1,
+                    low: 0,
+                    plan: blank(few),
+                }
+            }
+            _ => dead(),
+        },
+        _ => dead(),
     }
 }
 
@@ -193,7 +195,7 @@ fn with_point(plan: PlanArrays, e: u32) -> PlanArrays
     }
 }
 
-// A word where a point is wanted.
+// A word where a point is wanted: "the evaluation, below 2^names", so at most 63, with room for the points that are left.
 fn point(p: Progress, at: usize, word: Word) -> Progress
     requires { ⌜ SomePoints at p ⌝ }
     ensures { λ r. ⌜ ((n m : ℕ) (pts : List ℕ) (low : ℕ) → HeldPoints at p n m pts low → Holds (at + 1) r (pointed n m pts low word)) ⌝ }
@@ -204,31 +206,32 @@ fn point(p: Progress, at: usize, word: Word) -> Progress
     let Word::Point(e) = word else {
         return dead();
     };
-    if e < low {
-        return dead();
-    }
-    let top = evaluations(plan.names);
-    if top <= e {
-        return dead();
-    }
-    if top - e <= left {
-        return dead();
-    }
-    let more = with_point(plan, e);
-    if left == 0 {
-        Progress {
-            phase: Phase::Contacts,
-            left: 0,
-            low: 0,
-            plan: more,
+    match e {
+        0..=63 => {
+            if e < low {
+                return dead();
+            }
+            if evaluations(plan.names) <= e + left {
+                return dead();
+            }
+            let more = with_point(plan, e);
+            if left == 0 {
+                Progress {
+                    phase: Phase::Contacts,
+                    left: 0,
+                    low: 0,
+                    plan: more,
+                }
+            } else {
+                Progress {
+                    phase: Phase::Points,
+                    left: left - 1,
+                    low: e + 1,
+                    plan: more,
+                }
+            }
         }
-    } else {
-        Progress {
-            phase: Phase::Points,
-            left: left - 1,
-            low: e + 1,
-            plan: more,
-        }
+        _ => dead(),
     }
 }
 

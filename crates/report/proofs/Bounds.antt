@@ -6,16 +6,16 @@ use mathlib.Core.List.{List, [], _∷_}
 use Prim.Native.Nat.{ℕ, _*_, _/_, _%_, _^_, _≤_, _<_}
 use native.Mathlib.Omega.{arith}
 use lib.ListN.{length, getD, length-append}
-use Rattle.lists.proofs.Below.{gather-small}
+use Rattle.lists.proofs.Below.{collect-small}
 use Rattle.formula.specs.Formula.{Name}
 use Rattle.lexer.specs.Text.{bytes}
 use Rattle.evalset.specs.Bit.{bit}
-use Rattle.lists.specs.Search.{gather, below, orElse}
+use Rattle.lists.specs.Search.{collect, below, orElse}
 use Rattle.plan.specs.Words.{Plan, Rises, IsPlan, before, lastWord, wordsOf}
 use Rattle.plan.proofs.Complete.{before-length}
 use Rattle.plan.proofs.SamePlan.{in-rises}
-use Rattle.lists.proofs.Search.{gather-few, from-length, below-elim}
-use Rattle.report.specs.Output.{headLine, blanked, nameIf, pointNames, namesOrNone, pointLine, pointLines, contactLine, planText, refusedText}
+use Rattle.lists.proofs.Search.{collect-few, from-length, below-elim}
+use Rattle.report.specs.Lines.{headLine, blanked, nameIf, pointNames, namesOrNone, pointLine, pointLines, contactLine, planText, refusedText}
 use Rattle.report.proofs.Digits.{decimal-few}
 use Rattle.report.proofs.Parts.{names-parts}
 
@@ -27,20 +27,20 @@ head-few names points h k =
     simp length-append (omega (arith, decimal-few 0 names (omega arith), decimal-few 1 points (omega arith)))
 
 module _ (names : List Name) (few : length names ≤ 6) (short : (i : ℕ) → length (getD names i []) ≤ 16) where
-  name-few : (e i : ℕ) → length (gather blanked (nameIf names e i)) ≤ 17
+  name-few : (e i : ℕ) → length (collect blanked (nameIf names e i)) ≤ 17
   name-few e i = go (bit e i)
     where
-      go : (b : Bool) → length (gather blanked (cond b (getD names i [] ∷ []) [])) ≤ 17
+      go : (b : Bool) → length (collect blanked (cond b (getD names i [] ∷ []) [])) ≤ 17
       go true = omega (arith, length-append (blanked (getD names i [])) [], short i)
       go false = omega arith
 
-  names-few : (e : ℕ) → length (gather blanked (namesOrNone names e)) ≤ 102
+  names-few : (e : ℕ) → length (collect blanked (namesOrNone names e)) ≤ 102
   unfolding namesOrNone
   names-few e =
       go (pointNames names e)
-      (omega (arith, ap length (names-parts names e), gather-small (λ i. gather blanked (nameIf names e i)) 17 (name-few e) 0 (length names)))
+      (omega (arith, ap length (names-parts names e), collect-small (λ i. collect blanked (nameIf names e i)) 17 (name-few e) 0 (length names)))
     where
-      go : (words : List Name) → length (gather blanked words) ≤ 102 → length (gather blanked (orElse words (bytes "-" ∷ []))) ≤ 102
+      go : (words : List Name) → length (collect blanked words) ≤ 102 → length (collect blanked (orElse words (bytes "-" ∷ []))) ≤ 102
       go [] h = omega arith
       go (w ∷ ws) h = h
 
@@ -55,7 +55,7 @@ module _ (names : List Name) (few : length names ≤ 6) (short : (i : ℕ) → l
       omega (
         arith,
         from-length 0 (length points),
-        gather-few f 112 (below (length points)) (λ i at. point-few i (getD points i 0) (omega (arith, below-elim (length points) i at))),
+        collect-few f 112 (below (length points)) (λ i at. point-few i (getD points i 0) (omega (arith, below-elim (length points) i at))),
       )
 
 contact-few : (k n : ℕ) → n ≤ 32 → k / 256 < k % 256 → k % 256 < n → length (contactLine k) ≤ 14
@@ -63,8 +63,8 @@ unfolding contactLine
 contact-few k n h a b =
     simp length-append (omega (arith, decimal-few 1 (k / 256) (omega arith), decimal-few 1 (k % 256) (omega arith)))
 
-contacts-few : (low n : ℕ) (ks : List ℕ) → n ≤ 32 → Rises low n ks → length (gather contactLine ks) ≤ length ks * 14
-contacts-few low n ks h r = gather-few contactLine 14 ks (λ k i. let w = in-rises k low n ks r i in contact-few k n h (w .1) (w .2))
+contacts-few : (low n : ℕ) (ks : List ℕ) → n ≤ 32 → Rises low n ks → length (collect contactLine ks) ≤ length ks * 14
+contacts-few low n ks h r = collect-few contactLine 14 ks (λ k i. let w = in-rises k low n ks r i in contact-few k n h (w .1) (w .2))
 
 -- a plan of at most 32 points and 530 words
 pub plan-few : (names : List Name) → length names ≤ 6 → ((i : ℕ) → length (getD names i []) ≤ 16) → (p : Plan) → IsPlan p

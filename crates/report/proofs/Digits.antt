@@ -8,7 +8,7 @@ use lib.ListN.{length, length-append}
 use borrow.Author.Tests.{lt-ltb, le-ltb}
 use Rattle.lists.proofs.Truth.{side}
 use Rattle.lexer.specs.Text.{byte}
-use Rattle.report.specs.Output.{digits, decimal}
+use Rattle.report.specs.Lines.{digits, decimal}
 
 digits-small : (k n : ℕ) → n < 10 → digits (suc k) n ≡ (byte "0" + n % 10) ∷ []
 unfolding digits

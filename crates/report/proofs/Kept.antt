@@ -7,14 +7,14 @@ use native.Mathlib.Omega.{arith}
 use lib.ListN.{length, getD}
 use Rattle.formula.specs.Formula.{Name}
 use Rattle.evalset.specs.Bit.{bit}
-use Rattle.lists.specs.Search.{gather, below}
+use Rattle.lists.specs.Search.{collect, below}
 use Rattle.lists.proofs.Lists.{map-before}
-use Rattle.names.specs.Gather.{nameOf, arraysOf, bytesIn, knownOf, Kept}
+use Rattle.names.specs.Gather.{keptName, arraysOf, bytesIn, knownOf, Kept}
 use Rattle.names.specs.declared.KeptName.{KeptName}
 use Rattle.names.specs.declared.Names.{Names}
 use Rattle.names.proofs.Arrays.{bytes-back, size-back}
 use Rattle.names.proofs.Scans.{empty}
-use Rattle.report.specs.Output.{nameIf, pointNames, blanked}
+use Rattle.report.specs.Lines.{nameIf, pointNames, blanked}
 use Rattle.report.proofs.Parts.{names-parts}
 
 module _ (names : Names) (kept : Kept names) where
@@ -24,16 +24,16 @@ module _ (names : Names) (kept : Kept names) where
 
   -- a turn for each name
   pub names-turns : (e : ℕ)
-      → gather blanked (pointNames (knownOf names) e) ≡ gather (λ i. gather blanked (nameIf (knownOf names) e i)) (below (names .count))
+      → collect blanked (pointNames (knownOf names) e) ≡ collect (λ i. collect blanked (nameIf (knownOf names) e i)) (below (names .count))
   names-turns e =
-      names-parts (knownOf names) e ∙ ap (λ (n : ℕ). gather (λ i. gather blanked (nameIf (knownOf names) e i)) (below n)) (sym known-count)
+      names-parts (knownOf names) e ∙ ap (λ (n : ℕ). collect (λ i. collect blanked (nameIf (knownOf names) e i)) (below n)) (sym known-count)
 
   module _ (i : ℕ) (h : i < names .count) where
-    known-at : getD (names .list) i empty ≡ nameOf (getD (knownOf names) i [])
+    known-at : getD (names .list) i empty ≡ keptName (getD (knownOf names) i [])
     unfolding arraysOf
     known-at =
         ap (λ (n : Names). getD (n .list) i empty) (kept .canonical)
-        ∙ map-before nameOf (knownOf names) _ i [] empty (omega (arith, known-count))
+        ∙ map-before keptName (knownOf names) _ i [] empty (omega (arith, known-count))
 
     known-name : bytesIn (getD (names .list) i empty) ≡ getD (knownOf names) i []
     known-name = ap bytesIn known-at ∙ bytes-back (getD (knownOf names) i [])
@@ -41,8 +41,8 @@ module _ (names : Names) (kept : Kept names) where
     pub known-size : getD (names .list) i empty .len ≡ length (bytesIn (getD (names .list) i empty))
     known-size = ap (λ (k : KeptName). k .len) known-at ∙ size-back (getD (knownOf names) i []) ∙ ap length (sym known-name)
 
-    pub name-set : (e : ℕ) → bit e i ≡ true → gather blanked (nameIf (knownOf names) e i) ≡ blanked (bytesIn (getD (names .list) i empty))
+    pub name-set : (e : ℕ) → bit e i ≡ true → collect blanked (nameIf (knownOf names) e i) ≡ blanked (bytesIn (getD (names .list) i empty))
     name-set e b = rw b (append-nil (blanked (getD (knownOf names) i [])) ∙ ap blanked (sym known-name))
 
-pub name-clear : (names : List Name) (e i : ℕ) → bit e i ≡ false → gather blanked (nameIf names e i) ≡ []
+pub name-clear : (names : List Name) (e i : ℕ) → bit e i ≡ false → collect blanked (nameIf names e i) ≡ []
 name-clear names e i b = rw b

@@ -6,3 +6,5 @@ pub mod Bounds
 pub mod Short
 pub mod Reporting
 pub mod Examples
+pub mod Printing
+pub mod Claims

@@ -5,8 +5,8 @@ use Prim.Native.Nat.{ℕ, _+_, _≤_, _<_}
 use native.Mathlib.Omega.{arith}
 use native.Mathlib.Nat.{add-zero}
 use lib.ListN.{length, set, length-append}
-use Rattle.lists.proofs.Below.{gather-more, gather-within}
-use Rattle.lists.specs.Search.{gather, below}
+use Rattle.lists.proofs.Below.{collect-more, collect-within}
+use Rattle.lists.specs.Search.{collect, below}
 use Rattle.plan.specs.Private.{written}
 use Rattle.plan.proofs.Buffer.{written-none, written-set, written-more, written-length}
 use Rattle.report.specs.Putting.{Puts}
@@ -45,15 +45,15 @@ module _ {at : ℕ} {xs buffer mid : List ℕ} {end : ℕ} (first : Puts at xs b
   }
 
 -- a loop that puts the text f i in turn i, before that turn
-module _ (f : ℕ → List ℕ) (i : ℕ) {at : ℕ} {buffer mid : List ℕ} {end : ℕ} (before : Puts at (gather f (below i)) buffer mid end) where
+module _ (f : ℕ → List ℕ) (i : ℕ) {at : ℕ} {buffer mid : List ℕ} {end : ℕ} (before : Puts at (collect f (below i)) buffer mid end) where
   -- where the text of all turns fits, that of this one does
-  pub turn-fits : (n : ℕ) → i < n → at + length (gather f (below n)) ≤ length buffer → end + length (f i) ≤ length mid
+  pub turn-fits : (n : ℕ) → i < n → at + length (collect f (below n)) ≤ length buffer → end + length (f i) ≤ length mid
   turn-fits n l h =
       fits-next before (length (f i))
-      (omega (arith, ap length (gather-more f i), length-append (gather f (below i)) (f i), gather-within f (i + 1) n (omega arith)))
+      (omega (arith, ap length (collect-more f i), length-append (collect f (below i)) (f i), collect-within f (i + 1) n (omega arith)))
 
-  pub turn-puts : {exit : List ℕ} {last : ℕ} → Puts end (f i) mid exit last → Puts at (gather f (below (i + 1))) buffer exit last
-  turn-puts this = puts-text (gather-more f i) (puts-more before this)
+  pub turn-puts : {exit : List ℕ} {last : ℕ} → Puts end (f i) mid exit last → Puts at (collect f (below (i + 1))) buffer exit last
+  turn-puts this = puts-text (collect-more f i) (puts-more before this)
 
-  pub turns-put : (n : ℕ) {text : List ℕ} → i ≡ n → text ≡ gather f (below n) → Puts at text buffer mid end
-  turns-put n e t = puts-text (ap (λ (k : ℕ). gather f (below k)) e ∙ sym t) before
+  pub turns-put : (n : ℕ) {text : List ℕ} → i ≡ n → text ≡ collect f (below n) → Puts at text buffer mid end
+  turns-put n e t = puts-text (ap (λ (k : ℕ). collect f (below k)) e ∙ sym t) before

@@ -16,9 +16,10 @@ use Rattle.names.specs.declared.Names.{Names}
 use Rattle.names.proofs.Arrays.{known-back, kept-names}
 use Rattle.plan.specs.declared.PlanArrays.{PlanArrays}
 use Rattle.plan.specs.declared.PlanRead.{PlanRead}
-use Rattle.plan.specs.Words.{Plan, IsPlan, wordsOf}
-use Rattle.plan.specs.Arrays.{Stored, Reads, over, planBy}
-use Rattle.plan.specs.Given.{plansOf}
+use Rattle.plan.specs.Words.{Plan, IsPlan, wordsOf, over}
+use Rattle.plan.specs.Arrays.{Reads, planBy}
+use Rattle.plan.specs.Stored.{Stored}
+use Rattle.plan.specs.Plans.{plansOf}
 use Rattle.plan.proofs.SamePlan.{plan-again}
 use Rattle.plan.proofs.Buffer.{written-over}
 use Rattle.plan.proofs.Claims.{no-plan-given, given-exactly, given-is-plan, given-words, given-points, written-read}
@@ -32,20 +33,21 @@ use Rattle.table.specs.declared.LoadResult.{LoadResult}
 use Rattle.table.proofs.AskAnswer.{the-type}
 use Rattle.table.proofs.LoadAnswer.{the-type as load-type}
 use Rattle.table.proofs.Outcome.{the-type as outcome-type}
-use Rattle.table.specs.Store.{Text, rulesOf}
+use Rattle.table.specs.Store.{rulesOf}
+use Rattle.table.specs.Sheet.{Text, linesOf, filled}
 use Rattle.table.specs.Calls.{formulasOf, namesIn, atomsIn, judgeLoad, ifLoaded, loadRules, loaded, FromUs, Loads}
-use Rattle.table.specs.Sheet.{linesOf, filled}
 use Rattle.table.specs.Asking.{askWords, asked, Asks}
 use Rattle.table.specs.Rows.{SomeStand, AskRow, LoadRow}
 use Rattle.plan.specs.Meant.{IsGiven}
-use Rattle.table.proofs.Claims.{ask-answered, load-answered, rules-back}
+use Rattle.table.proofs.Claims.{ask-answered, load-answered, load-can-come, rules-back}
 use Rattle.table.specs.declared.Outcome.{Outcome}
 use Rattle.table.specs.declared.Outcome.the-variants as Outcome
-use Rattle.table.specs.Numbers.{loadOutcome, askOutcome}
+use Rattle.table.specs.Numbers.{CanCome, loadOutcome, askOutcome}
 use Rattle.table.proofs.Rules.{of-computed, can-read, can-names, can-atoms}
 use Rattle.table.proofs.Standing.{not-loaded}
 use Rattle.table.proofs.Asking.{words-written, first-words}
-use Rattle.report.specs.Output.{planText, plansText, rulesText, outcomeText, outputOf, ended}
+use Rattle.report.specs.Output.{plansText, rulesText, outcomeText, outputOf}
+use Rattle.report.specs.Lines.{planText, ended}
 use Rattle.report.specs.Putting.{Puts}
 use Rattle.report.proofs.Short.{names-short}
 use Rattle.report.proofs.Bounds.{plan-few}
@@ -176,6 +178,10 @@ module _ (t : Table) (file : Text) (r : LoadResult) (loads : Loads t file r) whe
   answer-is : r .answer ≡ judgeLoad file
   unfolding loaded
   answer-is = ap (λ (x : LoadResult). x .answer) (loads .result)
+
+  -- its answer is one that has a text
+  pub answer-comes : CanCome (r .answer)
+  answer-comes = subst CanCome (sym answer-is) (load-can-come file)
 
   -- a refused sheet has its refusal's text
   pub refused-text : (r .answer ≡ LoadAnswer.Loaded → ⊥) → outcomeText (loadOutcome (r .answer)) ≡ outputOf file

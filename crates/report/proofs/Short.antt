@@ -14,8 +14,8 @@ use Rattle.lexer.specs.Arrays.{codeOf}
 use Rattle.lexer.specs.Token.{Token}
 use Rattle.syntax.specs.Rule.{ruleOf, meaningOf}
 use Rattle.syntax.specs.declared.RuleAnswer.the-variants as RuleAnswer
-use Rattle.lists.specs.Search.{In, gather}
-use Rattle.lists.proofs.Search.{none-in, uncons, placed, map-elim, any-intro, gather-intro, gather-elim}
+use Rattle.lists.specs.Search.{In, collect}
+use Rattle.lists.proofs.Search.{none-in, uncons, placed, map-elim, any-intro, collect-intro, collect-elim}
 use Rattle.contact.specs.Numbering.{allAtoms, sameName}
 use Rattle.contact.proofs.Naming.{same-name}
 use Rattle.names.specs.Gather.{ruleTokens}
@@ -23,7 +23,7 @@ use Rattle.names.specs.Seventh.{namesAt, NameAt, placesOf}
 use Rattle.names.proofs.Distinct.{distinct-in-list}
 use Rattle.names.proofs.Tokens.{past, token-within, at-name, at-other, at-end}
 use Rattle.names.proofs.Texts.{names-of-rule, atoms-names}
-use Rattle.table.specs.Store.{Text}
+use Rattle.table.specs.Sheet.{Text}
 use Rattle.table.specs.Calls.{formulasOf, namesIn}
 use Rattle.syntax.proofs.Claims.{is-rule}
 
@@ -59,14 +59,14 @@ module _ (rs : List Text) (rules : (s : Text) → In s rs → ruleOf s .answer �
   in-short : (w : Name) → In w (namesIn rs) → length w ≤ 16
   unfolding namesIn
   in-short w at =
-      let every = gather atomNames (allAtoms (formulasOf rs)) in
-      let a = gather-elim atomNames (allAtoms (formulasOf rs))
+      let every = collect atomNames (allAtoms (formulasOf rs)) in
+      let a = collect-elim atomNames (allAtoms (formulasOf rs))
       (distinct-in-list sameName same-name every w (any-intro (λ k. sameName k w) at (same-name w w .1 refl))) in
-      let f = gather-elim atomsOf (formulasOf rs) (a .1) in
+      let f = collect-elim atomsOf (formulasOf rs) (a .1) in
       let s = map-elim meaningOf rs (f .1) in
       rule-short (s .0) (rules (s .0) (s .2)) w
       (subst (λ (g : Formula Name). In w (formulaNames g)) (s .1)
-      (subst (λ (l : List Name). In w l) (atoms-names (f .0)) (gather-intro atomNames (f .2) (a .2))))
+      (subst (λ (l : List Name). In w l) (atoms-names (f .0)) (collect-intro atomNames (f .2) (a .2))))
 
   pub names-short : (i : ℕ) → length (getD (namesIn rs) i []) ≤ 16
   names-short i =

@@ -1,2 +1,4 @@
+pub mod Lines
 pub mod Output
+pub mod Printed
 pub mod Putting

@@ -1,81 +1,17 @@
--- What is meant, and over what is computed: the text that the program floorplan writes for a sheet (document 01, 'Worked sheets'). The
--- lines are meant; which a sheet gets, `rulesText` and `outputOf` take from `judgeLoad`, `formulasOf` and `plansOf`, which are computed.
--- Assumes nothing.
-use mathlib.Core.Bool.{cond}
-use mathlib.Core.List.{List, [], _∷_, _++_}
-use Prim.Native.Nat.{ℕ, zero, suc, _+_, _/_, _%_}
-use lib.Dec.{ltb}
-use lib.ListN.{length, getD}
+-- What is computed: which lines a sheet gets; proofs/Claims.antt ties it to what is meant (Printed). Assumes nothing.
+use mathlib.Core.List.{List, [], _∷_}
+use Prim.Native.Nat.{ℕ}
 use Rattle.formula.specs.Formula.{Formula, Name}
-use Rattle.lexer.specs.Text.{bytes, byte}
-use Rattle.lists.specs.Search.{gather, below, orElse}
-use Rattle.evalset.specs.Bit.{bit}
+use Rattle.lexer.specs.Text.{bytes}
 use Rattle.contact.specs.Numbering.{namesOf}
 use Rattle.plan.specs.Words.{Plan}
-use Rattle.plan.specs.Given.{plansOf}
-use Rattle.table.specs.Store.{Text}
+use Rattle.plan.specs.Plans.{plansOf}
+use Rattle.table.specs.Sheet.{Text, linesOf, filled}
 use Rattle.table.specs.Calls.{formulasOf, judgeLoad, ifLoaded}
-use Rattle.table.specs.Sheet.{linesOf, filled}
 use Rattle.table.specs.declared.Outcome.{Outcome}
 use Rattle.table.specs.declared.Outcome.the-variants as Outcome
 use Rattle.table.specs.Numbers.{loadOutcome}
-
--- ---- numbers, in decimal
-
--- at most k digits: the last, and before it those of a tenth, if there is one
-unfoldable pub digits : ℕ → ℕ → List ℕ
-digits zero n = []
-digits (suc k) n = let tens = digits k (n / 10) in cond (ltb n 10) [] tens ++ (byte "0" + n % 10) ∷ []
-
--- no number has more digits than its value and one
-unfoldable pub decimal : ℕ → List ℕ
-decimal n = digits (suc n) n
-
--- a text and a number behind it
-abbrev pub labelled : List ℕ → ℕ → List ℕ
-labelled label n = label ++ decimal n
-
--- ---- a plan
-
--- "Every line ends with byte 10, the last one too."
-abbrev pub ended : List ℕ → List ℕ
-ended line = line ++ 10 ∷ []
-
--- "PLAN names=2 points=2"
-unfoldable pub headLine : ℕ → ℕ → List ℕ
-headLine names points = ended (labelled (bytes "PLAN names=") names ++ labelled (bytes " points=") points)
-
--- a name, if the evaluation has the bit of its number
-abbrev pub nameIf : List Name → ℕ → ℕ → List Name
-nameIf names e i = cond (bit e i) (getD names i [] ∷ []) []
-
--- "its names in order of number"
-unfoldable pub pointNames : List Name → ℕ → List Name
-pointNames names e = gather (nameIf names e) (below (length names))
-
--- "or "-" if none"
-unfoldable pub namesOrNone : List Name → ℕ → List Name
-namesOrNone names e = orElse (pointNames names e) (bytes "-" ∷ [])
-
--- behind one blank
-abbrev pub blanked : List ℕ → List ℕ
-blanked word = bytes " " ++ word
-
--- "A point line has its position and its names in order of number, parted by one blank, or "-" if none."
-unfoldable pub pointLine : List Name → ℕ → ℕ → List ℕ
-pointLine names i e = ended (labelled (bytes "point ") i ++ bytes ":" ++ gather blanked (namesOrNone names e))
-
--- the lines of all points, in order of position
-unfoldable pub pointLines : List Name → List ℕ → List ℕ
-pointLines names points = gather (λ i. pointLine names i (getD points i 0)) (below (length points))
-
--- "Contact lines follow as "contact 0 1", positions as in the words."
-unfoldable pub contactLine : ℕ → List ℕ
-contactLine k = ended (labelled (bytes "contact ") (k / 256) ++ labelled (bytes " ") (k % 256))
-
--- a plan over these names
-unfoldable pub planText : List Name → Plan → List ℕ
-planText names p = headLine (p .names) (length (p .points)) ++ pointLines names (p .points) ++ gather contactLine (p .contacts)
+use Rattle.report.specs.Lines.{ended, planText, refusedText}
 
 -- "Otherwise the one line is "NO PLAN" or .."
 abbrev pub plansText : List Name → List Plan → List ℕ
@@ -85,12 +21,6 @@ plansText names (p ∷ ps) = planText names p
 -- the text of the plan given for these rules, or of none
 unfoldable pub rulesText : List (Formula Name) → List ℕ
 rulesText rules = plansText (namesOf rules) (plansOf rules)
-
--- ---- a refusal
-
--- ".. "refused 1 line 0 at 0" (number, line, place)"
-unfoldable pub refusedText : ℕ → ℕ → ℕ → List ℕ
-refusedText number line place = ended (labelled (bytes "refused ") number ++ labelled (bytes " line ") line ++ labelled (bytes " at ") place)
 
 -- a load that is refused has a line and a place
 abbrev pub outcomeText : Outcome → List ℕ

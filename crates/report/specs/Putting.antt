@@ -5,7 +5,7 @@ use mathlib.Core.List.{List}
 use Prim.Native.Nat.{ℕ, _+_, _≤_}
 use lib.ListN.{length}
 use Rattle.plan.specs.Private.{written}
-use Rattle.plan.specs.Arrays.{over}
+use Rattle.plan.specs.Words.{over}
 use Rattle.report.specs.Output.{outputOf}
 
 -- there was room for the text, and it was put there; the other bytes keep their values

@@ -1,19 +1,21 @@
-// The text that the program floorplan writes for a sheet (document 01, 'Worked sheets'). What is meant is in specs/Output.antt: one
-// function from the sheet's bytes to the text's. Here the text is put into a buffer piece by piece: each private function puts
-// one piece at a place, and answers the place after it. The buffer has room for the text of every sheet. Assumes nothing.
+// The text that the program floorplan writes for a sheet (document 01, 'Worked sheets'). What is meant is in specs/Printed.antt, what is
+// computed in specs/Output.antt: one function from the sheet's bytes to the text's. Here the text is put into a buffer piece by piece: each
+// private function puts one piece at a place, and answers the place after it. The buffer has room for the text of every sheet. Assumes nothing.
 ghost use mathlib.Core.Path.{_≡_};
 ghost use Prim.Native.Nat.{_+_, _*_, _≤_, _<_};
 ghost use lib.ListN.{length, take};
 ghost use Rattle.evalset.specs.Bit.{bit};
-ghost use Rattle.lists.specs.Search.{gather};
+ghost use Rattle.lists.specs.Search.{collect};
 ghost use Rattle.evalset.specs.Sets.{mem, memAt};
 ghost use Rattle.names.specs.Gather.{bytesIn, knownOf, Kept};
-ghost use Rattle.plan.specs.Arrays.{pairOf, rowTo, linksTo, planBy};
+ghost use Rattle.plan.specs.Arrays.{planBy};
+ghost use Rattle.plan.specs.Links.{pairOf, rowTo, linksTo};
 ghost use Rattle.table.specs.Store.{rulesOf};
 ghost use Rattle.table.specs.Calls.{formulasOf, FromUs};
 ghost use Rattle.table.specs.Rows.{SomeStand};
-ghost use Rattle.table.specs.Numbers.{loadOutcome};
-ghost use Rattle.report.specs.Output.{decimal, labelled, headLine, nameIf, pointNames, namesOrNone, blanked, pointLine, pointLines, contactLine, planText, refusedText, outcomeText, rulesText, outputOf};
+ghost use Rattle.table.specs.Numbers.{CanCome, loadOutcome};
+ghost use Rattle.report.specs.Output.{outcomeText, rulesText, outputOf};
+ghost use Rattle.report.specs.Lines.{decimal, labelled, headLine, nameIf, pointNames, namesOrNone, blanked, pointLine, pointLines, contactLine, planText, refusedText};
 ghost use Rattle.report.specs.Putting.{Puts, Reports};
 use evalset::EvalSet;
 use names::KeptName;
@@ -95,8 +97,8 @@ fn put_name(name: KeptName, out: &mut [u8], at: usize) -> usize
 
 // Name i, if the point with this evaluation lies in it.
 fn put_name_if(names: Names, e: u8, i: usize, out: &mut [u8], at: usize) -> usize
-    requires { ⌜ Kept names × (i < names .count) × (at + length (gather blanked (nameIf (knownOf names) e i)) ≤ length (now out)) ⌝ }
-    ensures { λ r. ⌜ Puts at (gather blanked (nameIf (knownOf names) e i)) (now (out .entry)) (now (out .exit)) r ⌝ }
+    requires { ⌜ Kept names × (i < names .count) × (at + length (collect blanked (nameIf (knownOf names) e i)) ≤ length (now out)) ⌝ }
+    ensures { λ r. ⌜ Puts at (collect blanked (nameIf (knownOf names) e i)) (now (out .entry)) (now (out .exit)) r ⌝ }
 {
     if lies_in(e, i) {
         let list = names.list;
@@ -109,8 +111,8 @@ fn put_name_if(names: Names, e: u8, i: usize, out: &mut [u8], at: usize) -> usiz
 
 // The names in which the point with this evaluation lies.
 fn put_names(names: Names, e: u8, out: &mut [u8], at: usize) -> usize
-    requires { ⌜ Kept names × (at + length (gather blanked (pointNames (knownOf names) e)) ≤ length (now out)) ⌝ }
-    ensures { λ r. ⌜ Puts at (gather blanked (pointNames (knownOf names) e)) (now (out .entry)) (now (out .exit)) r ⌝ }
+    requires { ⌜ Kept names × (at + length (collect blanked (pointNames (knownOf names) e)) ≤ length (now out)) ⌝ }
+    ensures { λ r. ⌜ Puts at (collect blanked (pointNames (knownOf names) e)) (now (out .entry)) (now (out .exit)) r ⌝ }
 {
     let count = names.count;
     let mut end = at;
@@ -124,8 +126,8 @@ fn put_names(names: Names, e: u8, out: &mut [u8], at: usize) -> usize
 
 // These names, or a sign that there are none.
 fn put_point_names(names: Names, e: u8, out: &mut [u8], at: usize) -> usize
-    requires { ⌜ Kept names × (at + length (gather blanked (namesOrNone (knownOf names) e)) ≤ length (now out)) ⌝ }
-    ensures { λ r. ⌜ Puts at (gather blanked (namesOrNone (knownOf names) e)) (now (out .entry)) (now (out .exit)) r ⌝ }
+    requires { ⌜ Kept names × (at + length (collect blanked (namesOrNone (knownOf names) e)) ≤ length (now out)) ⌝ }
+    ensures { λ r. ⌜ Puts at (collect blanked (namesOrNone (knownOf names) e)) (now (out .entry)) (now (out .exit)) r ⌝ }
 {
     let end = put_names(names, e, out, at);
     if end <= at {
@@ -172,8 +174,8 @@ fn put_contact(i: usize, j: usize, out: &mut [u8], at: usize) -> usize
 
 // The line of positions i and j, if j is later and in i's row.
 fn put_pair(row: EvalSet, i: usize, j: usize, out: &mut [u8], at: usize) -> usize
-    requires { ⌜ (j < 64) × (at + length (gather contactLine (pairOf i j (mem row))) ≤ length (now out)) ⌝ }
-    ensures { λ r. ⌜ Puts at (gather contactLine (pairOf i j (mem row))) (now (out .entry)) (now (out .exit)) r ⌝ }
+    requires { ⌜ (j < 64) × (at + length (collect contactLine (pairOf i j (mem row))) ≤ length (now out)) ⌝ }
+    ensures { λ r. ⌜ Puts at (collect contactLine (pairOf i j (mem row))) (now (out .entry)) (now (out .exit)) r ⌝ }
 {
     if j <= i {
         return at;
@@ -187,8 +189,8 @@ fn put_pair(row: EvalSet, i: usize, j: usize, out: &mut [u8], at: usize) -> usiz
 
 // The lines of one row.
 fn put_row(row: EvalSet, i: usize, n: usize, out: &mut [u8], at: usize) -> usize
-    requires { ⌜ (n ≤ 64) × (at + length (gather contactLine (rowTo n i (mem row))) ≤ length (now out)) ⌝ }
-    ensures { λ r. ⌜ Puts at (gather contactLine (rowTo n i (mem row))) (now (out .entry)) (now (out .exit)) r ⌝ }
+    requires { ⌜ (n ≤ 64) × (at + length (collect contactLine (rowTo n i (mem row))) ≤ length (now out)) ⌝ }
+    ensures { λ r. ⌜ Puts at (collect contactLine (rowTo n i (mem row))) (now (out .entry)) (now (out .exit)) r ⌝ }
 {
     let mut end = at;
     let mut j: usize = 0;
@@ -201,8 +203,8 @@ fn put_row(row: EvalSet, i: usize, n: usize, out: &mut [u8], at: usize) -> usize
 
 // The lines of all rows.
 fn put_rows(rows: [EvalSet; 64], n: usize, out: &mut [u8], at: usize) -> usize
-    requires { ⌜ (n ≤ 64) × (at + length (gather contactLine (linksTo n n (memAt rows))) ≤ length (now out)) ⌝ }
-    ensures { λ r. ⌜ Puts at (gather contactLine (linksTo n n (memAt rows))) (now (out .entry)) (now (out .exit)) r ⌝ }
+    requires { ⌜ (n ≤ 64) × (at + length (collect contactLine (linksTo n n (memAt rows))) ≤ length (now out)) ⌝ }
+    ensures { λ r. ⌜ Puts at (collect contactLine (linksTo n n (memAt rows))) (now (out .entry)) (now (out .exit)) r ⌝ }
 {
     let mut end = at;
     let mut i: usize = 0;
@@ -240,7 +242,7 @@ fn put_refused(number: usize, line: usize, place: usize, out: &mut [u8], at: usi
 
 // What a load's answer says: nothing where it is loaded.
 fn put_refusal(answer: LoadAnswer, out: &mut [u8], at: usize) -> usize
-    requires { ⌜ at + 79 ≤ length (now out) ⌝ }
+    requires { ⌜ CanCome answer × (at + 79 ≤ length (now out)) ⌝ }
     ensures { λ r. ⌜ Puts at (outcomeText (loadOutcome answer)) (now (out .entry)) (now (out .exit)) r ⌝ }
 {
     let said = table::load_outcome(answer);

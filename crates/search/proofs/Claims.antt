@@ -11,33 +11,34 @@ use Rattle.lists.proofs.Padded.{pad-at}
 use Rattle.formula.specs.Formula.{Atom}
 use Rattle.evalset.specs.Sets.{memAt, room}
 use Rattle.contact.specs.Row.{is}
-use Rattle.contact.specs.Plan.{separated, check, pointsFor}
+use Rattle.contact.specs.Plan.{separated, pointsFor}
+use Rattle.contact.specs.Check.{check}
 use Rattle.contact.proofs.Claims as contact
 use Rattle.contact.proofs.Realise.{marksFloor}
-use Rattle.search.specs.declared.Sheet.{Sheet}
+use Rattle.search.specs.declared.Chart.{Chart}
 use Rattle.search.specs.declared.RowPlan.{RowPlan}
 use Rattle.search.specs.Rows.{rowBits}
 use Rattle.search.specs.Compiled.{limit, Compiled}
 use Rattle.search.specs.Planned.{marksIn, PlanOf, PlanSays}
 
-module _ (sheet : Sheet) (atoms : List (Atom ℕ)) (compiled : Compiled sheet atoms) where
+module _ (chart : Chart) (atoms : List (Atom ℕ)) (compiled : Compiled chart atoms) where
   -- planned is the plan of the row's marks: the points, zeros after them, their number, and the contacts
-  pub planned-is : {r : RowPlan} (row : ℕ) → PlanSays sheet row r → PlanOf (sheet .names) (marksIn sheet atoms row) r
+  pub planned-is : {r : RowPlan} (row : ℕ) → PlanSays chart row r → PlanOf (chart .names) (marksIn chart atoms row) r
   unfolding PlanSays
   planned-is row says = says atoms compiled
 
-  -- at most 32 points for as many atoms as a sheet may have
-  pub planned-few : (r : RowPlan) (row : ℕ) → PlanSays sheet row r → length atoms ≤ limit → r .count ≤ 32
+  -- at most 32 points for as many atoms as a chart may have
+  pub planned-few : (r : RowPlan) (row : ℕ) → PlanSays chart row r → length atoms ≤ limit → r .count ≤ 32
   planned-few r row says l =
-      omega (arith, planned-is row says .counted, contact.points-at-most (sheet .names) atoms (map is (rowBits (sheet .atoms) row)) l)
+      omega (arith, planned-is row says .counted, contact.points-at-most (chart .names) atoms (map is (rowBits (chart .atoms) row)) l)
 
   -- of a row that passes the check, the contact rows are the contacts of the plan's floor
-  pub planned-touch : (r : RowPlan) (row : ℕ) → PlanSays sheet row r → (h : check (sheet .names) (marksIn sheet atoms row) ≡ true)
+  pub planned-touch : (r : RowPlan) (row : ℕ) → PlanSays chart row r → (h : check (chart .names) (marksIn chart atoms row) ≡ true)
       → (i j : ℕ) → i < r .count → j < r .count
-      → memAt (r .rows) i j ≡ marksFloor (sheet .names) (marksIn sheet atoms row) h .touch i j
+      → memAt (r .rows) i j ≡ marksFloor (chart .names) (marksIn chart atoms row) h .touch i j
   planned-touch r row says h i j li lj =
-      let n = sheet .names in
-      let ms = marksIn sheet atoms row in
+      let n = chart .names in
+      let ms = marksIn chart atoms row in
       let p : PlanOf n ms r = planned-is row says in
       let at : (k : ℕ) → k < r .count → getD (r .points) k 0 ≡ getD (pointsFor n ms) k 0 =
       λ k l. ap (λ (xs : List ℕ). getD xs k 0) (p .listed) ∙ pad-at room (pointsFor n ms) k (omega (arith, p .counted)) in

@@ -12,7 +12,8 @@ use lib.Dec.{ltb}
 use Rattle.lists.proofs.Truth.{side, regroup, guarded}
 use Rattle.formula.specs.Formula.{Term, Atom}
 use Rattle.lists.specs.Search.{any, below}
-use Rattle.evalset.specs.Sets.{most, room, mem, memAt, belowOf, meetOf, minusOf}
+use Rattle.evalset.specs.Sets.{room, mem, memAt, belowOf, meetOf, minusOf}
+use Rattle.evalset.specs.Most.{most}
 use Rattle.evalset.proofs.Members.{names-room, below-few, any-names}
 use Rattle.contact.specs.Meaning.{partTerm}
 use Rattle.contact.specs.Plan.{at, Means, Mark, zeroMark, mark, parts, separated, empties, allowed, fills, partners, leads}

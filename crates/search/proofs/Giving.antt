@@ -7,10 +7,11 @@ use mathlib.Core.List.{List, [], _∷_}
 use Prim.Native.Nat.{ℕ, _^_, _≤_, _<_}
 use Rattle.lists.proofs.Below.{any-at, any-none}
 use Rattle.formula.specs.Formula.{Term, Atom}
-use Rattle.lists.specs.Search.{In, here, any, first, orElse, gather, below, elem}
-use Rattle.evalset.specs.Sets.{most, room, meetOf}
+use Rattle.lists.specs.Search.{In, here, any, first, orElse, collect, below, elem}
+use Rattle.evalset.specs.Sets.{room, meetOf}
+use Rattle.evalset.specs.Most.{most}
 use Rattle.evalset.proofs.Members.{first-names}
-use Rattle.lists.proofs.Search.{none-in, uncons, first-in, below-elim, elem-intro, elem-elim, gather-elim, or-else-cases, gather-same}
+use Rattle.lists.proofs.Search.{none-in, uncons, first-in, below-elim, elem-intro, elem-elim, collect-elim, or-else-cases, collect-same}
 use Rattle.lists.proofs.Truth.{clash}
 use Rattle.contact.specs.Meaning.{partTerm}
 use Rattle.contact.specs.Plan.{Means, evaluations, Mark, touching, apart, vacant, inhabited, zeroMark, mark, allowed, fills, partners, leads, withPartner, gives, given}
@@ -36,10 +37,10 @@ module _ (n : ℕ) (few : n ≤ most) (s : State) (ms : List Mark) (f : Fit n s 
       → pairOf (meetOf (allowedIn s) x) (meetOf (allowedIn s) y) (separatedIn s) ≡ gives n ms (touching u t)
   unfolding pairOf
   pair-is x y u t hx hy =
-      ap (gather (pairFrom (meetOf (allowedIn s) y) (separatedIn s)))
+      ap (collect (pairFrom (meetOf (allowedIn s) y) (separatedIn s)))
       (ap (λ (p : ℕ → Bool). first p (below room)) (leads-is n few s ms f x y u t hx hy)
       ∙ first-names (leads n ms u t) n few (leads-low n ms u t))
-      ∙ gather-same (pairFrom (meetOf (allowedIn s) y) (separatedIn s)) (withPartner n ms t) (first (leads n ms u t) (evaluations n))
+      ∙ collect-same (pairFrom (meetOf (allowedIn s) y) (separatedIn s)) (withPartner n ms t) (first (leads n ms u t) (evaluations n))
       (λ p i. partner-is y t hy p (leads-low n ms u t p (first-in (leads n ms u t) (evaluations n) i .1)))
 
   zero-gives : (contact value : Bool) (x y : ℕ → Bool) (t : Term ℕ) → contact ≡ false → Means n x t
@@ -83,7 +84,7 @@ module _ (n : ℕ) (ms : List Mark) where
 
   gives-low : (m : Mark) {e : ℕ} → In e (gives n ms m) → e < 2 ^ n
   gives-low (touching x y) {e} i =
-      let r = gather-elim (withPartner n ms y) (first (leads n ms x y) (evaluations n)) i in
+      let r = collect-elim (withPartner n ms y) (first (leads n ms x y) (evaluations n)) i in
       ⊎-elim (λ q. subst (λ (d : ℕ). d < 2 ^ n) (sym q) (found-low (leads n ms x y) (r .1)))
       (λ j. found-low (partners n ms y (r .0)) j) (uncons (r .2))
   gives-low (apart x y) i = none-in i
@@ -93,5 +94,5 @@ module _ (n : ℕ) (ms : List Mark) where
   pub given-low : (e : ℕ) → elem e (given n ms) ≡ true → e < 2 ^ n
   unfolding given
   given-low e h =
-      ⊎-elim (λ j. let r = gather-elim (gives n ms) ms j in gives-low (r .0) (r .2)) (λ j. found-low (allowed n ms) j)
-      (or-else-cases (gather (gives n ms) ms) (first (allowed n ms) (evaluations n)) (elem-elim e (given n ms) h))
+      ⊎-elim (λ j. let r = collect-elim (gives n ms) ms j in gives-low (r .0) (r .2)) (λ j. found-low (allowed n ms) j)
+      (or-else-cases (collect (gives n ms) ms) (first (allowed n ms) (evaluations n)) (elem-elim e (given n ms) h))

@@ -17,7 +17,8 @@ use Rattle.lists.proofs.Padded.{pad-at}
 use Rattle.lists.proofs.Truth.{side, guarded}
 use Rattle.evalset.specs.declared.EvalSet.{EvalSet}
 use Rattle.lists.specs.Search.{keep, below, elem}
-use Rattle.evalset.specs.Sets.{most, room, mem, memAt, noneOf, addOf}
+use Rattle.evalset.specs.Sets.{room, mem, memAt, noneOf, addOf}
+use Rattle.evalset.specs.Most.{most}
 use Rattle.evalset.proofs.Arrays.{positions-none, positions-more}
 use Rattle.evalset.proofs.Members.{keep-names}
 use Rattle.lists.proofs.Search.{placed, keep-elim, below-elim}

@@ -4,12 +4,14 @@ use mathlib.Core.Bool.{Bool, true, false, not}
 use mathlib.Core.Path.{_≡_, refl, sym, ap, ap₂, _∙_}
 use mathlib.Core.List.{List, [], _∷_, _++_}
 use Prim.Native.Nat.{ℕ, zero, suc, _+_, _-_, _/_, _%_, _^_, _≤_, _<_}
-use native.Mathlib.Nat.{mod-lt, zero-lt-suc}
+use mathlib.Core.Logic.{⊎-elim}
+use native.Mathlib.Nat.{mod-lt, zero-lt-suc, pow-suc}
 use native.Mathlib.Omega.{arith}
 use lib.Dec.{eqb}
 use lib.ListN.{length, getD, take}
 use lib.Seq.{take-length, length-take-le}
 use Rattle.lists.proofs.Lists.{take-next}
+use Rattle.lists.proofs.Truth.{side}
 use Rattle.formula.specs.Formula.{Atom}
 use Rattle.evalset.specs.Bit.{bit}
 use Rattle.lists.specs.Search.{In, here, next}
@@ -17,7 +19,7 @@ use Rattle.evalset.proofs.Bits.{bit-above, bit-under, bit-top}
 use Rattle.contact.specs.Row.{Row}
 use Rattle.contact.specs.Plan.{Mark, mark, rowMarks}
 use Rattle.contact.proofs.Searching.{no-marks}
-use Rattle.search.specs.Rows.{rowBits}
+use Rattle.search.specs.Rows.{rowBits, rowNumber}
 use Rattle.search.specs.Compiled.{atomAt}
 
 -- ---- the row of a number
@@ -61,6 +63,34 @@ row-lower j e l = ap (λ (b : Bool). not b ∷ rowBits j e) (bit-above j e j l (
 pub row-upper : (j e : ℕ) → e < 2 ^ j → rowBits (suc j) (2 ^ j + e) ≡ false ∷ rowBits j e
 unfolding rowBits
 row-upper j e l = ap₂ (λ (b : Bool) (r : List Bool). not b ∷ r) (bit-top j e l) (row-high j j e (omega arith))
+
+-- ---- the number of a row
+
+number-below : (row : Row) → rowNumber row < 2 ^ length row
+unfolding rowNumber
+number-below [] = omega arith
+number-below (true ∷ row) = omega (arith, pow-suc 2 (length row), number-below row)
+number-below (false ∷ row) = omega (arith, pow-suc 2 (length row), number-below row)
+
+-- the row with its number is the row
+pub row-back : (row : Row) → rowBits (length row) (rowNumber row) ≡ row
+unfolding rowBits rowNumber
+row-back [] = refl
+row-back (true ∷ row) = row-lower (length row) (rowNumber row) (number-below row) ∙ ap (λ (r : Row). true ∷ r) (row-back row)
+row-back (false ∷ row) = row-upper (length row) (rowNumber row) (number-below row) ∙ ap (λ (r : Row). false ∷ r) (row-back row)
+
+-- and a number below 2 ^ k is that of its row
+pub number-back : (k p : ℕ) → p < 2 ^ k → rowNumber (rowBits k p) ≡ p
+unfolding rowBits rowNumber
+number-back zero p l = omega arith
+number-back (suc k) p l =
+    ⊎-elim (λ h. ap rowNumber (row-lower k p h) ∙ number-back k p h)
+    (λ h. let e : ℕ = p - 2 ^ k in
+    let z : p ≡ 2 ^ k + e = omega arith in
+    let b : e < 2 ^ k = omega (arith, pow-suc 2 k) in
+    ap (λ (x : ℕ). rowNumber (rowBits (suc k) x)) z ∙ ap rowNumber (row-upper k e b)
+    ∙ ap₂ (λ (n x : ℕ). 2 ^ n + x) (row-length k e) (number-back k e b) ∙ sym z)
+    (side p (2 ^ k))
 
 -- ---- the marks of a row
 

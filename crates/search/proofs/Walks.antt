@@ -10,7 +10,7 @@ use lib.Dec.{eqb}
 use borrow.Author.Count.{below-more}
 use Rattle.lists.proofs.Below.{Least, first-at, first-none-below}
 use Rattle.lists.proofs.Truth.{side}
-use Rattle.lists.specs.Search.{any, first, gather, below, elem}
+use Rattle.lists.specs.Search.{any, first, collect, below, elem}
 use Rattle.evalset.specs.Sets.{room, noneOf, minusOf, addOf}
 use Rattle.evalset.proofs.Members.{add-in}
 use Rattle.evalset.proofs.Walk.{Step}
@@ -99,9 +99,9 @@ module _ (f g : ℕ → Bool) (sep : ℕ → ℕ → Bool) where
   pair-found p q h k e =
       add-in (addOf noneOf q) p (h .within) e ∙ ap (λ (b : Bool). b || eqb e p) (add-in noneOf q (k .within) e)
       ∙ or-comm (eqb e q) (eqb e p) ∙ ap (λ (b : Bool). eqb e p || b) (sym (or-false (eqb e q)))
-      ∙ sym (ap (λ (xs : List ℕ). elem e (gather (pairFrom g sep) xs)) (first-at (startsOf f g sep) room p h)
+      ∙ sym (ap (λ (xs : List ℕ). elem e (collect (pairFrom g sep) xs)) (first-at (startsOf f g sep) room p h)
       ∙ ap (λ (xs : List ℕ). elem e ((p ∷ xs) ++ [])) (first-at (minusOf g (sep p)) room q k))
 
   pub pair-none : Passed room → (e : ℕ) → false ≡ elem e (pairOf f g sep)
   unfolding pairOf
-  pair-none h e = sym (ap (λ (xs : List ℕ). elem e (gather (pairFrom g sep) xs)) (first-none-below (startsOf f g sep) room h))
+  pair-none h e = sym (ap (λ (xs : List ℕ). elem e (collect (pairFrom g sep) xs)) (first-none-below (startsOf f g sep) room h))

@@ -1,4 +1,4 @@
--- For proofs: when a sheet is compiled from a list of atoms, when a state is that of a list of marks, and what the functions on them
+-- For proofs: when a chart is compiled from a list of atoms, when a state is that of a list of marks, and what the functions on them
 -- ensure. Assumes nothing.
 use mathlib.Core.Bool.{Bool, true, false, _||_}
 use mathlib.Core.Path.{_≡_}
@@ -6,10 +6,11 @@ use mathlib.Core.List.{List, [], _∷_, _++_}
 use Prim.Native.Nat.{ℕ, _^_, _≤_, _<_}
 use lib.ListN.{length, getD}
 use Rattle.formula.specs.Formula.{Term, Atom}
-use Rattle.evalset.specs.Sets.{room, most, mem, memAt, minusOf}
+use Rattle.evalset.specs.Sets.{room, mem, memAt, minusOf}
+use Rattle.evalset.specs.Most.{most}
 use Rattle.contact.specs.Meaning.{partTerm}
 use Rattle.contact.specs.Plan.{Means, Mark, mark, separated, allowed}
-use Rattle.search.specs.declared.Sheet.{Sheet}
+use Rattle.search.specs.declared.Chart.{Chart}
 use Rattle.search.specs.declared.State.{State}
 use Rattle.search.specs.Tests.{lessOf, partOf}
 
@@ -17,7 +18,7 @@ use Rattle.search.specs.Tests.{lessOf, partOf}
 abbrev pub limit : ℕ
 limit = 16
 
--- an atom as the sheet has it: whether it is a contact, and its sets
+-- an atom as the chart has it: whether it is a contact, and its sets
 abbrev pub AtomIs : ℕ → Bool → (ℕ → Bool) → (ℕ → Bool) → Atom ℕ → Type 0
 AtomIs names contact x y (Atom.contact s t) = (contact ≡ true) × Means names x s × Means names y t
 AtomIs names contact x y (Atom.part s t) = (contact ≡ false) × Means names x (partTerm s t)
@@ -30,16 +31,16 @@ noAtom = Atom.empty Term.zero
 abbrev pub atomAt : List (Atom ℕ) → ℕ → Atom ℕ
 atomAt atoms i = getD atoms i noAtom
 
--- whether the sheet's atom i is a contact
-abbrev pub contactAt : Sheet → ℕ → Bool
-contactAt sheet i = getD (sheet .contact) i false
+-- whether the chart's atom i is a contact
+abbrev pub contactAt : Chart → ℕ → Bool
+contactAt chart i = getD (chart .contact) i false
 
--- what the search asks of a sheet and its atoms: its sets are the terms' at the evaluations of its names. `CompiledFrom` of compile gives it
-pub record Compiled (sheet : Sheet) (atoms : List (Atom ℕ)) : Type 0 where
-  pub few : sheet .names ≤ most
-  pub counted : sheet .atoms ≡ length atoms
+-- what the search asks of a chart and its atoms: its sets are the terms' at the evaluations of its names. `CompiledFrom` of compile gives it
+pub record Compiled (chart : Chart) (atoms : List (Atom ℕ)) : Type 0 where
+  pub few : chart .names ≤ most
+  pub counted : chart .atoms ≡ length atoms
   pub atom-is : (i : ℕ) → i < length atoms
-      → AtomIs (sheet .names) (contactAt sheet i) (memAt (sheet .xs) i) (memAt (sheet .ys) i) (atomAt atoms i)
+      → AtomIs (chart .names) (contactAt chart i) (memAt (chart .xs) i) (memAt (chart .ys) i) (atomAt atoms i)
 
 -- the state is that of the marks
 pub record Fit (names : ℕ) (s : State) (ms : List Mark) : Type 0 where
@@ -54,7 +55,7 @@ pub record Follows (contact value : Bool) (x y : ℕ → Bool) (s r : State) : T
 -- ---- what the functions ensure, of every list of atoms
 
 -- a decision brings the state of any marks to that of one mark more
-unfoldable pub StepSays : Sheet → State → ℕ → Bool → State → Type 0
-StepSays sheet s k value r =
-    (atoms : List (Atom ℕ)) → Compiled sheet atoms → k < length atoms → (ms : List Mark) → Fit (sheet .names) s ms
-    → Fit (sheet .names) r (ms ++ mark (atomAt atoms k) value ∷ [])
+unfoldable pub StepSays : Chart → State → ℕ → Bool → State → Type 0
+StepSays chart s k value r =
+    (atoms : List (Atom ℕ)) → Compiled chart atoms → k < length atoms → (ms : List Mark) → Fit (chart .names) s ms
+    → Fit (chart .names) r (ms ++ mark (atomAt atoms k) value ∷ [])

@@ -1,4 +1,4 @@
--- For proofs: what the functions that make the plan of a row ensure, of every list of atoms that the sheet is compiled from; `PlanSays` is
+-- For proofs: what the functions that make the plan of a row ensure, of every list of atoms that the chart is compiled from; `PlanSays` is
 -- the contract of `planned`, which only our own crates call. Assumes nothing.
 use mathlib.Core.Bool.{not, _&&_}
 use mathlib.Core.Path.{_≡_}
@@ -9,34 +9,34 @@ use lib.ListN.{length, getD}
 use Rattle.lists.specs.Padded.{pad}
 use Rattle.formula.specs.Formula.{Atom}
 use Rattle.evalset.specs.declared.EvalSet.{EvalSet}
-use Rattle.lists.specs.Search.{gather, elem}
+use Rattle.lists.specs.Search.{collect, elem}
 use Rattle.evalset.specs.Sets.{room, mem, memAt}
 use Rattle.contact.specs.Plan.{Mark, rowMarks, separated, gives, given, pointsFor}
-use Rattle.search.specs.declared.Sheet.{Sheet}
+use Rattle.search.specs.declared.Chart.{Chart}
 use Rattle.search.specs.declared.State.{State}
 use Rattle.search.specs.declared.RowPlan.{RowPlan}
 use Rattle.search.specs.Rows.{rowBits}
 use Rattle.search.specs.Compiled.{Compiled, Fit}
 
 -- the marks of a whole row
-abbrev pub marksIn : Sheet → List (Atom ℕ) → ℕ → List Mark
-marksIn sheet atoms row = rowMarks atoms (rowBits (sheet .atoms) row)
+abbrev pub marksIn : Chart → List (Atom ℕ) → ℕ → List Mark
+marksIn chart atoms row = rowMarks atoms (rowBits (chart .atoms) row)
 
 -- the state is that of the row's marks
-unfoldable pub StateSays : Sheet → ℕ → State → Type 0
-StateSays sheet row s = (atoms : List (Atom ℕ)) → Compiled sheet atoms → Fit (sheet .names) s (marksIn sheet atoms row)
+unfoldable pub StateSays : Chart → ℕ → State → Type 0
+StateSays chart row s = (atoms : List (Atom ℕ)) → Compiled chart atoms → Fit (chart .names) s (marksIn chart atoms row)
 
 -- the evaluations that the row's marks give, by the state of any marks
-unfoldable pub GatheredSays : Sheet → State → ℕ → EvalSet → Type 0
-GatheredSays sheet s row r =
-    (atoms : List (Atom ℕ)) → Compiled sheet atoms → (ms : List Mark) → Fit (sheet .names) s ms
-    → (e : ℕ) → mem r e ≡ elem e (gather (gives (sheet .names) ms) (marksIn sheet atoms row))
+unfoldable pub GatheredSays : Chart → State → ℕ → EvalSet → Type 0
+GatheredSays chart s row r =
+    (atoms : List (Atom ℕ)) → Compiled chart atoms → (ms : List Mark) → Fit (chart .names) s ms
+    → (e : ℕ) → mem r e ≡ elem e (collect (gives (chart .names) ms) (marksIn chart atoms row))
 
 -- the evaluations that the row gives
-unfoldable pub GivenSays : Sheet → State → ℕ → EvalSet → Type 0
-GivenSays sheet s row r =
-    (atoms : List (Atom ℕ)) → Compiled sheet atoms → Fit (sheet .names) s (marksIn sheet atoms row)
-    → (e : ℕ) → mem r e ≡ elem e (given (sheet .names) (marksIn sheet atoms row))
+unfoldable pub GivenSays : Chart → State → ℕ → EvalSet → Type 0
+GivenSays chart s row r =
+    (atoms : List (Atom ℕ)) → Compiled chart atoms → Fit (chart .names) s (marksIn chart atoms row)
+    → (e : ℕ) → mem r e ≡ elem e (given (chart .names) (marksIn chart atoms row))
 
 -- the first `count` points are evaluations
 pub record Positions (count : ℕ) (points : List ℕ) : Type 0 where
@@ -51,5 +51,5 @@ pub record PlanOf (names : ℕ) (ms : List Mark) (r : RowPlan) : Type 0 where
       ≡ ((ltb i (r .count) && ltb j (r .count)) && not (separated ms (getD (r .points) i 0) (getD (r .points) j 0)))
 
 -- the plan is that of the row
-unfoldable pub PlanSays : Sheet → ℕ → RowPlan → Type 0
-PlanSays sheet row r = (atoms : List (Atom ℕ)) → Compiled sheet atoms → PlanOf (sheet .names) (marksIn sheet atoms row) r
+unfoldable pub PlanSays : Chart → ℕ → RowPlan → Type 0
+PlanSays chart row r = (atoms : List (Atom ℕ)) → Compiled chart atoms → PlanOf (chart .names) (marksIn chart atoms row) r

@@ -5,7 +5,7 @@ use mathlib.Core.Path.{_≡_}
 use mathlib.Core.List.{List, [], _∷_}
 use Prim.Native.Nat.{ℕ, _≤_, _<_}
 use lib.ListN.{getD}
-use Rattle.lists.specs.Search.{any, first, gather, below}
+use Rattle.lists.specs.Search.{any, first, collect, below}
 use Rattle.evalset.specs.Sets.{room, noneOf, meetOf, minusOf}
 use Rattle.evalset.specs.Arrays.{positionsOf}
 
@@ -43,7 +43,7 @@ pairFrom g sep p = p ∷ first (minusOf g (sep p)) (below room)
 
 -- the least p with a partner, and its least partner; the empty list where there is none
 unfoldable pub pairOf : (ℕ → Bool) → (ℕ → Bool) → (ℕ → ℕ → Bool) → List ℕ
-pairOf f g sep = gather (pairFrom g sep) (first (startsOf f g sep) (below room))
+pairOf f g sep = collect (pairFrom g sep) (first (startsOf f g sep) (below room))
 
 -- the evaluations that an atom with its value gives
 abbrev pub givesOf : Bool → Bool → (ℕ → Bool) → (ℕ → ℕ → Bool) → (ℕ → Bool) → (ℕ → Bool) → List ℕ

@@ -1,6 +1,6 @@
-// The plan of a row of a compiled sheet (document 01, 'The plan that is given').
+// The plan of a row of the rules' chart (document 01, 'The plan that is given').
 // A row is a number: of k atoms, atom i is true where bit k - 1 - i is clear. Its state is what the row allows, and what it separates
-// from each evaluation. Contracts speak of every list of atoms that the sheet is compiled from (specs/Compiled.antt). A requires asks
+// from each evaluation. Contracts speak of every list of atoms that the chart is compiled from (specs/Compiled.antt). A requires asks
 // only that indices are in range: our own crates alone call these functions, with at most 16 atoms. Assumes nothing.
 ghost use mathlib.Core.Path.{_≡_};
 ghost use mathlib.Core.Bool.{false, cond};
@@ -9,7 +9,8 @@ ghost use Prim.Native.Nat.{ℕ, _≤_, _<_};
 ghost use lib.ListN.{length, getD};
 ghost use Rattle.lists.specs.Padded.{pad};
 ghost use Rattle.lists.specs.Search.{first, keep, below, elem};
-ghost use Rattle.evalset.specs.Sets.{room, most, mem, memAt, belowOf, addOf};
+ghost use Rattle.evalset.specs.Sets.{room, mem, memAt, belowOf, addOf};
+ghost use Rattle.evalset.specs.Most.{most};
 ghost use Rattle.search.specs.Rows.{rowBits};
 ghost use Rattle.search.specs.Tests.{Separates, Parts, pairOf, givesOf, rowOf, rowsOf, Filled};
 ghost use Rattle.search.specs.Compiled.{limit, Fit, Follows, StepSays};
@@ -21,9 +22,9 @@ use evalset::ROOM;
 // The most atoms.
 pub const ATOMS: usize = 16;
 
-// A compiled sheet, not the planner's text: the atoms of document 01's sheet. For atom i whether it is a contact, and its first and
-// second term as sets of evaluations. Of a zero atom xs has the zero term, and ys is empty.
-pub struct Sheet {
+// The chart of a list of rules: for each of their atoms whether it is a contact, and its first and second term as sets of
+// evaluations. Of a zero atom xs has the zero term, and ys is empty.
+pub struct Chart {
     pub names: usize,
     pub atoms: usize,
     pub contact: [bool; ATOMS],
@@ -124,26 +125,26 @@ fn start(names: usize) -> State
 }
 
 // The state, once atom k has its value.
-fn step(sheet: Sheet, s: State, k: usize, value: bool) -> State
+fn step(chart: Chart, s: State, k: usize, value: bool) -> State
     requires { ⌜ k < limit ⌝ }
-    ensures { λ r. ⌜ StepSays sheet s k value r ⌝ }
+    ensures { λ r. ⌜ StepSays chart s k value r ⌝ }
 {
-    let contact = sheet.contact[k];
-    let x = sheet.xs[k];
-    let y = sheet.ys[k];
+    let contact = chart.contact[k];
+    let x = chart.xs[k];
+    let y = chart.ys[k];
     decided(s, contact, x, y, value)
 }
 
 // The state of a whole row.
-fn state_of(sheet: Sheet, row: usize) -> State
-    requires { ⌜ sheet .atoms ≤ limit ⌝ }
-    ensures { λ r. ⌜ StateSays sheet row r ⌝ }
+fn state_of(chart: Chart, row: usize) -> State
+    requires { ⌜ chart .atoms ≤ limit ⌝ }
+    ensures { λ r. ⌜ StateSays chart row r ⌝ }
 {
-    let n = sheet.atoms;
-    let mut s = start(sheet.names);
+    let n = chart.atoms;
+    let mut s = start(chart.names);
     let mut i: usize = 0;
     while i < n {
-        s = step(sheet, s, i, value_in(row, n, i));
+        s = step(chart, s, i, value_in(row, n, i));
         i += 1;
     }
     s
@@ -203,17 +204,17 @@ fn gives(s: State, contact: bool, x: EvalSet, y: EvalSet, value: bool) -> EvalSe
 }
 
 // The evaluations that the atoms of a row give.
-fn gathered(sheet: Sheet, s: State, row: usize) -> EvalSet
-    requires { ⌜ sheet .atoms ≤ limit ⌝ }
-    ensures { λ r. ⌜ GatheredSays sheet s row r ⌝ }
+fn gathered(chart: Chart, s: State, row: usize) -> EvalSet
+    requires { ⌜ chart .atoms ≤ limit ⌝ }
+    ensures { λ r. ⌜ GatheredSays chart s row r ⌝ }
 {
-    let n = sheet.atoms;
+    let n = chart.atoms;
     let mut acc = evalset::empty();
     let mut i: usize = 0;
     while i < n {
-        let contact = sheet.contact[i];
-        let x = sheet.xs[i];
-        let y = sheet.ys[i];
+        let contact = chart.contact[i];
+        let x = chart.xs[i];
+        let y = chart.ys[i];
         acc = evalset::join(acc, gives(s, contact, x, y, value_in(row, n, i)));
         i += 1;
     }
@@ -221,11 +222,11 @@ fn gathered(sheet: Sheet, s: State, row: usize) -> EvalSet
 }
 
 // "The points are these evaluations ..; if there are none, the least allowed evaluation."
-fn given(sheet: Sheet, s: State, row: usize) -> EvalSet
-    requires { ⌜ sheet .atoms ≤ limit ⌝ }
-    ensures { λ r. ⌜ GivenSays sheet s row r ⌝ }
+fn given(chart: Chart, s: State, row: usize) -> EvalSet
+    requires { ⌜ chart .atoms ≤ limit ⌝ }
+    ensures { λ r. ⌜ GivenSays chart s row r ⌝ }
 {
-    let g = gathered(sheet, s, row);
+    let g = gathered(chart, s, row);
     if evalset::is_empty(g) {
         least_of(s.allowed)
     } else {
@@ -293,13 +294,13 @@ fn contact_rows(points: [u8; ROOM], count: usize, apart: [EvalSet; ROOM]) -> [Ev
 }
 
 // The plan of a row.
-pub fn planned(sheet: Sheet, row: usize) -> RowPlan
-    requires { ⌜ sheet .atoms ≤ limit ⌝ }
-    ensures { λ r. ⌜ PlanSays sheet row r ⌝ }
+pub fn planned(chart: Chart, row: usize) -> RowPlan
+    requires { ⌜ chart .atoms ≤ limit ⌝ }
+    ensures { λ r. ⌜ PlanSays chart row r ⌝ }
 {
-    let s = state_of(sheet, row);
+    let s = state_of(chart, row);
     let apart = s.rows;
-    let listed = ascending(given(sheet, s, row));
+    let listed = ascending(given(chart, s, row));
     let count = listed.count;
     let points = listed.points;
     let rows = contact_rows(points, count, apart);

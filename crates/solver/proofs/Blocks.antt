@@ -13,7 +13,8 @@ use borrow.Author.Tests.{ltb-true, lt-ltb, not-false}
 use Rattle.lists.proofs.Lists.{repeated-at, map-at}
 use Rattle.evalset.specs.declared.EvalSet.{EvalSet}
 use Rattle.evalset.specs.Bit.{bit}
-use Rattle.evalset.specs.Sets.{most, mem, belowOf}
+use Rattle.evalset.specs.Sets.{mem, belowOf}
+use Rattle.evalset.specs.Most.{most}
 use Rattle.evalset.proofs.Bits.{bit-none}
 use Rattle.evalset.proofs.Members.{names-room, below-few}
 use Rattle.contact.specs.Row.{is, unknown}

@@ -1,8 +1,8 @@
--- The search from the root: arrays of zeros have room for what is seen and for the words of all pairs, and the first good row under the row of
--- no atoms is the first row. Assumes nothing.
+-- The search from the root: arrays of zeros have room for what is seen and for the words of all pairs, and what is found is the first good row
+-- under the row of no atoms. Assumes nothing.
 use mathlib.Core.Bool.{Bool, false}
 use mathlib.Core.Path.{_≡_, sym, ap, _∙_, subst}
-use mathlib.Core.List.{List, [], map-id}
+use mathlib.Core.List.{List, []}
 use Prim.Native.Nat.{ℕ, zero, suc, _+_, _-_, _*_, _/_, _%_, _^_, _≤_, min}
 use native.Mathlib.Omega.{arith}
 use lib.ListN.{length, replicate, take, length-replicate}
@@ -11,11 +11,12 @@ use Rattle.formula.specs.Formula.{Atom}
 use Rattle.lists.specs.Search.{first}
 use Rattle.lists.proofs.Lists.{repeated-at}
 use Rattle.evalset.specs.Bit.{bit}
-use Rattle.evalset.specs.Sets.{room, most, memAt}
+use Rattle.evalset.specs.Sets.{room, memAt}
+use Rattle.evalset.specs.Most.{most}
 use Rattle.evalset.proofs.Bits.{bit-none}
-use Rattle.contact.specs.Plan.{rows, good, firstRow}
+use Rattle.contact.specs.Check.{good}
 use Rattle.contact.specs.Tableau.{under}
-use Rattle.search.specs.declared.Sheet.{Sheet}
+use Rattle.search.specs.declared.Chart.{Chart}
 use Rattle.search.specs.Rows.{rowBits}
 use Rattle.search.specs.Compiled.{limit, AtomIs, atomAt, contactAt, Compiled}
 use Rattle.pairing.specs.Words.{Spelt, isContact, Contacts, Serving}
@@ -23,13 +24,13 @@ use Rattle.pairing.specs.Listed.{pairCount, Listable, ListSays}
 use Rattle.solver.specs.declared.Cut.{Cut}
 use Rattle.solver.specs.declared.RowAnswer.{RowAnswer}
 use Rattle.solver.specs.Coded.{part, Coded}
-use Rattle.solver.specs.Tree.{rowsOf, CutOf, Given, Finds, evaluationCount, Unseen, Roomy, FirstRowSays}
+use Rattle.solver.specs.Tree.{answerFor, CutOf, Given, Finds, evaluationCount, Unseen, Roomy, SearchSays}
 
 -- ---- the memory
 
 -- nothing was seen where all words are zero
-pub unseen : (sheet : Sheet) (n : ℕ) → 2 ^ (sheet .atoms) ≤ 64 * n → Unseen sheet (replicate n 0)
-unseen sheet n h =
+pub unseen : (chart : Chart) (n : ℕ) → 2 ^ (chart .atoms) ≤ 64 * n → Unseen chart (replicate n 0)
+unseen chart n h =
     record {
       none = λ k. repeated-at (λ (x : ℕ). bit x (k % 64) ≡ false) (bit-none (k % 64)) (bit-none (k % 64)) n (k / 64);
       bits = omega (arith, length-replicate {A = ℕ} n 0);
@@ -45,59 +46,58 @@ pair-mono (suc m) (suc n) l = omega (arith, pair-mono m n (omega arith))
 pub pairs-few : (names n : ℕ) → min names most ≤ n → pairCount (evaluationCount names) ≤ pairCount (2 ^ n)
 pairs-few names n l = pair-mono (2 ^ min names most) (2 ^ n) (pow-mono {i = min names most} {j = n} l)
 
-pub listable : (sheet : Sheet) (contacts top : ℕ) (seen list : List ℕ) → sheet .atoms ≤ limit → Spelt (sheet .atoms) (contactAt sheet) contacts
-    → top ≡ evaluationCount (sheet .names) → Roomy sheet seen list → Listable sheet contacts top seen list
+pub listable : (chart : Chart) (contacts top : ℕ) (seen list : List ℕ) → chart .atoms ≤ limit → Spelt (chart .atoms) (contactAt chart) contacts
+    → top ≡ evaluationCount (chart .names) → Roomy chart seen list → Listable chart contacts top seen list
 unfolding room
-listable sheet contacts top seen list few spelt z h =
+listable chart contacts top seen list few spelt z h =
     record {
       few = few;
       contacts-are = spelt;
-      fits = omega (arith, z, pow-mono {i = min (sheet .names) 6} {j = 6} (omega arith));
-      top-is = λ l. let y : min (sheet .names) 6 ≡ sheet .names = omega arith in z ∙ ap (λ (x : ℕ). 2 ^ x) y;
+      fits = omega (arith, z, pow-mono {i = min (chart .names) 6} {j = 6} (omega arith));
+      top-is = λ l. let y : min (chart .names) 6 ≡ chart .names = omega arith in z ∙ ap (λ (x : ℕ). 2 ^ x) y;
       none = h .unseen .none;
       bits = h .unseen .bits;
       places = subst (λ (x : ℕ). pairCount x ≤ length list) (sym z) (h .places);
     }
 
--- ---- the contacts of a compiled sheet
+-- ---- the contacts of a compiled chart
 
 contact-is : (names : ℕ) (c : Bool) (x y : ℕ → Bool) (atom : Atom ℕ) → AtomIs names c x y atom → c ≡ isContact atom
 contact-is names c x y (Atom.contact s t) h = h .0
 contact-is names c x y (Atom.part s t) h = h .0
 contact-is names c x y (Atom.empty t) h = h .0
 
-contacts-compiled : (sheet : Sheet) (atoms : List (Atom ℕ)) (contacts : ℕ) → Compiled sheet atoms → Spelt (sheet .atoms) (contactAt sheet) contacts
+contacts-compiled : (chart : Chart) (atoms : List (Atom ℕ)) (contacts : ℕ) → Compiled chart atoms → Spelt (chart .atoms) (contactAt chart) contacts
     → Contacts atoms contacts
-contacts-compiled sheet atoms contacts h s =
+contacts-compiled chart atoms contacts h s =
     subst (λ (n : ℕ). Spelt n (λ i. isContact (atomAt atoms i)) contacts) (h .counted)
     (record {
       small = s .small;
       bits = λ p l.
-          let i : ℕ = sheet .atoms - 1 - p in
+          let i : ℕ = chart .atoms - 1 - p in
           s .bits p l
-          ∙ contact-is (sheet .names) (contactAt sheet i) (memAt (sheet .xs) i) (memAt (sheet .ys) i) (atomAt atoms i)
+          ∙ contact-is (chart .names) (contactAt chart i) (memAt (chart .xs) i) (memAt (chart .ys) i) (atomAt atoms i)
           (h .atom-is i (omega (arith, h .counted)));
     })
 
 -- ---- the answer
 
-pub root-first : (code ends : List ℕ) (sheet : Sheet) (contacts : ℕ) (list list' : List ℕ) (count : ℕ) (cut : Cut) (r : RowAnswer)
-    → Spelt (sheet .atoms) (contactAt sheet) contacts → ListSays sheet list list' count → CutOf (part list' 0 count) contacts (sheet .atoms) cut
+pub root-first : (code ends : List ℕ) (chart : Chart) (contacts : ℕ) (list list' : List ℕ) (count : ℕ) (cut : Cut) (r : RowAnswer)
+    → Spelt (chart .atoms) (contactAt chart) contacts → ListSays chart list list' count → CutOf (part list' 0 count) contacts (chart .atoms) cut
     → ((g : Given code ends cut) → Serving (g .names) (g .atoms) (part list' 0 count) → Finds g 0 0 (cut .k + (cut .w + cut .r)) r)
-    → FirstRowSays code ends sheet r
-unfolding FirstRowSays firstRow rowBits
-root-first code ends sheet contacts list list' count cut r spelt words cuts finds = λ atoms rules h.
-    let same : sheet .atoms ≡ length atoms = h .compiled .counted in
+    → SearchSays code ends chart r
+unfolding SearchSays rowBits
+root-first code ends chart contacts list list' count cut r spelt words cuts finds = λ atoms rules h.
+    let same : chart .atoms ≡ length atoms = h .compiled .counted in
     let z : count ≡ count - 0 = omega arith in
     let all : cut .k + (cut .w + cut .r) ≡ length atoms = omega (arith, cuts .all) in
     let given : Given code ends cut = record {
-      names = sheet .names;
+      names = chart .names;
       atoms = atoms;
       rules = rules;
       counted = sym same ∙ cuts .all;
       coded = subst (λ (n : ℕ). Coded n code ends rules) same (h .coded);
-      contacts-are = subst (Contacts atoms) (sym (cuts .contacts-is)) (contacts-compiled sheet atoms contacts (h .compiled) spelt);
+      contacts-are = subst (Contacts atoms) (sym (cuts .contacts-is)) (contacts-compiled chart atoms contacts (h .compiled) spelt);
     } in
-    ap (λ (n : ℕ). rowsOf n r) same ∙ finds given (subst (λ (x : ℕ). Serving (sheet .names) atoms (take x list')) z (words .are atoms (h .compiled)))
-    ∙ ap (λ (m : ℕ). first (good (sheet .names) atoms rules) (under [] m)) all
-    ∙ ap (first (good (sheet .names) atoms rules)) (map-id (rows (length atoms)))
+    finds given (subst (λ (x : ℕ). Serving (chart .names) atoms (take x list')) z (words .are atoms (h .compiled)))
+    ∙ ap (λ (m : ℕ). answerFor (first (good (chart .names) atoms rules) (under [] m))) all

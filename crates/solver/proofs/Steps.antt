@@ -1,15 +1,15 @@
 -- A walk over a set of rows, least first. A row outside the set has no good row under it; so what is found under the row that is taken is the
 -- first good row, or that row is passed too. Assumes nothing.
 use mathlib.Core.Bool.{false}
-use mathlib.Core.Path.{_≡_, sym, ap, _∙_}
-use mathlib.Core.List.{List, []}
+use mathlib.Core.Path.{_≡_, refl, sym, ap, _∙_}
+use mathlib.Core.List.{List, [], _∷_}
 use Prim.Native.Nat.{ℕ, _+_, _*_, _^_, _≤_, _<_}
 use native.Mathlib.Omega.{arith}
-use lib.ListN.{length}
 use Rattle.lists.specs.Search.{first, below}
 use Rattle.evalset.specs.declared.EvalSet.{EvalSet}
 use Rattle.evalset.specs.declared.Found.the-variants.{Nothing as NoneFound}
-use Rattle.evalset.specs.Sets.{room, most, mem, dropOf, fromOf, foundOf}
+use Rattle.evalset.specs.Sets.{room, mem, dropOf, fromOf, foundOf}
+use Rattle.evalset.specs.Most.{most}
 use Rattle.evalset.proofs.Members.{names-room}
 use Rattle.evalset.proofs.Walk.{from-zero, Step, stop}
 use Rattle.contact.specs.Row.{Row}
@@ -18,9 +18,21 @@ use Rattle.search.specs.Rows.{rowBits}
 use Rattle.solver.specs.declared.Cut.{Cut}
 use Rattle.solver.specs.declared.RowAnswer.{RowAnswer}
 use Rattle.solver.specs.declared.RowAnswer.the-variants.{At, Nothing}
-use Rattle.solver.specs.Tree.{Low, rowsOf, Given, Left, goodFor, Finds}
+use Rattle.solver.specs.Tree.{Low, answerFor, Given, Left, goodFor, Finds}
 use Rattle.solver.proofs.Walks.{Passed, walk-none, walk-at, passed-none, passed-before, passed-more}
 use Rattle.solver.proofs.Under.{closed-none}
+
+-- ---- what an answer tells of the rows
+
+pub none-answered : (rows : List Row) → answerFor rows ≡ Nothing → rows ≡ []
+none-answered [] e = refl
+none-answered (row ∷ rows) e = absurd (let z : _≡_ {A = ℕ} 0 1 = cc in omega arith)
+
+some-answered : (rows : List Row) (i : ℕ) → answerFor rows ≡ At i → (row : Row) × (rest : List Row) × (rows ≡ row ∷ rest)
+some-answered [] i e = absurd (let z : _≡_ {A = ℕ} 0 1 = cc in omega arith)
+some-answered (row ∷ rows) i e = (row, rows, refl)
+
+-- ---- the walk
 
 -- the rows with d atoms more under the row of k atoms, s atoms after them, for all that H holds of
 module _ {code ends : List ℕ} {cut : Cut} (H : Given code ends cut → Type 0) (k row d s : ℕ) where
@@ -47,7 +59,7 @@ module _ {code ends : List ℕ} {cut : Cut} (H : Given code ends cut → Type 0)
     -- none is left
     pub walk-ends : d ≤ most → ((j : ℕ) → at ≤ j → j < room → mem left j ≡ false) → (g : Given code ends cut) → H g → Finds g k row (d + s) Nothing
     walk-ends few none g h =
-        sym (walk-none (goodFor g) k row d s (on-to (2 ^ d) (λ j l m y. none j l (omega (arith, names-room d few))) g h))
+        ap answerFor (sym (walk-none (goodFor g) k row d s (on-to (2 ^ d) (λ j l m y. none j l (omega (arith, names-room d few))) g h)))
 
     pub walk-stops : d ≤ most → foundOf (first (mem rest) (below room)) ≡ NoneFound → (g : Given code ends cut) → H g → Finds g k row (d + s) Nothing
     walk-stops few f = walk-ends few (stop room at (mem left) (mem rest) (w .rest-is) f)
@@ -57,17 +69,16 @@ module _ {code ends : List ℕ} {cut : Cut} (H : Given code ends cut → Type 0)
         → (x : RowAnswer) → ((g : Given code ends cut) → H g → Finds g j next s x) → Turn left rest e x
     turn low e t j next same x says = record {
       finds = λ i q g h.
-          ap (rowsOf (length (g .atoms))) q
-          ∙ sym (walk-at (goodFor g) k row d s e (low e (t .passes)) (before g h) (rowBits (length (g .atoms)) i) []
-          (sym (here g h) ∙ ap (rowsOf (length (g .atoms))) q));
+          let w = some-answered _ i (sym (here g h) ∙ q) in
+          here g h ∙ ap answerFor (w .2 ∙ sym (walk-at (goodFor g) k row d s e (low e (t .passes)) (before g h) (w .0) (w .1) (w .2)));
       passes = λ q less m. record {
         rest-is = m ∙ t .rest;
-        passed = λ g h. passed-more (goodFor g) k row d s e (before g h) (sym (here g h) ∙ ap (rowsOf (length (g .atoms))) q);
+        passed = λ g h. passed-more (goodFor g) k row d s e (before g h) (none-answered _ (sym (here g h) ∙ q));
       };
     }
       where
         here : (g : Given code ends cut) → H g → Finds g (k + d) (row * 2 ^ d + e) s x
-        here g h = says g h ∙ ap (λ (r : Row). first (goodFor g) (under r s)) same
+        here g h = says g h ∙ ap (λ (r : Row). answerFor (first (goodFor g) (under r s))) same
 
         before : (g : Given code ends cut) → H g → Passed (goodFor g) k row d s e
         before = on-to e (λ j l m y. t .between j l m)

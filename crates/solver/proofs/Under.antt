@@ -14,17 +14,20 @@ use Rattle.lists.proofs.Below.{FirstSays, first-says}
 use Rattle.lists.proofs.Search.{first-none, none-intro, map-elim}
 use Rattle.lists.proofs.Truth.{clash, cases}
 use Rattle.evalset.specs.declared.EvalSet.{EvalSet}
-use Rattle.evalset.specs.Sets.{room, most, mem, meetOf}
+use Rattle.evalset.specs.Sets.{room, mem, meetOf}
+use Rattle.evalset.specs.Most.{most}
 use Rattle.evalset.proofs.Members.{names-room}
 use Rattle.contact.specs.Row.{Row, is}
-use Rattle.contact.specs.Plan.{rowMarks, check, rows}
+use Rattle.contact.specs.Plan.{rowMarks}
+use Rattle.contact.specs.Check.{check, rows}
 use Rattle.contact.specs.Tableau.{refutes, closes, under}
 use Rattle.contact.proofs.Searching.{closes-sound, closes-exact, extends-prefix}
 use Rattle.search.specs.Rows.{rowBits}
-use Rattle.search.proofs.Rows.{row-length}
+use Rattle.search.proofs.Rows.{row-length, number-back}
 use Rattle.pairing.specs.Words.{Serving, lone, rowTest, Judges}
 use Rattle.solver.specs.declared.Cut.{Cut}
-use Rattle.solver.specs.Tree.{UnrefutedSays, WholeSays, answerOf, CutFor, Given, Tested, RowsTested, WordsTested, Left, goodFor, Finds}
+use Rattle.solver.specs.declared.RowAnswer.the-variants.{At}
+use Rattle.solver.specs.Tree.{UnrefutedSays, WholeSays, answerFor, answerOf, CutFor, Given, Tested, RowsTested, WordsTested, Left, goodFor, Finds}
 use Rattle.solver.proofs.Codes.{coded-numbers}
 use Rattle.solver.proofs.Blocks.{RowsAre}
 use Rattle.solver.proofs.Walks.{row-join, walk-none, walk-at}
@@ -114,7 +117,7 @@ module _ {code ends : List ℕ} {cut : Cut} (g : Given code ends cut) where
 
       -- ---- the first row of a word
 
-      module _ (few : d ≤ most) (whole : length (g .atoms) ≡ k + d) (set left : EvalSet) (says : WholeSays code ends row k d set)
+      module _ (few : d ≤ most) (fits : row < 2 ^ k) (whole : length (g .atoms) ≡ k + d) (set left : EvalSet) (says : WholeSays code ends row k d set)
           (are : (e : ℕ) → mem left e ≡ (mem set e && rowTest table one contacts low (start + e))) where
         exact : (e : ℕ) → e < 2 ^ d → mem left e ≡ not (closes (g .names) (g .atoms) (g .rules) (map is (rowBits (k + d) (row * 2 ^ d + e))))
         unfolding closes
@@ -129,15 +132,15 @@ module _ {code ends : List ℕ} {cut : Cut} (g : Given code ends cut) where
         pub word-first : Finds g k row d (answerOf start (first (mem left) (below room)))
         word-first =
             let y : d + 0 ≡ d = omega arith in
-            go (first (mem left) (below room)) (first-says (mem left) 0 room) ∙ ap (λ (s : ℕ). first (goodFor g) (under (rowBits k row) s)) y
+            go (first (mem left) (below room)) (first-says (mem left) 0 room) ∙ ap (λ (s : ℕ). answerFor (first (goodFor g) (under (rowBits k row) s))) y
           where
             outside : (e : ℕ) → e < 2 ^ d → mem left e ≡ false → first (goodFor g) (under (rowBits (k + d) (row * 2 ^ d + e)) 0) ≡ []
             outside e l h = closed-none (rowBits (k + d) (row * 2 ^ d + e)) 0 (not-false _ (sym (exact e l) ∙ h))
 
             go : (xs : List ℕ) → FirstSays (mem left) 0 room xs → Finds g k row (d + 0) (answerOf start xs)
-            go [] s = sym (walk-none (goodFor g) k row d 0 (λ e l m. outside e m (s e (omega arith) (omega (arith, names-room d few)))))
+            go [] s = ap answerFor (sym (walk-none (goodFor g) k row d 0 (λ e l m. outside e m (s e (omega arith) (omega (arith, names-room d few))))))
             go (x ∷ xs) s =
                 let l : x < 2 ^ d = says .low x (and-eq-true-iff (mem set x) (rowTest table one contacts low (start + x)) .0 (sym (are x) ∙ s .2) .0) in
-                ap₂ (λ (n y : ℕ). rowBits n (y + x) ∷ []) whole z
-                ∙ sym (walk-at (goodFor g) k row d 0 x l (λ e b m. outside e m (s .3 e (omega arith) b)) (rowBits (k + d) (row * 2 ^ d + x)) []
-                (open-whole (rowBits (k + d) (row * 2 ^ d + x)) (row-length (k + d) (row * 2 ^ d + x) ∙ sym whole) (not-true _ (sym (exact x l) ∙ s .2))))
+                ap At (ap (λ (y : ℕ). y + x) z ∙ sym (number-back (k + d) (row * 2 ^ d + x) (under-fits k d row x fits l)))
+                ∙ ap answerFor (sym (walk-at (goodFor g) k row d 0 x l (λ e b m. outside e m (s .3 e (omega arith) b)) (rowBits (k + d) (row * 2 ^ d + x)) []
+                (open-whole (rowBits (k + d) (row * 2 ^ d + x)) (row-length (k + d) (row * 2 ^ d + x) ∙ sym whole) (not-true _ (sym (exact x l) ∙ s .2)))))

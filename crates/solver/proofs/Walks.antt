@@ -7,8 +7,8 @@ use mathlib.Core.Logic.{⊎-elim}
 use Prim.Native.Nat.{ℕ, zero, suc, _+_, _-_, _*_, _^_, _≤_, _<_}
 use native.Mathlib.Nat.{pow-suc, zero-add, eq-or-lt-of-le}
 use native.Mathlib.Omega.{arith}
-use Rattle.lists.specs.Search.{first, orElse, gather, from, below}
-use Rattle.lists.proofs.Search.{first-append, gather-append, gather-same, from-append, below-elim}
+use Rattle.lists.specs.Search.{first, orElse, collect, from, below}
+use Rattle.lists.proofs.Search.{first-append, collect-append, collect-same, from-append, below-elim}
 use Rattle.lists.proofs.Truth.{side}
 use Rattle.evalset.specs.Bit.{bit}
 use Rattle.contact.specs.Row.{Row}
@@ -36,22 +36,22 @@ row-join (suc k) b w e l =
 
 -- ---- the rows under a row, by blocks
 
-gather-shift : {B : Type 0} (f : ℕ → List B) (k j n : ℕ) → gather f (from (k + j) n) ≡ gather (λ i. f (k + i)) (from j n)
-gather-shift f k j zero = refl
-gather-shift {B} f k j (suc n) =
+collect-shift : {B : Type 0} (f : ℕ → List B) (k j n : ℕ) → collect f (from (k + j) n) ≡ collect (λ i. f (k + i)) (from j n)
+collect-shift f k j zero = refl
+collect-shift {B} f k j (suc n) =
     let z : suc (k + j) ≡ k + suc j = omega arith in
-    ap (λ (l : List B). f (k + j) ++ l) (ap (λ (x : ℕ). gather f (from x n)) z ∙ gather-shift f k (suc j) n)
+    ap (λ (l : List B). f (k + j) ++ l) (ap (λ (x : ℕ). collect f (from x n)) z ∙ collect-shift f k (suc j) n)
 
-gather-halves : {B : Type 0} (f : ℕ → List B) (w : ℕ)
-    → gather f (below (2 ^ suc w)) ≡ gather f (below (2 ^ w)) ++ gather (λ u. f (2 ^ w + u)) (below (2 ^ w))
-gather-halves {B} f w =
+collect-halves : {B : Type 0} (f : ℕ → List B) (w : ℕ)
+    → collect f (below (2 ^ suc w)) ≡ collect f (below (2 ^ w)) ++ collect (λ u. f (2 ^ w + u)) (below (2 ^ w))
+collect-halves {B} f w =
     let z : 2 ^ suc w ≡ 2 ^ w + 2 ^ w = omega (arith, pow-suc 2 w) in
     let y : 0 + 2 ^ w ≡ 2 ^ w + 0 = omega arith in
-    ap (λ (n : ℕ). gather f (below n)) z ∙ ap (gather f) (from-append 0 (2 ^ w) (2 ^ w))
-    ∙ gather-append f (below (2 ^ w)) (from (0 + 2 ^ w) (2 ^ w))
-    ∙ ap (λ (l : List B). gather f (below (2 ^ w)) ++ l) (ap (λ (k : ℕ). gather f (from k (2 ^ w))) y ∙ gather-shift f (2 ^ w) 0 (2 ^ w))
+    ap (λ (n : ℕ). collect f (below n)) z ∙ ap (collect f) (from-append 0 (2 ^ w) (2 ^ w))
+    ∙ collect-append f (below (2 ^ w)) (from (0 + 2 ^ w) (2 ^ w))
+    ∙ ap (λ (l : List B). collect f (below (2 ^ w)) ++ l) (ap (λ (k : ℕ). collect f (from k (2 ^ w))) y ∙ collect-shift f (2 ^ w) 0 (2 ^ w))
 
-under-blocks : (row : Row) (w d : ℕ) → under row (w + d) ≡ gather (λ e. under (row ++ rowBits w e) d) (below (2 ^ w))
+under-blocks : (row : Row) (w d : ℕ) → under row (w + d) ≡ collect (λ e. under (row ++ rowBits w e) d) (below (2 ^ w))
 unfolding rowBits
 under-blocks row zero d =
     ap (under row) (zero-add d) ∙ ap (λ (r : Row). under r d) (sym (append-nil row)) ∙ sym (append-nil (under (row ++ []) d))
@@ -61,30 +61,30 @@ under-blocks row (suc w) d =
     ∙ ap₂ _++_
     (under-blocks (row ++ true ∷ []) w d ∙ half true (λ e. e) (λ e l. row-lower w e l))
     (under-blocks (row ++ false ∷ []) w d ∙ half false (λ e. 2 ^ w + e) (λ e l. row-upper w e l))
-    ∙ sym (gather-halves (λ e. under (row ++ rowBits (suc w) e) d) w)
+    ∙ sym (collect-halves (λ e. under (row ++ rowBits (suc w) e) d) w)
   where
     half : (b : Bool) (f : ℕ → ℕ) → ((e : ℕ) → e < 2 ^ w → rowBits (suc w) (f e) ≡ b ∷ rowBits w e)
-        → gather (λ e. under ((row ++ b ∷ []) ++ rowBits w e) d) (below (2 ^ w)) ≡ gather (λ e. under (row ++ rowBits (suc w) (f e)) d) (below (2 ^ w))
+        → collect (λ e. under ((row ++ b ∷ []) ++ rowBits w e) d) (below (2 ^ w)) ≡ collect (λ e. under (row ++ rowBits (suc w) (f e)) d) (below (2 ^ w))
     half b f h =
-        gather-same (λ e. under ((row ++ b ∷ []) ++ rowBits w e) d) (λ e. under (row ++ rowBits (suc w) (f e)) d) (below (2 ^ w))
+        collect-same (λ e. under ((row ++ b ∷ []) ++ rowBits w e) d) (λ e. under (row ++ rowBits (suc w) (f e)) d) (below (2 ^ w))
         (λ e i. ap (λ (r : Row). under r d) (append-assoc row (b ∷ []) (rowBits w e) ∙ ap (λ (r : Row). row ++ r) (sym (h e (below-elim (2 ^ w) e i)))))
 
 -- ---- the first of what is gathered
 
 module _ {B : Type 0} (p : B → Bool) (f : ℕ → List B) where
-  gathered-none : (k n : ℕ) → ((d : ℕ) → k ≤ d → d < k + n → first p (f d) ≡ []) → first p (gather f (from k n)) ≡ []
+  gathered-none : (k n : ℕ) → ((d : ℕ) → k ≤ d → d < k + n → first p (f d) ≡ []) → first p (collect f (from k n)) ≡ []
   gathered-none k zero h = refl
   gathered-none k (suc n) h =
-      first-append p (f k) (gather f (from (suc k) n))
+      first-append p (f k) (collect f (from (suc k) n))
       ∙ ap₂ orElse (h k (omega arith) (omega arith)) (gathered-none (suc k) n (λ d a b. h d (omega arith) (omega arith)))
 
   gathered-at : (e : ℕ) (x : B) (xs : List B) → first p (f e) ≡ x ∷ xs → (k n : ℕ) → k ≤ e → e < k + n
-      → ((d : ℕ) → k ≤ d → d < e → first p (f d) ≡ []) → first p (gather f (from k n)) ≡ x ∷ xs
+      → ((d : ℕ) → k ≤ d → d < e → first p (f d) ≡ []) → first p (collect f (from k n)) ≡ x ∷ xs
   gathered-at e x xs q k zero a b h = absurd (omega arith)
   gathered-at e x xs q k (suc n) a b h =
-      first-append p (f k) (gather f (from (suc k) n))
+      first-append p (f k) (collect f (from (suc k) n))
       ∙ ⊎-elim
-      (λ z. ap (λ (l : List B). orElse l (first p (gather f (from (suc k) n)))) (ap (λ (i : ℕ). first p (f i)) z ∙ q))
+      (λ z. ap (λ (l : List B). orElse l (first p (collect f (from (suc k) n)))) (ap (λ (i : ℕ). first p (f i)) z ∙ q))
       (λ l. ap₂ orElse (h k (omega arith) l) (gathered-at e x xs q (suc k) n l (omega arith) (λ d u v. h d (omega arith) v))) (eq-or-lt-of-le a)
 
 -- ---- a walk over the blocks under a row
@@ -98,10 +98,10 @@ module _ (p : Row → Bool) (k b w d : ℕ) where
   abbrev pub Passed : ℕ → Type 0
   Passed n = (e : ℕ) → e < n → e < 2 ^ w → first p (block e) ≡ []
 
-  by-blocks : first p (under (rowBits k b) (w + d)) ≡ first p (gather block (below (2 ^ w)))
+  by-blocks : first p (under (rowBits k b) (w + d)) ≡ first p (collect block (below (2 ^ w)))
   by-blocks =
       ap (first p) (under-blocks (rowBits k b) w d
-      ∙ gather-same (λ e. under (rowBits k b ++ rowBits w e) d) block (below (2 ^ w))
+      ∙ collect-same (λ e. under (rowBits k b ++ rowBits w e) d) block (below (2 ^ w))
       (λ e i. ap (λ (r : Row). under r d) (row-join k b w e (below-elim (2 ^ w) e i))))
 
   pub walk-none : Passed (2 ^ w) → first p (under (rowBits k b) (w + d)) ≡ []

@@ -9,13 +9,15 @@ use Rattle.formula.specs.Formula.{Atom, Form}
 use Rattle.evalset.specs.declared.EvalSet.{EvalSet}
 use Rattle.lists.specs.Search.{first}
 use Rattle.evalset.specs.Bit.{bit}
-use Rattle.evalset.specs.Sets.{most, mem}
+use Rattle.evalset.specs.Sets.{mem}
+use Rattle.evalset.specs.Most.{most}
 use Rattle.contact.specs.Row.{Row, is, unknown, PartialRow}
-use Rattle.contact.specs.Plan.{rowMarks, check, good, firstRow}
+use Rattle.contact.specs.Plan.{rowMarks}
+use Rattle.contact.specs.Check.{check, good, firstRow}
 use Rattle.contact.specs.Tableau.{refutes, closes, under}
 use Rattle.kleene.specs.Rails.{Duo, duoOf, wordRows}
-use Rattle.search.specs.declared.Sheet.{Sheet}
-use Rattle.search.specs.Rows.{rowBits}
+use Rattle.search.specs.declared.Chart.{Chart}
+use Rattle.search.specs.Rows.{rowBits, rowNumber}
 use Rattle.search.specs.Compiled.{limit, Compiled}
 use Rattle.pairing.specs.Words.{Contacts, lone, rowTest}
 use Rattle.pairing.specs.Listed.{seenAt, pairCount}
@@ -67,22 +69,22 @@ pub record WholeSays (code ends : List ℕ) (row k d : ℕ) (r : EvalSet) : Type
   pub are : (many : ℕ) (rules : List (Form ℕ)) → Coded many code ends rules → many ≤ k + d → (e : ℕ) → e < 2 ^ d
       → mem r e ≡ not (refutes rules (extended (rowBits k row) d e))
 
--- ---- what the code and the sheet come from
+-- ---- what the code and the chart come from
 
 -- atoms, and rules over their numbers
-pub record ComesFrom (code ends : List ℕ) (sheet : Sheet) (atoms : List (Atom ℕ)) (rules : List (Form ℕ)) : Type 0 where
-  pub compiled : Compiled sheet atoms
-  pub coded : Coded (sheet .atoms) code ends rules
+pub record ComesFrom (code ends : List ℕ) (chart : Chart) (atoms : List (Atom ℕ)) (rules : List (Form ℕ)) : Type 0 where
+  pub compiled : Compiled chart atoms
+  pub coded : Coded (chart .atoms) code ends rules
 
--- the code can be run, and the sheet has no more atoms than there is room for
-pub record Runnable (code ends : List ℕ) (sheet : Sheet) : Type 0 where
+-- the code can be run, and the chart has no more atoms than there is room for
+pub record Runnable (code ends : List ℕ) (chart : Chart) : Type 0 where
   pub safe : SafeFrom code 0 ends
-  pub atoms-fit : sheet .atoms ≤ limit
+  pub atoms-fit : chart .atoms ≤ limit
 
--- what is found, as a list of none or one
-abbrev pub rowsOf : ℕ → RowAnswer → List (List Bool)
-rowsOf n (At row) = rowBits n row ∷ []
-rowsOf n Nothing = []
+-- the answer for the row that is found, a list of none or one: its number
+abbrev pub answerFor : List Row → RowAnswer
+answerFor [] = Nothing
+answerFor (row ∷ rows) = At (rowNumber row)
 
 -- the first of a set of rows, counted from `start`
 abbrev pub answerOf : ℕ → List ℕ → RowAnswer
@@ -149,7 +151,7 @@ module _ {code ends : List ℕ} {cut : Cut} (g : Given code ends cut) where
 
   -- the answer is the first good row under the row of k atoms, s atoms more
   abbrev pub Finds : ℕ → ℕ → ℕ → RowAnswer → Type 0
-  Finds k row s r = rowsOf (length (g .atoms)) r ≡ first goodFor (under (rowBits k row) s)
+  Finds k row s r = r ≡ answerFor (first goodFor (under (rowBits k row) s))
 
 -- ---- the memory that is lent for the list
 
@@ -158,19 +160,25 @@ abbrev pub evaluationCount : ℕ → ℕ
 evaluationCount names = 2 ^ min names most
 
 -- no word was seen yet, and each has its bit
-pub record Unseen (sheet : Sheet) (seen : List ℕ) : Type 0 where
+pub record Unseen (chart : Chart) (seen : List ℕ) : Type 0 where
   pub none : (k : ℕ) → seenAt seen k ≡ false
-  pub bits : 2 ^ (sheet .atoms) ≤ 64 * length seen
+  pub bits : 2 ^ (chart .atoms) ≤ 64 * length seen
 
 -- and there is room for the word of every pair
-pub record Roomy (sheet : Sheet) (seen list : List ℕ) : Type 0 where
-  pub unseen : Unseen sheet seen
-  pub places : pairCount (evaluationCount (sheet .names)) ≤ length list
+pub record Roomy (chart : Chart) (seen list : List ℕ) : Type 0 where
+  pub unseen : Unseen chart seen
+  pub places : pairCount (evaluationCount (chart .names)) ≤ length list
 
 -- ---- the answer
 
--- the answer is the first row, for all atoms and rules that the code and the sheet come from
-unfoldable pub FirstRowSays : List ℕ → List ℕ → Sheet → RowAnswer → Type 0
-FirstRowSays code ends sheet r =
-    (atoms : List (Atom ℕ)) (rules : List (Form ℕ)) → ComesFrom code ends sheet atoms rules
-    → rowsOf (sheet .atoms) r ≡ firstRow (sheet .names) atoms rules
+-- what is found is the first good row under the row of no atoms, for all atoms and rules that the code and the chart come from
+unfoldable pub SearchSays : List ℕ → List ℕ → Chart → RowAnswer → Type 0
+SearchSays code ends chart r =
+    (atoms : List (Atom ℕ)) (rules : List (Form ℕ)) → ComesFrom code ends chart atoms rules
+    → r ≡ answerFor (first (good (chart .names) atoms rules) (under [] (length atoms)))
+
+-- so the answer is the number of the first row, or that there is none
+unfoldable pub FirstRowSays : List ℕ → List ℕ → Chart → RowAnswer → Type 0
+FirstRowSays code ends chart r =
+    (atoms : List (Atom ℕ)) (rules : List (Form ℕ)) → ComesFrom code ends chart atoms rules
+    → r ≡ answerFor (firstRow (chart .names) atoms rules)

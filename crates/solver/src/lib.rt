@@ -3,7 +3,7 @@
 // undecided atoms are, a word also where no floor gives the decided atoms their values (crate `pairing`). In a word that is left all rows are
 // taken at once; the first that makes the rules true and passes the check is the answer.
 // Rules come as postfix codes one after another: rule i is code[ends[i - 1]..ends[i]], the first from 0 on. Contracts speak of
-// all atoms and rules that sheet and code come from (specs/Tree.antt). A requires asks only that the code can be run and that
+// all atoms and rules that chart and code come from (specs/Tree.antt). A requires asks only that the code can be run and that
 // indices are in range. Assumes nothing.
 ghost use mathlib.Core.Path.{_≡_};
 ghost use mathlib.Core.Bool.{false, not};
@@ -11,13 +11,14 @@ ghost use Prim.Native.Nat.{ℕ, _+_, _*_, _≤_, _<_, _^_, min};
 ghost use lib.ListN.{length, getD};
 ghost use Rattle.lists.specs.Search.{first, below};
 ghost use Rattle.evalset.specs.Bit.{bit};
-ghost use Rattle.evalset.specs.Sets.{room, most, mem};
+ghost use Rattle.evalset.specs.Sets.{room, mem};
+ghost use Rattle.evalset.specs.Most.{most};
 ghost use Rattle.kleene.specs.Rails.{duoAt, twoAt, wordRows};
 ghost use Rattle.search.specs.Compiled.{limit};
 ghost use Rattle.search.specs.Rows.{rowBits};
 ghost use Rattle.pairing.specs.Words.{Serving};
 ghost use Rattle.solver.specs.Coded.{part, PartSafe, SafeFrom, RuleRefuted, RefutedSays, TrueSays};
-ghost use Rattle.solver.specs.Tree.{decidedAt, Low, wordLevels, RowLeaves, WordLeaves, WholeSays, UnrefutedSays, answerOf, Fits, CutFor, Lent, Given, RowsTested, WordsTested, Left, Finds, CutOf, evaluationCount, Unseen, Roomy, Runnable, FirstRowSays};
+ghost use Rattle.solver.specs.Tree.{decidedAt, Low, wordLevels, RowLeaves, WordLeaves, WholeSays, UnrefutedSays, answerOf, Fits, CutFor, Lent, Given, RowsTested, WordsTested, Left, Finds, CutOf, evaluationCount, Unseen, Roomy, Runnable, SearchSays, FirstRowSays};
 use evalset::EvalSet;
 use evalset::Found;
 use evalset::NAMES;
@@ -25,7 +26,7 @@ use evalset::ROOM;
 use kleene::Two;
 use pairing::PLACES;
 use search::ATOMS;
-use search::Sheet;
+use search::Chart;
 
 // What the search answers: a row by its number, or none.
 pub enum RowAnswer {
@@ -372,17 +373,17 @@ fn all_evaluations(names: usize) -> usize
 fn searched(
     code: &[u8],
     ends: &[usize],
-    sheet: Sheet,
+    chart: Chart,
     seen: &mut [u64],
     list: &mut [u16],
 ) -> RowAnswer
-    requires { ⌜ Runnable (now code) (now ends) sheet × Roomy sheet (now seen) (now list) ⌝ }
-    ensures { λ r. ⌜ FirstRowSays (now (code .entry)) (now (ends .entry)) sheet r ⌝ }
+    requires { ⌜ Runnable (now code) (now ends) chart × Roomy chart (now seen) (now list) ⌝ }
+    ensures { λ r. ⌜ SearchSays (now (code .entry)) (now (ends .entry)) chart r ⌝ }
 {
-    let contacts = pairing::contacts_of(sheet);
-    let top = all_evaluations(sheet.names);
-    let count = pairing::words_of(sheet, contacts, top, seen, list);
-    let cut = cut_of(&list[0..count], contacts, sheet.atoms);
+    let contacts = pairing::contacts_of(chart);
+    let top = all_evaluations(chart.names);
+    let count = pairing::words_of(chart, contacts, top, seen, list);
+    let cut = cut_of(&list[0..count], contacts, chart.atoms);
     if cut.k + cut.w == 0 {
         return in_word(code, ends, &list[0..count], cut);
     }
@@ -390,28 +391,28 @@ fn searched(
 }
 
 // The same with room for the list of words by the number of names: sheets of few names do not clear more than they need.
-fn listed(code: &[u8], ends: &[usize], sheet: Sheet, seen: &mut [u64]) -> RowAnswer
-    requires { ⌜ Runnable (now code) (now ends) sheet × Unseen sheet (now seen) ⌝ }
-    ensures { λ r. ⌜ FirstRowSays (now (code .entry)) (now (ends .entry)) sheet r ⌝ }
+fn listed(code: &[u8], ends: &[usize], chart: Chart, seen: &mut [u64]) -> RowAnswer
+    requires { ⌜ Runnable (now code) (now ends) chart × Unseen chart (now seen) ⌝ }
+    ensures { λ r. ⌜ SearchSays (now (code .entry)) (now (ends .entry)) chart r ⌝ }
 {
-    if sheet.names <= 4 {
+    if chart.names <= 4 {
         let mut few = [0u16; 136];
-        return searched(code, ends, sheet, seen, &mut few);
+        return searched(code, ends, chart, seen, &mut few);
     }
     let mut list = [0u16; 2080];
-    searched(code, ends, sheet, seen, &mut list)
+    searched(code, ends, chart, seen, &mut list)
 }
 
-// "The first realisable row that makes all rules true." Our own crates alone call it, with code and sheet that they made from
+// "The first realisable row that makes all rules true." Our own crates alone call it, with code and chart that they made from
 // rules: `runnable` of proofs/Claims.antt meets the requires for these.
-pub fn first_row(code: &[u8], ends: &[usize], sheet: Sheet) -> RowAnswer
-    requires { ⌜ Runnable (now code) (now ends) sheet ⌝ }
-    ensures { λ r. ⌜ FirstRowSays (now (code .entry)) (now (ends .entry)) sheet r ⌝ }
+pub fn first_row(code: &[u8], ends: &[usize], chart: Chart) -> RowAnswer
+    requires { ⌜ Runnable (now code) (now ends) chart ⌝ }
+    ensures { λ r. ⌜ FirstRowSays (now (code .entry)) (now (ends .entry)) chart r ⌝ }
 {
-    if sheet.atoms <= 10 {
+    if chart.atoms <= 10 {
         let mut few = [0u64; 16];
-        return listed(code, ends, sheet, &mut few);
+        return listed(code, ends, chart, &mut few);
     }
     let mut seen = [0u64; 1024];
-    listed(code, ends, sheet, &mut seen)
+    listed(code, ends, chart, &mut seen)
 }

@@ -11,7 +11,7 @@ use Rattle.formula.specs.Names.{formulaNames}
 use Rattle.lexer.specs.Arrays.{tokensOf}
 use Rattle.syntax.specs.Grammar.{Derives}
 use Rattle.syntax.specs.Symbol.{Symbol}
-use Rattle.syntax.specs.Postfix.{postfix, formulaOf, namesIn}
+use Rattle.syntax.specs.Postfix.{postfix, formulaOf, namesAmong}
 use Rattle.syntax.specs.Machine.{Sym, accepted, refused, reading}
 use Rattle.syntax.specs.Refusal.{Refusal}
 use Rattle.syntax.specs.RuleText.{IsRule, Answers}
@@ -53,10 +53,10 @@ pub order-back : {N : Type 0} (f : Formula N) → formulaOf (postfix f) ≡ f
 order-back = formula-back
 
 -- the names of the tokens, and those of the order, are the formula's, left to right
-pub token-names : {N : Type 0} (xs : List (Symbol N)) (f : Formula N) → Derives xs f → namesIn xs ≡ formulaNames f
+pub token-names : {N : Type 0} (xs : List (Symbol N)) (f : Formula N) → Derives xs f → namesAmong xs ≡ formulaNames f
 token-names = names-of-tokens
 
-pub order-names : {N : Type 0} (f : Formula N) → namesIn (postfix f) ≡ formulaNames f
+pub order-names : {N : Type 0} (f : Formula N) → namesAmong (postfix f) ≡ formulaNames f
 order-names = names-of-order
 
 -- the kinds of an order are as many as its symbols

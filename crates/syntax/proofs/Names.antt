@@ -3,47 +3,47 @@
 use mathlib.Core.Path.{_≡_, refl, ap, ap₂, _∙_}
 use mathlib.Core.List.{List, [], _∷_, _++_, append-assoc, append-nil}
 use Prim.Native.Nat.{ℕ}
-use Rattle.lists.proofs.Search.{gather-append, gather-last}
+use Rattle.lists.proofs.Search.{collect-append, collect-last}
 use Rattle.formula.specs.declared.Sign.the-variants.{Implies, Iff, Or, And, Plus, Times}
 use Rattle.formula.specs.Formula.{Term, Atom, Form, Formula}
 use Rattle.formula.specs.Names.{termNames, formulaNames}
 use Rattle.syntax.specs.Symbol.{Leaf, Symbol, leaf, minus, tilde, opening, closing, comma, isZero, binary, relation, contact, part}
 use Rattle.syntax.specs.Grammar.{leafTerm, IsTerm, t-leaf, t-minus, t-times, t-plus, t-parenthesis, t-looser, IsFormula, f-truth, f-falsity, f-contact, f-part, f-empty, f-tilde, f-and, f-or, f-implies, f-iff, f-parenthesis, f-looser, Derives}
-use Rattle.syntax.specs.Postfix.{termAfter, formulaAfter, postfix, symbolNames, namesIn}
+use Rattle.syntax.specs.Postfix.{termAfter, formulaAfter, postfix, symbolNames, namesAmong}
 
 module _ {N : Type 0} where
   -- a sign more
-  names-sign : (a : List (Symbol N)) (x : Symbol N) → symbolNames x ≡ [] → namesIn (a ++ x ∷ []) ≡ namesIn a
-  unfolding namesIn
-  names-sign a x e = gather-last symbolNames a x ∙ ap (λ (l : List N). namesIn a ++ l) e ∙ append-nil (namesIn a)
+  names-sign : (a : List (Symbol N)) (x : Symbol N) → symbolNames x ≡ [] → namesAmong (a ++ x ∷ []) ≡ namesAmong a
+  unfolding namesAmong
+  names-sign a x e = collect-last symbolNames a x ∙ ap (λ (l : List N). namesAmong a ++ l) e ∙ append-nil (namesAmong a)
 
   -- a sign between two lists
-  names-between : (a b : List (Symbol N)) (x : Symbol N) → symbolNames x ≡ [] → namesIn (a ++ x ∷ b) ≡ namesIn a ++ namesIn b
-  unfolding namesIn
-  names-between a b x e = gather-append symbolNames a (x ∷ b) ∙ ap (λ (l : List N). namesIn a ++ (l ++ namesIn b)) e
+  names-between : (a b : List (Symbol N)) (x : Symbol N) → symbolNames x ≡ [] → namesAmong (a ++ x ∷ b) ≡ namesAmong a ++ namesAmong b
+  unfolding namesAmong
+  names-between a b x e = collect-append symbolNames a (x ∷ b) ∙ ap (λ (l : List N). namesAmong a ++ (l ++ namesAmong b)) e
 
   -- ---- in the order
 
   -- a sign after two parts, t and u, that stand behind o
   names-two : {A : Type 0} (after : A → List (Symbol N) → List (Symbol N)) (names : A → List N) (t u : A) (o : List (Symbol N)) (x : Symbol N) → symbolNames x ≡ []
-      → namesIn (after t o) ≡ namesIn o ++ names t → namesIn (after u (after t o)) ≡ namesIn (after t o) ++ names u
-      → namesIn (after u (after t o) ++ x ∷ []) ≡ namesIn o ++ (names t ++ names u)
+      → namesAmong (after t o) ≡ namesAmong o ++ names t → namesAmong (after u (after t o)) ≡ namesAmong (after t o) ++ names u
+      → namesAmong (after u (after t o) ++ x ∷ []) ≡ namesAmong o ++ (names t ++ names u)
   names-two after names t u o x s e f =
-      names-sign (after u (after t o)) x s ∙ f ∙ ap (λ (l : List N). l ++ names u) e ∙ append-assoc (namesIn o) (names t) (names u)
+      names-sign (after u (after t o)) x s ∙ f ∙ ap (λ (l : List N). l ++ names u) e ∙ append-assoc (namesAmong o) (names t) (names u)
 
-  term-order : (t : Term N) (o : List (Symbol N)) → namesIn (termAfter t o) ≡ namesIn o ++ termNames t
-  unfolding termAfter namesIn
-  term-order Term.zero o = gather-last symbolNames o (leaf Leaf.zero)
-  term-order Term.one o = gather-last symbolNames o (leaf Leaf.one)
-  term-order (Term.name x) o = gather-last symbolNames o (leaf (Leaf.name x))
+  term-order : (t : Term N) (o : List (Symbol N)) → namesAmong (termAfter t o) ≡ namesAmong o ++ termNames t
+  unfolding termAfter namesAmong
+  term-order Term.zero o = collect-last symbolNames o (leaf Leaf.zero)
+  term-order Term.one o = collect-last symbolNames o (leaf Leaf.one)
+  term-order (Term.name x) o = collect-last symbolNames o (leaf (Leaf.name x))
   term-order (Term.complement t) o = names-sign (termAfter t o) minus refl ∙ term-order t o
   term-order (Term.intersection t u) o = names-two termAfter termNames t u o (binary Times) refl (term-order t o) (term-order u (termAfter t o))
   term-order (Term.union t u) o = names-two termAfter termNames t u o (binary Plus) refl (term-order t o) (term-order u (termAfter t o))
 
-  formula-order : (f : Formula N) (o : List (Symbol N)) → namesIn (formulaAfter f o) ≡ namesIn o ++ formulaNames f
-  unfolding formulaAfter namesIn
-  formula-order Form.truth o = gather-last symbolNames o _
-  formula-order Form.falsity o = gather-last symbolNames o _
+  formula-order : (f : Formula N) (o : List (Symbol N)) → namesAmong (formulaAfter f o) ≡ namesAmong o ++ formulaNames f
+  unfolding formulaAfter namesAmong
+  formula-order Form.truth o = collect-last symbolNames o _
+  formula-order Form.falsity o = collect-last symbolNames o _
   formula-order (Form.atom (Atom.contact t u)) o = names-two termAfter termNames t u o (relation contact) refl (term-order t o) (term-order u (termAfter t o))
   formula-order (Form.atom (Atom.part t u)) o = names-two termAfter termNames t u o (relation part) refl (term-order t o) (term-order u (termAfter t o))
   formula-order (Form.atom (Atom.empty t)) o = names-sign (termAfter t o) isZero refl ∙ term-order t o
@@ -55,21 +55,21 @@ module _ {N : Type 0} where
 
   -- ---- in the tokens
 
-  in-parenthesis : (ts : List (Symbol N)) → namesIn (opening ∷ ts ++ closing ∷ []) ≡ namesIn ts
-  unfolding namesIn
+  in-parenthesis : (ts : List (Symbol N)) → namesAmong (opening ∷ ts ++ closing ∷ []) ≡ namesAmong ts
+  unfolding namesAmong
   in-parenthesis ts = names-sign ts closing refl
 
-  of-leaf : (x : Leaf N) → namesIn (leaf x ∷ []) ≡ termNames (leafTerm x)
-  unfolding namesIn
+  of-leaf : (x : Leaf N) → namesAmong (leaf x ∷ []) ≡ termNames (leafTerm x)
+  unfolding namesAmong
   of-leaf Leaf.zero = refl
   of-leaf Leaf.one = refl
   of-leaf (Leaf.name x) = refl
 
-  joined : (ts us : List (Symbol N)) {a b : List N} (x : Symbol N) → symbolNames x ≡ [] → namesIn ts ≡ a → namesIn us ≡ b → namesIn (ts ++ x ∷ us) ≡ a ++ b
+  joined : (ts us : List (Symbol N)) {a b : List N} (x : Symbol N) → symbolNames x ≡ [] → namesAmong ts ≡ a → namesAmong us ≡ b → namesAmong (ts ++ x ∷ us) ≡ a ++ b
   joined ts us x e g h = names-between ts us x e ∙ ap₂ _++_ g h
 
-  term-names : {l : ℕ} {ts : List (Symbol N)} {t : Term N} → IsTerm l ts t → namesIn ts ≡ termNames t
-  unfolding namesIn
+  term-names : {l : ℕ} {ts : List (Symbol N)} {t : Term N} → IsTerm l ts t → namesAmong ts ≡ termNames t
+  unfolding namesAmong
   term-names (t-leaf {x = x}) = of-leaf x
   term-names (t-minus g) = term-names g
   term-names (t-times {ts = ts} {us = us} g h) = joined ts us _ refl (term-names g) (term-names h)
@@ -77,11 +77,11 @@ module _ {N : Type 0} where
   term-names (t-parenthesis {ts = ts} g) = in-parenthesis ts ∙ term-names g
   term-names (t-looser g) = term-names g
 
-  in-relation : (ts us : List (Symbol N)) {a b : List N} → namesIn ts ≡ a → namesIn us ≡ b → namesIn (ts ++ (comma ∷ us ++ closing ∷ [])) ≡ a ++ b
+  in-relation : (ts us : List (Symbol N)) {a b : List N} → namesAmong ts ≡ a → namesAmong us ≡ b → namesAmong (ts ++ (comma ∷ us ++ closing ∷ [])) ≡ a ++ b
   in-relation ts us g h = joined ts (us ++ closing ∷ []) comma refl g (names-sign us closing refl ∙ h)
 
-  formula-names : {l : ℕ} {ts : List (Symbol N)} {f : Formula N} → IsFormula l ts f → namesIn ts ≡ formulaNames f
-  unfolding namesIn
+  formula-names : {l : ℕ} {ts : List (Symbol N)} {f : Formula N} → IsFormula l ts f → namesAmong ts ≡ formulaNames f
+  unfolding namesAmong
   formula-names f-truth = refl
   formula-names f-falsity = refl
   formula-names (f-contact {ts = ts} {us = us} g h) = in-relation ts us (term-names g) (term-names h)
@@ -96,10 +96,10 @@ module _ {N : Type 0} where
   formula-names (f-looser g) = formula-names g
 
   -- the names of the tokens are those of the formula
-  pub names-of-tokens : (xs : List (Symbol N)) (f : Formula N) → Derives xs f → namesIn xs ≡ formulaNames f
+  pub names-of-tokens : (xs : List (Symbol N)) (f : Formula N) → Derives xs f → namesAmong xs ≡ formulaNames f
   names-of-tokens xs f d = formula-names d
 
   -- and so are those of its order
-  pub names-of-order : (f : Formula N) → namesIn (postfix f) ≡ formulaNames f
-  unfolding namesIn
+  pub names-of-order : (f : Formula N) → namesAmong (postfix f) ≡ formulaNames f
+  unfolding namesAmong
   names-of-order f = formula-order f []

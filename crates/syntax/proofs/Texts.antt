@@ -9,7 +9,7 @@ use lib.ListN.{length}
 use Rattle.lists.proofs.Truth.{side}
 use Rattle.lists.specs.Padded.{pad}
 use Rattle.lexer.specs.Token.{Token}
-use Rattle.lexer.specs.Cutting.{Cutting, tokens, refused, first, Cut, end, blank, run, longName, sign, measuredSign, noSign, foreign}
+use Rattle.lexer.specs.Cutting.{Cutting, tokens, refused, withToken, Cut, end, blank, run, longName, sign, measuredSign, noSign, foreign}
 use Rattle.lexer.specs.Cutter.{cutting}
 use Rattle.lexer.specs.Arrays.{tokensOf, lexedOf}
 use Rattle.lexer.specs.declared.LexAnswer.{LexAnswer}
@@ -57,7 +57,7 @@ abbrev RefusedByCut : Cutting → Type 0
 RefusedByCut (tokens ts) = Unit {0}
 RefusedByCut (refused a) = OfCut a
 
-refused-by-first : (t : Token) (r : Cutting) → RefusedByCut r → RefusedByCut (first t r)
+refused-by-first : (t : Token) (r : Cutting) → RefusedByCut r → RefusedByCut (withToken t r)
 refused-by-first t (tokens ts) h = tt
 refused-by-first t (refused a) h = h
 

@@ -1,7 +1,7 @@
 -- What is computed: postfix order: each sign after what it is put on. A formula is found again from it. Assumes nothing.
 use mathlib.Core.Bool.{true, false}
 use mathlib.Core.List.{List, [], _∷_, _++_, tail}
-use Rattle.lists.specs.Search.{gather}
+use Rattle.lists.specs.Search.{collect}
 use Rattle.formula.specs.declared.Sign.the-variants.{Implies, Iff, Or, And, Plus, Times}
 use Rattle.formula.specs.Formula.{Term, Atom, Form, Formula}
 use Rattle.syntax.specs.Grammar.{leafTerm}
@@ -90,5 +90,5 @@ formulaOf xs = topFormula (puts xs [])
 
 -- the names among symbols, in their order
 module _ {N : Type 0} where
-  unfoldable pub namesIn : List (Symbol N) → List N
-  namesIn xs = gather symbolNames xs
+  unfoldable pub namesAmong : List (Symbol N) → List N
+  namesAmong xs = collect symbolNames xs

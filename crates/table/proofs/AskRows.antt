@@ -16,7 +16,7 @@ use Rattle.contact.specs.Meaning.{Floor, renamed}
 use Rattle.contact.specs.Numbering.{namesOf, numberOf}
 use Rattle.plan.specs.Words.{Plan, IsPlan, wordsOf, Refusal}
 use Rattle.plan.specs.Reader.{Reading, plan, refused, readOf, ReadingSays}
-use Rattle.plan.specs.Given.{plansOf}
+use Rattle.plan.specs.Plans.{plansOf}
 use Rattle.plan.specs.Judging.{Judgement, judge}
 use Rattle.plan.proofs.Exact.{exact}
 use Rattle.plan.specs.Floor.{planFloor, namedFloor}
@@ -25,7 +25,7 @@ use Rattle.table.specs.declared.AskAnswer.{AskAnswer}
 use Rattle.table.specs.declared.AskAnswer.the-variants as AskAnswer
 use Rattle.table.specs.declared.JudgeAnswer.{JudgeAnswer}
 use Rattle.table.specs.declared.JudgeAnswer.the-variants as JudgeAnswer
-use Rattle.table.specs.Store.{Text}
+use Rattle.table.specs.Sheet.{Text}
 use Rattle.table.specs.Rules.{AreRules}
 use Rattle.table.specs.Calls.{formulasOf}
 use Rattle.table.specs.Asking.{planAnswer, foundAnswer, askAnswer, judgementAnswer, judgePlan, judgeReading, judgeAnswer}

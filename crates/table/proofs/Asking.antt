@@ -1,9 +1,9 @@
--- Ask and judge meet their definitions: the rows that the search finds are those of the standing rules, their plan is the one that is
--- written, and words that are read are judged as a plan. Assumes nothing.
+-- Ask and judge meet their definitions: the plans given of the standing rules are none, or one that is written, and words that are read are
+-- judged as a plan. Assumes nothing.
 use Prim.Native.Nat.{ℕ, _≤_, _<_}
 use mathlib.Core.Path.{_≡_, refl, sym, ap, ap₂, _∙_}
 use mathlib.Core.Bool.{Bool, true, false, cond}
-use mathlib.Core.List.{List, [], _∷_, map}
+use mathlib.Core.List.{List, [], _∷_}
 use native.Mathlib.Omega.{arith}
 use lib.Dec.{leb}
 use lib.ListN.{length, take}
@@ -11,25 +11,24 @@ use lib.Seq.{take-append-seam}
 use borrow.Author.Tests.{le-leb, lt-leb, eq-eqb, ne-eqb}
 use Rattle.formula.specs.Formula.{Formula, Name}
 use Rattle.contact.specs.Numbering.{namesOf}
-use Rattle.solver.specs.declared.RowAnswer.{RowAnswer}
-use Rattle.solver.specs.Tree.{rowsOf}
 use Rattle.plan.specs.declared.PlanArrays.{PlanArrays}
 use Rattle.plan.specs.declared.PlanAnswer.the-variants as PlanAnswer
 use Rattle.plan.specs.declared.PlanRead.{PlanRead}
 use Rattle.plan.specs.declared.Written.{Written}
 use Rattle.plan.specs.declared.Written.the-variants as Written
-use Rattle.plan.specs.Words.{Plan, IsPlan, wordsOf}
+use Rattle.plan.specs.Words.{Plan, IsPlan, wordsOf, over}
 use Rattle.plan.specs.Reader.{Reading, plan, refused, readOf, ReadingSays}
-use Rattle.plan.specs.Arrays.{Stored, answerOf, planIn, Reads, planBy, Writes, over}
-use Rattle.plan.specs.Given.{rowPlan, plansOf}
+use Rattle.plan.specs.Arrays.{answerOf, planIn, Reads, planBy, Writes}
+use Rattle.plan.specs.Stored.{Stored}
+use Rattle.plan.specs.Plans.{plansOf}
 use Rattle.plan.specs.Judging.{Judgement, yes, unmet, judge}
 use Rattle.plan.proofs.Claims.{given-exactly}
 use Rattle.plan.proofs.Exact.{exact}
 use Rattle.plan.specs.Floor.{namedFloor}
 use Rattle.judging.specs.declared.Judged.{Judged}
 use Rattle.judging.specs.Values.{judgedOf}
-use Rattle.sheets.specs.declared.Compiling.{Compiling}
-use Rattle.sheets.specs.Texts.{CompiledRules, FirstRowIs, JudgedIs}
+use Rattle.ruleset.specs.declared.Compiling.{Compiling}
+use Rattle.ruleset.specs.Texts.{CompiledRules, JudgedIs}
 use Rattle.table.specs.declared.Table.{Table}
 use Rattle.table.specs.declared.AskAnswer.{AskAnswer}
 use Rattle.table.specs.declared.AskAnswer.the-variants as AskAnswer
@@ -37,10 +36,11 @@ use Rattle.table.specs.declared.AskResult.{AskResult}
 use Rattle.table.specs.declared.JudgeAnswer.{JudgeAnswer}
 use Rattle.table.specs.declared.JudgeAnswer.the-variants as JudgeAnswer
 use Rattle.table.specs.declared.JudgeResult.{JudgeResult}
-use Rattle.table.specs.Store.{Text, rulesOf}
+use Rattle.table.specs.Store.{rulesOf}
+use Rattle.table.specs.Sheet.{Text}
 use Rattle.table.specs.Calls.{formulasOf, FromUs}
 use Rattle.table.specs.Asking.{foundAnswer, askAnswer, foundWords, askWords, asked, Asks, judgementAnswer, judgePlan, judgeReading, judgeAnswer, judged, Judges}
-use Rattle.table.specs.Steps.{writtenAnswer, judgedAnswer, JudgeAnswerSays}
+use Rattle.table.specs.Steps.{judgedAnswer}
 use Rattle.table.specs.Rows.{SomeStand}
 use Rattle.table.proofs.Lines.{count-is, none-stand}
 use Rattle.plan.specs.Meant.{IsGiven}
@@ -87,7 +87,7 @@ module _ (rs : List Text) (buffer : List ℕ) (some : SomeStand rs) where
 
 -- ---- ask
 
-abbrev askResult : Table → AskAnswer → AskResult
+abbrev pub askResult : Table → AskAnswer → AskResult
 askResult t a = record { table = t; answer = a }
 
 module _ (t : Table) (v : FromUs t) (buffer : List ℕ) where
@@ -110,11 +110,10 @@ module _ (t : Table) (v : FromUs t) (buffer : List ℕ) where
       asks-of a exit (f ∙ ap (λ (ps : List Plan). foundAnswer ps (length buffer)) (sym e) ∙ sym (asked-some (rulesOf t) some (length buffer)))
       (g ∙ ap (λ (ps : List Plan). foundWords ps buffer) (sym e) ∙ sym (words-some (rulesOf t) some buffer))
 
--- the plans of the rows that are found
-pub found-plans : (rules : List (Formula Name)) (c : Compiling) (code : List ℕ) (r : RowAnswer) → CompiledRules rules c code → FirstRowIs c code r
-    → plansOf rules ≡ map (rowPlan rules) (rowsOf (c .sheet .atoms) r)
-unfolding plansOf FirstRowIs
-found-plans rules c code r h says = ap (map (rowPlan rules)) (sym (says rules h))
+-- the plan writer's answers, as ask's
+abbrev pub writtenAnswer : Written → AskAnswer
+writtenAnswer (Written.Words n) = AskAnswer.Plan n
+writtenAnswer (Written.Needs n) = AskAnswer.ShortBuffer n
 
 -- what is written is what is asked for
 pub wrote-plan : (arrays : PlanArrays) (buffer : List ℕ) (w : Written) (exit : List ℕ) → Writes arrays buffer w exit
@@ -137,34 +136,27 @@ same-judgement : (j : Judgement) → judgedAnswer (judgedOf j) ≡ judgementAnsw
 same-judgement yes = refl
 same-judgement (unmet k) = refl
 
-module _ (rules : List (Formula Name)) (c : Compiling) (code : List ℕ) (arrays : PlanArrays) (compiled : CompiledRules rules c code)
-    (p : Plan) (h : IsPlan p) (stored : Stored arrays p) where
-  judge-differs : (arrays .names ≡ c .sheet .names → ⊥) → JudgeAnswer.NamesDiffer (arrays .names) ≡ judgePlan rules p h
-  judge-differs differ =
+-- how a plan that arrays hold is judged by the rules, from an answer
+abbrev SaysOf : List (Formula Name) → PlanArrays → JudgeAnswer → Type 0
+SaysOf rules arrays a = (p : Plan) (h : IsPlan p) → Stored arrays p → a ≡ judgePlan rules p h
+
+module _ (rules : List (Formula Name)) (c : Compiling) (code : List ℕ) (arrays : PlanArrays) (compiled : CompiledRules rules c code) where
+  pub judge-differs : (arrays .names ≡ c .chart .names → ⊥) → SaysOf rules arrays (JudgeAnswer.NamesDiffer (arrays .names))
+  judge-differs differ p h stored =
       ap JudgeAnswer.NamesDiffer (stored .names)
       ∙ sym (ap (λ (b : Bool). cond b (judgementAnswer (judge (namedFloor rules p h) rules)) (JudgeAnswer.NamesDiffer (p .names)))
       (ne-eqb (p .names) (length (namesOf rules)) (λ e. differ (stored .names ∙ e ∙ sym (compiled .names-counted)))))
 
-  judge-equal : arrays .names ≡ c .sheet .names → (j : Judged) → JudgedIs c code arrays j → (a : JudgeAnswer) → a ≡ judgedAnswer j → a ≡ judgePlan rules p h
+  pub judge-equal : arrays .names ≡ c .chart .names → (j : Judged) → JudgedIs c code arrays j → (a : JudgeAnswer) → a ≡ judgedAnswer j → SaysOf rules arrays a
   unfolding JudgedIs
-  judge-equal e j says a f =
+  judge-equal e j says a f p h stored =
       let named : p .names ≡ length (namesOf rules) = sym (stored .names) ∙ e ∙ compiled .names-counted in
       f ∙ ap judgedAnswer (says rules compiled p h named stored) ∙ same-judgement (judge (namedFloor rules p h) rules)
       ∙ sym (ap (λ (b : Bool). cond b (judgementAnswer (judge (namedFloor rules p h) rules)) (JudgeAnswer.NamesDiffer (p .names)))
       (eq-eqb (p .names) (length (namesOf rules)) named))
 
-pub says-differ : (c : Compiling) (code : List ℕ) (arrays : PlanArrays) → (arrays .names ≡ c .sheet .names → ⊥)
-    → JudgeAnswerSays c code arrays (JudgeAnswer.NamesDiffer (arrays .names))
-unfolding JudgeAnswerSays
-says-differ c code arrays differ rules compiled p h stored = judge-differs rules c code arrays compiled p h stored differ
-
-pub says-equal : (c : Compiling) (code : List ℕ) (arrays : PlanArrays) → arrays .names ≡ c .sheet .names → (j : Judged) → JudgedIs c code arrays j
-    → (a : JudgeAnswer) → a ≡ judgedAnswer j → JudgeAnswerSays c code arrays a
-unfolding JudgeAnswerSays
-says-equal c code arrays e j says a f rules compiled p h stored = judge-equal rules c code arrays compiled p h stored e j says a f
-
 module _ (t : Table) (v : FromUs t) (words : List ℕ) where
-  judges-of : (a : JudgeAnswer) → a ≡ judgeAnswer (rulesOf t) words → Judges t words (judgeResult t a)
+  pub judges-of : (a : JudgeAnswer) → a ≡ judgeAnswer (rulesOf t) words → Judges t words (judgeResult t a)
   unfolding judged
   judges-of a e = record { result = ap₂ judgeResult (v .same) e; same = refl; from-us = v }
 
@@ -186,11 +178,9 @@ module _ (t : Table) (v : FromUs t) (words : List ℕ) where
         go (refused j) says q = let z : j ≡ at = cc in ap JudgeAnswer.NotAPlan z
 
     -- they are one
-    pub judges-plan : 0 < t .count → r .answer ≡ PlanAnswer.Plan → (c : Compiling) (code : List ℕ) → CompiledRules (formulasOf (rulesOf t)) c code
-        → (a : JudgeAnswer) → JudgeAnswerSays c code (r .plan) a → Judges t words (judgeResult t a)
-    unfolding JudgeAnswerSays
-    judges-plan h e c code compiled a says = judges-some h a (go (readOf words) (exact words) (sym (reads .answer) ∙ e) (reads .plan))
+    pub judges-plan : 0 < t .count → r .answer ≡ PlanAnswer.Plan → (a : JudgeAnswer) → SaysOf (formulasOf (rulesOf t)) (r .plan) a → Judges t words (judgeResult t a)
+    judges-plan h e a says = judges-some h a (go (readOf words) (exact words) (sym (reads .answer) ∙ e) (reads .plan))
       where
         go : (x : Reading) (s : ReadingSays words x) → answerOf x ≡ PlanAnswer.Plan → Stored (r .plan) (planIn x) → a ≡ judgeReading (formulasOf (rulesOf t)) words x s
-        go (plan p) s q stored = says (formulasOf (rulesOf t)) compiled p (s .0) stored
+        go (plan p) s q stored = says p (s .0) stored
         go (refused j) s q stored = absurd (let z : _≡_ {A = ℕ} 0 1 = cc in omega arith)

@@ -19,7 +19,7 @@ use Rattle.syntax.specs.declared.RuleAnswer.the-variants as RuleAnswer
 use Rattle.syntax.specs.declared.Rule.{Rule}
 use Rattle.syntax.proofs.Heads.{codes-append}
 use Rattle.syntax.proofs.Claims.{length-codes, text-read, is-rule}
-use Rattle.table.specs.Store.{Text}
+use Rattle.table.specs.Sheet.{Text}
 use Rattle.compile.specs.Kinds.{atomKind}
 use Rattle.table.specs.Steps.{atomPlaces, WasRead}
 

@@ -12,10 +12,12 @@ use Rattle.table.specs.declared.AddResult.{AddResult}
 use Rattle.table.specs.declared.WithdrawResult.{WithdrawResult}
 use Rattle.table.specs.declared.LoadResult.{LoadResult}
 use Rattle.table.specs.declared.AskResult.{AskResult}
-use Rattle.table.specs.Store.{Text, tableOf, rulesOf}
+use Rattle.table.specs.declared.JudgeResult.{JudgeResult}
+use Rattle.table.specs.Store.{tableOf, rulesOf}
+use Rattle.table.specs.Sheet.{Text}
 use Rattle.table.specs.Calls.{formulasOf, judgeAdd, judgeWithdraw, judgeLoad, FromUs, Adds, Withdraws, Loads}
 use Rattle.table.specs.Rules.{AreRules, CanStand}
-use Rattle.table.specs.Asking.{askAnswer, Asks, judgeAnswer}
+use Rattle.table.specs.Asking.{askAnswer, Asks, judgeAnswer, Judges}
 use Rattle.formula.specs.Formula.{Formula, Name}
 use Rattle.syntax.specs.Rule.{ruleOf}
 use Rattle.plan.specs.declared.PlanRead.{PlanRead}
@@ -23,9 +25,9 @@ use Rattle.plan.specs.Words.{Refusal}
 use Rattle.plan.specs.Arrays.{Reads}
 use Rattle.table.specs.declared.Outcome.{Outcome}
 use Rattle.table.specs.declared.Outcome.the-variants as Outcome
-use Rattle.table.specs.Numbers.{addOutcome, withdrawOutcome, loadOutcome, askOutcome, judgeOutcome, ruleOutcome, planOutcome}
+use Rattle.table.specs.Numbers.{addOutcome, withdrawOutcome, CanCome, loadOutcome, askOutcome, judgeOutcome, ruleOutcome, planOutcome}
 use Rattle.table.specs.Rows.{AddRow, WithdrawRow, LoadRow, AskRow, JudgeRow}
-use Rattle.table.specs.Stands.{Call, add, withdraw, load, ask, adds, Stands}
+use Rattle.table.specs.Stands.{Call, add, withdraw, load, ask, judge, adds, Stands}
 use Rattle.table.specs.Runs.{step, run, after, standing, Faithful}
 use Rattle.table.proofs.Stored as Stored
 use Rattle.table.proofs.Rules as Rules
@@ -77,6 +79,9 @@ load-steps = Running.by-load
 
 pub ask-steps : (t : Table) (buffer : List ℕ) (r : AskResult) (exit : List ℕ) → Asks t buffer r exit → r .table ≡ step t (ask buffer)
 ask-steps = Running.by-ask
+
+pub judge-steps : (t : Table) (words : List ℕ) (r : JudgeResult) → Judges t words r → r .table ≡ step t (judge words)
+judge-steps = Running.by-judge
 
 -- every call maps the table of a list to the table of the list after it
 pub call-maps : (rs : List Text) (c : Call) → step (tableOf rs) c ≡ tableOf (after rs c)
@@ -139,6 +144,10 @@ load-answered = LoadRows.load-row
 
 pub load-answered-only : (f : Text) (o : Outcome) → LoadRow f o → o ≡ loadOutcome (judgeLoad f)
 load-answered-only = LoadRows.load-row-only
+
+-- "The first refused line ends the load": no load answers that a line ends it and was added
+pub load-can-come : (f : Text) → CanCome (judgeLoad f)
+load-can-come = LoadRows.load-can-come
 
 pub ask-answered : (room : ℕ) (rs : List Text) (fs : List (Formula Name)) → AreRules rs fs → AskRow rs room (askOutcome (askAnswer rs room))
 ask-answered room rs fs are = AskRows.ask-row room rs (Rules.are-read rs fs are)

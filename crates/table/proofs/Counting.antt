@@ -20,7 +20,7 @@ use Rattle.table.specs.declared.Counts.{Counts}
 use Rattle.table.specs.declared.Counted.{Counted}
 use Rattle.table.specs.declared.AddAnswer.{AddAnswer}
 use Rattle.table.specs.declared.AddAnswer.the-variants as AddAnswer
-use Rattle.table.specs.Store.{Text}
+use Rattle.table.specs.Sheet.{Text}
 use Rattle.table.specs.Calls.{formulasOf, namesIn, atomsIn, readAnswer, namesAnswer, firstRefusal, judgeNames, judgeAtoms, judgeRoom, judgeText, judgeAdd, addRules}
 use Rattle.table.specs.Rules.{CanStand}
 use Rattle.table.proofs.Rules.{can-names}

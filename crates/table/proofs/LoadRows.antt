@@ -15,13 +15,12 @@ use Rattle.table.specs.declared.AddAnswer.{AddAnswer}
 use Rattle.table.specs.declared.AddAnswer.the-variants as AddAnswer
 use Rattle.table.specs.declared.LoadAnswer.{LoadAnswer}
 use Rattle.table.specs.declared.LoadAnswer.the-variants as LoadAnswer
-use Rattle.table.specs.Store.{Text}
+use Rattle.table.specs.Sheet.{Text, linesOf, blankLine, filled}
 use Rattle.table.specs.Calls.{judgeAdd, judgeLines, isNone, judgeLoad}
 use Rattle.table.specs.Rules.{CanStand}
-use Rattle.table.specs.Sheet.{linesOf, blankLine, filled}
 use Rattle.table.specs.declared.Outcome.{Outcome}
 use Rattle.table.specs.declared.Outcome.the-variants as Outcome
-use Rattle.table.specs.Numbers.{addOutcome, onLine, loadOutcome}
+use Rattle.table.specs.Numbers.{addOutcome, onLine, CanCome, loadOutcome}
 use Rattle.table.specs.Rows.{AddRow, RefusedLine, LoadRow, long, blank, line, loads}
 use Rattle.table.proofs.Standing.{NotAdded, added-or, stand-none, stand-first, stand-more, stand-added}
 use Rattle.table.proofs.Loading.{judge-blank, judge-added, judge-refused, filled-blank, filled-more, not-none, too-long, all-blank, by-lines}
@@ -201,6 +200,12 @@ load-done f r = go Outcome.Done r refl
     go o (blank h z) e = absurd (let z : _≡_ {A = ℕ} 0 1 = cc in omega arith)
     go o (line h r) e = absurd (let z : _≡_ {A = ℕ} 0 1 = cc in omega arith)
     go o (loads h n k) e = of-loads f h n k
+
+-- a line that ends a load is refused: else the load would be done
+pub load-can-come : (f : Text) → CanCome (judgeLoad f)
+load-can-come f n e =
+    let z : LoadAnswer.Line n AddAnswer.Added ≡ LoadAnswer.Loaded = sym e ∙ load-done f (subst (LoadRow f) (ap loadOutcome e) (load-row f)) in
+    absurd (let y : _≡_ {A = ℕ} 0 1 = cc in omega arith)
 
 pub load-row-only : (f : Text) (o : Outcome) → LoadRow f o → o ≡ loadOutcome (judgeLoad f)
 load-row-only f o (long h) = sym (ap loadOutcome (too-long f h))

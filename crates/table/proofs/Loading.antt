@@ -14,9 +14,9 @@ use Rattle.table.specs.declared.AddAnswer.{AddAnswer}
 use Rattle.table.specs.declared.AddAnswer.the-variants as AddAnswer
 use Rattle.table.specs.declared.LoadAnswer.{LoadAnswer}
 use Rattle.table.specs.declared.LoadAnswer.the-variants as LoadAnswer
-use Rattle.table.specs.Store.{Text, tableOf, rulesOf}
+use Rattle.table.specs.Store.{tableOf, rulesOf}
+use Rattle.table.specs.Sheet.{Text, linesOf, blankLine, filled}
 use Rattle.table.specs.Calls.{ifAdded, judgeAdd, linesFrom, judgeLines, isNone, judgeLoad, FromUs}
-use Rattle.table.specs.Sheet.{linesOf, blankLine, filled}
 use Rattle.table.specs.Steps.{countsOf, CountsWith}
 use Rattle.table.proofs.Standing.{NotAdded, refused-else, stand-none, stand-more}
 use Rattle.table.proofs.Counting.{answer-is, counts-next}

@@ -17,7 +17,8 @@ use Rattle.names.specs.declared.Gathered.{Gathered}
 use Rattle.names.proofs.Claims.{may-gather, known-from}
 use Rattle.table.specs.declared.Line.{Line}
 use Rattle.table.specs.declared.Table.{Table}
-use Rattle.table.specs.Store.{Text, rulesOf, lineOf, textOf}
+use Rattle.table.specs.Store.{rulesOf, keptLine, textOf}
+use Rattle.table.specs.Sheet.{Text}
 use Rattle.table.specs.Calls.{namesIn, atomsIn, FromUs}
 use Rattle.table.specs.Rules.{CanStand}
 use Rattle.table.proofs.Rules.{can-names, can-atoms}
@@ -55,7 +56,7 @@ module _ {t : Table} {i : ℕ} (v : FromUs t) (h : i < t .count) where
   text-is = ap textOf (line-is v h) ∙ text-line (getD (rulesOf t) i [])
 
   pub text-within : line .len ≤ length (line .bytes)
-  unfolding lineOf
+  unfolding keptLine
   text-within =
       let e = line-is v h in
       omega (arith, ap (λ (l : Line). l .len) e, ap (λ (l : Line). length (l .bytes)) e, pad-within 256 (getD (rulesOf t) i []))

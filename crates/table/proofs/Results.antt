@@ -17,9 +17,9 @@ use Rattle.table.specs.declared.WithdrawAnswer.the-variants as WithdrawA
 use Rattle.table.specs.declared.WithdrawResult.{WithdrawResult}
 use Rattle.table.specs.declared.LoadAnswer.{LoadAnswer}
 use Rattle.table.specs.declared.LoadResult.{LoadResult}
-use Rattle.table.specs.Store.{Text, tableOf, rulesOf}
+use Rattle.table.specs.Store.{tableOf, rulesOf}
+use Rattle.table.specs.Sheet.{Text, linesOf, filled}
 use Rattle.table.specs.Calls.{judgeAdd, addRules, added, judgeWithdraw, without, ifWithdrawn, withdrawRules, withdrawn, judgeLoad, ifLoaded, loadRules, loaded, FromUs, Adds, Withdraws, Loads}
-use Rattle.table.specs.Sheet.{linesOf, filled}
 use Rattle.table.specs.Steps.{countsOf, CountsWith, loadResult}
 use Rattle.table.proofs.Stored.{from-us-table}
 use Rattle.table.proofs.Standing.{NotAdded, room, added-taken, added-refused, stand-add, stand-withdraw, stand-load}

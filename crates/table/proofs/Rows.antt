@@ -16,7 +16,7 @@ use Rattle.syntax.specs.declared.RuleAnswer.{RuleAnswer}
 use Rattle.syntax.specs.declared.RuleAnswer.the-variants as RuleAnswer
 use Rattle.syntax.proofs.Claims.{text-answered, text-answered-only, is-rule}
 use Rattle.lexer.specs.Token.{Token}
-use Rattle.lists.specs.Search.{gather, here}
+use Rattle.lists.specs.Search.{collect, here}
 use Rattle.lists.proofs.Search.{in-right}
 use Rattle.lists.proofs.Truth.{cases}
 use Rattle.contact.specs.Numbering.{allAtoms, namesOf}
@@ -29,7 +29,7 @@ use Rattle.names.proofs.Tokens.{tokens-of-rule}
 use Rattle.table.specs.declared.AddAnswer.{AddAnswer}
 use Rattle.table.specs.declared.AddAnswer.the-variants as AddAnswer
 use Rattle.table.specs.declared.WithdrawAnswer.{WithdrawAnswer}
-use Rattle.table.specs.Store.{Text}
+use Rattle.table.specs.Sheet.{Text}
 use Rattle.table.specs.Calls.{formulasOf, namesIn, atomsIn, readAnswer, judgeNames, judgeText, judgeAdd, judgeWithdraw}
 use Rattle.table.specs.Rules.{AreRules, CanStand}
 use Rattle.table.specs.declared.Outcome.{Outcome}
@@ -80,7 +80,7 @@ module _ (rs : List Text) (s : Text) (h : CanStand rs) where
     unfolding namesIn
     seventh-row p f =
         seventh rule (can-rules rs h) few
-        (subst (λ (ts : List Token). SeventhAt (gather atomNames (allAtoms (formulasOf rs))) (placesOf s ts) p) (tokens-of-rule s (meaningOf s) rule)
+        (subst (λ (ts : List Token). SeventhAt (collect atomNames (allAtoms (formulasOf rs))) (placesOf s ts) p) (tokens-of-rule s (meaningOf s) rule)
         (rule-seventh (formulasOf rs) (can-names rs h) s (meaningOf s) rule p .0 f))
 
     counted : gathered s (namesIn rs) .answer ≡ NamesAnswer.Enough → Holds (judgeAdd rs s)
@@ -90,7 +90,7 @@ module _ (rs : List Text) (s : Text) (h : CanStand rs) where
         let are : AreRules (rs ++ s ∷ []) (formulasOf (rs ++ s ∷ [])) = formulas-are (rs ++ s ∷ []) (read-more rs s (can-read rs h) e) in
         let fine = names-are rs s NamesAnswer.Enough f in
         cases (ltb 16 (atomsIn (rs ++ s ∷ [])))
-        (λ t. subst⁻¹ Holds (judge-atoms rs s read few fine (ltb-true _ _ t)) (many are few names (ltb-true _ _ t)))
+        (λ t. subst⁻¹ Holds (judge-atoms rs s read few fine (ltb-true _ _ t)) (many are few names (let z : 16 < atomsIn (rs ++ s ∷ []) = ltb-true _ _ t in omega arith)))
         (λ t. subst⁻¹ Holds (judge-added rs s read few fine (ltb-false _ _ t)) (stands are few names (ltb-false _ _ t)))
 
     named : (a : NamesAnswer) → gathered s (namesIn rs) .answer ≡ a → Holds (judgeAdd rs s)
@@ -124,14 +124,14 @@ module _ (rs : List Text) (s : Text) (h : CanStand rs) where
   last-names {fs} are l =
       names-are rs s NamesAnswer.Enough (enough rs s (can-names rs h) (of-last are) .1 (omega (arith, ap length (are-names (rs ++ s ∷ []) fs are))))
 
-  seventh-found : {f : Formula Name} (p : ℕ) (r : IsRule s f) (fs : List (Formula Name)) → AreRules rs fs → SeventhAt (gather atomNames (allAtoms fs)) (placesOf s (r .tokens-of)) p
+  seventh-found : {f : Formula Name} (p : ℕ) (r : IsRule s f) (fs : List (Formula Name)) → AreRules rs fs → SeventhAt (collect atomNames (allAtoms fs)) (placesOf s (r .tokens-of)) p
       → judgeNames rs s ≡ AddAnswer.SeventhName p
   unfolding namesIn
   seventh-found {f = f} p r fs are x =
       names-are rs s (NamesAnswer.SeventhName p)
       (rule-seventh (formulasOf rs) (can-names rs h) s (meaningOf s) (is-rule s (of-formula r)) p .1
-      (subst (λ (gs : List (Formula Name)). SeventhAt (gather atomNames (allAtoms gs)) (placesOf s (ruleTokens s)) p) (are-formulas rs fs are)
-      (subst (λ (ts : List Token). SeventhAt (gather atomNames (allAtoms fs)) (placesOf s ts) p) (sym (tokens-of-rule s f r)) x)))
+      (subst (λ (gs : List (Formula Name)). SeventhAt (collect atomNames (allAtoms gs)) (placesOf s (ruleTokens s)) p) (are-formulas rs fs are)
+      (subst (λ (ts : List Token). SeventhAt (collect atomNames (allAtoms fs)) (placesOf s ts) p) (sym (tokens-of-rule s f r)) x)))
 
   unread-only : (a : RuleAnswer) → Answers s a → (a ≡ RuleAnswer.Formula → ⊥) → addOutcome (readAnswer a) ≡ addOutcome (judgeAdd rs s)
   unread-only a r n =
@@ -160,11 +160,22 @@ module _ (rs : List Text) (s : Text) (h : CanStand rs) where
       (ap addOutcome
       (judge-added rs s (text-is s RuleAnswer.Formula (of-last are)) few (last-names are names) (omega (arith, are-atoms (rs ++ s ∷ []) fs are))))
 
+-- the reader's answers have the numbers that add gives them
+read-outcome : (a : RuleAnswer) → addOutcome (readAnswer a) ≡ ruleOutcome a
+read-outcome RuleAnswer.Formula = refl
+read-outcome RuleAnswer.TooLong = refl
+read-outcome RuleAnswer.NoToken = refl
+read-outcome (RuleAnswer.ForeignByte i) = refl
+read-outcome (RuleAnswer.LongName i) = refl
+read-outcome (RuleAnswer.Measured i) = refl
+read-outcome (RuleAnswer.GrammarAt i) = refl
+
 -- a text that is refused alone is so by add, whatever rules stand
 pub text-refused : (rs : List Text) (s : Text) (k p : ℕ) → ruleOutcome (ruleOf s .answer) ≡ Outcome.Refused k p → addOutcome (judgeAdd rs s) ≡ Outcome.Refused k p
 text-refused rs s k p e =
-    ap addOutcome (judge-text rs s (readAnswer (ruleOf s .answer)) (text-is s (ruleOf s .answer) refl) (λ f. let z : Outcome.Done ≡ Outcome.Refused k p = sym (ap addOutcome f) ∙ e in absurd (let y : _≡_ {A = ℕ} 0 1 = cc in omega arith)))
-    ∙ e
+    let told : addOutcome (readAnswer (ruleOf s .answer)) ≡ Outcome.Refused k p = read-outcome (ruleOf s .answer) ∙ e in
+    ap addOutcome (judge-text rs s (readAnswer (ruleOf s .answer)) (text-is s (ruleOf s .answer) refl) (λ f. let z : Outcome.Done ≡ Outcome.Refused k p = sym (ap addOutcome f) ∙ told in absurd (let y : _≡_ {A = ℕ} 0 1 = cc in omega arith)))
+    ∙ told
 
 -- ---- withdraw
 

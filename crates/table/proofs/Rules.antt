@@ -14,7 +14,7 @@ use Rattle.syntax.proofs.Claims.{text-answered-only, text-means, is-rule}
 use Rattle.lists.specs.Search.{In, here, next}
 use Rattle.lists.proofs.Search.{none-in, uncons}
 use Rattle.contact.specs.Numbering.{allAtoms, namesOf}
-use Rattle.table.specs.Store.{Text}
+use Rattle.table.specs.Sheet.{Text}
 use Rattle.table.specs.Rules.{AreRules, CanStand}
 use Rattle.table.specs.Calls.{formulasOf, namesIn, atomsIn}
 

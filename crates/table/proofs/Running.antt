@@ -11,11 +11,13 @@ use Rattle.table.specs.declared.AddResult.{AddResult}
 use Rattle.table.specs.declared.WithdrawResult.{WithdrawResult}
 use Rattle.table.specs.declared.LoadResult.{LoadResult}
 use Rattle.table.specs.declared.AskResult.{AskResult}
-use Rattle.table.specs.Store.{Text, tableOf, rulesOf}
+use Rattle.table.specs.declared.JudgeResult.{JudgeResult}
+use Rattle.table.specs.Store.{tableOf, rulesOf}
+use Rattle.table.specs.Sheet.{Text}
 use Rattle.table.specs.Calls.{FromUs, Adds, Withdraws, Loads, judgeAdd, added, withdrawn, loaded}
 use Rattle.table.specs.Rules.{CanStand}
-use Rattle.table.specs.Asking.{Asks}
-use Rattle.table.specs.Stands.{Call, add, withdraw, load, ask, adds}
+use Rattle.table.specs.Asking.{Asks, Judges}
+use Rattle.table.specs.Stands.{Call, add, withdraw, load, ask, judge, adds}
 use Rattle.table.specs.Runs.{step, runFrom, run, after, standingFrom, standing, Faithful}
 use Rattle.table.proofs.Stored.{rules-table, from-us-table}
 use Rattle.table.proofs.Standing.{stand-none, stand-first, stand-added, stand-add, stand-withdraw, stand-load, added-taken}
@@ -37,20 +39,26 @@ pub by-ask : (t : Table) (buffer : List ℕ) (r : AskResult) (exit : List ℕ) �
 unfolding step
 by-ask t buffer r exit h = h .same
 
+pub by-judge : (t : Table) (words : List ℕ) (r : JudgeResult) → Judges t words r → r .table ≡ step t (judge words)
+unfolding step
+by-judge t words r h = h .same
+
 -- one call, from the table of a list
 pub step-table : (rs : List Text) (c : Call) → step (tableOf rs) c ≡ tableOf (after rs c)
 unfolding step after added withdrawn loaded
 step-table rs (add s) = rw rules-table
 step-table rs (withdraw k) = rw rules-table
 step-table rs (load f) = rw rules-table
-step-table rs (ask buf) = refl
+step-table rs (ask buffer) = refl
+step-table rs (judge words) = refl
 
 pub stand-after : (rs : List Text) (c : Call) → CanStand rs → CanStand (after rs c)
 unfolding after
 stand-after rs (add s) h = stand-add rs s h
 stand-after rs (withdraw k) h = stand-withdraw rs k h
 stand-after rs (load f) h = stand-load rs f h
-stand-after rs (ask buf) h = h
+stand-after rs (ask buffer) h = h
+stand-after rs (judge words) h = h
 
 -- a list of calls
 run-table : (cs : List Call) (rs : List Text) → runFrom (tableOf rs) cs ≡ tableOf (standingFrom rs cs)

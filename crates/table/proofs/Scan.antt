@@ -9,9 +9,8 @@ use lib.Seq.{getD-drop, take-suc}
 use lib.Dec.{eqb}
 use borrow.Author.Tests.{eq-eqb, ne-eqb, le-leb, lt-leb}
 use Rattle.lists.proofs.Lists.{rest}
-use Rattle.table.specs.Store.{Text}
+use Rattle.table.specs.Sheet.{Text, blankByte, blankLine, linesOf, onFirst}
 use Rattle.table.specs.Calls.{linesFrom}
-use Rattle.table.specs.Sheet.{blankByte, blankLine, linesOf, onFirst}
 use Rattle.compile.specs.Kinds.{atomKind}
 use Rattle.table.specs.Steps.{atomPlaces}
 

@@ -16,7 +16,7 @@ use Rattle.syntax.specs.declared.RuleAnswer.{RuleAnswer}
 use Rattle.syntax.specs.declared.RuleAnswer.the-variants as RuleAnswer
 use Rattle.syntax.proofs.Claims.{is-rule}
 use Rattle.lists.specs.Search.{In, here}
-use Rattle.lists.proofs.Search.{none-in, uncons, in-left, in-right, in-either, map-intro, map-elim, gather-append, in-take, in-drop}
+use Rattle.lists.proofs.Search.{none-in, uncons, in-left, in-right, in-either, map-intro, map-elim, collect-append, in-take, in-drop}
 use Rattle.contact.specs.Numbering.{allAtoms, namesOf}
 use Rattle.names.specs.Gather.{gathered}
 use Rattle.names.specs.declared.NamesAnswer.{NamesAnswer}
@@ -28,10 +28,9 @@ use Rattle.table.specs.declared.WithdrawAnswer.{WithdrawAnswer}
 use Rattle.table.specs.declared.WithdrawAnswer.the-variants as WithdrawAnswer
 use Rattle.table.specs.declared.LoadAnswer.{LoadAnswer}
 use Rattle.table.specs.declared.LoadAnswer.the-variants as LoadAnswer
-use Rattle.table.specs.Store.{Text}
+use Rattle.table.specs.Sheet.{Text, linesOf, blankLine, filled}
 use Rattle.table.specs.Calls.{formulasOf, namesIn, atomsIn, readAnswer, namesAnswer, ifAdded, firstRefusal, judgeNames, judgeAtoms, judgeRoom, judgeText, judgeAdd, addRules, judgeWithdraw, without, ifWithdrawn, withdrawRules, judgeLines, isNone, judgeLoad, ifLoaded, loadRules}
 use Rattle.table.specs.Rules.{CanStand}
-use Rattle.table.specs.Sheet.{linesOf, blankLine, filled}
 use Rattle.table.proofs.Fewer.{names-fewer}
 use Rattle.table.proofs.Rules.{AllRead, can-stand, can-read, can-names, can-atoms}
 
@@ -112,7 +111,7 @@ pub atoms-append : (rs ss : List Text) → atomsIn (rs ++ ss) ≡ atomsIn rs + a
 unfolding atomsIn
 atoms-append rs ss =
     ap (λ (fs : List (Formula Name)). length (allAtoms fs)) (map-append meaningOf rs ss)
-    ∙ ap length (gather-append atomsOf (formulasOf rs) (formulasOf ss))
+    ∙ ap length (collect-append atomsOf (formulasOf rs) (formulasOf ss))
     ∙ length-append (allAtoms (formulasOf rs)) (allAtoms (formulasOf ss))
 
 pub atoms-one : (s : Text) → atomsIn (s ∷ []) ≡ length (atomsOf (meaningOf s))

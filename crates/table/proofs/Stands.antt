@@ -15,13 +15,12 @@ use Rattle.table.specs.declared.LoadAnswer.{LoadAnswer}
 use Rattle.table.specs.declared.LoadAnswer.the-variants as LoadAnswer
 use Rattle.table.specs.declared.Outcome.{Outcome}
 use Rattle.table.specs.declared.Outcome.the-variants as Outcome
-use Rattle.table.specs.Store.{Text}
+use Rattle.table.specs.Sheet.{Text, linesOf, filled}
 use Rattle.table.specs.Calls.{judgeAdd, judgeWithdraw, without, ifWithdrawn, withdrawRules, judgeLoad, ifLoaded, loadRules}
 use Rattle.table.specs.Rules.{CanStand}
-use Rattle.table.specs.Sheet.{linesOf, filled}
 use Rattle.table.specs.Numbers.{addOutcome, withdrawOutcome, loadOutcome}
 use Rattle.table.specs.Rows.{AddRow, WithdrawRow, LoadRow}
-use Rattle.table.specs.Stands.{Call, add, withdraw, load, ask, IsRefused, TakesOut, StandsAfter, StandsFrom, Stands}
+use Rattle.table.specs.Stands.{Call, add, withdraw, load, ask, judge, IsRefused, TakesOut, StandsAfter, StandsFrom, Stands}
 use Rattle.table.specs.Runs.{after, standingFrom, standing}
 use Rattle.table.proofs.Standing.{not-withdrawn, not-loaded, added-or, added-taken, added-refused, stand-none}
 use Rattle.table.proofs.Results.{withdraw-good}
@@ -163,6 +162,7 @@ after-stands rs (add s) h = add-stands rs s h
 after-stands rs (withdraw k) h = withdraw-stands rs k
 after-stands rs (load f) h = load-stands rs f
 after-stands rs (ask buffer) h = StandsAfter.asked
+after-stands rs (judge words) h = StandsAfter.judged
 
 after-only : (rs : List Text) (c : Call) (ss : List Text) → CanStand rs → StandsAfter rs c ss → after rs c ≡ ss
 unfolding after
@@ -173,6 +173,7 @@ after-only rs c ss h (StandsAfter.not-withdrawn {k} r) = withdraw-left rs k r
 after-only rs c ss h (StandsAfter.loaded {f} r) = put-in-place rs f (load-done f r)
 after-only rs c ss h (StandsAfter.not-loaded {f} r) = load-left rs f r
 after-only rs c ss h StandsAfter.asked = refl
+after-only rs c ss h StandsAfter.judged = refl
 
 calls-stand : (cs : List Call) (rs : List Text) → CanStand rs → StandsFrom rs cs (standingFrom rs cs)
 unfolding standingFrom

@@ -6,17 +6,18 @@ use mathlib.Mathlib.Data.List.Basic.{Function·LeftInverse·list-map}
 use lib.ListN.{length, length-map}
 use lib.Seq.{take-at}
 use Rattle.lists.proofs.Padded.{pad-taken}
-use Rattle.table.specs.Store.{Text, tableOf, rulesOf, lineOf, textOf}
+use Rattle.table.specs.Store.{tableOf, rulesOf, keptLine, textOf}
+use Rattle.table.specs.Sheet.{Text}
 use Rattle.table.specs.Calls.{FromUs}
 use Rattle.table.specs.Rules.{CanStand}
 
-pub text-line : (s : Text) → textOf (lineOf s) ≡ s
-unfolding textOf lineOf
+pub text-line : (s : Text) → textOf (keptLine s) ≡ s
+unfolding textOf keptLine
 text-line s = pad-taken 256 s (length s) refl
 
 pub rules-table : (rs : List Text) → rulesOf (tableOf rs) ≡ rs
 unfolding rulesOf tableOf
-rules-table rs = rw (take-at (map lineOf rs) _ (length rs) (length-map rs lineOf)) (Function·LeftInverse·list-map textOf lineOf text-line rs)
+rules-table rs = rw (take-at (map keptLine rs) _ (length rs) (length-map rs keptLine)) (Function·LeftInverse·list-map textOf keptLine text-line rs)
 
 -- the table of a list that can stand came from us
 pub from-us-table : (rs : List Text) → CanStand rs → FromUs (tableOf rs)

@@ -8,10 +8,9 @@ use lib.Dec.{leb, eqb}
 use lib.ListN.{length}
 use Rattle.formula.specs.Formula.{Formula, Name}
 use Rattle.contact.specs.Numbering.{namesOf}
-use Rattle.plan.specs.Words.{Plan, IsPlan, wordsOf}
+use Rattle.plan.specs.Words.{Plan, IsPlan, wordsOf, over}
 use Rattle.plan.specs.Reader.{Reading, plan, refused, readOf, ReadingSays}
-use Rattle.plan.specs.Arrays.{over}
-use Rattle.plan.specs.Given.{plansOf}
+use Rattle.plan.specs.Plans.{plansOf}
 use Rattle.plan.specs.Judging.{Judgement, yes, unmet, judge}
 use Rattle.plan.proofs.Exact.{exact}
 use Rattle.plan.specs.Floor.{namedFloor}
@@ -22,7 +21,8 @@ use Rattle.table.specs.declared.AskResult.{AskResult}
 use Rattle.table.specs.declared.JudgeAnswer.{JudgeAnswer}
 use Rattle.table.specs.declared.JudgeAnswer.the-variants as JudgeAnswer
 use Rattle.table.specs.declared.JudgeResult.{JudgeResult}
-use Rattle.table.specs.Store.{Text, tableOf, rulesOf}
+use Rattle.table.specs.Store.{tableOf, rulesOf}
+use Rattle.table.specs.Sheet.{Text}
 use Rattle.table.specs.Calls.{formulasOf, FromUs}
 
 -- ---- ask

@@ -25,9 +25,9 @@ use Rattle.table.specs.declared.WithdrawResult.{WithdrawResult}
 use Rattle.table.specs.declared.LoadAnswer.{LoadAnswer}
 use Rattle.table.specs.declared.LoadAnswer.the-variants as LoadAnswer
 use Rattle.table.specs.declared.LoadResult.{LoadResult}
-use Rattle.table.specs.Store.{Text, tableOf, rulesOf}
+use Rattle.table.specs.Store.{tableOf, rulesOf}
+use Rattle.table.specs.Sheet.{Text, linesOf, blankLine, filled}
 use Rattle.table.specs.Rules.{CanStand}
-use Rattle.table.specs.Sheet.{linesOf, blankLine, filled}
 
 -- ---- what the standing texts say
 

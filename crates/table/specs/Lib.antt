@@ -1,6 +1,6 @@
+pub mod Sheet
 pub mod Store
 pub mod Rules
-pub mod Sheet
 pub mod Calls
 pub mod Steps
 pub mod Rows

@@ -1,6 +1,8 @@
 -- What is meant: document 01's number of each answer, and what it carries, by the table of calls. Assumes nothing.
 use Prim.Native.Nat.{ℕ}
+use mathlib.Core.Path.{_≡_}
 use Rattle.syntax.specs.declared.RuleAnswer.{RuleAnswer}
+use Rattle.syntax.specs.declared.RuleAnswer.the-variants as RuleAnswer
 use Rattle.plan.specs.declared.PlanAnswer.{PlanAnswer}
 use Rattle.plan.specs.declared.PlanAnswer.the-variants as PlanAnswer
 use Rattle.table.specs.declared.Outcome.{Outcome}
@@ -15,7 +17,6 @@ use Rattle.table.specs.declared.AskAnswer.{AskAnswer}
 use Rattle.table.specs.declared.AskAnswer.the-variants as AskAnswer
 use Rattle.table.specs.declared.JudgeAnswer.{JudgeAnswer}
 use Rattle.table.specs.declared.JudgeAnswer.the-variants as JudgeAnswer
-use Rattle.table.specs.Calls.{readAnswer}
 
 abbrev pub addOutcome : AddAnswer → Outcome
 addOutcome AddAnswer.Added = Outcome.Done
@@ -43,6 +44,11 @@ onLine n (Outcome.Unmet k) = Outcome.Unmet k
 onLine n (Outcome.Refused k p) = Outcome.RefusedLine k n p
 onLine n (Outcome.RefusedLine k l p) = Outcome.RefusedLine k l p
 
+-- an answer that can come of a load: the line that ends it is refused (`load-can-come` of proofs/Claims.antt). Of a line's answer Added
+-- nothing is said: what `loadOutcome` gives there has no meaning
+abbrev pub CanCome : LoadAnswer → Type 0
+CanCome a = (n : ℕ) → a ≡ LoadAnswer.Line n AddAnswer.Added → ⊥
+
 abbrev pub loadOutcome : LoadAnswer → Outcome
 loadOutcome LoadAnswer.Loaded = Outcome.Done
 loadOutcome LoadAnswer.FileTooLong = Outcome.RefusedLine 15 0 0
@@ -66,7 +72,13 @@ judgeOutcome (JudgeAnswer.NamesDiffer n) = Outcome.Refused 14 n
 
 -- a rule text alone, as add has it
 abbrev pub ruleOutcome : RuleAnswer → Outcome
-ruleOutcome a = addOutcome (readAnswer a)
+ruleOutcome RuleAnswer.Formula = Outcome.Done
+ruleOutcome RuleAnswer.TooLong = Outcome.Refused 2 256
+ruleOutcome RuleAnswer.NoToken = Outcome.Refused 1 0
+ruleOutcome (RuleAnswer.ForeignByte i) = Outcome.Refused 3 i
+ruleOutcome (RuleAnswer.LongName i) = Outcome.Refused 4 i
+ruleOutcome (RuleAnswer.Measured i) = Outcome.Refused 5 i
+ruleOutcome (RuleAnswer.GrammarAt i) = Outcome.Refused 6 i
 
 -- plan words alone, as judge has them
 abbrev pub planOutcome : PlanAnswer → Outcome

@@ -11,17 +11,16 @@ use Rattle.formula.specs.Formula.{Formula, Name}
 use Rattle.formula.specs.Names.{atomNames}
 use Rattle.syntax.specs.RuleText.{IsRule, Answers}
 use Rattle.syntax.specs.declared.RuleAnswer.the-variants as RuleAnswer
-use Rattle.lists.specs.Search.{gather}
+use Rattle.lists.specs.Search.{collect}
 use Rattle.contact.specs.Numbering.{allAtoms, namesOf}
 use Rattle.contact.specs.Meaning.{Floor, meetsAll}
 use Rattle.plan.specs.Words.{Plan, IsPlan, wordsOf, Refusal}
 use Rattle.plan.specs.Floor.{namedFloor}
 use Rattle.names.specs.Seventh.{SeventhAt, placesOf}
-use Rattle.table.specs.Store.{Text}
+use Rattle.table.specs.Sheet.{Text, linesOf, blankLine, filled}
 use Rattle.table.specs.declared.Outcome.{Outcome}
 use Rattle.table.specs.declared.Outcome.the-variants as Outcome
 use Rattle.table.specs.Rules.{AreRules, CanStand}
-use Rattle.table.specs.Sheet.{linesOf, blankLine, filled}
 use Rattle.plan.specs.Meant.{IsGiven, FirstUnmet}
 
 -- add's text s where the texts rs stand
@@ -42,7 +41,7 @@ pub data AddRow (rs : List Text) (s : Text) : Outcome → Type 0 where
   full : {f : Formula Name} → IsRule s f → 16 ≤ length rs → AddRow rs s (Outcome.Refused 9 0)
   -- 7: "a seventh name", at "that name's first byte", among the tokens that the text is cut into
   seventh : {f : Formula Name} {fs : List (Formula Name)} {p : ℕ} → (h : IsRule s f) → AreRules rs fs → length rs < 16
-      → SeventhAt (gather atomNames (allAtoms fs)) (placesOf s (h .tokens-of)) p → AddRow rs s (Outcome.Refused 7 p)
+      → SeventhAt (collect atomNames (allAtoms fs)) (placesOf s (h .tokens-of)) p → AddRow rs s (Outcome.Refused 7 p)
   -- 8: "more than 16 atoms in all"; "for 7 and 8, add's text is first put at its end"
   many : {fs : List (Formula Name)} → AreRules (rs ++ s ∷ []) fs → length rs < 16 → length (namesOf fs) ≤ 6 → 16 < length (allAtoms fs) → AddRow rs s (Outcome.Refused 8 0)
   -- "No refusal comes in another case."

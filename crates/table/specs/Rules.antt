@@ -5,7 +5,7 @@ use lib.ListN.{length}
 use Rattle.formula.specs.Formula.{Formula, Name}
 use Rattle.syntax.specs.RuleText.{IsRule}
 use Rattle.contact.specs.Numbering.{allAtoms, namesOf}
-use Rattle.table.specs.Store.{Text}
+use Rattle.table.specs.Sheet.{Text}
 
 -- "Each entry is the rule's text as it came, and means the formula read from it.": text by text, the formula that the grammar derives
 pub data AreRules : List Text → List (Formula Name) → Type 0 where

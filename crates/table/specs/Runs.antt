@@ -3,16 +3,18 @@
 use mathlib.Core.Path.{_≡_}
 use mathlib.Core.List.{List, [], _∷_}
 use Rattle.table.specs.declared.Table.{Table}
-use Rattle.table.specs.Store.{Text, tableOf, rulesOf}
+use Rattle.table.specs.Store.{tableOf, rulesOf}
+use Rattle.table.specs.Sheet.{Text}
 use Rattle.table.specs.Calls.{FromUs, addRules, added, withdrawRules, withdrawn, loadRules, loaded}
-use Rattle.table.specs.Stands.{Call, add, withdraw, load, ask, adds}
+use Rattle.table.specs.Stands.{Call, add, withdraw, load, ask, judge, adds}
 
--- the table that a call gives back, by the functions that the contracts cite; "Ask passes the table on unchanged"
+-- the table that a call gives back, by the functions that the contracts cite; "Ask passes the table on unchanged", and so does judge
 unfoldable pub step : Table → Call → Table
 step t (add s) = added (rulesOf t) s .table
 step t (withdraw k) = withdrawn (rulesOf t) k .table
 step t (load f) = loaded (rulesOf t) f .table
-step t (ask buf) = t
+step t (ask buffer) = t
+step t (judge words) = t
 
 unfoldable pub runFrom : Table → List Call → Table
 runFrom t [] = t
@@ -27,7 +29,8 @@ unfoldable pub after : List Text → Call → List Text
 after rs (add s) = addRules rs s
 after rs (withdraw k) = withdrawRules rs k
 after rs (load f) = loadRules rs f
-after rs (ask buf) = rs
+after rs (ask buffer) = rs
+after rs (judge words) = rs
 
 unfoldable pub standingFrom : List Text → List Call → List Text
 standingFrom rs [] = rs

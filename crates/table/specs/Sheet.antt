@@ -7,7 +7,10 @@ use Rattle.lexer.specs.Class.{classOf}
 use Rattle.lexer.specs.declared.Class.{Class}
 use Rattle.lexer.specs.declared.Class.the-variants as Class
 use Rattle.lists.specs.Search.{all, keep}
-use Rattle.table.specs.Store.{Text}
+
+-- a text is its bytes
+abbrev pub Text : Type 0
+Text = List ℕ
 
 -- "Load splits at byte 10"
 unfoldable pub onFirst : ℕ → List Text → List Text

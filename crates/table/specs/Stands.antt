@@ -4,18 +4,18 @@ use Prim.Native.Nat.{ℕ, _+_}
 use mathlib.Core.Path.{_≡_}
 use mathlib.Core.List.{List, [], _∷_, _++_, map}
 use lib.ListN.{length}
-use Rattle.table.specs.Store.{Text}
-use Rattle.table.specs.Sheet.{linesOf, filled}
+use Rattle.table.specs.Sheet.{Text, linesOf, filled}
 use Rattle.table.specs.declared.Outcome.{Outcome}
 use Rattle.table.specs.declared.Outcome.the-variants as Outcome
 use Rattle.table.specs.Rows.{AddRow, WithdrawRow, LoadRow}
 
--- a call, with any text, number or plan buffer
+-- a call, with any text, number, plan buffer or plan words
 pub data Call : Type 0 where
   add : Text → Call
   withdraw : ℕ → Call
   load : Text → Call
   ask : List ℕ → Call
+  judge : List ℕ → Call
 
 -- "The run it is compared with has one add for each standing rule, with that rule's text"
 unfoldable pub adds : List Text → List Call
@@ -49,6 +49,7 @@ pub data StandsAfter (rs : List Text) : Call → List Text → Type 0 where
   -- "and the old table is kept"
   not-loaded : {f : Text} → IsRefused (LoadRow f) → StandsAfter rs (load f) rs
   asked : {buffer : List ℕ} → StandsAfter rs (ask buffer) rs
+  judged : {words : List ℕ} → StandsAfter rs (judge words) rs
 
 -- where rs stand, these stand after the calls, one after the other
 pub data StandsFrom : List Text → List Call → List Text → Type 0 where

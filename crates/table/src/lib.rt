@@ -10,23 +10,22 @@ ghost use Prim.Native.Nat.{_+_, _-_, _≤_, _<_};
 ghost use lib.ListN.{length, take, drop};
 ghost use Rattle.syntax.specs.Rule.{ruleOf};
 ghost use Rattle.names.specs.Gather.{arraysOf};
-ghost use Rattle.sheets.specs.Texts.{CompiledTexts, Whole};
-ghost use Rattle.table.specs.Store.{lineOf, tableOf, rulesOf};
+ghost use Rattle.ruleset.specs.Texts.{CompiledTexts};
+ghost use Rattle.table.specs.Store.{keptLine, tableOf, rulesOf};
 ghost use Rattle.table.specs.Calls.{namesIn, readAnswer, namesAnswer, judgeText, linesFrom, FromUs, Adds, Withdraws, Loads};
 ghost use Rattle.table.specs.Sheet.{blankByte, blankLine, linesOf};
 ghost use Rattle.table.specs.Asking.{Asks, Judges};
-ghost use Rattle.table.specs.Steps.{writtenAnswer, judgedAnswer, JudgeAnswerSays, WasRead, atomPlaces, countsOf, Counting, CountsWith, loadResult};
-ghost use Rattle.table.specs.Numbers.{addOutcome, withdrawOutcome, onLine, loadOutcome, askOutcome, judgeOutcome};
+ghost use Rattle.table.specs.Steps.{judgedAnswer, WasRead, atomPlaces, countsOf, Counting, CountsWith, loadResult};
+ghost use Rattle.table.specs.Numbers.{addOutcome, withdrawOutcome, onLine, CanCome, loadOutcome, askOutcome, judgeOutcome};
 ghost use Rattle.table.specs.declared.AddAnswer.the-variants as AddAnswer;
 use judging::Judged;
 use lexer::Class;
 use names::Names;
 use names::NamesAnswer;
 use plan::PlanAnswer;
-use plan::PlanArrays;
 use plan::Written;
+use ruleset::Compiling;
 use search::ATOMS;
-use sheets::Compiling;
 use solver::RowAnswer;
 use syntax::Rule;
 use syntax::RuleAnswer;
@@ -154,7 +153,7 @@ struct Counted {
 
 // A line with nothing in it.
 fn no_line() -> Line
-    ensures { λ r. ⌜ r ≡ lineOf [] ⌝ }
+    ensures { λ r. ⌜ r ≡ keptLine [] ⌝ }
 {
     let bytes = lexer::zeros();
     Line { bytes, len: 0 }
@@ -163,7 +162,7 @@ fn no_line() -> Line
 // A text in a line.
 fn line_of(text: &[u8]) -> Line
     requires { ⌜ length (now text) ≤ 256 ⌝ }
-    ensures { λ r. ⌜ r ≡ lineOf (now (text .entry)) ⌝ }
+    ensures { λ r. ⌜ r ≡ keptLine (now (text .entry)) ⌝ }
 {
     let mut bytes = lexer::zeros();
     let mut i: usize = 0;
@@ -364,16 +363,6 @@ fn no_code() -> [u8; 4096]
     [0u8; 4096]
 }
 
-// What writing a plan answers, as ask's.
-fn written_answer(w: Written) -> AskAnswer
-    ensures { λ r. ⌜ r ≡ writtenAnswer w ⌝ }
-{
-    match w {
-        Written::Words(n) => AskAnswer::Plan(n),
-        Written::Needs(n) => AskAnswer::ShortBuffer(n),
-    }
-}
-
 // What judging a plan answers, as judge's.
 fn judged_answer(j: Judged) -> JudgeAnswer
     ensures { λ r. ⌜ r ≡ judgedAnswer j ⌝ }
@@ -382,20 +371,6 @@ fn judged_answer(j: Judged) -> JudgeAnswer
         Judged::Yes => JudgeAnswer::Yes,
         Judged::Unmet(k) => JudgeAnswer::Unmet(k),
     }
-}
-
-// A plan judged by the compiled rules, if it has as many names as they have.
-fn judge_answer(c: Compiling, code: &[u8], plan: PlanArrays) -> JudgeAnswer
-    requires { ⌜ Whole c (now code) ⌝ }
-    ensures { λ r. ⌜ JudgeAnswerSays c (now (code .entry)) plan r ⌝ }
-{
-    let sheet = c.sheet;
-    let names = plan.names as usize;
-    if names != sheet.names {
-        return JudgeAnswer::NamesDiffer(names);
-    }
-    let judged = sheets::judged(c, code, plan);
-    judged_answer(judged)
 }
 
 // Document 01's number of add's answer, and what it carries.
@@ -441,9 +416,9 @@ fn on_line(line: usize, said: Outcome) -> Outcome
     }
 }
 
-// That of load's answer, with the line and the place.
+// That of load's answer, with the line and the place. No load answers that a line ends it and was added: of that nothing is said.
 pub fn load_outcome(answer: LoadAnswer) -> Outcome
-    ensures { λ r. ⌜ r ≡ loadOutcome answer ⌝ }
+    ensures { λ r. ⌜ (CanCome answer → r ≡ loadOutcome answer) ⌝ }
 {
     match answer {
         LoadAnswer::Loaded => Outcome::Done,
@@ -566,17 +541,15 @@ impl Table {
         let mut table = self;
         let mut i = k;
         while i < count {
-            let line = table.lines[i];
+            let line = self.lines[i];
             table.lines[i - 1] = line;
             i += 1;
         }
         let none = no_line();
         table.lines[count - 1] = none;
         table.count = count - 1;
-        WithdrawResult {
-            table,
-            answer: WithdrawAnswer::Withdrawn,
-        }
+        let answer = WithdrawAnswer::Withdrawn;
+        WithdrawResult { table, answer }
     }
 
     // The table of a file's lines that are not blank, each added in turn to an empty one. The first line
@@ -619,19 +592,18 @@ impl Table {
         }
     }
 
-    // The standing rules compiled, text by text.
-    fn compiled(self, code: &mut [u8; 4096]) -> Compiling
-        requires { ⌜ FromUs self × (length (now code) ≡ 4096) ⌝ }
-        ensures { λ r. ⌜ CompiledTexts (rulesOf self) r (now (code .exit)) ⌝ }
+    // The first so many of the standing rules compiled, text by text.
+    fn compiled(self, rules: usize, code: &mut [u8; 4096]) -> Compiling
+        requires { ⌜ FromUs self × (rules ≤ self .count) × (length (now code) ≡ 4096) ⌝ }
+        ensures { λ r. ⌜ CompiledTexts (take rules (rulesOf self)) r (now (code .exit)) ⌝ }
     {
-        let standing = self.count;
-        let mut c = sheets::nothing_compiled();
+        let mut c = ruleset::nothing_compiled();
         let mut i: usize = 0;
-        while i < standing {
+        while i < rules {
             let line = self.lines[i];
             let len = line.len;
             let bytes = line.bytes;
-            c = sheets::with_text(&bytes[..len], c, code);
+            c = ruleset::with_text(&bytes[..len], c, code);
             i += 1;
         }
         c
@@ -644,27 +616,33 @@ impl Table {
         requires { ⌜ FromUs self ⌝ }
         ensures { λ r. ⌜ Asks self (now (buffer .entry)) r (now (buffer .exit)) ⌝ }
     {
-        if self.count <= 0 {
+        let standing = self.count;
+        if standing <= 0 {
             return AskResult {
                 table: self,
                 answer: AskAnswer::NoRule,
             };
         }
         let mut code = no_code();
-        let c = self.compiled(&mut code);
-        let found = sheets::row_of(c, &code);
+        let c = self.compiled(standing, &mut code);
+        let found = ruleset::row_of(c, &code);
         let RowAnswer::At(row) = found else {
             return AskResult {
                 table: self,
                 answer: AskAnswer::NoPlan,
             };
         };
-        let plan = sheets::plan_of(c, row);
+        let plan = ruleset::plan_of(c, row);
         let written = plan::write_plan(plan, buffer);
-        let answer = written_answer(written);
-        AskResult {
-            table: self,
-            answer,
+        match written {
+            Written::Words(n) => AskResult {
+                table: self,
+                answer: AskAnswer::Plan(n),
+            },
+            Written::Needs(n) => AskResult {
+                table: self,
+                answer: AskAnswer::ShortBuffer(n),
+            },
         }
     }
 
@@ -675,7 +653,8 @@ impl Table {
         requires { ⌜ FromUs self ⌝ }
         ensures { λ r. ⌜ Judges self (now (words .entry)) r ⌝ }
     {
-        if self.count <= 0 {
+        let count = self.count;
+        if count <= 0 {
             return JudgeResult {
                 table: self,
                 answer: JudgeAnswer::NoRule,
@@ -690,9 +669,18 @@ impl Table {
             };
         }
         let mut code = no_code();
-        let c = self.compiled(&mut code);
+        let c = self.compiled(count, &mut code);
+        let chart = c.chart;
         let plan = read.plan;
-        let answer = judge_answer(c, &code, plan);
+        let names = plan.names as usize;
+        if names != chart.names {
+            return JudgeResult {
+                table: self,
+                answer: JudgeAnswer::NamesDiffer(names),
+            };
+        }
+        let judged = ruleset::judged(c, &code, plan);
+        let answer = judged_answer(judged);
         JudgeResult {
             table: self,
             answer,

@@ -8,7 +8,7 @@ use Rattle.lists.specs.Search.{In}
 use Rattle.table.specs.declared.Table.{Table}
 use Rattle.table.specs.declared.AskResult.{AskResult}
 use Rattle.table.specs.Asking.{Asks}
-use Rattle.table.specs.Store.{Text}
+use Rattle.table.specs.Sheet.{Text}
 use Rattle.table.specs.Stands.{Call, Stands}
 use Rattle.table.specs.Runs.{run}
 use Rattle.table.proofs.Claims as table

@@ -13,7 +13,8 @@ use Rattle.syntax.proofs.Claims.{text-means}
 use Rattle.contact.specs.Meaning.{Floor, meetsAll}
 use Rattle.plan.specs.Words.{Plan, wordsOf}
 use Rattle.plan.specs.Reader.{plan}
-use Rattle.plan.specs.Given.{givenPlan, rowPlan, plansOf}
+use Rattle.plan.specs.Given.{givenPlan, rowPlan}
+use Rattle.plan.specs.Plans.{plansOf}
 use Rattle.plan.proofs.Claims.{written-read, no-plan-given, given-exactly, given-at-most-one, given-is-plan, given-meets}
 use Rattle.contact.specs.Numbering.{namesOf}
 use Rattle.contact.specs.Row.{Row, IsFirstRow}
@@ -26,7 +27,8 @@ use Rattle.table.specs.declared.WithdrawResult.{WithdrawResult}
 use Rattle.table.specs.declared.LoadResult.{LoadResult}
 use Rattle.table.specs.declared.AskResult.{AskResult}
 use Rattle.table.specs.declared.JudgeResult.{JudgeResult}
-use Rattle.table.specs.Store.{Text, tableOf, rulesOf}
+use Rattle.table.specs.Store.{tableOf, rulesOf}
+use Rattle.table.specs.Sheet.{Text}
 use Rattle.table.specs.Calls.{formulasOf, namesIn, judgeAdd, addRules, added, judgeWithdraw, withdrawRules, withdrawn, judgeLoad, loadRules, loaded, FromUs, Adds}
 use Rattle.table.specs.Rules.{AreRules, CanStand}
 use Rattle.table.proofs.Rules.{of-computed, can-rules, can-names}
@@ -37,7 +39,7 @@ use Rattle.table.specs.Stands.{Call, adds, Stands}
 use Rattle.table.specs.Runs.{step, runFrom, run, standing}
 use Rattle.table.proofs.Standing.{refused-else, not-withdrawn, not-loaded, stand-none, stand-first}
 use Rattle.table.proofs.Results.{adds-of, withdraws-of, loads-of}
-use Rattle.table.proofs.Asking.{asks-of, words-none, words-written, words-short, first-words}
+use Rattle.table.proofs.Asking.{asks-of, judges-of, words-none, words-written, words-short, first-words}
 use Rattle.table.proofs.Claims as table
 use Rattle.theorems.specs.Demands.{Called, Leaves, Exactly, Answered, Met, NotMet, Given, Meant, Same}
 use Rattle.plan.specs.Meant.{IsGiven, FirstUnmet}
@@ -51,18 +53,20 @@ called-runs t cs u (Called.add {s = s} {r = r} {cs = ds} h l) = called-runs (r .
 called-runs t cs u (Called.withdraw {k = k} {r = r} {cs = ds} h l) = called-runs (r .table) ds u l ∙ ap (λ (x : Table). runFrom x ds) (table.withdraw-steps t k r h)
 called-runs t cs u (Called.load {f = f} {r = r} {cs = ds} h l) = called-runs (r .table) ds u l ∙ ap (λ (x : Table). runFrom x ds) (table.load-steps t f r h)
 called-runs t cs u (Called.ask {buffer = buffer} {r = r} {exit = exit} {cs = ds} h l) = called-runs (r .table) ds u l ∙ ap (λ (x : Table). runFrom x ds) (table.ask-steps t buffer r exit h)
+called-runs t cs u (Called.judge {words = words} {r = r} {cs = ds} h l) = called-runs (r .table) ds u l ∙ ap (λ (x : Table). runFrom x ds) (table.judge-steps t words r h)
 
 -- and every list of calls leaves one: the contracts can be met
 calls-run : (cs : List Call) (t : Table) → FromUs t → Called t cs (runFrom t cs)
-unfolding runFrom step asked
+unfolding runFrom step asked judged
 calls-run [] t v = Called.none
 calls-run (Call.add s ∷ cs) t v = let h = adds-of t s (added (rulesOf t) s) v refl in Called.add h (calls-run cs (added (rulesOf t) s .table) (h .from-us))
 calls-run (Call.withdraw k ∷ cs) t v = let h = withdraws-of t k (withdrawn (rulesOf t) k) v refl in Called.withdraw h (calls-run cs (withdrawn (rulesOf t) k .table) (h .from-us))
 calls-run (Call.load f ∷ cs) t v = let h = loads-of t f (loaded (rulesOf t) f) v refl in Called.load h (calls-run cs (loaded (rulesOf t) f .table) (h .from-us))
 calls-run (Call.ask buffer ∷ cs) t v =
     Called.ask (asks-of t v buffer (askAnswer (rulesOf t) (length buffer)) (askWords (rulesOf t) buffer) refl refl) (calls-run cs t v)
+calls-run (Call.judge words ∷ cs) t v = Called.judge (judges-of t v words (judgeAnswer (rulesOf t) words) refl) (calls-run cs t v)
 
-left : (cs : List Call) (t : Table) → Leaves cs t → t ≡ run cs
+pub left : (cs : List Call) (t : Table) → Leaves cs t → t ≡ run cs
 unfolding run
 left cs t l = called-runs (tableOf []) cs t l
 
@@ -142,7 +146,7 @@ module _ (cs : List Call) where
   are = can-rules (standing cs) stands
 
   -- ---- the answers as functions of the standing rules
-  asked-by : (buffer : List ℕ) (r : AskResult) (exit : List ℕ) → Asks (run cs) buffer r exit
+  pub asked-by : (buffer : List ℕ) (r : AskResult) (exit : List ℕ) → Asks (run cs) buffer r exit
       → (r .answer ≡ askAnswer (standing cs) (length buffer)) × (exit ≡ askWords (standing cs) buffer)
   unfolding asked
   asked-by buffer r exit h = (

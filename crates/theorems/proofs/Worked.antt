@@ -1,6 +1,6 @@
 -- Every worked sheet holds: the standing rules and the words of their plan are computed from the rule texts, one equation over the
 -- table of rows, and what ask gives follows for any buffer. Assumes nothing.
-use mathlib.Core.Path.{_≡_, refl, sym, ap, _∙_, subst}
+use mathlib.Core.Path.{_≡_, refl, ap, _∙_, subst}
 use mathlib.Core.Bool.{Bool, true, false, cond}
 use mathlib.Core.List.{List, [], _∷_, map, nil≢cons, cons≢nil, head-eq-of-cons-eq}
 use Prim.Native.Nat.{ℕ}
@@ -19,22 +19,28 @@ use Rattle.evalset.specs.Bit.{bit}
 use Rattle.lists.proofs.Truth.{clash}
 use Rattle.lists.proofs.Lists.{map-same}
 use Rattle.contact.specs.Row.{rulesTrue}
-use Rattle.contact.specs.Plan.{separated, allowed, fills, partners, leads, check, given, pointsFor, good, firstRow}
+use Rattle.contact.specs.Plan.{separated, allowed, fills, partners, leads, given, pointsFor}
+use Rattle.contact.specs.Check.{check, good, firstRow}
 use Rattle.names.specs.Gather.{ruleTokens, withName, namesAfter, gatheredOf, gathered}
 use Rattle.names.specs.Seventh.{placesOf}
-use Rattle.plan.specs.Arrays.{pairOf, rowTo, linksTo, over}
-use Rattle.plan.specs.Words.{Plan, before, wordsOf}
-use Rattle.plan.specs.Given.{givenPlan, rowPlan, plansOf}
+use Rattle.plan.specs.Words.{over, Plan, before, wordsOf}
+use Rattle.plan.specs.Links.{pairOf, rowTo, linksTo}
+use Rattle.plan.specs.Given.{givenPlan, rowPlan}
+use Rattle.plan.specs.Plans.{plansOf}
+use Rattle.table.specs.declared.Table.{Table}
+use Rattle.table.specs.declared.Outcome.{Outcome}
 use Rattle.table.specs.declared.AskAnswer.{AskAnswer}
 use Rattle.table.specs.declared.AskAnswer.the-variants as AskAnswer
-use Rattle.table.specs.Store.{Text}
+use Rattle.table.specs.Sheet.{Text}
 use Rattle.table.specs.Calls.{formulasOf, namesIn, atomsIn, judgeNames, judgeAtoms, judgeRoom, judgeText, judgeAdd, addRules, judgeWithdraw, without, withdrawRules, isNone}
-use Rattle.table.specs.Stands.{adds, Stands}
+use Rattle.table.specs.Stands.{Call, adds, Stands}
 use Rattle.table.specs.Runs.{after, standingFrom, standing}
-use Rattle.table.specs.Asking.{planAnswer, foundAnswer, askAnswer, foundWords, askWords}
+use Rattle.table.specs.Asking.{planAnswer, foundAnswer, askAnswer, foundWords, askWords, Asks}
 use Rattle.table.specs.Numbers.{askOutcome}
-use Rattle.table.proofs.Claims.{standing-stands, same-table}
-use Rattle.theorems.specs.Worked.{Answer, words, noPlan, WorkedSheet, workedSheets, Asked, AskedFor, Holds}
+use Rattle.table.proofs.Claims.{standing-stands}
+use Rattle.theorems.specs.Worked.{Answer, words, noPlan, WorkedSheet, workedSheets, Gives, AskedFor, Holds}
+use Rattle.theorems.specs.Demands.{Leaves}
+use Rattle.theorems.proofs.Demands.{left, asked-by}
 
 -- ---- computed
 
@@ -67,9 +73,14 @@ sheets-computed = refl
 
 -- ---- asked
 
+-- what ask computes where the rules rs stand: this outcome, and these words
+record Asked (rs : List Text) (buffer : List ℕ) (o : Outcome) (exit : List ℕ) : Type 0 where
+  pub answer : askOutcome (askAnswer rs (length buffer)) ≡ o
+  pub words : askWords rs buffer ≡ exit
+
 module _ (buffer : List ℕ) (s : Text) (rs : List Text) where
   -- ask, by the plans of the rules
-  asked-for : (a : Answer) (plans : List Plan) → plansOf (formulasOf (s ∷ rs)) ≡ plans → map wordsOf plans ≡ plansIn a → AskedFor a (s ∷ rs) buffer
+  asked-for : (a : Answer) (plans : List Plan) → plansOf (formulasOf (s ∷ rs)) ≡ plans → map wordsOf plans ≡ plansIn a → AskedFor a buffer (Asked (s ∷ rs) buffer)
   unfolding askAnswer askWords
   asked-for noPlan [] e f =
       record { answer = ap (λ (ps : List Plan). askOutcome (foundAnswer ps (length buffer))) e; words = ap (λ (ps : List Plan). foundWords ps buffer) e }
@@ -89,9 +100,20 @@ module _ (buffer : List ℕ) (s : Text) (rs : List Text) where
           }
 
 -- the same where some rule stands
-asked : (buffer : List ℕ) (a : Answer) (rs : List Text) → isNone rs ≡ false → map wordsOf (plansOf (formulasOf rs)) ≡ plansIn a → AskedFor a rs buffer
+asked : (buffer : List ℕ) (a : Answer) (rs : List Text) → isNone rs ≡ false → map wordsOf (plansOf (formulasOf rs)) ≡ plansIn a → AskedFor a buffer (Asked rs buffer)
 asked buffer a [] h e = clash refl h
 asked buffer a (s ∷ rs) h e = asked-for buffer s rs a (plansOf (formulasOf (s ∷ rs))) refl e
+
+-- what is computed is what ask gives on the table that the calls leave
+gives : (cs : List Call) (t : Table) → Leaves cs t → (buffer : List ℕ) (o : Outcome) (ws : List ℕ) → Asked (standing cs) buffer o ws → Gives t buffer o ws
+gives cs t l buffer o ws a r exit h =
+    let e = asked-by cs buffer r exit (subst (λ u. Asks u buffer r exit) (left cs t l) h) in
+    (ap askOutcome (e .0) ∙ a .answer, e .1 ∙ a .words)
+
+-- and so for a row's answer
+each : {S G : Outcome → List ℕ → Type 0} → ((o : Outcome) (exit : List ℕ) → S o exit → G o exit) → (a : Answer) (buffer : List ℕ) → AskedFor a buffer S → AskedFor a buffer G
+each f (words ws) buffer h = (λ l. f _ _ (h .0 l), λ l. f _ _ (h .1 l))
+each f noPlan buffer h = f _ _ h
 
 -- ---- the claim
 
@@ -99,10 +121,8 @@ asked buffer a (s ∷ rs) h e = asked-for buffer s rs a (plansOf (formulasOf (s 
 pub worked : (row : WorkedSheet) → In row workedSheets → Holds row
 worked row i =
     let e = map-same computed written i sheets-computed in
-    let held = same-table (row .calls) .holds in
     record {
       stand = subst (Stands (row .calls)) (ap (λ (o : Computed). o .rules) e) (standing-stands (row .calls));
-      held = held ∙ ap (λ (o : Computed). o .rules) e;
-      answered = λ buffer. subst (λ rs. AskedFor (row .answer) rs buffer) (sym held)
+      answered = λ t l buffer. each (gives (row .calls) t l buffer) (row .answer) buffer
           (asked buffer (row .answer) (standing (row .calls)) (ap (λ (o : Computed). o .none) e) (ap (λ (o : Computed). o .plans) e));
     }

@@ -1,5 +1,5 @@
 -- What is meant: the customer's three demands, each as one statement about a list of calls from the empty table. The list is any list of
--- add, withdraw, load and ask, refused ones included, each with any text, number or plan buffer; the standing rules rs are those that
+-- add, withdraw, load, ask and judge, refused ones included, each with any text, number, plan buffer or plan words; the standing rules rs are those that
 -- `Stands` makes of the calls alone, by the rows of the table of calls, and their formulas those that the grammar derives. The calls of
 -- the code come in by their contracts (Adds, Withdraws, Loads, Asks, Judges, Reads): what holds of every result that a contract allows
 -- holds of what the code gives. Assumes nothing.
@@ -14,8 +14,9 @@ use Rattle.syntax.specs.RuleText.{IsRule}
 use Rattle.contact.specs.Meaning.{Floor, meetsAll}
 use Rattle.plan.specs.declared.PlanAnswer.the-variants as PlanAnswer
 use Rattle.plan.specs.declared.PlanRead.{PlanRead}
-use Rattle.plan.specs.Words.{Plan, wordsOf}
-use Rattle.plan.specs.Arrays.{Stored, Reads, over}
+use Rattle.plan.specs.Words.{Plan, wordsOf, over}
+use Rattle.plan.specs.Arrays.{Reads}
+use Rattle.plan.specs.Stored.{Stored}
 use Rattle.table.specs.declared.Table.{Table}
 use Rattle.table.specs.declared.Outcome.{Outcome}
 use Rattle.table.specs.declared.Outcome.the-variants as Outcome
@@ -24,7 +25,8 @@ use Rattle.table.specs.declared.WithdrawResult.{WithdrawResult}
 use Rattle.table.specs.declared.LoadResult.{LoadResult}
 use Rattle.table.specs.declared.AskResult.{AskResult}
 use Rattle.table.specs.declared.JudgeResult.{JudgeResult}
-use Rattle.table.specs.Store.{Text, tableOf}
+use Rattle.table.specs.Store.{tableOf}
+use Rattle.table.specs.Sheet.{Text}
 use Rattle.table.specs.Rules.{AreRules}
 use Rattle.table.specs.Calls.{FromUs, Adds, Withdraws, Loads}
 use Rattle.table.specs.Asking.{Asks, Judges}
@@ -40,6 +42,7 @@ pub data Called : Table → List Call → Table → Type 0 where
   withdraw : {t : Table} {k : ℕ} {r : WithdrawResult} {cs : List Call} {u : Table} → Withdraws t k r → Called (r .table) cs u → Called t (Call.withdraw k ∷ cs) u
   load : {t : Table} {f : Text} {r : LoadResult} {cs : List Call} {u : Table} → Loads t f r → Called (r .table) cs u → Called t (Call.load f ∷ cs) u
   ask : {t : Table} {buffer : List ℕ} {r : AskResult} {exit : List ℕ} {cs : List Call} {u : Table} → Asks t buffer r exit → Called (r .table) cs u → Called t (Call.ask buffer ∷ cs) u
+  judge : {t : Table} {words : List ℕ} {r : JudgeResult} {cs : List Call} {u : Table} → Judges t words r → Called (r .table) cs u → Called t (Call.judge words ∷ cs) u
 
 -- "from an empty table", which is what `Table::empty` gives
 abbrev pub Leaves : List Call → Table → Type 0

@@ -1,18 +1,20 @@
--- What is meant, and over what is computed: document 01, 'Worked sheets': the rows P1 to P12 as that paper has them, and what a row says,
--- which is of the functions that the calls' contracts name (`run`, `askAnswer`, `askWords`). Assumes nothing.
+-- What is meant: document 01, 'Worked sheets': the rows P1 to P12 as that paper has them, and what a row says of the calls of the code, which
+-- come in by their contracts as in Demands. Assumes nothing.
 use mathlib.Core.Path.{_≡_}
 use mathlib.Core.List.{List, [], _∷_, _++_}
 use Prim.Native.Nat.{ℕ, _≤_, _<_}
 use lib.ListN.{length}
 use Rattle.lexer.specs.Text.{bytes}
-use Rattle.plan.specs.Arrays.{over}
-use Rattle.table.specs.Store.{Text, rulesOf}
+use Rattle.plan.specs.Words.{over}
+use Rattle.table.specs.Sheet.{Text}
 use Rattle.table.specs.Stands.{Call, withdraw, adds, Stands}
-use Rattle.table.specs.Runs.{run}
-use Rattle.table.specs.Asking.{askAnswer, askWords}
+use Rattle.table.specs.Asking.{Asks}
+use Rattle.table.specs.declared.Table.{Table}
+use Rattle.table.specs.declared.AskResult.{AskResult}
 use Rattle.table.specs.declared.Outcome.{Outcome}
 use Rattle.table.specs.declared.Outcome.the-variants as Outcome
 use Rattle.table.specs.Numbers.{askOutcome}
+use Rattle.theorems.specs.Demands.{Leaves}
 
 -- ---- the rows
 
@@ -76,24 +78,21 @@ workedSheets = P1 ∷ P2 ∷ P3 ∷ P4 ∷ P5 ∷ P6 ∷ P7 ∷ P8 ∷ P9 ∷ P1
 
 -- ---- what a row says
 
--- ask, where the rules rs stand and this buffer is lent, has the outcome o and leaves the words exit in it
-pub record Asked (rs : List Text) (buffer : List ℕ) (o : Outcome) (exit : List ℕ) : Type 0 where
-  pub answer : askOutcome (askAnswer rs (length buffer)) ≡ o
-  pub words : askWords rs buffer ≡ exit
+-- ask, on the table t and lent this buffer, has this outcome and leaves these words in the buffer
+abbrev pub Gives : Table → List ℕ → Outcome → List ℕ → Type 0
+Gives t buffer o ws = (r : AskResult) (exit : List ℕ) → Asks t buffer r exit → (askOutcome (r .answer) ≡ o) × (exit ≡ ws)
 
 -- "Ask answers a plan, with its number of words, or no plan; words past the plan, and all words for no plan, keep their values";
 -- refusal 12: "the plan has more words than the buffer | words needed", so "P3 with 3 words of buffer gives 12, needed 4"
-abbrev pub AskedFor : Answer → List Text → List ℕ → Type 0
-AskedFor (words ws) rs buffer =
-    (length ws ≤ length buffer → Asked rs buffer (Outcome.Plan (length ws)) (over ws buffer))
-    × (length buffer < length ws → Asked rs buffer (Outcome.Refused 12 (length ws)) buffer)
-AskedFor noPlan rs buffer = Asked rs buffer Outcome.NoPlan buffer
+abbrev pub AskedFor : Answer → List ℕ → (Outcome → List ℕ → Type 0) → Type 0
+AskedFor (words ws) buffer gives =
+    (length ws ≤ length buffer → gives (Outcome.Plan (length ws)) (over ws buffer))
+    × (length buffer < length ws → gives (Outcome.Refused 12 (length ws)) buffer)
+AskedFor noPlan buffer gives = gives Outcome.NoPlan buffer
 
 -- the row holds
 pub record Holds (row : WorkedSheet) : Type 0 where
   -- the rules that stand after the calls are the row's
   pub stand : Stands (row .calls) (row .rules)
-  -- the table that the calls leave holds them
-  pub held : rulesOf (run (row .calls)) ≡ row .rules
-  -- ask on that table gives the row's answer, whatever buffer is lent
-  pub answered : (buffer : List ℕ) → AskedFor (row .answer) (rulesOf (run (row .calls))) buffer
+  -- ask on the table that the calls leave gives the row's answer, whatever buffer is lent
+  pub answered : (t : Table) → Leaves (row .calls) t → (buffer : List ℕ) → AskedFor (row .answer) buffer (Gives t buffer)

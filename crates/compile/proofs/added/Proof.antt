@@ -4,7 +4,7 @@ use native.Mathlib.Omega.{arith}
 use lib.ListN.{length, length-map}
 use borrow.Author.Needs.{needs}
 use Rattle.lists.proofs.Lists.{stored}
-use Rattle.compile.proofs.Sheets.{stored-set}
+use Rattle.compile.proofs.Charts.{stored-set}
 use Rattle.compile.proofs.added.Statement.{statement}
 use Rattle.compile.proofs.added.Tie as tie
 
@@ -28,7 +28,7 @@ add-grown c = search needs
 
 returns : tie.Need-returns
 returns c =
-    let s = c .args .sheet in
+    let s = c .args .chart in
     let contacts : length (s .contact) ≡ 16 = simp length-map at (c .good .0 .1 .1 .1 .1 .0 .1 .0 .1) in
     let firsts : length (s .xs) ≡ 16 = simp length-map at (c .good .0 .1 .1 .1 .1 .1 .0 .1 .0 .1) in
     let seconds : length (s .ys) ≡ 16 = simp length-map at (c .good .0 .1 .1 .1 .1 .1 .1 .0 .1 .0 .1) in

@@ -4,7 +4,7 @@ use mathlib.Core.Path.{refl, sym, _∙_}
 use borrow.Author.Needs.{needs}
 use borrow.Author.Tests.{ne-eqb}
 use Rattle.compile.specs.Kinds.{firstBy, secondBy}
-use Rattle.compile.proofs.Sheets.{grows-same}
+use Rattle.compile.proofs.Charts.{grows-same}
 use Rattle.compile.proofs.with_atom.Statement.{statement}
 use Rattle.compile.proofs.with_atom.Tie as tie
 

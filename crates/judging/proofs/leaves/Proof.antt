@@ -12,10 +12,10 @@ use Rattle.judging.proofs.leaves.Statement.{statement}
 use Rattle.judging.proofs.leaves.Tie as tie
 
 abbrev Inv-loop : tie.InvT-loop
-Inv-loop plan sheet n out₀ i₀ out i = (i ≤ n) × (length out ≡ 16) × Sure out i (valueOf plan sheet)
+Inv-loop plan chart n out₀ i₀ out i = (i ≤ n) × (length out ≡ 16) × Sure out i (valueOf plan chart)
 
 abbrev μ-loop : tie.MeasureT-loop
-μ-loop plan sheet n out₀ i₀ out i = n - i
+μ-loop plan chart n out₀ i₀ out i = n - i
 
 settled-requires : tie.Need-settled-requires Inv-loop μ-loop
 settled-requires c κs = search needs

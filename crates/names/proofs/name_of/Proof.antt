@@ -8,7 +8,7 @@ use lib.ListN.{length, take, getD, set}
 use lib.Seq.{take-all}
 use borrow.Author.Needs.{needs}
 use Rattle.names.specs.declared.KeptName.{KeptName}
-use Rattle.names.specs.Gather.{nameOf}
+use Rattle.names.specs.Gather.{keptName}
 use Rattle.lists.specs.Padded.{pad}
 use Rattle.lists.proofs.Padded.{pad-none, copy-next}
 use Rattle.names.proofs.name_of.Statement.{statement}
@@ -52,7 +52,7 @@ cast-len : tie.Need-cast-len Inv-loop μ-loop
 cast-len c = omega arith
 
 returns : tie.Need-returns Inv-loop μ-loop
-unfolding nameOf pad
+unfolding keptName pad
 returns c =
     let s = c .before .before .args .w .now in
     let i = c .before .loop .i in

@@ -4,7 +4,7 @@ use Prim.Native.Nat.{_+_, _-_, _≤_}
 use mathlib.Core.Path.{_≡_, sym, _∙_}
 use native.Mathlib.Omega.{arith}
 use lib.ListN.{length, take, drop, length-map}
-use Rattle.evalset.specs.Sets.{most}
+use Rattle.evalset.specs.Most.{most}
 use Rattle.names.specs.Steps.{placeIn}
 use Rattle.names.proofs.Scans.{number-here, number-next, number-end}
 use Rattle.names.proofs.number_of.Statement.{statement}

@@ -9,10 +9,10 @@ use Rattle.pairing.proofs.contacts_of.Statement.{statement}
 use Rattle.pairing.proofs.contacts_of.Tie as tie
 
 abbrev Inv-loop : tie.InvT-loop
-Inv-loop sheet n k₀ i₀ k i = (i ≤ n) × Spelt i (contactAt sheet) k
+Inv-loop chart n k₀ i₀ k i = (i ≤ n) × Spelt i (contactAt chart) k
 
 abbrev μ-loop : tie.MeasureT-loop
-μ-loop sheet n k₀ i₀ k i = n - i
+μ-loop chart n k₀ i₀ k i = n - i
 
 loop-holds : tie.Need-loop-holds Inv-loop μ-loop
 loop-holds c = (omega arith, spelt-none _)
@@ -21,7 +21,7 @@ element-copy-out-contact : tie.Need-element-copy-out-contact Inv-loop μ-loop
 element-copy-out-contact c = omega arith
 
 pushed-requires : tie.Need-pushed-requires Inv-loop μ-loop
-pushed-requires c κs = spelt-few _ _ _ (c .before .before .loop .inv .1) (omega arith)
+pushed-requires c κs = let l = spelt-few _ _ _ (c .before .before .loop .inv .1) (omega arith) in omega (arith, l)
 
 add-i : tie.Need-add-i Inv-loop μ-loop
 add-i c = omega arith

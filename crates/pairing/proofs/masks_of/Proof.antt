@@ -1,75 +1,61 @@
--- `pairing::masks_of` meets its contract. Assumes nothing.
-use mathlib.Core.Path.{_≡_, refl, _∙_}
-use Prim.Native.Nat.{ℕ, _-_, _≤_, _<_}
+-- `pairing::masks_of` meets its contract: so far the masks are those by the first i atoms. Assumes nothing.
+use mathlib.Core.Path.{_≡_, refl, _∙_, subst}
+use Prim.Native.Nat.{ℕ, _-_, _≤_}
 use native.Mathlib.Omega.{arith}
-use lib.ListN.{length, length-set}
-use Rattle.evalset.specs.Sets.{room}
+use lib.ListN.{length}
+use Rattle.lists.proofs.Lists.{repeated-at}
+use Rattle.evalset.specs.Sets.{memAt}
 use Rattle.pairing.specs.Sums.{entry}
-use Rattle.pairing.specs.Listed.{MaskIs}
-use Rattle.pairing.proofs.Masking.{masks-more}
+use Rattle.pairing.specs.Masks.{MaskIs, MasksAre}
+use Rattle.pairing.proofs.Masking.{mask-none, mask-spare, mask-more}
 use Rattle.pairing.proofs.masks_of.Statement.{statement}
 use Rattle.pairing.proofs.masks_of.Tie as tie
 
 abbrev Inv-loop : tie.InvT-loop
-Inv-loop sheet contacts top own₀ first₀ second₀ e₀ own first second e =
-    (e ≤ top) × (length own ≡ 64) × (length first ≡ 64) × (length second ≡ 64)
-    × ((d : ℕ) → d < e → MaskIs sheet d (entry own d) (entry first d) (entry second d))
+Inv-loop n top xs ys masks₀ i₀ masks i = (i ≤ n) × (length masks ≡ 64) × MasksAre xs ys i top masks
 
 abbrev μ-loop : tie.MeasureT-loop
-μ-loop sheet contacts top own₀ first₀ second₀ e₀ own first second e = top - e
+μ-loop n top xs ys masks₀ i₀ masks i = n - i
 
 loop-holds : tie.Need-loop-holds Inv-loop μ-loop
-loop-holds c = (omega arith, refl, refl, refl, λ d l. absurd (omega arith))
+loop-holds c = (omega arith, refl, λ e l. repeated-at (MaskIs _ _ 0 e) (mask-none _ _ e) (mask-none _ _ e) 64 e)
 
-mask-of-requires : tie.Need-mask-of-requires Inv-loop μ-loop
-mask-of-requires c κs = (c .before .before .pre .0, c .before .before .pre .1)
+mul-x : tie.Need-mul-x Inv-loop μ-loop
+mul-x c = omega arith
 
-mul-own : tie.Need-mul-own Inv-loop μ-loop
-unfolding room
-mul-own c = omega arith
+array-copy-out-x : tie.Need-array-copy-out-x Inv-loop μ-loop
+array-copy-out-x c = omega arith
 
-array-write-own : tie.Need-array-write-own Inv-loop μ-loop
-unfolding room
-array-write-own c = omega arith
+mul-y : tie.Need-mul-y Inv-loop μ-loop
+mul-y c = omega arith
 
-mul-first : tie.Need-mul-first Inv-loop μ-loop
-unfolding room
-mul-first c = omega arith
+array-copy-out-y : tie.Need-array-copy-out-y Inv-loop μ-loop
+array-copy-out-y c = omega arith
 
-array-write-first : tie.Need-array-write-first Inv-loop μ-loop
-unfolding room
-array-write-first c = omega arith
+mark-each-requires : tie.Need-mark-each-requires Inv-loop μ-loop
+mark-each-requires c κs =
+    let k = c .before .before .before .before .loop in
+    (c .before .before .before .before .before .pre .1, k .inv .1, λ e l. mask-spare _ _ e (k .i) (entry (k .masks) e) (omega arith) (k .inv .2 e l))
 
-mul-second : tie.Need-mul-second Inv-loop μ-loop
-unfolding room
-mul-second c = omega arith
-
-array-write-second : tie.Need-array-write-second Inv-loop μ-loop
-unfolding room
-array-write-second c = omega arith
-
-add-e : tie.Need-add-e Inv-loop μ-loop
-unfolding room
-add-e c = omega arith
+add-i : tie.Need-add-i Inv-loop μ-loop
+add-i c = omega arith
 
 loop-less : tie.Need-loop-less Inv-loop μ-loop
 loop-less c = omega arith
 
 loop-again : tie.Need-loop-again Inv-loop μ-loop
-unfolding room
+unfolding memAt
 loop-again c =
-    let k = c .before .before .loop in
-    let r = c .mask-of .result in (
-      omega arith,
-      length-set (k .own) (k .e) (r .own) ∙ k .inv .1,
-      length-set (k .first) (k .e) (r .first) ∙ k .inv .2,
-      length-set (k .second) (k .e) (r .second) ∙ k .inv .3,
-      masks-more _ (k .e) (k .own) (k .first) (k .second) (r .own) (r .first) (r .second) (omega (arith, k .inv .1)) (omega (arith, k .inv .2))
-          (omega (arith, k .inv .3)) (k .inv .4) (c .mask-of .ensures),
-    )
+    let k = c .before .before .before .before .before .loop in
+    let r = c .mark-each .ensures in
+    (omega arith, r .long ∙ k .inv .1, λ e l. mask-more _ _ e (k .i) (entry (k .masks) e) (entry (c .mark-each .last .0) e) (k .inv .2 e l) (r .marked e l))
 
 returns : tie.Need-returns Inv-loop μ-loop
-returns c = λ e l. c .before .loop .inv .4 e (omega arith)
+returns c =
+    let k = c .before .loop in
+    let a = c .before .before .args in
+    let z : k .i ≡ a .n = omega arith in
+    (k .inv .1, λ e l. subst (λ (i : ℕ). MaskIs (a .t1) (a .t2) i e (entry (k .masks) e)) z (k .inv .2 e l))
 
 pub masks-of-spec : {M : Type 1} → statement M
 masks-of-spec =
@@ -78,14 +64,12 @@ masks-of-spec =
     Inv-loop
     μ-loop
     loop-holds
-    mask-of-requires
-    mul-own
-    array-write-own
-    mul-first
-    array-write-first
-    mul-second
-    array-write-second
-    add-e
+    mul-x
+    array-copy-out-x
+    mul-y
+    array-copy-out-y
+    mark-each-requires
+    add-i
     loop-less
     loop-again
     returns)

@@ -3,7 +3,7 @@ use mathlib.Core.Path.{_≡_, sym, ap, _∙_}
 use mathlib.Core.Bool.{Bool}
 use Prim.Native.Nat.{_+_, _*_}
 use native.Mathlib.Omega.{arith}
-use Rattle.pairing.specs.Listed.{digit}
+use Rattle.pairing.specs.Masks.{digit}
 use borrow.Author.Needs.{needs}
 use Rattle.pairing.proofs.pushed.Statement.{statement}
 use Rattle.pairing.proofs.pushed.Tie as tie

@@ -4,7 +4,7 @@ use Prim.Native.Nat.{ℕ, _+_, _-_, _≤_}
 use mathlib.Core.Path.{_≡_, sym, ap, ap₂, _∙_}
 use lib.ListN.{length, length-append}
 use Rattle.evalset.specs.Sets.{memAt}
-use Rattle.plan.specs.Arrays.{rowTo, linksTo}
+use Rattle.plan.specs.Links.{rowTo, linksTo}
 use Rattle.plan.proofs.Contacts.{links-none, links-more, links-small, row-small}
 use Rattle.plan.proofs.contact_count.Statement.{statement}
 use Rattle.plan.proofs.contact_count.Tie as tie

@@ -1,8 +1,8 @@
 -- `plan::point` meets its contract: each test that fails is the machine's, and what passes them all is its state. Assumes nothing.
 use native.Mathlib.Omega.{arith}
 use lib.Pow.{pow-mono}
-use Prim.Native.Nat.{ℕ, _^_}
-use mathlib.Core.Path.{_≡_, refl, ap, _∙_}
+use Prim.Native.Nat.{_^_}
+use mathlib.Core.Path.{_≡_, refl}
 use Rattle.plan.proofs.Steps.{dead-holds, not-point, point-low, point-room, point-top, point-good}
 use borrow.Author.Needs.{needs}
 use Rattle.plan.proofs.point.Statement.{statement}
@@ -24,8 +24,8 @@ dead-requires-2 c κs = search needs
 
 returns-2 : tie.Need-returns-2
 returns-2 c =
-    let a = c .before .before .before .before .before .before .args in
-    let given = c .before .before .before .word .given in
+    let a = c .before .before .before .before .before .before .before .args in
+    let given = c .before .before .before .before .word .given in
     λ n m pts low h.
     dead-holds _ _ _ (c .dead2 .ensures)
     (point-low (a .at) (a .p) n m pts low (a .word) (given .0 .0) (given .1) h (omega arith))
@@ -33,68 +33,63 @@ returns-2 c =
 evaluations-requires : tie.Need-evaluations-requires
 evaluations-requires c κs = search needs
 
+add-if3 : tie.Need-add-if3
+add-if3 c = search needs
+
 dead-requires-3 : tie.Need-dead-requires-3
 dead-requires-3 c κs = search needs
 
 returns-3 : tie.Need-returns-3
 returns-3 c =
-    let a = c .before .before .before .before .before .before .before .before .args in
-    let given = c .before .before .before .before .before .word .given in
+    let a = c .before .before .before .before .before .before .before .before .before .args in
+    let given = c .before .before .before .before .before .before .word .given in
     let evaluations = c .before .before .evaluations in
     λ n m pts low h.
     let top : evaluations .result ≡ 2 ^ n = point-top (a .at) (a .p) n m pts low (a .word) (given .0 .0) (given .1) h _ (evaluations .ensures) in
     dead-holds _ _ _ (c .dead3 .ensures)
     (point-room (a .at) (a .p) n m pts low (a .word) (given .0 .0) (given .1) h (omega arith) (omega arith))
 
-sub-if3 : tie.Need-sub-if3
-sub-if3 c = search needs
+with-point-requires : tie.Need-with-point-requires
+with-point-requires c κs = search needs
+
+sub-t17 : tie.Need-sub-t17
+sub-t17 c = search needs
+
+add-t18 : tie.Need-add-t18
+add-t18 c = search needs
 
 dead-requires-4 : tie.Need-dead-requires-4
 dead-requires-4 c κs = search needs
 
 returns-4 : tie.Need-returns-4
 returns-4 c =
-    let a = c .before .before .before .before .before .before .before .before .before .args in
-    let given = c .before .before .before .before .before .before .word .given in
-    let evaluations = c .before .before .before .evaluations in
-    λ n m pts low h.
-    let top : evaluations .result ≡ 2 ^ n = point-top (a .at) (a .p) n m pts low (a .word) (given .0 .0) (given .1) h _ (evaluations .ensures) in
-    dead-holds _ _ _ (c .dead4 .ensures)
-    (point-room (a .at) (a .p) n m pts low (a .word) (given .0 .0) (given .1) h (omega arith) (omega arith))
-
-with-point-requires : tie.Need-with-point-requires
-with-point-requires c κs =
-    let pre = c .before .before .before .before .before .before .before .before .pre in
-    let h = pre .held in
-    let top : c .before .before .evaluations .result ≡ 2 ^ (pre .n) =
-    c .before .before .evaluations .ensures ∙ ap (λ (x : ℕ). 2 ^ x) (h .stored .names) in
-    (omega (arith, h .stored .count, h .small), omega (arith, pow-mono (h .few)))
-
-sub-t15 : tie.Need-sub-t15
-sub-t15 c = search needs
-
-add-t16 : tie.Need-add-t16
-add-t16 c = search needs
-
-returns-5 : tie.Need-returns-5
-returns-5 c =
     let a = c .before .before .before .before .before .before .before .before .before .before .args in
     let given = c .before .before .before .before .before .before .before .word .given in
-    let evaluations = c .before .before .before .before .evaluations in
+    let evaluations = c .before .before .before .evaluations in
     λ n m pts low h.
     let top : evaluations .result ≡ 2 ^ n = point-top (a .at) (a .p) n m pts low (a .word) (given .0 .0) (given .1) h _ (evaluations .ensures) in
     point-good (a .at) (a .p) n m pts low (a .word) (given .0 .0) (given .1) h _ (omega arith) (omega arith)
     (c .before .with-point .ensures) (λ e. (refl, refl)) (λ k e. absurd (omega arith))
 
-returns-6 : tie.Need-returns-6
-returns-6 c =
+returns-5 : tie.Need-returns-5
+returns-5 c =
     let a = c .before .before .before .before .before .before .before .before .before .before .args in
     let given = c .before .before .before .before .before .before .before .word .given in
-    let evaluations = c .before .before .before .before .evaluations in
+    let evaluations = c .before .before .before .evaluations in
     λ n m pts low h.
     let top : evaluations .result ≡ 2 ^ n = point-top (a .at) (a .p) n m pts low (a .word) (given .0 .0) (given .1) h _ (evaluations .ensures) in
     point-good (a .at) (a .p) n m pts low (a .word) (given .0 .0) (given .1) h _ (omega arith) (omega arith)
     (c .before .with-point .ensures) (λ e. absurd (omega arith)) (λ k e. (refl, omega arith, refl))
+
+-- an evaluation from 64 on is not below low, which is at most 64, and not below 2^names
+returns-6 : tie.Need-returns-6
+returns-6 c =
+    let a = c .before .before .before .before .before .before .args in
+    let given = c .before .before .before .word .given in
+    λ n m pts low h.
+    dead-holds _ _ _ (c .dead4 .ensures)
+    (point-room (a .at) (a .p) n m pts low (a .word) (given .0 .0) (given .1) h (omega (arith, h .least, h .lowest))
+    (omega (arith, pow-mono (h .few))))
 
 pub point-spec : {M : Type 1} → statement M
 point-spec =
@@ -106,13 +101,13 @@ point-spec =
     dead-requires-2
     returns-2
     evaluations-requires
+    add-if3
     dead-requires-3
     returns-3
-    sub-if3
+    with-point-requires
+    sub-t17
+    add-t18
     dead-requires-4
     returns-4
-    with-point-requires
-    sub-t15
-    add-t16
     returns-5
     returns-6)

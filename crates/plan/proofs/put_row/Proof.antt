@@ -5,7 +5,7 @@ use mathlib.Core.Path.{_≡_, sym, ap, _∙_, subst}
 use mathlib.Core.List.{List}
 use lib.ListN.{length, length-append}
 use Rattle.evalset.specs.Sets.{mem}
-use Rattle.plan.specs.Arrays.{rowTo, pairOf}
+use Rattle.plan.specs.Links.{rowTo, pairOf}
 use Rattle.plan.specs.Private.{Wrote}
 use Rattle.plan.proofs.Buffer.{wrote-none, wrote-next, wrote-length}
 use Rattle.plan.proofs.Contacts.{row-none, row-more, row-within}

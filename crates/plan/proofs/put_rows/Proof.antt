@@ -5,7 +5,7 @@ use mathlib.Core.Path.{_≡_, sym, ap, _∙_, subst}
 use mathlib.Core.List.{List}
 use lib.ListN.{length, length-append}
 use Rattle.evalset.specs.Sets.{memAt}
-use Rattle.plan.specs.Arrays.{rowTo, linksTo}
+use Rattle.plan.specs.Links.{rowTo, linksTo}
 use Rattle.plan.specs.Private.{Wrote}
 use Rattle.plan.proofs.Buffer.{wrote-none, wrote-next, wrote-length}
 use Rattle.plan.proofs.Contacts.{links-none, links-more, links-within}

@@ -4,7 +4,7 @@ use Prim.Native.Nat.{ℕ, _+_, _-_, _≤_}
 use mathlib.Core.Path.{_≡_, sym, ap, ap₂, _∙_}
 use lib.ListN.{length, length-append}
 use Rattle.evalset.specs.Sets.{mem}
-use Rattle.plan.specs.Arrays.{rowTo}
+use Rattle.plan.specs.Links.{rowTo}
 use Rattle.plan.proofs.Contacts.{row-none, row-more, row-small, pair-small}
 use Rattle.plan.proofs.row_size.Statement.{statement}
 use Rattle.plan.proofs.row_size.Tie as tie

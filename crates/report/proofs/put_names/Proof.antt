@@ -4,10 +4,10 @@ use mathlib.Core.List.{List}
 use Prim.Native.Nat.{ℕ, _-_, _≤_}
 use native.Mathlib.Omega.{arith}
 use lib.ListN.{length}
-use Rattle.lists.specs.Search.{gather, below}
+use Rattle.lists.specs.Search.{collect, below}
 use Rattle.names.specs.Gather.{knownOf}
 use Rattle.names.specs.declared.Names.{Names}
-use Rattle.report.specs.Output.{nameIf, blanked}
+use Rattle.report.specs.Lines.{nameIf, blanked}
 use Rattle.report.specs.Putting.{Puts}
 use Rattle.report.proofs.Putting.{puts-none, puts-length, turn-fits, turn-puts, turns-put}
 use Rattle.report.proofs.Kept.{names-turns}
@@ -15,10 +15,10 @@ use Rattle.report.proofs.put_names.Statement.{statement}
 use Rattle.report.proofs.put_names.Tie as tie
 
 abbrev nameText : Names → ℕ → ℕ → List ℕ
-nameText names e i = gather blanked (nameIf (knownOf names) e i)
+nameText names e i = collect blanked (nameIf (knownOf names) e i)
 
 abbrev Inv-loop : tie.InvT-loop
-Inv-loop names e out₀ at count end₀ i₀ out end i = (i ≤ count) × Puts at (gather (nameText names e) (below i)) out₀ out end
+Inv-loop names e out₀ at count end₀ i₀ out end i = (i ≤ count) × Puts at (collect (nameText names e) (below i)) out₀ out end
 
 abbrev μ-loop : tie.MeasureT-loop
 μ-loop names e out₀ at count end₀ i₀ out end i = count - i

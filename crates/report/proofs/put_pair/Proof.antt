@@ -2,10 +2,10 @@
 use mathlib.Core.Path.{sym, ap, _∙_}
 use native.Mathlib.Omega.{arith}
 use lib.ListN.{length}
-use Rattle.lists.specs.Search.{gather}
+use Rattle.lists.specs.Search.{collect}
 use Rattle.evalset.specs.Sets.{mem}
 use Rattle.plan.proofs.Contacts.{pair-early, pair-apart}
-use Rattle.report.specs.Output.{contactLine}
+use Rattle.report.specs.Lines.{contactLine}
 use Rattle.report.proofs.Putting.{puts-none, puts-text}
 use Rattle.report.proofs.Parts.{pair-text}
 use borrow.Author.Needs.{needs}
@@ -16,7 +16,7 @@ returns : tie.Need-returns
 returns c =
     let s = c .before .before in
     let a = s .args in
-    puts-text (sym (ap (gather contactLine) (pair-early (a .i) (a .j) (mem (a .row)) (omega arith)))) (puts-none (a .at) (a .out .now) (omega (arith, s .pre .1)))
+    puts-text (sym (ap (collect contactLine) (pair-early (a .i) (a .j) (mem (a .row)) (omega arith)))) (puts-none (a .at) (a .out .now) (omega (arith, s .pre .1)))
 
 contains-requires : tie.Need-contains-requires
 contains-requires c κs = search needs
@@ -40,7 +40,7 @@ returns-3 : tie.Need-returns-3
 returns-3 c =
     let s = c .before .before .before .before in
     let a = s .args in
-    puts-text (sym (ap (gather contactLine) (pair-apart (a .i) (a .j) (mem (a .row)) (omega arith) (sym (c .before .contains .ensures) ∙ c .if2 .left))))
+    puts-text (sym (ap (collect contactLine) (pair-apart (a .i) (a .j) (mem (a .row)) (omega arith) (sym (c .before .contains .ensures) ∙ c .if2 .left))))
     (puts-none (a .at) (a .out .now) (omega (arith, s .pre .1)))
 
 pub put-pair-spec : {M : Type 1} → statement M

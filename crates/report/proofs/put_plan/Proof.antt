@@ -3,11 +3,12 @@ use mathlib.Core.Path.{_≡_, sym, ap}
 use mathlib.Core.List.{_++_}
 use native.Mathlib.Omega.{arith}
 use lib.ListN.{length, take, length-append}
-use Rattle.lists.specs.Search.{gather}
+use Rattle.lists.specs.Search.{collect}
 use Rattle.evalset.specs.Sets.{memAt}
 use Rattle.names.specs.Gather.{knownOf}
-use Rattle.plan.specs.Arrays.{linksTo, planBy}
-use Rattle.report.specs.Output.{headLine, pointLines, contactLine, planText}
+use Rattle.plan.specs.Arrays.{planBy}
+use Rattle.plan.specs.Links.{linksTo}
+use Rattle.report.specs.Lines.{headLine, pointLines, contactLine, planText}
 use Rattle.report.proofs.Putting.{puts-text, fits-next, puts-more}
 use Rattle.report.proofs.Parts.{plan-parts}
 use borrow.Author.Needs.{needs}
@@ -16,7 +17,7 @@ use Rattle.report.proofs.put_plan.Tie as tie
 
 -- the plan's text is its head, its points and its contacts
 text-parts : (s : tie.Start) → let p = s .args .plan in planText (knownOf (s .args .names)) (planBy p) ≡ headLine (p .names) (p .count)
-    ++ pointLines (knownOf (s .args .names)) (take (p .count) (p .points)) ++ gather contactLine (linksTo (p .count) (p .count) (memAt (p .rows)))
+    ++ pointLines (knownOf (s .args .names)) (take (p .count) (p .points)) ++ collect contactLine (linksTo (p .count) (p .count) (memAt (p .rows)))
 text-parts s = plan-parts (knownOf (s .args .names)) (s .args .plan) (s .pre .1) (search needs)
 
 put-head-requires : tie.Need-put-head-requires

@@ -1,7 +1,7 @@
 -- `report::put_point` meets its contract: the parts of the line, one after the other. Assumes nothing.
 use native.Mathlib.Omega.{arith}
 use lib.ListN.{length-append}
-use Rattle.report.specs.Output.{pointLine}
+use Rattle.report.specs.Lines.{pointLine}
 use Rattle.report.proofs.Putting.{fits-next, puts-more}
 use borrow.Author.Needs.{needs}
 use Rattle.report.proofs.put_point.Statement.{statement}

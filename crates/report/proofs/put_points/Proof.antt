@@ -6,10 +6,10 @@ use native.Mathlib.Omega.{arith}
 use borrow.Author.Needs.{needs}
 use lib.ListN.{length, getD, take}
 use lib.Seq.{getD-take}
-use Rattle.lists.specs.Search.{gather, below}
+use Rattle.lists.specs.Search.{collect, below}
 use Rattle.names.specs.Gather.{knownOf}
 use Rattle.names.specs.declared.Names.{Names}
-use Rattle.report.specs.Output.{pointLine}
+use Rattle.report.specs.Lines.{pointLine}
 use Rattle.report.specs.Putting.{Puts}
 use Rattle.report.proofs.Putting.{puts-none, puts-text, puts-length, turn-fits, turn-puts, turns-put}
 use Rattle.report.proofs.Parts.{points-parts}
@@ -20,7 +20,7 @@ abbrev pointText : Names → List ℕ → ℕ → List ℕ
 pointText names points i = pointLine (knownOf names) i (getD points i 0)
 
 abbrev Inv-loop : tie.InvT-loop
-Inv-loop names n out₀ at points end₀ i₀ out end i = (i ≤ n) × Puts at (gather (pointText names (take n points)) (below i)) out₀ out end
+Inv-loop names n out₀ at points end₀ i₀ out end i = (i ≤ n) × Puts at (collect (pointText names (take n points)) (below i)) out₀ out end
 
 abbrev μ-loop : tie.MeasureT-loop
 μ-loop names n out₀ at points end₀ i₀ out end i = n - i

@@ -2,7 +2,7 @@
 use Prim.Native.Nat.{_+_, _≤_}
 use native.Mathlib.Omega.{arith}
 use lib.ListN.{length, length-append}
-use Rattle.report.specs.Output.{refusedText}
+use Rattle.report.specs.Lines.{refusedText}
 use Rattle.report.proofs.Bounds.{refused-few}
 use Rattle.report.proofs.Putting.{fits-next, puts-more}
 use borrow.Author.Needs.{needs}

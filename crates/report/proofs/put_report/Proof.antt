@@ -1,7 +1,8 @@
 -- `report::put_report` meets its contract: the sheet is loaded or refused, and each has its text (Reporting.antt). Assumes nothing.
 use borrow.Author.Needs.{needs}
+use native.Mathlib.Omega.{arith}
 use Rattle.report.proofs.Putting.{puts-text}
-use Rattle.report.proofs.Reporting.{told-not-loaded, refused-text, loaded-some, loaded-text}
+use Rattle.report.proofs.Reporting.{told-not-loaded, answer-comes, refused-text, loaded-some, loaded-text}
 use Rattle.report.proofs.put_report.Statement.{statement}
 use Rattle.report.proofs.put_report.Tie as tie
 
@@ -15,7 +16,7 @@ enum-told : tie.Need-enum-told
 enum-told c = search needs
 
 put-refusal-requires : tie.Need-put-refusal-requires
-put-refusal-requires c κs = search needs
+put-refusal-requires c κs = (answer-comes _ _ _ (c .before .before .load .ensures), omega arith)
 
 same-length : tie.Need-same-length
 same-length c = search needs

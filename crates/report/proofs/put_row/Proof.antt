@@ -4,11 +4,11 @@ use mathlib.Core.List.{List}
 use Prim.Native.Nat.{ℕ, _-_, _≤_}
 use native.Mathlib.Omega.{arith}
 use lib.ListN.{length}
-use Rattle.lists.specs.Search.{gather, below}
+use Rattle.lists.specs.Search.{collect, below}
 use Rattle.evalset.specs.Sets.{mem}
 use Rattle.evalset.specs.declared.EvalSet.{EvalSet}
-use Rattle.plan.specs.Arrays.{pairOf}
-use Rattle.report.specs.Output.{contactLine}
+use Rattle.plan.specs.Links.{pairOf}
+use Rattle.report.specs.Lines.{contactLine}
 use Rattle.report.specs.Putting.{Puts}
 use Rattle.report.proofs.Putting.{puts-none, puts-length, turn-fits, turn-puts, turns-put}
 use Rattle.report.proofs.Parts.{row-parts}
@@ -16,10 +16,10 @@ use Rattle.report.proofs.put_row.Statement.{statement}
 use Rattle.report.proofs.put_row.Tie as tie
 
 abbrev pairText : EvalSet → ℕ → ℕ → List ℕ
-pairText row i j = gather contactLine (pairOf i j (mem row))
+pairText row i j = collect contactLine (pairOf i j (mem row))
 
 abbrev Inv-loop : tie.InvT-loop
-Inv-loop row i n out₀ at end₀ j₀ out end j = (j ≤ n) × Puts at (gather (pairText row i) (below j)) out₀ out end
+Inv-loop row i n out₀ at end₀ j₀ out end j = (j ≤ n) × Puts at (collect (pairText row i) (below j)) out₀ out end
 
 abbrev μ-loop : tie.MeasureT-loop
 μ-loop row i n out₀ at end₀ j₀ out end j = n - j

@@ -5,10 +5,10 @@ use mathlib.Core.List.{List}
 use Prim.Native.Nat.{ℕ, _-_, _≤_}
 use native.Mathlib.Omega.{arith}
 use lib.ListN.{length}
-use Rattle.lists.specs.Search.{gather, below}
+use Rattle.lists.specs.Search.{collect, below}
 use Rattle.evalset.specs.Sets.{memAt}
-use Rattle.plan.specs.Arrays.{rowTo}
-use Rattle.report.specs.Output.{contactLine}
+use Rattle.plan.specs.Links.{rowTo}
+use Rattle.report.specs.Lines.{contactLine}
 use Rattle.report.specs.Putting.{Puts}
 use Rattle.report.proofs.Putting.{puts-none, puts-length, turn-fits, turn-puts, turns-put}
 use Rattle.report.proofs.Parts.{rows-parts}
@@ -16,10 +16,10 @@ use Rattle.report.proofs.put_rows.Statement.{statement}
 use Rattle.report.proofs.put_rows.Tie as tie
 
 abbrev rowText : (ℕ → ℕ → Bool) → ℕ → ℕ → List ℕ
-rowText rows n i = gather contactLine (rowTo n i (rows i))
+rowText rows n i = collect contactLine (rowTo n i (rows i))
 
 abbrev Inv-loop : tie.InvT-loop
-Inv-loop n out₀ at rows end₀ i₀ out end i = (i ≤ n) × Puts at (gather (rowText (memAt rows) n) (below i)) out₀ out end
+Inv-loop n out₀ at rows end₀ i₀ out end i = (i ≤ n) × Puts at (collect (rowText (memAt rows) n) (below i)) out₀ out end
 
 abbrev μ-loop : tie.MeasureT-loop
 μ-loop n out₀ at rows end₀ i₀ out end i = n - i

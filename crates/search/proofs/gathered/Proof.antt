@@ -8,7 +8,7 @@ use native.Mathlib.Omega.{arith}
 use lib.ListN.{length, take}
 use borrow.Author.Needs.{needs}
 use Rattle.formula.specs.Formula.{Atom}
-use Rattle.lists.specs.Search.{gather, elem}
+use Rattle.lists.specs.Search.{collect, elem}
 use Rattle.evalset.specs.Sets.{mem, memAt}
 use Rattle.contact.specs.Plan.{Mark, mark, rowMarks, gives}
 use Rattle.search.specs.Rows.{rowBits}
@@ -16,19 +16,19 @@ use Rattle.search.specs.Compiled.{atomAt, Compiled, Fit}
 use Rattle.search.specs.Planned.{GatheredSays}
 use Rattle.contact.proofs.Searching.{no-marks}
 use Rattle.search.proofs.Rows.{row-length, marks-take, marks-whole}
-use Rattle.lists.proofs.Search.{elem-gather-last}
+use Rattle.lists.proofs.Search.{elem-collect-last}
 use Rattle.search.proofs.Giving.{gives-is}
 use Rattle.search.proofs.gathered.Statement.{statement}
 use Rattle.search.proofs.gathered.Tie as tie
 
 abbrev Inv-loop : tie.InvT-loop
-Inv-loop s row sheet n acc₀ i₀ acc i =
-    (i ≤ n) × (n ≡ sheet .atoms)
-    × ((atoms : List (Atom ℕ)) → Compiled sheet atoms → (ms : List Mark) → Fit (sheet .names) s ms
-    → (e : ℕ) → mem acc e ≡ elem e (gather (gives (sheet .names) ms) (rowMarks atoms (take i (rowBits n row)))))
+Inv-loop s row chart n acc₀ i₀ acc i =
+    (i ≤ n) × (n ≡ chart .atoms)
+    × ((atoms : List (Atom ℕ)) → Compiled chart atoms → (ms : List Mark) → Fit (chart .names) s ms
+    → (e : ℕ) → mem acc e ≡ elem e (collect (gives (chart .names) ms) (rowMarks atoms (take i (rowBits n row)))))
 
 abbrev μ-loop : tie.MeasureT-loop
-μ-loop s row sheet n acc₀ i₀ acc i = n - i
+μ-loop s row chart n acc₀ i₀ acc i = n - i
 
 empty-requires : tie.Need-empty-requires Inv-loop μ-loop
 empty-requires c κs = search needs
@@ -38,7 +38,7 @@ loop-holds c = (
   omega arith,
   refl,
   λ atoms h ms f e.
-      congr-fun (c .empty .ensures) e ∙ sym (ap (λ (marks : List Mark). elem e (gather (gives (c .before .args .t1 .names) ms) marks)) (no-marks atoms)),
+      congr-fun (c .empty .ensures) e ∙ sym (ap (λ (marks : List Mark). elem e (collect (gives (c .before .args .t1 .names) ms) marks)) (no-marks atoms)),
 )
 
 element-copy-out-contact : tie.Need-element-copy-out-contact Inv-loop μ-loop
@@ -87,9 +87,9 @@ loop-again c =
           (c .before .gives .ensures e
           ∙ ap (elem e) (gives-is _ (h .few) _ ms f _ _ _ _ (atomAt atoms (loop .i)) (h .atom-is (loop .i) within)
           ∙ ap (λ (v : Bool). gives (a .t1 .names) ms (mark (atomAt atoms (loop .i)) v)) (c .before .before .value-in .ensures)))
-          ∙ sym (ap (λ (marks : List Mark). elem e (gather (gives (a .t1 .names) ms) marks))
+          ∙ sym (ap (λ (marks : List Mark). elem e (collect (gives (a .t1 .names) ms) marks))
           (marks-take atoms row (loop .i) (omega (arith, long)) (omega (arith, long, h .counted)))
-          ∙ elem-gather-last (gives (a .t1 .names) ms) (rowMarks atoms (take (loop .i) row)) _ e),
+          ∙ elem-collect-last (gives (a .t1 .names) ms) (rowMarks atoms (take (loop .i) row)) _ e),
     )
 
 returns : tie.Need-returns Inv-loop μ-loop
@@ -98,7 +98,7 @@ returns c = λ atoms h ms f e.
     let a = c .before .before .before .args in
     let loop = c .before .loop in
     loop .inv .2 atoms h ms f e
-    ∙ ap (λ (marks : List Mark). elem e (gather (gives (a .t1 .names) ms) marks)) (marks-whole atoms (a .t1 .atoms) (a .row) (loop .i) (omega arith))
+    ∙ ap (λ (marks : List Mark). elem e (collect (gives (a .t1 .names) ms) marks)) (marks-whole atoms (a .t1 .atoms) (a .row) (loop .i) (omega arith))
 
 pub gathered-spec : {M : Type 1} → statement M
 gathered-spec =

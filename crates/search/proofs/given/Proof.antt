@@ -4,7 +4,7 @@ use mathlib.Core.Path.{_≡_, sym, ap, _∙_}
 use native.Mathlib.Omega.{arith}
 use borrow.Author.Needs.{needs}
 use borrow.Author.Tests.{not-true, not-false}
-use Rattle.lists.specs.Search.{any, first, gather, below, elem}
+use Rattle.lists.specs.Search.{any, first, collect, below, elem}
 use Rattle.evalset.specs.Sets.{room, mem}
 use Rattle.evalset.proofs.Members.{mem-below}
 use Rattle.contact.specs.Plan.{gives, given, allowed, evaluations}
@@ -27,11 +27,11 @@ unfolding GivenSays GatheredSays given room
 returns c = λ atoms h f e.
     let a = c .before .before .before .before .args in
     let g = c .before .before .before .gathered .result in
-    let ms = marksIn (a .sheet) atoms (a .row) in
+    let ms = marksIn (a .chart) atoms (a .row) in
     let none : any (mem g) (below room) ≡ false = not-true _ (sym (c .before .before .is-empty .ensures) ∙ c .before .if1 .taken) in
     c .least-of .ensures e
     ∙ ap (elem e) (least-is _ (h .few) _ ms f
-    ∙ sym (or-else-none (gather (gives (a .sheet .names) ms) ms) _ (mem g) (c .before .before .before .gathered .ensures atoms h ms f)
+    ∙ sym (or-else-none (collect (gives (a .chart .names) ms) ms) _ (mem g) (c .before .before .before .gathered .ensures atoms h ms f)
     (mem-below g (omega arith)) none))
 
 returns-2 : tie.Need-returns-2
@@ -39,12 +39,12 @@ unfolding GivenSays GatheredSays given
 returns-2 c = λ atoms h f e.
     let a = c .before .before .before .args in
     let g = c .before .before .gathered .result in
-    let ms = marksIn (a .sheet) atoms (a .row) in
+    let ms = marksIn (a .chart) atoms (a .row) in
     let here = c .before .before .gathered .ensures atoms h ms f in
     let some : any (mem g) (below room) ≡ true = not-false _ (sym (c .before .is-empty .ensures) ∙ c .if1 .left) in
     here e
-    ∙ ap (elem e) (sym (or-else-some (gather (gives (a .sheet .names) ms) ms)
-    (first (allowed (a .sheet .names) ms) (evaluations (a .sheet .names))) (mem g) here some))
+    ∙ ap (elem e) (sym (or-else-some (collect (gives (a .chart .names) ms) ms)
+    (first (allowed (a .chart .names) ms) (evaluations (a .chart .names))) (mem g) here some))
 
 pub given-spec : {M : Type 1} → statement M
 given-spec =

@@ -17,12 +17,12 @@ use Rattle.search.proofs.state_of.Statement.{statement}
 use Rattle.search.proofs.state_of.Tie as tie
 
 abbrev Inv-loop : tie.InvT-loop
-Inv-loop sheet row n s₀ i₀ s i =
-    (i ≤ n) × (n ≡ sheet .atoms)
-    × ((atoms : List (Atom ℕ)) → Compiled sheet atoms → Fit (sheet .names) s (rowMarks atoms (take i (rowBits n row))))
+Inv-loop chart row n s₀ i₀ s i =
+    (i ≤ n) × (n ≡ chart .atoms)
+    × ((atoms : List (Atom ℕ)) → Compiled chart atoms → Fit (chart .names) s (rowMarks atoms (take i (rowBits n row))))
 
 abbrev μ-loop : tie.MeasureT-loop
-μ-loop sheet row n s₀ i₀ s i = n - i
+μ-loop chart row n s₀ i₀ s i = n - i
 
 start-requires : tie.Need-start-requires Inv-loop μ-loop
 start-requires c κs = search needs
@@ -47,8 +47,8 @@ unfolding StepSays
 loop-again c =
     let a = c .before .before .before .before .before .args in
     let loop = c .before .before .before .loop in
-    let row = rowBits (a .sheet .atoms) (a .row) in
-    let long = row-length (a .sheet .atoms) (a .row) in (
+    let row = rowBits (a .chart .atoms) (a .row) in
+    let long = row-length (a .chart .atoms) (a .row) in (
       omega arith,
       refl,
       λ atoms h.
@@ -63,7 +63,7 @@ unfolding StateSays
 returns c = λ atoms h.
     let a = c .before .before .before .args in
     let loop = c .before .loop in
-    subst (Fit (a .sheet .names) (loop .s)) (marks-whole atoms (a .sheet .atoms) (a .row) (loop .i) (omega arith)) (loop .inv .2 atoms h)
+    subst (Fit (a .chart .names) (loop .s)) (marks-whole atoms (a .chart .atoms) (a .row) (loop .i) (omega arith)) (loop .inv .2 atoms h)
 
 pub state-of-spec : {M : Type 1} → statement M
 state-of-spec =

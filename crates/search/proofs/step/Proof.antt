@@ -1,4 +1,4 @@
--- `search::step` meets its contract: the atom is what the sheet has at its number. Assumes nothing.
+-- `search::step` meets its contract: the atom is what the chart has at its number. Assumes nothing.
 use borrow.Author.Needs.{needs}
 use Rattle.evalset.specs.Sets.{memAt}
 use Rattle.search.specs.Compiled.{atomAt, StepSays}

@@ -13,7 +13,7 @@ searched-requires : tie.Need-searched-requires
 unfolding pairCount
 searched-requires c κs =
     let s = c .before .before .before .before .before .before .before in
-    (s .pre .0, record { unseen = s .pre .1; places = omega (arith, pairs-few (s .args .sheet .names) 4 (omega arith)) })
+    (s .pre .0, record { unseen = s .pre .1; places = omega (arith, pairs-few (s .args .chart .names) 4 (omega arith)) })
 
 same-length : tie.Need-same-length
 same-length c = search needs
@@ -28,7 +28,7 @@ searched-requires-2 : tie.Need-searched-requires-2
 unfolding pairCount
 searched-requires-2 c κs =
     let s = c .before .before .before .before .before .before .before in
-    (s .pre .0, record { unseen = s .pre .1; places = omega (arith, pairs-few (s .args .sheet .names) 6 (omega arith)) })
+    (s .pre .0, record { unseen = s .pre .1; places = omega (arith, pairs-few (s .args .chart .names) 6 (omega arith)) })
 
 same-length-2 : tie.Need-same-length-2
 same-length-2 c = search needs

@@ -1,10 +1,9 @@
 -- `solver::word` meets its contract: the rows that the rules leave are tested by the table, whose test of a row is its check. Assumes nothing.
-use mathlib.Core.Path.{refl, ap, _∙_, subst}
+use mathlib.Core.Path.{refl, _∙_, subst}
 use Prim.Native.Nat.{ℕ, _+_, _*_, _%_, _^_, _<_}
 use native.Mathlib.Omega.{arith}
-use lib.ListN.{length}
 use borrow.Author.Needs.{needs}
-use Rattle.solver.specs.Tree.{rowsOf, Finds}
+use Rattle.solver.specs.Tree.{Finds}
 use Rattle.solver.proofs.Places.{row-small, start-is, start-small, next-is, next-fits, low-small}
 use Rattle.solver.proofs.Under.{tested-below, word-first}
 use Rattle.solver.proofs.word.Statement.{statement}
@@ -59,9 +58,9 @@ returns c =
     let set = c .before .before .before .before .whole-candidates in (
       (set .ensures .0, set .ensures .1),
       λ g tests. subst (λ (n : ℕ). Finds g (cut .k + cut .w) n (cut .r) (c .answer .result)) z
-          (ap (rowsOf (length (g .atoms))) (c .answer .ensures)
+          (c .answer .ensures
           ∙ word-first g (cut .k + cut .w) _ (cut .r) _ _ _ _ (tested-below g _ _ _ _ (cut .k) (a .row) (cut .w) (cut .r) tests (a .e) _ _ (s .pre .3) refl z) _ _
-          (c .before .before .low-bits .ensures) (start-is (cut .k + cut .w) (cut .r) _ (omega arith) (fits s)) (omega arith) (g .counted) (set .result) _
+          (c .before .before .low-bits .ensures) (start-is (cut .k + cut .w) (cut .r) _ (omega arith) (fits s)) (omega arith) (fits s) (g .counted) (set .result) _
           (set .ensures .2) (c .before .tested .ensures)),
     )
 

@@ -6,7 +6,7 @@ use mathlib.Core.List.{List}
 use lib.ListN.{length, take, getD, set}
 use lib.Seq.{take-all}
 use Rattle.lists.specs.Padded.{pad}
-use Rattle.table.specs.Store.{lineOf}
+use Rattle.table.specs.Store.{keptLine}
 use Rattle.lists.proofs.Padded.{pad-none, copy-next}
 use Rattle.table.proofs.Lines.{lineWith}
 use native.Mathlib.Omega.{arith}
@@ -47,7 +47,7 @@ loop-again c =
     )
 
 returns : tie.Need-returns Inv-loop μ-loop
-unfolding lineOf
+unfolding keptLine
 returns c =
     let s = c .before .before .before .before .args .text .now in
     let i = c .before .loop .i in

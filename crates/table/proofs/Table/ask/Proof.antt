@@ -1,27 +1,31 @@
 -- `table::Table::ask` meets its contract: the rules are compiled, the search finds the first row or none, and its plan is written. Assumes nothing.
 use borrow.Author.Needs.{needs}
-use mathlib.Core.Path.{refl, sym, ap, _∙_}
-use mathlib.Core.List.{[], _∷_, map}
-use Rattle.solver.specs.Tree.{rowsOf}
-use Rattle.solver.specs.declared.RowAnswer.{RowAnswer}
-use Rattle.plan.specs.Words.{Plan}
-use Rattle.plan.specs.Given.{rowPlan}
+use mathlib.Core.Path.{_≡_, refl, sym, ap, _∙_}
+use mathlib.Core.List.{[], _∷_}
 use Rattle.plan.specs.Arrays.{planBy}
-use Rattle.sheets.proofs.Claims.{plan-is, may-plan}
+use Rattle.ruleset.specs.Texts.{CompiledRules}
+use Rattle.ruleset.proofs.Claims.{none-given, plan-given}
 use Rattle.table.specs.Store.{rulesOf}
+use Rattle.table.specs.declared.AskAnswer.{AskAnswer}
 use Rattle.table.specs.Calls.{formulasOf}
-use Rattle.table.proofs.Asking.{asks-none, asks-some, found-plans, wrote-plan}
+use Rattle.table.specs.Asking.{Asks}
+use Rattle.table.proofs.Compiled.{reached-all}
+use Rattle.table.proofs.Asking.{askResult, asks-none, asks-some, writtenAnswer, wrote-plan}
 use Rattle.table.proofs.Table.ask.Statement.{statement}
 use Rattle.table.proofs.Table.ask.Tie as tie
 
 returns : tie.Need-returns
-returns c = asks-none _ (c .before .before .before .pre) _ (c .if1 .taken)
+returns c = asks-none _ (c .before .before .pre) _ (c .if1 .taken)
 
 no-code-requires : tie.Need-no-code-requires
 no-code-requires c κs = search needs
 
 compiled-requires : tie.Need-compiled-requires
 compiled-requires c κs = search needs
+
+-- every standing rule is compiled
+all-compiled : (c : tie.After-compiled) → CompiledRules (formulasOf (rulesOf (c .before .before .before .before .before .args .self))) (c .compiled .result) (c .compiled .last .1 .1 .0)
+all-compiled c = reached-all (c .before .before .before .before .before .args .self) (c .compiled .result) (c .compiled .last .1 .1 .0) (c .before .before .before .before .before .pre) (c .compiled .ensures)
 
 slice-aggregate-row-of : tie.Need-slice-aggregate-row-of
 slice-aggregate-row-of c = search needs
@@ -37,32 +41,46 @@ enum-told c = search needs
 
 returns-2 : tie.Need-returns-2
 returns-2 c =
-    let t = c .before .before .before .before .before .before .before .before .before .before .args .self in
-    let compiled = c .before .before .before .before .compiled .ensures .rules-compiled in
-    asks-some t (c .before .before .before .before .before .before .before .before .before .before .pre) _ (c .before .before .before .before .before .before .before .if1 .left) []
-    (found-plans (formulasOf (rulesOf t)) _ _ _ compiled (c .before .before .row-of .ensures) ∙ ap (λ (r : RowAnswer). map (rowPlan (formulasOf (rulesOf t))) (rowsOf (c .before .before .before .before .compiled .result .sheet .atoms) r)) (c .enum-told .given .1)) _ _ refl refl
+    let t = c .before .before .before .before .before .before .before .before .before .args .self in
+    asks-some t (c .before .before .before .before .before .before .before .before .before .pre) _ (c .before .before .before .before .before .before .before .if1 .left) []
+    (none-given (formulasOf (rulesOf t)) _ _ (all-compiled (c .before .before .before .before)) _ (c .before .before .row-of .ensures) (c .enum-told .given .1)) _ _ refl refl
 
 plan-of-requires : tie.Need-plan-of-requires
-plan-of-requires c κs = may-plan _ _ _ (c .before .before .before .before .before .compiled .ensures .rules-compiled)
+plan-of-requires c κs = search needs
 
 write-plan-requires : tie.Need-write-plan-requires
 write-plan-requires c κs = search needs
 
-written-answer-requires : tie.Need-written-answer-requires
-written-answer-requires c κs = search needs
+-- the answer is the writer's
+abbrev start : tie.After-slice-known2 → tie.Start
+start c = c .before .before .before .before .before .before .before .before .before .before .before .before .before .before .before
+
+wrote : (c : tie.After-slice-known2) (a : AskAnswer) → writtenAnswer (c .before .before .write-plan .result) ≡ a
+    → Asks (start c .args .self) (start c .args .buffer .now) (askResult (start c .args .self) a) (c .before .before .write-plan .last .1 .0)
+wrote c a e =
+    let t = start c .args .self in
+    let plan = c .before .before .before .before .plan-of .result in
+    let out = wrote-plan plan (start c .args .buffer .now) (c .before .before .write-plan .result) (c .before .before .write-plan .last .1 .0) (c .before .before .write-plan .ensures) in
+    asks-some t (start c .pre) _ (c .before .before .before .before .before .before .before .before .before .before .before .before .before .if1 .left) (planBy plan ∷ [])
+    (plan-given (formulasOf (rulesOf t)) _ _ (all-compiled (c .before .before .before .before .before .before .before .before .before .before)) _ _ _ (c .before .before .before .before .before .before .before .before .row-of .ensures) (c .before .before .before .before .before .before .found .given .1) (c .before .before .before .before .plan-of .ensures)) _ _ (sym e ∙ out .0) (out .1)
+
+enum-known-written : tie.Need-enum-known-written
+enum-known-written c = search needs
+
+enum-known-written-2 : tie.Need-enum-known-written-2
+enum-known-written-2 c = search needs
 
 same-length : tie.Need-same-length
 same-length c = search needs
 
 returns-3 : tie.Need-returns-3
-returns-3 c =
-    let t = c .before .before .before .before .before .before .before .before .before .before .before .before .before .before .before .before .before .args .self in
-    let rules = formulasOf (rulesOf t) in
-    let compiled = c .before .before .before .before .before .before .before .before .before .before .before .compiled .ensures .rules-compiled in
-    let wrote = wrote-plan _ _ _ _ (c .before .before .before .write-plan .ensures) in
-    asks-some t (c .before .before .before .before .before .before .before .before .before .before .before .before .before .before .before .before .before .pre) _ (c .before .before .before .before .before .before .before .before .before .before .before .before .before .before .if1 .left) (planBy (c .before .before .before .before .before .plan-of .result) ∷ [])
-    (found-plans rules _ _ _ compiled (c .before .before .before .before .before .before .before .before .before .row-of .ensures) ∙ ap (λ (r : RowAnswer). map (rowPlan rules) (rowsOf (c .before .before .before .before .before .before .before .before .before .before .before .compiled .result .sheet .atoms) r)) (c .before .before .before .before .before .before .before .found .given .1)
-    ∙ ap (λ (p : Plan). p ∷ []) (sym (plan-is rules _ _ compiled _ _ (c .before .before .before .before .before .plan-of .ensures)))) _ _ (c .written-answer .ensures ∙ wrote .0) (wrote .1)
+returns-3 c = wrote (c .before .before .before) _ (ap writtenAnswer (c .before .written .given .1))
+
+same-length-2 : tie.Need-same-length-2
+same-length-2 c = search needs
+
+returns-4 : tie.Need-returns-4
+returns-4 c = wrote (c .before .before .before) _ (ap writtenAnswer (c .before .written2 .given .1))
 
 pub ask-spec : {M : Type 1} → statement M
 ask-spec =
@@ -78,6 +96,9 @@ ask-spec =
     returns-2
     plan-of-requires
     write-plan-requires
-    written-answer-requires
+    enum-known-written
+    enum-known-written-2
     same-length
-    returns-3)
+    returns-3
+    same-length-2
+    returns-4)

@@ -1,27 +1,32 @@
 -- `table::Table::compiled` meets its contract: so far the first i texts are compiled. Assumes nothing.
 use borrow.Author.Needs.{needs}
-use Prim.Native.Nat.{_-_, _<_}
+use Prim.Native.Nat.{_-_, _≤_, _<_}
+use mathlib.Core.Path.{_≡_, subst}
 use native.Mathlib.Omega.{arith}
 use Rattle.table.proofs.Lines.{count-few}
 use Rattle.table.proofs.Recount.{text-within, text-length}
-use Rattle.table.proofs.Compiled.{Reached, reached-none, reached-all, reached-ready, reached-next}
+use Rattle.ruleset.proofs.Claims.{no-texts}
+use Rattle.table.proofs.Compiled.{Reached, reached-ready, reached-next}
 use Rattle.table.proofs.Table.compiled.Statement.{statement}
 use Rattle.table.proofs.Table.compiled.Tie as tie
 
 abbrev Inv-loop : tie.InvT-loop
-Inv-loop code₀ self standing c₀ i₀ code c i = Reached self c code i
+Inv-loop rules code₀ self c₀ i₀ code c i = (i ≤ rules) × Reached self c code i
 
 abbrev μ-loop : tie.MeasureT-loop
-μ-loop code₀ self standing c₀ i₀ code c i = standing - i
+μ-loop rules code₀ self c₀ i₀ code c i = rules - i
+
+low : (c : tie.In-loop Inv-loop μ-loop) → c .before .loop .i < c .before .before .before .args .t1 .count
+low c = omega (arith, c .before .before .before .pre .1, c .loop-test .taken)
 
 few : (c : tie.In-loop Inv-loop μ-loop) → c .before .loop .i < 16
-few c = omega (arith, count-few (c .before .before .before .args .t1) (c .before .before .before .pre .0), c .loop-test .taken)
+few c = omega (arith, count-few _ (c .before .before .before .pre .0), low c)
 
 nothing-compiled-requires : tie.Need-nothing-compiled-requires Inv-loop μ-loop
 nothing-compiled-requires c κs = search needs
 
 loop-holds : tie.Need-loop-holds Inv-loop μ-loop
-loop-holds c = reached-none _ _ _ (c .nothing-compiled .ensures) (c .before .pre .1)
+loop-holds c = (omega arith, no-texts _ _ (c .nothing-compiled .ensures) (c .before .pre .2))
 
 mul-line : tie.Need-mul-line Inv-loop μ-loop
 mul-line c = omega (arith, few c)
@@ -30,13 +35,13 @@ element-copy-out-line : tie.Need-element-copy-out-line Inv-loop μ-loop
 element-copy-out-line c = few c
 
 array-share-prefix-bytes : tie.Need-array-share-prefix-bytes Inv-loop μ-loop
-array-share-prefix-bytes c = text-within (c .before .before .before .before .before .pre .0) (c .before .before .loop-test .taken)
+array-share-prefix-bytes c = text-within (c .before .before .before .before .before .pre .0) (low (c .before .before))
 
 slice-aggregate-with-text : tie.Need-slice-aggregate-with-text Inv-loop μ-loop
-slice-aggregate-with-text c = text-length (c .before .before .before .before .before .before .pre .0) (c .before .before .before .loop-test .taken)
+slice-aggregate-with-text c = text-length (c .before .before .before .before .before .before .pre .0) (low (c .before .before .before))
 
 with-text-requires : tie.Need-with-text-requires Inv-loop μ-loop
-with-text-requires c κs = reached-ready (c .before .before .before .before .before .before .before .pre .0) (c .before .before .before .before .loop-test .taken) _ _ (c .before .before .before .before .before .loop .inv)
+with-text-requires c κs = reached-ready (c .before .before .before .before .before .before .before .pre .0) (low (c .before .before .before .before)) _ _ (c .before .before .before .before .before .loop .inv .1)
 
 add-i : tie.Need-add-i Inv-loop μ-loop
 add-i c = omega (arith, few (c .before .before .before .before .before))
@@ -45,10 +50,12 @@ loop-less : tie.Need-loop-less Inv-loop μ-loop
 loop-less c = omega arith
 
 loop-again : tie.Need-loop-again Inv-loop μ-loop
-loop-again c = reached-next (c .before .before .before .before .before .before .before .before .pre .0) (c .before .before .before .before .before .loop-test .taken) _ _ (c .before .before .before .before .before .before .loop .inv) _ _ (c .with-text .ensures)
+loop-again c = (omega arith, reached-next (c .before .before .before .before .before .before .before .before .pre .0) (low (c .before .before .before .before .before)) _ _ (c .before .before .before .before .before .before .loop .inv .1) _ _ (c .with-text .ensures))
 
 returns : tie.Need-returns Inv-loop μ-loop
-returns c = reached-all _ _ _ _ (c .before .before .before .pre .0) (c .before .loop .inv) (c .loop-test .left)
+returns c =
+    let e : c .before .loop .i ≡ c .before .before .before .args .rules = omega arith in
+    subst (Reached _ _ _) e (c .before .loop .inv .1)
 
 pub compiled-spec : {M : Type 1} → statement M
 compiled-spec =

@@ -1,13 +1,15 @@
 -- `table::Table::load` meets its contract: so far each line is judged and those that are not blank are held; a refused line ends the load, and the old table comes back. Assumes nothing.
 use borrow.Author.Needs.{needs}
 use Prim.Native.Nat.{_+_, _-_}
-use mathlib.Core.Path.{sym, subst, _∙_}
+use mathlib.Core.Path.{_≡_, sym, subst, _∙_}
 use mathlib.Core.Logic.{⊎-elim}
 use borrow.Author.Tests.{not-true, not-false}
 use lib.ListN.{length}
 use Rattle.table.specs.declared.Table.{Table}
 use Rattle.table.specs.declared.Counts.{Counts}
+use Rattle.table.specs.declared.LoadAnswer.the-variants as LoadAnswer
 use Rattle.table.specs.Calls.{Loads}
+use Rattle.table.specs.Steps.{loadResult}
 use Rattle.table.proofs.Refusals.{told-refused}
 use Rattle.table.proofs.Results.{may-put, loaded-by}
 use Rattle.table.proofs.Loading.{Progress, start, after-blank, after-added, line-refused, nothing-kept, something-kept, kept-table, too-long}
@@ -106,7 +108,8 @@ kept-requires-2 c κs = search needs
 returns-3 : tie.Need-returns-3 Inv-loop μ-loop
 returns-3 c =
     let old = c .before .before .before .before .before .before .before .before .before in
-    subst (Loads (old .args .self) (old .args .file .now)) (sym (c .kept2 .ensures))
+    let same : c .kept2 .result ≡ loadResult (old .args .self) LoadAnswer.AllBlank = c .kept2 .ensures in
+    subst (Loads (old .args .self) (old .args .file .now)) (sym same)
     (loaded-by (old .args .self) _ _ _ (old .pre) (nothing-kept _ _ _ _ _ (c .before .before .before .before .loop .inv) (c .before .before .before .loop-test .left) (c .before .if3 .taken)) (old .pre .same))
 
 returns-4 : tie.Need-returns-4 Inv-loop μ-loop

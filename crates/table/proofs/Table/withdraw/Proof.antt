@@ -14,24 +14,24 @@ use Rattle.table.proofs.Table.withdraw.Statement.{statement}
 use Rattle.table.proofs.Table.withdraw.Tie as tie
 
 abbrev Inv-loop : tie.InvT-loop
-Inv-loop k count table₀ i₀ table i = (k ≤ i) × (i ≤ count) × (table .lines ≡ moved (table₀ .lines) k i)
+Inv-loop k self count table₀ i₀ table i = (k ≤ i) × (i ≤ count) × (table .lines ≡ moved (table₀ .lines) k i)
 
 abbrev μ-loop : tie.MeasureT-loop
-μ-loop k count table₀ i₀ table i = count - i
+μ-loop k self count table₀ i₀ table i = count - i
 
-few : (c : tie.Else2 Inv-loop μ-loop) → c .before .before .args .self .count ≤ 16
-few c = count-few (c .before .before .args .self) (c .before .before .pre)
+few : (c : tie.Else2 Inv-loop μ-loop) → c .before .before .args .t1 .count ≤ 16
+few c = count-few (c .before .before .args .t1) (c .before .before .pre)
 
 returns : tie.Need-returns Inv-loop μ-loop
-returns c = withdrawn-by (c .before .args .self) _ _ _ (c .before .pre) (withdraw-zero _ _ (c .if1 .taken)) (c .before .pre .same)
+returns c = withdrawn-by (c .before .args .t1) _ _ _ (c .before .pre) (withdraw-zero _ _ (c .if1 .taken)) (c .before .pre .same)
 
 returns-2 : tie.Need-returns-2 Inv-loop μ-loop
 returns-2 c =
-    let t = c .before .before .args .self in
+    let t = c .before .before .args .t1 in
     withdrawn-by t _ _ _ (c .before .before .pre) (withdraw-high (rulesOf t) _ (c .before .if1 .left) (omega (arith, count-is t (c .before .before .pre)))) (c .before .before .pre .same)
 
 loop-holds : tie.Need-loop-holds Inv-loop μ-loop
-loop-holds c = (omega arith, omega arith, moved-none (c .before .before .args .self .lines) (c .before .before .args .k))
+loop-holds c = (omega arith, omega arith, moved-none (c .before .before .args .t1 .lines) (c .before .before .args .k))
 
 mul-line : tie.Need-mul-line Inv-loop μ-loop
 mul-line c = omega (arith, few (c .before .before))
@@ -56,14 +56,14 @@ loop-less c = omega arith
 
 loop-again : tie.Need-loop-again Inv-loop μ-loop
 loop-again c =
-    let t = c .before .before .before .before .before .args .self in
+    let t = c .before .before .before .before .before .args .t1 in
     let k = c .before .before .before .before .before .args .k in
     let i = c .before .before .loop .i in
     let inv = c .before .before .loop .inv in
     let h : i < length (t .lines) = omega (arith, lines-length t (c .before .before .before .before .before .pre), few (c .before .before .before)) in (
       omega arith,
       omega arith,
-      ap (λ (ls : List Line). set ls (i - 1) (getD ls i none)) (inv .2) ∙ moved-next (t .lines) k i none (omega arith) (inv .0) h,
+      ap (λ (ls : List Line). set ls (i - 1) (getD (t .lines) i none)) (inv .2) ∙ moved-next (t .lines) k i none (omega arith) (inv .0) h,
     )
 
 no-line-requires : tie.Need-no-line-requires Inv-loop μ-loop
@@ -83,7 +83,7 @@ sub-table c = omega arith
 
 returns-3 : tie.Need-returns-3 Inv-loop μ-loop
 returns-3 c =
-    let t = c .before .before .before .before .before .args .self in
+    let t = c .before .before .before .before .before .args .t1 in
     let k = c .before .before .before .before .before .args .k in
     let v = c .before .before .before .before .before .pre in
     let inv = c .before .before .loop .inv in

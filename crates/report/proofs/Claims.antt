@@ -1,0 +1,43 @@
+-- What is proved of the text that the program floorplan prints for a sheet, `outputOf`, which `report` gives by its contract: for every list
+-- of bytes it is what is meant (specs/Printed.antt), and no other text is. Each claim cites the file that proves it. Assumes nothing.
+use mathlib.Core.Path.{_≡_, sym}
+use mathlib.Core.Bool.{true}
+use mathlib.Core.Logic.{_↔_}
+use mathlib.Core.List.{List}
+use Prim.Native.Nat.{ℕ}
+use Rattle.formula.specs.Formula.{Formula, Name}
+use Rattle.lexer.specs.Text.{bytes}
+use Rattle.contact.specs.Meaning.{Floor, meetsAll}
+use Rattle.contact.specs.Numbering.{namesOf}
+use Rattle.plan.specs.Words.{Plan}
+use Rattle.plan.specs.Meant.{IsGiven}
+use Rattle.table.specs.Sheet.{Text, linesOf, filled}
+use Rattle.table.specs.Rules.{AreRules}
+use Rattle.table.specs.Rows.{LoadRow}
+use Rattle.table.specs.declared.Outcome.the-variants as Outcome
+use Rattle.report.specs.Output.{outputOf}
+use Rattle.report.specs.Lines.{ended, planText}
+use Rattle.report.specs.Printed.{Printed, plan-lines, no-plan-line}
+use Rattle.report.proofs.Printing as Printing
+use Rattle.report.proofs.Examples as Examples
+
+-- a plan, NO PLAN or a refusal, as it is meant, and one text only is meant
+pub printed : (file : Text) → Printed file (outputOf file)
+printed = Printing.printed
+
+pub printed-only : (file : Text) (out : List ℕ) → Printed file out → out ≡ outputOf file
+printed-only = Printing.printed-only
+
+-- the line NO PLAN, exactly if the sheet is loaded and no finite floor, of any number of points, meets its rules
+pub no-plan-printed : (file : Text) → (outputOf file ≡ ended (bytes "NO PLAN"))
+    ↔ (LoadRow file Outcome.Done × (fs : List (Formula Name)) × AreRules (filled (linesOf file)) fs × ((F : Floor Name) → meetsAll F fs ≡ true → ⊥))
+no-plan-printed file = (Printing.no-floor file (outputOf file) (printed file), λ r. sym (printed-only file _ (no-plan-line (r .0) (r .2) (r .3))))
+
+-- where the sheet is loaded and a plan is given for its rules, that plan
+pub plan-printed : (file : Text) (fs : List (Formula Name)) (p : Plan) → LoadRow file Outcome.Done → AreRules (filled (linesOf file)) fs → IsGiven fs p
+    → outputOf file ≡ planText (namesOf fs) p
+plan-printed file fs p done are given = sym (printed-only file _ (plan-lines done are given))
+
+-- "The three lines of P3 give exactly ..", from the bytes of the sheet
+pub three-lines : outputOf (bytes "~C(raw,cooked)\n~raw=0\n~cooked=0\n") ≡ bytes "PLAN names=2 points=2\npoint 0: raw\npoint 1: cooked\n"
+three-lines = Examples.three-lines

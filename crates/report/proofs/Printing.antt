@@ -1,0 +1,89 @@
+-- The text that is computed for a sheet is meant, and no other is: the load's judgement has the outcome of the sheet's row, the formulas and
+-- the plan that are computed are those that are meant, and the first byte tells the three sorts of text apart. Assumes nothing.
+use mathlib.Core.Path.{_≡_, refl, sym, ap, subst, _∙_}
+use mathlib.Core.Bool.{true}
+use mathlib.Core.List.{List, [], _∷_, head-eq-of-cons-eq}
+use Prim.Native.Nat.{ℕ}
+use native.Mathlib.Omega.{arith}
+use lib.ListN.{length}
+use Rattle.formula.specs.Formula.{Formula, Name}
+use Rattle.lexer.specs.Text.{bytes}
+use Rattle.contact.specs.Meaning.{Floor, meetsAll}
+use Rattle.contact.specs.Numbering.{namesOf}
+use Rattle.plan.specs.Words.{Plan}
+use Rattle.plan.specs.Plans.{plansOf}
+use Rattle.plan.proofs.Claims.{no-plan-given, given-exactly, given-at-most-one}
+use Rattle.table.specs.Sheet.{Text, linesOf, filled}
+use Rattle.table.specs.Rules.{AreRules}
+use Rattle.table.specs.Calls.{formulasOf, judgeLoad, ifLoaded}
+use Rattle.table.specs.Rows.{LoadRow}
+use Rattle.table.specs.declared.LoadAnswer.{LoadAnswer}
+use Rattle.table.specs.declared.LoadAnswer.the-variants as LoadAnswer
+use Rattle.table.specs.declared.Outcome.{Outcome}
+use Rattle.table.specs.declared.Outcome.the-variants as Outcome
+use Rattle.table.specs.Numbers.{loadOutcome}
+use Rattle.table.proofs.Standing.{not-loaded}
+use Rattle.table.proofs.LoadRows.{load-done}
+use Rattle.table.proofs.Claims.{formulas-computed, load-answered, load-answered-only}
+use Rattle.report.specs.Output.{plansText, rulesText, outcomeText, outputOf}
+use Rattle.report.specs.Lines.{ended, headLine, planText, refusedText}
+use Rattle.report.specs.Printed.{Printed, plan-lines, no-plan-line, refused-line}
+
+module _ (file : Text) where
+  -- a refused sheet has the text of its refusal
+  refused-output : {number line place : ℕ} → LoadRow file (Outcome.RefusedLine number line place) → refusedText number line place ≡ outputOf file
+  unfolding outputOf
+  refused-output row =
+      let told = load-answered-only file _ row in
+      ap outcomeText told
+      ∙ sym (not-loaded (judgeLoad file) (rulesText (formulasOf (filled (linesOf file)))) (outcomeText (loadOutcome (judgeLoad file)))
+      (λ e. let y = ap loadOutcome e in absurd (let z : _≡_ {A = ℕ} 0 1 = cc in omega arith)))
+
+  -- a loaded one that of its rules
+  loaded-output : {fs : List (Formula Name)} → LoadRow file Outcome.Done → AreRules (filled (linesOf file)) fs → rulesText fs ≡ outputOf file
+  unfolding outputOf
+  loaded-output {fs} done are =
+      ap rulesText (formulas-computed (filled (linesOf file)) fs are)
+      ∙ sym (ap (λ (a : LoadAnswer). ifLoaded a (rulesText (formulasOf (filled (linesOf file)))) (outcomeText (loadOutcome a))) (load-done file done))
+
+  -- ---- no other text is meant
+
+  pub printed-only : (out : List ℕ) → Printed file out → out ≡ outputOf file
+  unfolding rulesText
+  printed-only out (plan-lines {fs} {p} done are given) = sym (ap (plansText (namesOf fs)) (given-exactly fs p .1 given)) ∙ loaded-output done are
+  printed-only out (no-plan-line {fs} done are never) = sym (ap (plansText (namesOf fs)) (no-plan-given fs .1 never)) ∙ loaded-output done are
+  printed-only out (refused-line row) = refused-output row
+
+  -- ---- it is meant
+
+  rules-printed : {fs : List (Formula Name)} → LoadRow file Outcome.Done → AreRules (filled (linesOf file)) fs → Printed file (rulesText fs)
+  unfolding rulesText
+  rules-printed {fs} done are = go (plansOf fs) refl
+    where
+      go : (ps : List Plan) → plansOf fs ≡ ps → Printed file (plansText (namesOf fs) ps)
+      go [] e = no-plan-line done are (no-plan-given fs .0 e)
+      go (p ∷ []) e = plan-lines done are (given-exactly fs p .0 e)
+      go (p ∷ q ∷ ps) e = absurd (omega (arith, given-at-most-one fs, ap length e))
+
+  refused-printed : {number line place : ℕ} → LoadRow file (Outcome.RefusedLine number line place) → Printed file (outputOf file)
+  refused-printed row = subst (Printed file) (refused-output row) (refused-line row)
+
+  pub printed : Printed file (outputOf file)
+  printed = go (loadOutcome (judgeLoad file)) (load-answered file)
+    where
+      go : (o : Outcome) → LoadRow file o → Printed file (outputOf file)
+      go o (LoadRow.long h) = refused-printed (LoadRow.long h)
+      go o (LoadRow.blank h e) = refused-printed (LoadRow.blank h e)
+      go o (LoadRow.line h r) = refused-printed (LoadRow.line h r)
+      go o (LoadRow.loads h some can) =
+          let done = LoadRow.loads h some can in subst (Printed file) (loaded-output done (can .rules)) (rules-printed done (can .rules))
+
+  -- ---- the line NO PLAN
+
+  -- no plan's text and no refusal's begins as it does
+  pub no-floor : (out : List ℕ) → Printed file out → out ≡ ended (bytes "NO PLAN")
+      → LoadRow file Outcome.Done × (fs : List (Formula Name)) × AreRules (filled (linesOf file)) fs × ((F : Floor Name) → meetsAll F fs ≡ true → ⊥)
+  unfolding planText headLine refusedText
+  no-floor out (plan-lines done are given) e = absurd (let z = head-eq-of-cons-eq e in omega arith)
+  no-floor out (no-plan-line {fs} done are never) e = (done, fs, are, never)
+  no-floor out (refused-line row) e = absurd (let z = head-eq-of-cons-eq e in omega arith)

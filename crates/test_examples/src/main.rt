@@ -1,0 +1,91 @@
+// The test program of the output: the text for each sheet of the folder examples, for a contact, for no plan, for each refusal that
+// a sheet can get, and for the longest sheets. The file `stdout` has the texts that document 01 asks for, worked out by hand.
+ghost use mathlib.Core.Path.{_≡_};
+ghost use lib.ListN.{length};
+use test_kit::write_bytes;
+
+// Room for the text.
+fn no_text() -> [u8; 16384]
+    ensures { λ r. ⌜ length r ≡ 16384 ⌝ }
+{
+    [0u8; 16384]
+}
+
+// The title of a sheet, and its text.
+fn show(title: &[u8], sheet: &[u8]) {
+    write_bytes(b"# ");
+    write_bytes(title);
+    write_bytes(b"\n");
+    let mut text = no_text();
+    let len = report::report(sheet, &mut text);
+    write_bytes(&text[0..len]);
+}
+
+// The sheets of the folder examples.
+fn examples() {
+    show(b"halls", b"~C(raw,cooked)\n~raw=0\n~cooked=0\n");
+    show(
+        b"air lock",
+        b"~C(raw,cooked)\nC(raw,lock)\nC(lock,cooked)\nlock*raw=0\nlock*cooked=0\n",
+    );
+    show(
+        b"dry store",
+        b"<=(dry,store)\n~dry=0\n~C(dry,wet)\n~wet=0\n",
+    );
+    show(
+        b"no plan",
+        b"~C(raw,cooked)\n~raw=0\n~cooked=0\n<=(raw,cooked)\n",
+    );
+    show(b"empty", b"");
+    show(b"struck out", b"C(raw,cooked)\n\n~raw=0\n");
+    show(b"nothing there", b"wash=0\n");
+    show(b"unfinished", b"C(raw,cooked)\nC(raw,\n");
+}
+
+// A contact, no plan, and refusals.
+fn others() {
+    show(b"contact", b"C(raw,cooked)");
+    show(b"no floor at all", b"1=0");
+    show(b"refusal 1, blank lines", b"\n \t\n");
+    show(b"refusal 3", b"T\na$b=0");
+    show(b"refusal 4", b"abcdefghijklmnopq=0");
+    show(b"refusal 5", b"a<=m b");
+    show(b"refusal 6", b"\n\n(a=0)*b");
+    show(b"refusal 7", b"a=0&b=0&c=0&d=0&e=0&f=0\ng=0&T");
+    show(
+        b"refusal 8",
+        b"a=0&a=0&a=0&a=0&a=0&a=0&a=0&a=0\na=0&a=0&a=0&a=0&a=0&a=0&a=0&a=0\nT\na=0",
+    );
+    show(
+        b"refusal 9",
+        b"T\nT\nT\nT\nT\nT\nT\nT\nT\nT\nT\nT\nT\nT\nT\nT\nT\n",
+    );
+}
+
+// A line of one byte too many, and one that is just short enough.
+fn long_lines() {
+    let line = [b' '; 257];
+    let mut rule = [b'~'; 257];
+    rule[255] = b'T';
+    show(b"a blank line of 257 bytes", &line);
+    show(b"refusal 2", &rule);
+    rule[256] = 10;
+    show(b"256 bytes", &rule);
+}
+
+// Sheets of 8,193 and of 8,192 bytes.
+fn long_sheets() {
+    let mut sheet = [10u8; 8193];
+    show(b"8193 bytes", &sheet);
+    show(b"8192 bytes, all lines blank", &sheet[..8192]);
+    sheet[0] = b'T';
+    show(b"refusal 15", &sheet);
+    show(b"8192 bytes", &sheet[..8192]);
+}
+
+fn main() {
+    examples();
+    others();
+    long_lines();
+    long_sheets();
+}

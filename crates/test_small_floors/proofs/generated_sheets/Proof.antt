@@ -1,0 +1,42 @@
+-- `test_small_floors::generated_sheets` is safe and ends: the sheets left fall. Assumes nothing.
+use borrow.Author.Needs.{needs}
+use Prim.Native.Nat.{_-_}
+use Rattle.test_small_floors.proofs.generated_sheets.Statement.{statement}
+use Rattle.test_small_floors.proofs.generated_sheets.Tie as tie
+
+abbrev Inv-loop : tie.InvT-loop
+Inv-loop counts₀ k₀ counts k = Unit {0}
+
+abbrev μ-loop : tie.MeasureT-loop
+μ-loop counts₀ k₀ counts k = 3000 - k
+
+loop-holds : tie.Need-loop-holds Inv-loop μ-loop
+loop-holds c = search needs
+
+test-generated-requires : tie.Need-test-generated-requires Inv-loop μ-loop
+test-generated-requires c κs = search needs
+
+add-k : tie.Need-add-k Inv-loop μ-loop
+add-k c = search needs
+
+loop-less : tie.Need-loop-less Inv-loop μ-loop
+loop-less c = search needs
+
+loop-again : tie.Need-loop-again Inv-loop μ-loop
+loop-again c = search needs
+
+returns : tie.Need-returns Inv-loop μ-loop
+returns c = search needs
+
+pub generated-sheets-spec : {M : Type 1} → statement M
+generated-sheets-spec =
+    tie.close
+    (tie.spec
+    Inv-loop
+    μ-loop
+    loop-holds
+    test-generated-requires
+    add-k
+    loop-less
+    loop-again
+    returns)

@@ -1,0 +1,66 @@
+-- `test_small_floors::points_of` is safe and ends: each atom read is one of the 16, and the atoms left fall. Assumes nothing.
+use borrow.Author.Needs.{needs}
+use Prim.Native.Nat.{_-_}
+use Rattle.test_small_floors.proofs.points_of.Statement.{statement}
+use Rattle.test_small_floors.proofs.points_of.Tie as tie
+
+abbrev Inv-loop : tie.InvT-loop
+Inv-loop atoms kinds first second points₀ i₀ points i = Unit {0}
+
+abbrev μ-loop : tie.MeasureT-loop
+μ-loop atoms kinds first second points₀ i₀ points i = 16 - i
+
+loop-holds : tie.Need-loop-holds Inv-loop μ-loop
+loop-holds c = search needs
+
+array-read-with-witnesses : tie.Need-array-read-with-witnesses Inv-loop μ-loop
+array-read-with-witnesses c = search needs
+
+array-read-with-witnesses-2 : tie.Need-array-read-with-witnesses-2 Inv-loop μ-loop
+array-read-with-witnesses-2 c = search needs
+
+array-read-with-witnesses-3 : tie.Need-array-read-with-witnesses-3 Inv-loop μ-loop
+array-read-with-witnesses-3 c = search needs
+
+with-witnesses-requires : tie.Need-with-witnesses-requires Inv-loop μ-loop
+with-witnesses-requires c κs = search needs
+
+add-i : tie.Need-add-i Inv-loop μ-loop
+add-i c = search needs
+
+loop-less : tie.Need-loop-less Inv-loop μ-loop
+loop-less c = search needs
+
+loop-again : tie.Need-loop-again Inv-loop μ-loop
+loop-again c = search needs
+
+least-requires : tie.Need-least-requires Inv-loop μ-loop
+least-requires c κs = search needs
+
+with-point-requires : tie.Need-with-point-requires Inv-loop μ-loop
+with-point-requires c κs = search needs
+
+returns : tie.Need-returns Inv-loop μ-loop
+returns c = search needs
+
+returns-2 : tie.Need-returns-2 Inv-loop μ-loop
+returns-2 c = search needs
+
+pub points-of-spec : {M : Type 1} → statement M
+points-of-spec =
+    tie.close
+    (tie.spec
+    Inv-loop
+    μ-loop
+    loop-holds
+    array-read-with-witnesses
+    array-read-with-witnesses-2
+    array-read-with-witnesses-3
+    with-witnesses-requires
+    add-i
+    loop-less
+    loop-again
+    least-requires
+    with-point-requires
+    returns
+    returns-2)

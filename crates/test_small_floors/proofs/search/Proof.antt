@@ -1,0 +1,46 @@
+-- `test_small_floors::search` is safe and ends: below 255 one more fits a byte, and the sets of points left fall. Assumes nothing.
+use borrow.Author.Needs.{needs}
+use Prim.Native.Nat.{_-_}
+use Rattle.test_small_floors.proofs.search.Statement.{statement}
+use Rattle.test_small_floors.proofs.search.Tie as tie
+
+abbrev Inv-loop : tie.InvT-loop
+Inv-loop code names all found₀ points₀ found points = Unit {0}
+
+abbrev μ-loop : tie.MeasureT-loop
+μ-loop code names all found₀ points₀ found points = all - points
+
+evaluations-requires : tie.Need-evaluations-requires Inv-loop μ-loop
+evaluations-requires c κs = search needs
+
+loop-holds : tie.Need-loop-holds Inv-loop μ-loop
+loop-holds c = search needs
+
+add-points : tie.Need-add-points Inv-loop μ-loop
+add-points c = search needs
+
+with-floors-requires : tie.Need-with-floors-requires Inv-loop μ-loop
+with-floors-requires c κs = search needs
+
+loop-less : tie.Need-loop-less Inv-loop μ-loop
+loop-less c = search needs
+
+loop-again : tie.Need-loop-again Inv-loop μ-loop
+loop-again c = search needs
+
+returns : tie.Need-returns Inv-loop μ-loop
+returns c = search needs
+
+pub search-spec : {M : Type 1} → statement M
+search-spec =
+    tie.close
+    (tie.spec
+    Inv-loop
+    μ-loop
+    evaluations-requires
+    loop-holds
+    add-points
+    with-floors-requires
+    loop-less
+    loop-again
+    returns)

@@ -1,0 +1,1650 @@
+// The test program of ask: document 01's sheets P1 to P12 and 3,000 generated ones, each put to a table and asked, and each answer
+// held to a search over small floors that shares no code with the table. A generated sheet is made twice at once: as text, which the
+// table reads, and in a form of its own, which is evaluated by the definitions of document 01, 'Meaning', on every floor of at most
+// four points on distinct evaluations. Alike points can be merged with no atom changed, so for up to two names these are all floors:
+// ask must give a plan exactly if one of them meets the rules, and the plan's row must be the first of their rows. For three names
+// there are more floors: where one of these meets the rules ask must give a plan, and its row may not be later than theirs. Every plan
+// must meet the rules on the floor that its words have, and all its words must be those of document 01, 'The plan that is given',
+// for its row. A sheet that disagrees is written, and why. The file `stdout` has document 01's answers to P1 to P12 and the counts
+// that a separate computation gave.
+ghost use Prim.Native.Nat.{_<_};
+ghost use Rattle.table.specs.Calls.{FromUs};
+use table::AddAnswer;
+use table::AskAnswer;
+use table::Table;
+use test_kit::write_bytes;
+use test_kit::write_number;
+use test_kit::write_words;
+
+// ---- the signs of a sheet's form
+
+// Each stands before its operands: those with none, with one, with two, then the first and the second name and what stands
+// before each rule. `= 0` is a sign beside `=0`, so that each is counted.
+const NOTHING: u8 = 0;
+
+const ALL: u8 = 1;
+
+const TRUE: u8 = 2;
+
+const FALSE: u8 = 3;
+
+const REST: u8 = 4;
+
+const NOT: u8 = 5;
+
+const EMPTY: u8 = 6;
+
+const SPACED_EMPTY: u8 = 7;
+
+const COMMON: u8 = 8;
+
+const EITHER: u8 = 9;
+
+const CONTACT: u8 = 10;
+
+const PART: u8 = 11;
+
+const AND: u8 = 12;
+
+const OR: u8 = 13;
+
+const IF: u8 = 14;
+
+const EXACTLY_IF: u8 = 15;
+
+const NAME: u8 = 16;
+
+const SECOND: u8 = 17;
+
+const RULE: u8 = 19;
+
+// ---- the sheets that are made
+
+// Each is made at once as text, a rule on each line, and in the form that is evaluated, so that no reader stands between the two.
+
+// Where parentheses are put, no sign is.
+const NO_SIGN: u8 = 20;
+
+// The two sorts.
+const FORMULA: u64 = 0;
+
+const TERM: u64 = 1;
+
+// What is being made: items still to be written, the next one on top; the seed that numbers are drawn from; the names so far, and how
+// many there may be; the style of spelling; the last sign; how far text and form have come; and whether there was room for all of it.
+// An item is a byte of text, a name (from 192 on), or a formula or a term with so many leaves in a place of some level (from 128 on).
+// Levels are document 01's, loosest first: 0 -> and <->, 1 | and +, 2 & and *, 3 ~ and -.
+struct Maker {
+    items: [u8; 64],
+    height: usize,
+    seed: u64,
+    names: u64,
+    most: u64,
+    style: u64,
+    sign: u8,
+    text: usize,
+    form: usize,
+    whole: bool,
+}
+
+// The next number of a fixed sequence.
+fn next_seed(seed: u64) -> u64 {
+    (seed % 0x8000_0000 * 1103515245 + 12345) % 0x8000_0000
+}
+
+// Sheet k is made from its number alone: up to 1 to 3 names, in one of four styles.
+fn sheet_maker(k: u64) -> Maker {
+    let items = [0u8; 64];
+    Maker {
+        items,
+        height: 0,
+        seed: next_seed(next_seed(k)),
+        names: 0,
+        most: k % 3 + 1,
+        style: k / 3 % 4,
+        sign: NO_SIGN,
+        text: 0,
+        form: 0,
+        whole: true,
+    }
+}
+
+// A formula or term still to be made, as an item.
+fn item(sort: u64, level: u64, leaves: u64) -> u8 {
+    (128 + sort % 2 * 32 + level % 4 * 8 + leaves % 8) as u8
+}
+
+// The level of a sign with two operands.
+fn level_of(sign: u8) -> u64
+    ensures { λ r. ⌜ r < 3 ⌝ }
+{
+    match sign {
+        AND | COMMON => 2,
+        OR | EITHER => 1,
+        _ => 0,
+    }
+}
+
+fn formula_sign(r: u64) -> u8 {
+    match r {
+        0 => AND,
+        1 => OR,
+        2 => IF,
+        _ => EXACTLY_IF,
+    }
+}
+
+fn term_sign(r: u64) -> u8 {
+    match r {
+        0 => COMMON,
+        _ => EITHER,
+    }
+}
+
+// How many names there are to choose from: those that occur, and a new one where there may be more.
+fn choices(names: u64, most: u64) -> u64
+    ensures { λ r. ⌜ (0 < r) × (r < 4) ⌝ }
+{
+    if names < most {
+        return names % 3 + 1;
+    }
+    if names % 4 == 0 {
+        return 1;
+    }
+    names % 4
+}
+
+impl Maker {
+    fn advanced(self) -> Maker {
+        let mut next = self;
+        next.seed = next_seed(self.seed);
+        next
+    }
+
+    // A number below n, from the seed.
+    fn drawn(self, n: u64) -> u64
+        requires { ⌜ 0 < n ⌝ }
+        ensures { λ r. ⌜ r < n ⌝ }
+    {
+        self.seed / 0x1_0000 % n
+    }
+
+    fn signed(self, sign: u8) -> Maker {
+        let mut next = self;
+        next.sign = sign;
+        next
+    }
+
+    fn broken(self) -> Maker {
+        let mut next = self;
+        next.whole = false;
+        next
+    }
+
+    fn push(self, item: u8) -> Maker {
+        let mut next = self;
+        let height = self.height;
+        if height < 64 {
+            next.items[height] = item;
+            next.height = height + 1;
+            return next;
+        }
+        self.broken()
+    }
+
+    fn top(self) -> u8 {
+        let items = self.items;
+        let height = self.height;
+        if 0 < height {
+            if height <= 64 {
+                return items[height - 1];
+            }
+        }
+        0
+    }
+
+    fn popped(self) -> Maker {
+        let mut next = self;
+        if 0 < self.height {
+            next.height = self.height - 1;
+        }
+        next
+    }
+
+    fn push_if(self, is: bool, item: u8) -> Maker {
+        if is { self.push(item) } else { self }
+    }
+
+    // A blank, where the style has blanks.
+    fn push_blank(self) -> Maker {
+        let style = self.style;
+        match style {
+            1 => self.push(b' '),
+            3 => self.push(b'\t'),
+            _ => self,
+        }
+    }
+
+    // The last item that is pushed comes first in the text.
+    fn push_sign(self, sign: u8) -> Maker {
+        match sign {
+            AND => self.push(b'&'),
+            OR => self.push(b'|'),
+            COMMON => self.push(b'*'),
+            EITHER => self.push(b'+'),
+            IF => self.push(b'>').push(b'-'),
+            _ => self.push(b'>').push(b'-').push(b'<'),
+        }
+    }
+
+    // Parentheses that need not be there; the loosest level of a formula is 0, of a term 1.
+    fn push_group(self, sort: u64, leaves: u64) -> Maker {
+        self.signed(NO_SIGN)
+            .push(b')')
+            .push(item(sort, sort, leaves))
+            .push(b'(')
+    }
+
+    fn push_prefix(self, sort: u64, leaves: u64) -> Maker {
+        let next = self.push(item(sort, 3, leaves));
+        if sort == FORMULA {
+            return next.signed(NOT).push(b'~');
+        }
+        next.signed(REST).push(b'-')
+    }
+
+    // Two operands, in parentheses where the place asks for a tighter sign. Signs group to the left.
+    fn push_infix(self, sort: u64, level: u64, sign: u8, left: u64, right: u64) -> Maker {
+        let own = level_of(sign);
+        let closed = self.signed(sign).push_if(own < level, b')');
+        let second = closed.push(item(sort, own + 1, right));
+        let between = second.push_blank().push_sign(sign).push_blank();
+        let first = between.push(item(sort, own, left));
+        first.push_if(own < level, b'(')
+    }
+
+    // A sign with two operands, which share the leaves.
+    fn push_binary(self, sort: u64, level: u64, leaves: u64) -> Maker
+        requires { ⌜ 1 < leaves ⌝ }
+    {
+        let chosen = self.advanced();
+        let parted = chosen.advanced();
+        let left = parted.drawn(leaves - 1) + 1;
+        let right = leaves - left;
+        if sort == FORMULA {
+            return parted.push_infix(sort, level, formula_sign(chosen.drawn(4)), left, right);
+        }
+        parted.push_infix(sort, level, term_sign(chosen.drawn(2)), left, right)
+    }
+
+    // Two terms in parentheses.
+    fn push_arguments(self) -> Maker {
+        let one = self.advanced();
+        let two = one.advanced();
+        let second = two.push(b')').push(item(TERM, 1, two.drawn(3) + 1));
+        let first = second
+            .push_blank()
+            .push(b',')
+            .push(item(TERM, 1, one.drawn(3) + 1));
+        first.push(b'(')
+    }
+
+    fn push_empty(self, spaced: bool) -> Maker {
+        let next = self.advanced();
+        let leaves = next.drawn(3) + 1;
+        next.push(b'0')
+            .push_if(spaced, b' ')
+            .push(b'=')
+            .push(item(TERM, 1, leaves))
+    }
+
+    fn push_formula_leaf(self) -> Maker {
+        let next = self.advanced();
+        let r = next.drawn(16);
+        if r < 1 {
+            return next.signed(TRUE).push(b'T');
+        }
+        if r < 2 {
+            return next.signed(FALSE).push(b'F');
+        }
+        if r < 7 {
+            return next.signed(CONTACT).push_arguments().push(b'C');
+        }
+        if r < 10 {
+            return next.signed(PART).push_arguments().push(b'=').push(b'<');
+        }
+        if r < 12 {
+            return next.signed(SPACED_EMPTY).push_empty(true);
+        }
+        next.signed(EMPTY).push_empty(false)
+    }
+
+    // A name that occurs already, or a new one: names are numbered as they come.
+    fn push_name(self) -> Maker {
+        let mut next = self.advanced();
+        let names = self.names;
+        let k = next.drawn(choices(names, self.most));
+        if k == names {
+            next.names = k + 1;
+        }
+        next.signed(NAME + k as u8).push(192 + k as u8)
+    }
+
+    fn push_term_leaf(self) -> Maker {
+        let next = self.advanced();
+        let r = next.drawn(16);
+        if r < 1 {
+            return next.signed(NOTHING).push(b'0');
+        }
+        if r < 2 {
+            return next.signed(ALL).push(b'1');
+        }
+        next.push_name()
+    }
+
+    // A formula or a term, by its first sign: what is in it is pushed.
+    fn grown(self, sort: u64, level: u64, leaves: u64) -> Maker {
+        let next = self.advanced();
+        let r = next.drawn(16);
+        if r < 3 {
+            return next.push_prefix(sort, leaves);
+        }
+        if r < 5 {
+            return next.push_group(sort, leaves);
+        }
+        if 1 < leaves {
+            return next.push_binary(sort, level, leaves);
+        }
+        if sort == FORMULA {
+            return next.push_formula_leaf();
+        }
+        next.push_term_leaf()
+    }
+}
+
+fn put_byte(m: Maker, text: &mut [u8; 1100], b: u8) -> Maker {
+    let mut next = m;
+    let at = m.text;
+    if at < 1100 {
+        text[at] = b;
+        next.text = at + 1;
+        return next;
+    }
+    m.broken()
+}
+
+// Byte i of the spelling of a name; the four styles have three names each.
+fn letter(name: usize, i: usize) -> u8 {
+    let spellings = b"a     b     c     raw   cookeddry   Ta    01    C1    x     Fx    10    ";
+    spellings[name % 12 * 6 + i % 6]
+}
+
+fn put_letter(m: Maker, text: &mut [u8; 1100], b: u8) -> Maker {
+    if b == b' ' {
+        return m;
+    }
+    put_byte(m, text, b)
+}
+
+// The spelling of name k, by the style.
+fn put_name(m: Maker, text: &mut [u8; 1100], k: u8) -> Maker {
+    let name = (m.style % 4 * 3) as usize + (k % 3) as usize;
+    let mut next = m;
+    let mut i: usize = 0;
+    while i < 6 {
+        next = put_letter(next, text, letter(name, i));
+        i += 1;
+    }
+    next
+}
+
+// A sign at the form's end; parentheses have none.
+fn put_sign(m: Maker, form: &mut [u8; 512], sign: u8) -> Maker {
+    if sign == NO_SIGN {
+        return m;
+    }
+    let mut next = m;
+    let at = m.form;
+    if at < 512 {
+        form[at] = sign;
+        next.form = at + 1;
+        return next;
+    }
+    m.broken()
+}
+
+// The item on top: a byte or a name is written, what is larger is grown.
+fn with_item(m: Maker, text: &mut [u8; 1100], form: &mut [u8; 512]) -> Maker {
+    let item = m.top();
+    let next = m.popped();
+    if item < 128 {
+        return put_byte(next, text, item);
+    }
+    if 192 <= item {
+        return put_name(next, text, item);
+    }
+    let n = (item % 64) as u64;
+    let grown = next.grown(n / 32, n / 8 % 4, n % 8);
+    put_sign(grown, form, grown.sign)
+}
+
+// All items, of which there are never so many that the turns run out.
+fn with_items(m: Maker, text: &mut [u8; 1100], form: &mut [u8; 512]) -> Maker {
+    let mut next = m;
+    let mut turns: usize = 0;
+    while turns < 4000 {
+        if next.height == 0 {
+            return next;
+        }
+        next = with_item(next, text, form);
+        turns += 1;
+    }
+    next.broken()
+}
+
+// A rule of one to four leaves: atoms, T or F.
+fn with_rule(m: Maker, text: &mut [u8; 1100], form: &mut [u8; 512]) -> Maker {
+    let begun = put_sign(m, form, RULE).advanced();
+    let leaves = begun.drawn(4) + 1;
+    let made = with_items(begun.push(item(FORMULA, 0, leaves)), text, form);
+    put_byte(made, text, b'\n')
+}
+
+// One to four rules.
+fn with_rules(m: Maker, text: &mut [u8; 1100], form: &mut [u8; 512]) -> Maker {
+    let mut next = m.advanced();
+    let rules = next.drawn(4) + 1;
+    let mut i: u64 = 0;
+    while i < rules {
+        next = with_rule(next, text, form);
+        i += 1;
+    }
+    next
+}
+
+// ---- floors, and what rules mean on them
+
+// The definitions are those of document 01, 'Meaning'. Points stand on distinct evaluations below 8, and a set of points is a byte,
+// bit e for evaluation e.
+
+// The points of a floor, and for each evaluation those in contact with it.
+struct Floor {
+    points: u8,
+    touch: [u8; 8],
+}
+
+// What is known after some signs of a form, which are taken from the last to the first: the values that are still wanted, the
+// uppermost that of the first operand; the row so far, a number with atom 0 as its highest bit, so that of two rows the first is the
+// larger; whether every rule so far is met; and whether all of it was evaluated.
+struct Machine {
+    values: [u8; 32],
+    height: usize,
+    row: u32,
+    weight: u32,
+    met: bool,
+    whole: bool,
+}
+
+// Whether a floor that meets the rules is found, and the first of the rows of such floors.
+struct Found {
+    some: bool,
+    row: u32,
+    whole: bool,
+}
+
+// The set of each evaluation alone.
+const BITS: [u8; 8] = [1, 2, 4, 8, 16, 32, 64, 128];
+
+// The set of evaluation e alone.
+fn bit(e: usize) -> u8 {
+    BITS[e % 8]
+}
+
+// Whether e is in the set.
+fn has(set: u8, e: usize) -> bool {
+    set & bit(e) != 0
+}
+
+// How many points stand on evaluations below e: the position of the point on e.
+fn position(points: u8, e: usize) -> usize {
+    let mut n: usize = 0;
+    let mut f: usize = 0;
+    while f < 8 {
+        if f < e {
+            if has(points, f) {
+                n = n % 8 + 1;
+            }
+        }
+        f += 1;
+    }
+    n
+}
+
+// The evaluations below 2^names.
+fn evaluations(names: usize) -> u8 {
+    match names {
+        0 => 1,
+        1 => 3,
+        2 => 15,
+        _ => 255,
+    }
+}
+
+// The evaluations in which a name holds: those with the bit of its number.
+fn name_set(name: u8) -> u8 {
+    match name {
+        NAME => 0xAA,
+        SECOND => 0xCC,
+        _ => 0xF0,
+    }
+}
+
+// A floor whose points are in contact with themselves alone.
+fn apart(points: u8) -> Floor {
+    Floor {
+        points,
+        touch: BITS,
+    }
+}
+
+// A floor on which e and f are in contact too.
+fn joined(floor: Floor, e: usize, f: usize) -> Floor {
+    let points = floor.points;
+    let mut touch = floor.touch;
+    touch[e % 8] = touch[e % 8] | bit(f);
+    touch[f % 8] = touch[f % 8] | bit(e);
+    Floor { points, touch }
+}
+
+// Whether e and f are two points, e the smaller.
+fn is_pair(points: u8, e: usize, f: usize) -> bool {
+    e < f && has(points, e) && has(points, f)
+}
+
+// The floor of these points whose pairs, in order, are in contact where the bits of a number are set.
+fn floor_of(points: u8, contacts: usize) -> Floor {
+    let mut floor = apart(points);
+    let mut bits = contacts;
+    let mut i: usize = 0;
+    while i < 64 {
+        if is_pair(points, i / 8, i % 8) {
+            if bits % 2 == 1 {
+                floor = joined(floor, i / 8, i % 8);
+            }
+            bits = bits / 2;
+        }
+        i += 1;
+    }
+    floor
+}
+
+// How many floors have these points, of which there are at most four; of more none is gone through.
+fn floors_on(points: u8) -> usize {
+    match position(points, 8) {
+        1 => 1,
+        2 => 2,
+        3 => 8,
+        4 => 64,
+        _ => 0,
+    }
+}
+
+// Nothing evaluated yet.
+fn start() -> Machine {
+    let values = [0u8; 32];
+    Machine {
+        values,
+        height: 0,
+        row: 0,
+        weight: 1,
+        met: true,
+        whole: true,
+    }
+}
+
+// The value at a depth below the uppermost.
+fn operand(m: Machine, depth: usize) -> u8 {
+    let values = m.values;
+    let height = m.height;
+    if depth < height {
+        if height <= 32 {
+            return values[height - 1 - depth];
+        }
+    }
+    0
+}
+
+// How many operands a sign has.
+fn operands(sign: u8) -> usize {
+    if sign < REST {
+        return 0;
+    }
+    if sign < COMMON {
+        return 1;
+    }
+    if sign < NAME {
+        return 2;
+    }
+    0
+}
+
+// Whether a sign is an atom's.
+fn is_atom(sign: u8) -> bool {
+    match sign {
+        CONTACT | PART | EMPTY | SPACED_EMPTY => true,
+        _ => false,
+    }
+}
+
+// "C(x,y) holds if a point of x is in contact with a point of y."
+fn touching(x: u8, y: u8, touch: [u8; 8]) -> bool {
+    let mut e: usize = 0;
+    while e < 8 {
+        if has(x, e) {
+            if touch[e] & y != 0 {
+                return true;
+            }
+        }
+        e += 1;
+    }
+    false
+}
+
+fn one_if(b: bool) -> u8 {
+    if b { 1 } else { 0 }
+}
+
+// What a term is on a floor, from its operands: "- is complement, * intersection, + union".
+fn term_value(sign: u8, x: u8, y: u8, points: u8) -> u8 {
+    match sign {
+        NOTHING => 0,
+        ALL => points,
+        REST => points & (255 - x),
+        COMMON => x & y,
+        EITHER => x | y,
+        _ => points & name_set(sign),
+    }
+}
+
+// 1 if a formula holds, else 0, from its operands: "t=0 holds if t is empty. <=(x,y) means x*-y=0."
+fn formula_value(sign: u8, a: u8, b: u8, touch: [u8; 8]) -> u8 {
+    match sign {
+        TRUE => 1,
+        FALSE => 0,
+        NOT => one_if(a == 0),
+        EMPTY | SPACED_EMPTY => one_if(a == 0),
+        CONTACT => one_if(touching(a, b, touch)),
+        PART => one_if(a & (255 - b) == 0),
+        AND => a & b,
+        OR => a | b,
+        IF => one_if(a == 0) | b,
+        _ => one_if(a == b),
+    }
+}
+
+fn is_term(sign: u8) -> bool {
+    match sign {
+        NOTHING | ALL | REST | COMMON | EITHER => true,
+        _ => NAME <= sign,
+    }
+}
+
+fn value_of(sign: u8, a: u8, b: u8, floor: Floor) -> u8 {
+    let points = floor.points;
+    let touch = floor.touch;
+    if is_term(sign) {
+        return term_value(sign, a, b, points);
+    }
+    formula_value(sign, a, b, touch)
+}
+
+// The row with an atom's value.
+fn with_atom_value(m: Machine, value: u8) -> Machine {
+    let mut next = m;
+    if value == 1 {
+        next.row = m.row | m.weight;
+    }
+    next.weight = m.weight % 0x1_0000 * 2;
+    next
+}
+
+// A value in place of so many operands.
+fn with_value(m: Machine, taken: usize, value: u8) -> Machine {
+    let mut next = m;
+    let height = m.height;
+    if taken <= height {
+        let place = height - taken;
+        if place < 32 {
+            next.values[place] = value;
+            next.height = place + 1;
+            return next;
+        }
+    }
+    next.whole = false;
+    next
+}
+
+// The end of a rule, whose value is all that is left.
+fn with_rule_end(m: Machine, value: u8) -> Machine {
+    let mut next = m;
+    if m.height != 1 {
+        next.whole = false;
+    }
+    if value != 1 {
+        next.met = false;
+    }
+    next.height = 0;
+    next
+}
+
+// One sign more.
+fn step(m: Machine, sign: u8, floor: Floor) -> Machine {
+    let a = operand(m, 0);
+    let b = operand(m, 1);
+    if sign == RULE {
+        return with_rule_end(m, a);
+    }
+    let value = value_of(sign, a, b, floor);
+    let taken = operands(sign);
+    if is_atom(sign) {
+        return with_value(with_atom_value(m, value), taken, value);
+    }
+    with_value(m, taken, value)
+}
+
+// The rules on a floor.
+fn on_floor(code: &[u8], floor: Floor) -> Machine {
+    let mut m = start();
+    let mut i: usize = 0;
+    while i < code.len() {
+        m = step(m, code[code.len() - 1 - i], floor);
+        i += 1;
+    }
+    m
+}
+
+// What is found, with one floor more.
+fn with_floor(found: Found, m: Machine) -> Found {
+    let mut next = found;
+    if !m.whole {
+        next.whole = false;
+    }
+    if m.met {
+        next.some = true;
+        if found.row < m.row {
+            next.row = m.row;
+        }
+    }
+    next
+}
+
+// What is found, with the floors of these points.
+fn with_floors(found: Found, code: &[u8], points: u8) -> Found {
+    let floors = floors_on(points);
+    let mut next = found;
+    let mut contacts: usize = 0;
+    while contacts < floors {
+        next = with_floor(next, on_floor(code, floor_of(points, contacts)));
+        contacts += 1;
+    }
+    next
+}
+
+// The search over all floors of at most four points.
+fn search(code: &[u8], names: usize) -> Found {
+    let all = evaluations(names);
+    let mut found = Found {
+        some: false,
+        row: 0,
+        whole: true,
+    };
+    let mut points: u8 = 0;
+    while points < all {
+        points += 1;
+        found = with_floors(found, code, points);
+    }
+    found
+}
+
+// ---- the plan that document 01 gives
+
+// 'The plan that is given' and 'Plan words', for a row of a sheet's atoms over at most three names; and the floor that a plan's words
+// have.
+
+// A word that no plan has: what the buffer holds before ask.
+const UNWRITTEN: u32 = 0xFFFF_FFFF;
+
+// What an atom is in a row; an atom that is no contact is a zero atom.
+const NO_ATOM: u8 = 0;
+
+const TRUE_CONTACT: u8 = 1;
+
+const FALSE_CONTACT: u8 = 2;
+
+const TRUE_ZERO: u8 = 3;
+
+const FALSE_ZERO: u8 = 4;
+
+// The atoms in a row: for a contact its two terms, for a zero atom its term, each as the evaluations in which it holds; and the
+// evaluations in true zero terms.
+struct Atoms {
+    kinds: [u8; 16],
+    first: [u8; 16],
+    second: [u8; 16],
+    count: usize,
+    names: usize,
+    vacant: u8,
+}
+
+// The first words of a buffer, so many.
+struct Words {
+    words: [u32; 64],
+    count: usize,
+}
+
+// The floor that some words have, and the evaluations of its points in the words' order.
+struct Reading {
+    floor: Floor,
+    order: [u8; 8],
+    count: usize,
+}
+
+fn no_atoms(names: usize) -> Atoms {
+    let kinds = [NO_ATOM; 16];
+    let first = [0u8; 16];
+    let second = [0u8; 16];
+    Atoms {
+        kinds,
+        first,
+        second,
+        count: 0,
+        names,
+        vacant: 0,
+    }
+}
+
+fn kind_of(sign: u8, holds: bool) -> u8 {
+    if sign == CONTACT {
+        return if holds { TRUE_CONTACT } else { FALSE_CONTACT };
+    }
+    if holds { TRUE_ZERO } else { FALSE_ZERO }
+}
+
+// The first term of an atom: "the term of <=(x,y) being x*-y".
+fn first_term(sign: u8, x: u8, y: u8) -> u8 {
+    if sign == PART { x & (255 - y) } else { x }
+}
+
+// One atom more.
+fn with_atom(atoms: Atoms, kind: u8, first: u8, second: u8) -> Atoms {
+    let mut next = atoms;
+    let i = atoms.count;
+    if kind == TRUE_ZERO {
+        next.vacant = atoms.vacant | first;
+    }
+    if i < 16 {
+        next.kinds[i] = kind;
+        next.first[i] = first;
+        next.second[i] = second;
+        next.count = i + 1;
+    }
+    next
+}
+
+// The atoms of a form, from the last to the first as the row's bits: terms are evaluated on the floor of all evaluations.
+fn atoms_of(code: &[u8], names: usize, row: u32) -> Atoms {
+    let floor = apart(evaluations(names));
+    let mut atoms = no_atoms(names);
+    let mut values = row;
+    let mut m = start();
+    let mut i: usize = 0;
+    while i < code.len() {
+        let sign = code[code.len() - 1 - i];
+        if is_atom(sign) {
+            let x = operand(m, 0);
+            let y = operand(m, 1);
+            let kind = kind_of(sign, values % 2 == 1);
+            atoms = with_atom(atoms, kind, first_term(sign, x, y), y);
+            values = values / 2;
+        }
+        m = step(m, sign, floor);
+        i += 1;
+    }
+    atoms
+}
+
+// Whether e is in x and f in y, or the other way round.
+fn crossing(x: u8, y: u8, e: usize, f: usize) -> bool {
+    has(x, e) && has(y, f) || has(x, f) && has(y, e)
+}
+
+// "Two evaluations are separated if a false contact has one in its first term and the other in its second, either way round."
+fn separated(atoms: Atoms, e: usize, f: usize) -> bool {
+    let kinds = atoms.kinds;
+    let first = atoms.first;
+    let second = atoms.second;
+    let mut i: usize = 0;
+    while i < 16 {
+        if kinds[i] == FALSE_CONTACT {
+            if crossing(first[i], second[i], e, f) {
+                return true;
+            }
+        }
+        i += 1;
+    }
+    false
+}
+
+// "An evaluation is allowed if it is below 2^names, in no true zero term and not separated from itself."
+fn allowed(atoms: Atoms, e: usize) -> bool {
+    has(evaluations(atoms.names), e) && !has(atoms.vacant, e) && !separated(atoms, e, e)
+}
+
+// Whether an evaluation is in a set, and allowed.
+fn allowed_in(atoms: Atoms, set: u8, e: usize) -> bool {
+    has(set, e) && allowed(atoms, e)
+}
+
+// The least allowed evaluation in a set; 8 where there is none.
+fn least(atoms: Atoms, set: u8) -> usize {
+    let mut e: usize = 0;
+    while e < 8 {
+        if allowed_in(atoms, set, e) {
+            return e;
+        }
+        e += 1;
+    }
+    8
+}
+
+// The least allowed evaluation in a set that is not separated from e; 8 where there is none.
+fn partner(atoms: Atoms, e: usize, set: u8) -> usize {
+    let mut f: usize = 0;
+    while f < 8 {
+        if allowed_in(atoms, set, f) {
+            if !separated(atoms, e, f) {
+                return f;
+            }
+        }
+        f += 1;
+    }
+    8
+}
+
+// "p, the least allowed one in its first term with an allowed, unseparated partner in the second"; 8 where there is none.
+fn witness(atoms: Atoms, x: u8, y: u8) -> usize {
+    let mut e: usize = 0;
+    while e < 8 {
+        if allowed_in(atoms, x, e) {
+            if partner(atoms, e, y) < 8 {
+                return e;
+            }
+        }
+        e += 1;
+    }
+    8
+}
+
+fn with_point(points: u8, e: usize) -> u8 {
+    if e < 8 { points | bit(e) } else { points }
+}
+
+// "Each true contact gives p .. and then its least partner."
+fn with_pair(atoms: Atoms, points: u8, x: u8, y: u8) -> u8 {
+    let p = witness(atoms, x, y);
+    with_point(with_point(points, p), partner(atoms, p, y))
+}
+
+// The points with those that an atom gives.
+fn with_witnesses(atoms: Atoms, points: u8, kind: u8, x: u8, y: u8) -> u8 {
+    match kind {
+        TRUE_CONTACT => with_pair(atoms, points, x, y),
+        FALSE_ZERO => with_point(points, least(atoms, x)),
+        _ => points,
+    }
+}
+
+// "The points are these evaluations, ascending, each once; if there are none, the least allowed evaluation."
+fn points_of(atoms: Atoms) -> u8 {
+    let kinds = atoms.kinds;
+    let first = atoms.first;
+    let second = atoms.second;
+    let mut points: u8 = 0;
+    let mut i: usize = 0;
+    while i < 16 {
+        points = with_witnesses(atoms, points, kinds[i], first[i], second[i]);
+        i += 1;
+    }
+    if points == 0 {
+        return with_point(0, least(atoms, 255));
+    }
+    points
+}
+
+// No word yet.
+fn no_words() -> Words {
+    let words = [UNWRITTEN; 64];
+    Words { words, count: 0 }
+}
+
+// One word more: its kind and what it carries.
+fn with_word(w: Words, kind: u32, carried: usize) -> Words {
+    let mut next = w;
+    let at = w.count;
+    if at < 64 {
+        next.words[at] = kind % 16 * 0x1000_0000 + (carried % 0x1_0000) as u32;
+        next.count = at + 1;
+    }
+    next
+}
+
+fn with_points(w: Words, points: u8) -> Words {
+    let mut next = w;
+    let mut e: usize = 0;
+    while e < 8 {
+        if has(points, e) {
+            next = with_word(next, 2, e);
+        }
+        e += 1;
+    }
+    next
+}
+
+// Two positions or counts in one word.
+fn two_bytes(high: usize, low: usize) -> usize {
+    high % 256 * 256 + low % 256
+}
+
+// "All unseparated pairs are in contact."
+fn with_contacts(w: Words, points: u8, atoms: Atoms) -> Words {
+    let mut next = w;
+    let mut i: usize = 0;
+    while i < 64 {
+        if is_pair(points, i / 8, i % 8) {
+            if !separated(atoms, i / 8, i % 8) {
+                next = with_word(
+                    next,
+                    3,
+                    two_bytes(position(points, i / 8), position(points, i % 8)),
+                );
+            }
+        }
+        i += 1;
+    }
+    next
+}
+
+// The words of the plan that is given for the atoms' values.
+fn words_of(atoms: Atoms) -> Words {
+    let points = points_of(atoms);
+    let first = with_word(no_words(), 1, two_bytes(atoms.names, position(points, 8)));
+    let whole = with_contacts(with_points(first, points), points, atoms);
+    with_word(whole, 4, whole.count)
+}
+
+fn with_read_point(r: Reading, e: usize) -> Reading {
+    let floor = r.floor;
+    let count = r.count;
+    let mut order = r.order;
+    if 8 <= count {
+        return r;
+    }
+    order[count] = (e % 8) as u8;
+    Reading {
+        floor: apart(floor.points | bit(e)),
+        order,
+        count: count + 1,
+    }
+}
+
+fn with_read_contact(r: Reading, i: usize, j: usize) -> Reading {
+    let floor = r.floor;
+    let count = r.count;
+    let order = r.order;
+    Reading {
+        floor: joined(floor, order[i % 8] as usize, order[j % 8] as usize),
+        order,
+        count,
+    }
+}
+
+fn with_read_word(r: Reading, word: u32) -> Reading {
+    let low = (word % 256) as usize;
+    let high = (word / 256 % 256) as usize;
+    match word / 0x1000_0000 {
+        2 => with_read_point(r, low),
+        3 => with_read_contact(r, high, low),
+        _ => r,
+    }
+}
+
+// The floor that the first n words have. Words that are no plan are found out where words are compared.
+fn floor_in(words: &[u32; 530], n: usize) -> Floor {
+    let order = [0u8; 8];
+    let mut r = Reading {
+        floor: apart(0),
+        order,
+        count: 0,
+    };
+    let mut i: usize = 0;
+    while i < 530 {
+        if i < n {
+            r = with_read_word(r, words[i]);
+        }
+        i += 1;
+    }
+    r.floor
+}
+
+fn word_at(list: [u32; 64], i: usize) -> u32 {
+    if i < 64 { list[i] } else { UNWRITTEN }
+}
+
+// Whether a buffer holds these words, and past them what it held before.
+fn same_words(words: &[u32; 530], expected: Words) -> bool {
+    let list = expected.words;
+    let mut i: usize = 0;
+    while i < 530 {
+        if words[i] != word_at(list, i) {
+            return false;
+        }
+        i += 1;
+    }
+    true
+}
+
+// ---- the checks: what the table answers
+
+// What the table answers.
+enum Answer {
+    Plan(usize),
+    NoPlan,
+    Refused,
+}
+
+// A table with one rule more; `refused` is set where add refuses it.
+fn with_text(table: Table, text: &[u8], refused: &mut bool) -> Table
+    requires { ⌜ FromUs table ⌝ }
+    ensures { λ r. ⌜ FromUs r ⌝ }
+{
+    let r = table.add(text);
+    let answer = r.answer;
+    match answer {
+        AddAnswer::Added => {}
+        _ => {
+            *refused = true;
+        }
+    }
+    r.table
+}
+
+// A table with the rule in file[start..end].
+fn with_part(table: Table, file: &[u8], start: usize, end: usize, refused: &mut bool) -> Table
+    requires { ⌜ FromUs table ⌝ }
+    ensures { λ r. ⌜ FromUs r ⌝ }
+{
+    if start <= end {
+        if end <= file.len() {
+            return with_text(table, &file[start..end], refused);
+        }
+    }
+    table
+}
+
+// The table of a file's lines, each ended by byte 10, each put to add.
+fn table_of(file: &[u8], refused: &mut bool) -> Table
+    ensures { λ r. ⌜ FromUs r ⌝ }
+{
+    let mut table = Table::empty();
+    let mut start: usize = 0;
+    let mut i: usize = 0;
+    while i < file.len() {
+        if file[i] == b'\n' {
+            table = with_part(table, file, start, i, refused);
+            start = i + 1;
+        }
+        i += 1;
+    }
+    table
+}
+
+// The table with its k-th rule withdrawn, where k is not 0.
+fn without(table: Table, k: usize) -> Table
+    requires { ⌜ FromUs table ⌝ }
+    ensures { λ r. ⌜ FromUs r ⌝ }
+{
+    if k == 0 {
+        return table;
+    }
+    let w = table.withdraw(k);
+    w.table
+}
+
+fn answer_of(answer: AskAnswer) -> Answer {
+    match answer {
+        AskAnswer::Plan(n) => Answer::Plan(n),
+        AskAnswer::NoPlan => Answer::NoPlan,
+        AskAnswer::NoRule => Answer::Refused,
+        AskAnswer::ShortBuffer(_) => Answer::Refused,
+    }
+}
+
+// What ask answers for a file's lines, the k-th withdrawn before where k is not 0.
+fn asked(file: &[u8], k: usize, words: &mut [u32; 530]) -> Answer {
+    let mut refused = false;
+    let table = without(table_of(file, &mut refused), k);
+    if refused {
+        return Answer::Refused;
+    }
+    let r = table.ask(words);
+    let answer = r.answer;
+    answer_of(answer)
+}
+
+// ---- the checks: ask's answer held to the search
+
+// What a check finds.
+enum Finding {
+    Plan(usize),
+    NoPlan,
+    Disagrees,
+}
+
+// Writes why a sheet disagrees.
+fn disagree(why: &[u8]) -> Finding {
+    write_bytes(b"disagrees: ");
+    write_bytes(why);
+    write_bytes(b"\n");
+    Finding::Disagrees
+}
+
+// Whether a plan's row is not the first: for three names it may be before all that are found.
+fn is_late(names: usize, row: u32, first: u32) -> bool {
+    if names < 3 {
+        return row != first;
+    }
+    row < first
+}
+
+// Whether the words are those that document 01 gives for the row.
+fn check_words(code: &[u8], names: usize, row: u32, n: usize, words: &[u32; 530]) -> Finding {
+    let expected = words_of(atoms_of(code, names, row));
+    if expected.count == n {
+        if same_words(words, expected) {
+            return Finding::Plan(n);
+        }
+    }
+    disagree(b"the words are not the document's")
+}
+
+fn check_plan(code: &[u8], names: usize, found: Found, n: usize, words: &[u32; 530]) -> Finding {
+    if names < 3 {
+        if !found.some {
+            return disagree(b"a plan, but no floor is found");
+        }
+    }
+    let m = on_floor(code, floor_in(words, n));
+    if !m.met {
+        return disagree(b"the plan does not meet the rules");
+    }
+    if is_late(names, m.row, found.row) {
+        return disagree(b"the plan's row is not the first");
+    }
+    check_words(code, names, m.row, n, words)
+}
+
+fn check_no_plan(found: Found, words: &[u32; 530]) -> Finding {
+    if found.some {
+        return disagree(b"no plan, but a floor is found");
+    }
+    if same_words(words, no_words()) {
+        return Finding::NoPlan;
+    }
+    disagree(b"no plan, but words are written")
+}
+
+// Holds ask's answer to the search.
+fn check(code: &[u8], names: usize, answer: Answer, words: &[u32; 530]) -> Finding {
+    let found = search(code, names);
+    if !found.whole {
+        return disagree(b"the form is not evaluated");
+    }
+    match answer {
+        Answer::Plan(n) => check_plan(code, names, found, n, words),
+        Answer::NoPlan => check_no_plan(found, words),
+        Answer::Refused => disagree(b"a rule or the question is refused"),
+    }
+}
+
+// ---- the checks: counts
+
+// What is counted, after the sheets: sheets of 0 to 3 names, answers, words, and sheets with a sign, by the signs' numbers, with
+// parentheses that group, with a comma. `<=m` has no count: a rule with it is refused.
+const NAMES: usize = 1;
+
+const PLANS: usize = 5;
+
+const NO_PLANS: usize = 6;
+
+const PLAN_WORDS: usize = 7;
+
+const DISAGREEMENTS: usize = 8;
+
+const SIGNS: usize = 9;
+
+const GROUPS: usize = 26;
+
+const COMMAS: usize = 27;
+
+// Writes part i of labels of 14 bytes each.
+fn write_part(labels: &[u8], i: usize) {
+    let start = i % 28 * 14;
+    let end = start + 14;
+    if end <= labels.len() {
+        write_bytes(&labels[start..end]);
+    }
+}
+
+// Writes what count i is called.
+fn write_label(i: usize) {
+    let labels = b"sheets        \
+        no name       \
+        one name      \
+        two names     \
+        three names   \
+        plans         \
+        no plans      \
+        plan words    \
+        disagreements \
+        with 0        \
+        with 1        \
+        with T        \
+        with F        \
+        with -        \
+        with ~        \
+        with =0       \
+        with = 0      \
+        with *        \
+        with +        \
+        with C        \
+        with <=       \
+        with &        \
+        with |        \
+        with ->       \
+        with <->      \
+        with a name   \
+        with ()       \
+        with ,        ";
+    write_part(labels, i);
+}
+
+fn write_counts(counts: [usize; 28]) {
+    let mut i: usize = 0;
+    while i < 28 {
+        write_label(i);
+        write_number(counts[i]);
+        write_bytes(b"\n");
+        i += 1;
+    }
+}
+
+// Raises count i by n; no count comes near the bound.
+fn raise(counts: &mut [usize; 28], i: usize, n: usize) {
+    counts[i % 28] = counts[i % 28] % 0x1_0000_0000 + n % 0x1_0000;
+}
+
+fn raise_if(counts: &mut [usize; 28], i: usize, b: bool) {
+    if b {
+        raise(counts, i, 1);
+    }
+}
+
+fn occurs(bytes: &[u8], b: u8) -> bool {
+    let mut i: usize = 0;
+    while i < bytes.len() {
+        if bytes[i] == b {
+            return true;
+        }
+        i += 1;
+    }
+    false
+}
+
+// Whether the byte before a parenthesis is the end of C or of <=, whose arguments it opens.
+fn has_arguments(before: u8) -> bool {
+    match before {
+        b'C' | b'=' => true,
+        _ => false,
+    }
+}
+
+// Whether a parenthesis opens a term or a formula: it follows neither C nor <=.
+fn is_grouped(file: &[u8]) -> bool {
+    let mut before = b'\n';
+    let mut i: usize = 0;
+    while i < file.len() {
+        if file[i] == b'(' {
+            if !has_arguments(before) {
+                return true;
+            }
+        }
+        before = file[i];
+        i += 1;
+    }
+    false
+}
+
+// One more for each sign that a sheet has; a sheet with a name has the first.
+fn count_signs(counts: &mut [usize; 28], code: &[u8]) {
+    let mut sign: usize = 0;
+    while sign < 17 {
+        raise_if(counts, SIGNS + sign, occurs(code, sign as u8));
+        sign += 1;
+    }
+}
+
+fn count_sheet(counts: &mut [usize; 28], file: &[u8], code: &[u8], names: usize) {
+    raise(counts, 0, 1);
+    raise(counts, NAMES + names % 4, 1);
+    count_signs(counts, code);
+    raise_if(counts, GROUPS, is_grouped(file));
+    raise_if(counts, COMMAS, occurs(file, b','));
+}
+
+// A sheet that disagrees is written with its rules.
+fn count_finding(counts: &mut [usize; 28], f: Finding, file: &[u8]) {
+    match f {
+        Finding::Plan(n) => {
+            raise(counts, PLANS, 1);
+            raise(counts, PLAN_WORDS, n);
+        }
+        Finding::NoPlan => {
+            raise(counts, NO_PLANS, 1);
+        }
+        Finding::Disagrees => {
+            write_bytes(file);
+            raise(counts, DISAGREEMENTS, 1);
+        }
+    }
+}
+
+// ---- the checks: the sheets
+
+// Writes the first n words, a blank before each.
+fn write_first(words: &[u32], n: usize) {
+    if n <= words.len() {
+        write_words(b" ", &words[0..n], b"");
+    }
+}
+
+// Writes the answer to a sheet that has a label.
+fn write_answer(label: &[u8], f: Finding, words: &[u32; 530]) {
+    if label.len() == 0 {
+        return;
+    }
+    write_bytes(label);
+    match f {
+        Finding::Plan(n) => write_first(words, n),
+        Finding::NoPlan => write_bytes(b" no plan"),
+        Finding::Disagrees => write_bytes(b" disagrees"),
+    }
+    write_bytes(b"\n");
+}
+
+// Tests a sheet: its lines, the number of the one that is withdrawn or 0, its form without that one, and how many names.
+fn test(counts: &mut [usize; 28], label: &[u8], file: &[u8], k: usize, code: &[u8], names: usize) {
+    let mut words = [UNWRITTEN; 530];
+    let answer = asked(file, k, &mut words);
+    let f = check(code, names, answer, &words);
+    write_answer(label, f, &words);
+    count_sheet(counts, file, code, names);
+    count_finding(counts, f, file);
+}
+
+// Document 01, 'Worked sheets': P1 and P2.
+fn first_sheets(counts: &mut [usize; 28]) {
+    test(counts, b"P1:", b"T\n", 0, &[RULE, TRUE], 0);
+    test(
+        counts,
+        b"P2:",
+        b"C(raw,cooked)\n",
+        0,
+        &[RULE, CONTACT, NAME, SECOND],
+        2,
+    );
+}
+
+// P3 to P5.
+fn withdrawn_sheets(counts: &mut [usize; 28]) {
+    let code = [
+        RULE,
+        NOT,
+        CONTACT,
+        NAME,
+        SECOND,
+        RULE,
+        NOT,
+        EMPTY,
+        NAME,
+        RULE,
+        NOT,
+        EMPTY,
+        SECOND,
+        RULE,
+        PART,
+        NAME,
+        SECOND,
+    ];
+    let three = b"~C(raw,cooked)\n~raw=0\n~cooked=0\n";
+    let four = b"~C(raw,cooked)\n~raw=0\n~cooked=0\n<=(raw,cooked)\n";
+    test(counts, b"P3:", three, 0, &code[0..13], 2);
+    test(counts, b"P4:", four, 0, &code, 2);
+    test(counts, b"P5:", four, 4, &code[0..13], 2);
+}
+
+// P6 to P9.
+fn plain_sheets(counts: &mut [usize; 28]) {
+    test(
+        counts,
+        b"P6:",
+        b"C(a,a) & a=0\n",
+        0,
+        &[RULE, AND, CONTACT, NAME, NAME, EMPTY, NAME],
+        1,
+    );
+    test(counts, b"P7:", b"1=0\n", 0, &[RULE, EMPTY, ALL], 0);
+    test(
+        counts,
+        b"P8:",
+        b"C(1,1)\n",
+        0,
+        &[RULE, CONTACT, ALL, ALL],
+        0,
+    );
+    test(
+        counts,
+        b"P9:",
+        b"a=0 | ~a=0\n",
+        0,
+        &[RULE, OR, EMPTY, NAME, NOT, EMPTY, NAME],
+        1,
+    );
+}
+
+// P10 to P12.
+fn grouped_sheets(counts: &mut [usize; 28]) {
+    let code = [
+        RULE,
+        NOT,
+        EXACTLY_IF,
+        CONTACT,
+        NAME,
+        SECOND,
+        CONTACT,
+        SECOND,
+        NAME,
+    ];
+    test(counts, b"P10:", b"~(C(a,b) <-> C(b,a))\n", 0, &code, 2);
+    test(
+        counts,
+        b"P11:",
+        b"F -> F -> F\n",
+        0,
+        &[RULE, IF, IF, FALSE, FALSE, FALSE],
+        0,
+    );
+    test(
+        counts,
+        b"P12:",
+        b"T | F & F\n",
+        0,
+        &[RULE, OR, TRUE, AND, FALSE, FALSE],
+        0,
+    );
+}
+
+// Tests a sheet that was made: the first bytes of a text and of a form.
+fn test_made(counts: &mut [usize; 28], text: &[u8; 1100], form: &[u8; 512], m: Maker) {
+    let text = &text[..];
+    let form = &form[..];
+    let end = m.text;
+    let last = m.form;
+    let names = (m.names % 4) as usize;
+    if m.whole {
+        if end <= text.len() {
+            if last <= form.len() {
+                test(counts, b"", &text[0..end], 0, &form[0..last], names);
+                return;
+            }
+        }
+    }
+    count_finding(counts, disagree(b"a sheet is not made"), b"");
+}
+
+fn test_generated(counts: &mut [usize; 28], k: u64) {
+    let mut text = [0u8; 1100];
+    let mut form = [0u8; 512];
+    let m = with_rules(sheet_maker(k), &mut text, &mut form);
+    test_made(counts, &text, &form, m);
+}
+
+// How many sheets are generated.
+const SHEETS: u64 = 3000;
+
+fn generated_sheets(counts: &mut [usize; 28]) {
+    let mut k: u64 = 0;
+    while k < SHEETS {
+        test_generated(counts, k);
+        k += 1;
+    }
+}
+
+fn main() {
+    let mut counts = [0usize; 28];
+    first_sheets(&mut counts);
+    withdrawn_sheets(&mut counts);
+    plain_sheets(&mut counts);
+    grouped_sheets(&mut counts);
+    generated_sheets(&mut counts);
+    write_counts(counts);
+}
