@@ -40,6 +40,8 @@ cutTexts =
     ∷ cuts (bytes "T-->T") (tokenOf Truth 0 1 ∷ tokenOf Minus 1 1 ∷ tokenOf Implies 2 2 ∷ tokenOf Truth 4 1 ∷ [])
     ∷ cuts (bytes "F<->C") (tokenOf Falsity 0 1 ∷ tokenOf Iff 1 3 ∷ tokenOf Contact 4 1 ∷ [])
     ∷ cuts (bytes "0123456789abcdef") (tokenOf Name 0 16 ∷ [])
+    -- T-01: byte 13 is a blank, and parts runs
+    ∷ cuts (bytes "a\rb=0\r") (tokenOf Name 0 1 ∷ tokenOf Name 2 1 ∷ tokenOf IsZero 3 2 ∷ [])
     ∷ []
 
 abbrev pub refusedTexts : List Refuses
@@ -50,6 +52,9 @@ refusedTexts =
     ∷ refuses (replicate 17 84) (LongName 0)
     ∷ refuses (bytes "a=  0") (ForeignByte 1)
     ∷ refuses (bytes "a=\t0") (ForeignByte 1)
+    ∷ refuses (bytes "a=\r0") (ForeignByte 1)
+    ∷ refuses (bytes "\r") NoToken
+    ∷ refuses (replicate 256 84 ++ bytes "\r") TooLong
     ∷ refuses (bytes "a<-b") (ForeignByte 1)
     ∷ refuses (bytes "T - > T") (ForeignByte 4)
     ∷ refuses (bytes "a\nb") (ForeignByte 1)

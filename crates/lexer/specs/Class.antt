@@ -11,9 +11,12 @@ use Rattle.lexer.specs.declared.Class.the-variants as Class
 abbrev pub within : ℕ → ℕ → ℕ → Bool
 within a z b = leb a b && leb b z
 
--- "blank (space 32, tab 9)"
+-- "blank (space 32, tab 9)", and by T-01 of document 02: "Byte 13 becomes a blank, in a rule added alone and in a sheet."
 unfoldable pub isBlank : ℕ → Bool
-isBlank b = eqb b 32 || eqb b 9
+isBlank b =
+    eqb b 32
+    || (eqb b 9
+    || eqb b 13)
 
 -- "letter or digit (A-Z, a-z, 0-9)"
 unfoldable pub isAlphanumeric : ℕ → Bool

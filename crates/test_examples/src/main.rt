@@ -40,6 +40,7 @@ fn examples() {
     show(b"struck out", b"C(raw,cooked)\n\n~raw=0\n");
     show(b"nothing there", b"wash=0\n");
     show(b"unfinished", b"C(raw,cooked)\nC(raw,\n");
+    show(b"office", b"~C(raw,cooked)\r\n~raw=0\r\n~cooked=0\r\n");
 }
 
 // A contact, no plan, and refusals.
@@ -47,6 +48,7 @@ fn others() {
     show(b"contact", b"C(raw,cooked)");
     show(b"no floor at all", b"1=0");
     show(b"refusal 1, blank lines", b"\n \t\n");
+    show(b"refusal 1, office line ends", b"\r\n\r\n");
     show(b"refusal 3", b"T\na$b=0");
     show(b"refusal 4", b"abcdefghijklmnopq=0");
     show(b"refusal 5", b"a<=m b");
@@ -69,6 +71,8 @@ fn long_lines() {
     rule[255] = b'T';
     show(b"a blank line of 257 bytes", &line);
     show(b"refusal 2", &rule);
+    rule[256] = 13;
+    show(b"256 bytes and byte 13", &rule);
     rule[256] = 10;
     show(b"256 bytes", &rule);
 }

@@ -463,6 +463,20 @@ fn line_ends() {
     show(b"T\r\n");
 }
 
+// Byte 13 is a blank (document 02, T-01), and no space of "= 0".
+fn office_ends() {
+    show_each(
+        b"a=\r0\n\
+        a= \r0\n\
+        a\r=\r0\n\
+        a\rb=0\n\
+        a\r=0\r\n\
+        \rC\r(\ra\r,\rb\r)\r\n\
+        T-\r>T\n\
+        \r\t \r\n",
+    );
+}
+
 // Printed marks of the class foreign.
 fn foreign_marks() {
     show_each(
@@ -966,6 +980,7 @@ fn main() {
     first_place();
     foreign_bytes();
     line_ends();
+    office_ends();
     foreign_marks();
     blank_texts();
     either_sort();
