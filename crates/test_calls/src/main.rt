@@ -527,21 +527,11 @@ fn ask_plan(t: Table, rest: &[u8]) -> Table
     next
 }
 
-// Whether bytes are those that were lent: none is one of a text.
-fn bytes_kept(bytes: &[u8]) -> bool {
-    let mut i: usize = 0;
-    while i < bytes.len() {
-        if bytes[i] != 255 {
-            return false;
-        }
-        i += 1;
-    }
-    true
-}
-
-// Writes whether bytes are kept.
+// Writes whether bytes are those that were lent, none of which a text has.
 fn write_bytes_kept(bytes: &[u8]) {
-    if bytes_kept(bytes) {
+    let lent = [255u8; 300];
+    let n = at_most(bytes.len(), 300);
+    if check::same(bytes, &lent[0..n]) {
         write_bytes(b"; kept");
     } else {
         write_bytes(b"; not kept");
@@ -549,16 +539,16 @@ fn write_bytes_kept(bytes: &[u8]) {
 }
 
 // Writes what print answered, with its text and whether the other bytes are kept.
-fn write_printed(a: PrintAnswer, bytes: &[u8]) {
+fn write_printed(a: PrintAnswer, bytes: [u8; 300]) {
     write_outcome(b"", table::print_outcome(a));
     let PrintAnswer::Text(n) = a else {
-        write_bytes_kept(bytes);
+        write_bytes_kept(&bytes);
         return;
     };
-    if n <= bytes.len() {
+    if n <= 300 {
         write_bytes(b" ");
         write_bytes(&bytes[0..n]);
-        write_bytes_kept(&bytes[n..]);
+        write_bytes_kept(&bytes[n..300]);
     }
 }
 
@@ -577,7 +567,7 @@ fn print_rule(t: Table, rest: &[u8]) -> Table
     let r = t.print(k, &mut bytes[0..n]);
     let next = r.table;
     let answer = r.answer;
-    write_printed(answer, &bytes);
+    write_printed(answer, bytes);
     write_same(t, next);
     next
 }
