@@ -292,6 +292,13 @@ fn put_report(file: &[u8], out: &mut [u8]) -> usize
     put_rules(table, out)
 }
 
+// Room for the text.
+pub fn no_text() -> [u8; ROOM]
+    ensures { λ r. ⌜ length r ≡ 16384 ⌝ }
+{
+    [0u8; ROOM]
+}
+
 // The text for a sheet of any bytes, over the first bytes of the buffer, and its length. The other bytes keep their values.
 pub fn report(file: &[u8], out: &mut [u8; ROOM]) -> usize
     ensures { λ r. ⌜ Reports (outputOf (now (file .entry))) (now (out .entry)) r (now (out .exit)) ⌝ }

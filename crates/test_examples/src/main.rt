@@ -1,22 +1,13 @@
 // The test program of the output: the text for each sheet of the folder examples, for a contact, for no plan, for each refusal that
 // a sheet can get, and for the longest sheets. The file `stdout` has the texts that document 01 asks for, worked out by hand.
-ghost use mathlib.Core.Path.{_≡_};
-ghost use lib.ListN.{length};
 use test_kit::write_bytes;
-
-// Room for the text.
-fn no_text() -> [u8; 16384]
-    ensures { λ r. ⌜ length r ≡ 16384 ⌝ }
-{
-    [0u8; 16384]
-}
 
 // The title of a sheet, and its text.
 fn show(title: &[u8], sheet: &[u8]) {
     write_bytes(b"# ");
     write_bytes(title);
     write_bytes(b"\n");
-    let mut text = no_text();
+    let mut text = report::no_text();
     let len = report::report(sheet, &mut text);
     write_bytes(&text[0..len]);
 }
