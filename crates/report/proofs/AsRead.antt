@@ -1,8 +1,8 @@
 -- What print writes is the text of the rule at its place, or there is none, and the lines of all rules have room. Assumes nothing.
 use mathlib.Core.Path.{_≡_, refl, sym, ap, subst, _∙_}
-use mathlib.Core.Logic.{_⊎_, inl, inr}
+use mathlib.Core.Logic.{inl, inr}
 use mathlib.Core.List.{List, [], _∷_, _++_, map-append, append-nil}
-use Prim.Native.Nat.{ℕ, _+_, _-_, _*_, _≤_, _<_}
+use Prim.Native.Nat.{ℕ, _+_, _-_, _*_, _≤_}
 use native.Mathlib.Omega.{arith}
 use lib.ListN.{length, take, drop, length-append, length-map, length-take, length-drop, drop-of-length-le}
 use lib.Seq.{take-add, drop-at}
@@ -13,7 +13,6 @@ use Rattle.formula.specs.Formula.{Formula, Name}
 use Rattle.syntax.specs.Rule.{meaningOf}
 use Rattle.syntax.specs.RuleText.{IsRule}
 use Rattle.syntax.proofs.Claims.{is-rule, text-means}
-use Rattle.lists.specs.Search.{collect}
 use Rattle.lists.proofs.Search.{in-take, map-elim, collect-append, collect-few}
 use Rattle.plan.specs.Words.{over}
 use Rattle.printing.specs.Text.{textOf}

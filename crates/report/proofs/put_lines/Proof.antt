@@ -1,5 +1,4 @@
 -- `report::put_lines` meets its contract: so far the lines of the rules before place i are put (AsRead.antt). Assumes nothing.
-use borrow.Author.Needs.{needs}
 use mathlib.Core.Path.{ap}
 use mathlib.Core.List.{List}
 use Prim.Native.Nat.{_-_, _≤_}

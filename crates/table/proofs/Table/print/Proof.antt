@@ -1,15 +1,13 @@
 -- `table::Table::print` meets its contract: there is no k-th rule, or its text is read again and printed. Assumes nothing.
 use borrow.Author.Needs.{needs}
 use Prim.Native.Nat.{_-_, _≤_, _<_}
-use mathlib.Core.Path.{_≡_, ap, _∙_}
+use mathlib.Core.Path.{ap, _∙_}
 use native.Mathlib.Omega.{arith}
 use Rattle.table.specs.Store.{rulesOf}
-use Rattle.table.specs.declared.PrintAnswer.{PrintAnswer}
-use Rattle.table.specs.Printing.{Prints}
 use Rattle.table.proofs.Results.{withdraw-zero, withdraw-high}
 use Rattle.table.proofs.Lines.{count-is, count-few}
 use Rattle.table.proofs.Recount.{text-is, text-within, text-length, text-read}
-use Rattle.table.proofs.Printing.{printResult, printedAnswer, prints-none, prints-text}
+use Rattle.table.proofs.Printing.{printedAnswer, prints-none, prints-text}
 use Rattle.table.proofs.Table.print.Statement.{statement}
 use Rattle.table.proofs.Table.print.Tie as tie
 
