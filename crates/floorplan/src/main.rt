@@ -1,70 +1,15 @@
 // The program: it reads one sheet from standard input and writes the text for it, which `report` makes (document 01, 'Worked sheets').
 // A read that fails, or a standard output that does not take the text, is said on standard error and never as an answer.
-ghost use Prim.Native.Nat.{_≤_, _<_};
-ghost use mathlib.Core.Path.{_≡_};
-ghost use lib.ListN.{length};
-ghost use Rattle.floorplan.specs.Reading.{Within};
-
-// What reading gave: so many bytes, or a read that failed.
-enum Got {
-    Bytes(usize),
-    Failed,
-}
-
-// One read into the sheet from a place on; no byte comes at the end of the input.
-fn read_on(sheet: &mut [u8], at: usize) -> Got
-    requires { ⌜ at ≤ length (now sheet) ⌝ }
-    ensures { λ r. ⌜ Within at (length (now (sheet .entry))) r ⌝ }
-    ensures { λ _. ⌜ length (now (sheet .exit)) ≡ length (now (sheet .entry)) ⌝ }
-{
-    let got = libc::read(libc::STDIN_FILENO, &mut sheet[at..]);
-    if got < 0 {
-        return Got::Failed;
-    }
-    let n = io::count(got, &sheet[at..]);
-    Got::Bytes(n)
-}
-
-// Reads until the input ends or the sheet is full. (`io::read_full` does not tell a read that failed from the end of the input.)
-fn read_sheet(sheet: &mut [u8]) -> Got
-    ensures { λ r. ⌜ Within 0 (length (now (sheet .exit))) r ⌝ }
-{
-    let mut done: usize = 0;
-    while done < sheet.len() {
-        let got = read_on(sheet, done);
-        let Got::Bytes(n) = got else {
-            return got;
-        };
-        if n == 0 {
-            return Got::Bytes(done);
-        }
-        done += n;
-    }
-    Got::Bytes(done)
-}
-
-// Room for a sheet, and for one byte more: enough to know that there are too many.
-fn no_bytes() -> [u8; 8193]
-    ensures { λ r. ⌜ length r ≡ 8193 ⌝ }
-{
-    [0u8; 8193]
-}
-
-// Room for the text.
-fn no_text() -> [u8; 16384]
-    ensures { λ r. ⌜ length r ≡ 16384 ⌝ }
-{
-    [0u8; 16384]
-}
+use reading::Got;
 
 fn main() {
-    let mut sheet = no_bytes();
-    let got = read_sheet(&mut sheet);
+    let mut sheet = reading::no_bytes();
+    let got = reading::read_sheet(&mut sheet);
     let Got::Bytes(n) = got else {
         os::fail(b"floorplan: the sheet cannot be read");
         return;
     };
-    let mut text = no_text();
+    let mut text = report::no_text();
     let len = report::report(&sheet[..n], &mut text);
     let written = io::write_all(libc::STDOUT_FILENO, &text[..len]);
     if !written {

@@ -16,11 +16,13 @@ use Rattle.lexer.specs.declared.LexAnswer.{LexAnswer}
 use Rattle.lexer.proofs.Longest.{every-at}
 use Rattle.lexer.proofs.Pieces.{NoName, Shape, signs-shape, starts-fits}
 
-after-first : (t : Token) (r : Cutting) (ts : List Token) → withToken t r ≡ tokens ts → (us : List Token) × (r ≡ tokens us) × (ts ≡ t ∷ us)
+-- tokens that start with one have others after it
+pub after-first : (t : Token) (r : Cutting) (ts : List Token) → withToken t r ≡ tokens ts → (us : List Token) × (r ≡ tokens us) × (ts ≡ t ∷ us)
 after-first t (tokens us) ts e = (us, refl, cc)
 after-first t (refused a) ts e = let z : _≡_ {A = ℕ} 0 1 = cc in absurd (omega arith)
 
-no-tokens : (a : LexAnswer) (ts : List Token) → refused a ≡ tokens ts → ⊥
+-- a refusal is no tokens
+pub no-tokens : (a : LexAnswer) (ts : List Token) → refused a ≡ tokens ts → ⊥
 no-tokens a ts e = let z : _≡_ {A = ℕ} 0 1 = cc in omega arith
 
 lower : (text : List ℕ) (i j : ℕ) (ts : List Token) → i ≤ j → Placed text j ts → Placed text i ts

@@ -1,5 +1,6 @@
--- What is proved of the text that the program floorplan prints for a sheet, `outputOf`, which `report` gives by its contract: for every list
--- of bytes it is what is meant (specs/Printed.antt), and no other text is. Each claim cites the file that proves it. Assumes nothing.
+-- What is proved of the text that the program floorplan prints for a sheet, `outputOf`, which `report` gives by its contract, and of that
+-- of asread, `asReadOf`, which `as_read` gives: for every list of bytes it is what is meant (specs/Printed.antt), and no other text is. Each
+-- claim cites the file that proves it. Assumes nothing.
 use mathlib.Core.Path.{_≡_, sym}
 use mathlib.Core.Bool.{true}
 use mathlib.Core.Logic.{_↔_}
@@ -15,9 +16,9 @@ use Rattle.table.specs.Sheet.{Text, linesOf, filled}
 use Rattle.table.specs.Rules.{AreRules}
 use Rattle.table.specs.Rows.{LoadRow}
 use Rattle.table.specs.declared.Outcome.the-variants as Outcome
-use Rattle.report.specs.Output.{outputOf}
+use Rattle.report.specs.Output.{outputOf, asReadOf}
 use Rattle.report.specs.Lines.{ended, planText}
-use Rattle.report.specs.Printed.{Printed, plan-lines, no-plan-line}
+use Rattle.report.specs.Printed.{Printed, plan-lines, no-plan-line, AsRead}
 use Rattle.report.proofs.Printing as Printing
 use Rattle.report.proofs.Examples as Examples
 
@@ -27,6 +28,13 @@ printed = Printing.printed
 
 pub printed-only : (file : Text) (out : List ℕ) → Printed file out → out ≡ outputOf file
 printed-only = Printing.printed-only
+
+-- the rules as T-02 writes them, or the refusal, as it is meant, and one text only is meant
+pub as-read : (file : Text) → AsRead file (asReadOf file)
+as-read = Printing.as-read
+
+pub as-read-only : (file : Text) (out : List ℕ) → AsRead file out → out ≡ asReadOf file
+as-read-only = Printing.as-read-only
 
 -- the line NO PLAN, exactly if the sheet is loaded and no finite floor, of any number of points, meets its rules
 pub no-plan-printed : (file : Text) → (outputOf file ≡ ended (bytes "NO PLAN"))

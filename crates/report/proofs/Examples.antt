@@ -24,7 +24,7 @@ use Rattle.plan.specs.Plans.{plansOf}
 use Rattle.plan.proofs.Examples.{P1, P2}
 use Rattle.table.specs.Sheet.{onFirst, linesOf, blankByte, blankLine, filled}
 use Rattle.table.specs.Calls.{namesIn, atomsIn, judgeNames, judgeAtoms, judgeRoom, judgeText, judgeAdd, judgeLines, judgeLoad}
-use Rattle.report.specs.Output.{rulesText, outputOf}
+use Rattle.report.specs.Output.{rulesText, sheetText, outputOf}
 use Rattle.report.specs.Lines.{digits, decimal, headLine, pointNames, namesOrNone, pointLine, pointLines, contactLine, planText, refusedText}
 
 -- a text and how it is spelled
@@ -43,5 +43,5 @@ texts-computed = refl
 
 -- P3, from its rule texts
 pub three-lines : outputOf (bytes "~C(raw,cooked)\n~raw=0\n~cooked=0\n") ≡ bytes "PLAN names=2 points=2\npoint 0: raw\npoint 1: cooked\n"
-unfolding classOf isBlank isAlphanumeric isSign signs starts constantKind longest signPiece runLength runPiece pieceOf cutFrom lexed runMachine reading puts ruleOf meaningOf bit rulesTrue separated allowed fills check given pointsFor good firstRow placesOf ruleTokens withName namesAfter gatheredOf gathered pairOf rowTo linksTo givenPlan rowPlan plansOf onFirst linesOf blankByte blankLine filled namesIn atomsIn judgeNames judgeAtoms judgeRoom judgeText judgeAdd judgeLines judgeLoad digits decimal headLine pointNames namesOrNone pointLine pointLines planText rulesText outputOf
+unfolding classOf isBlank isAlphanumeric isSign signs starts constantKind longest signPiece runLength runPiece pieceOf cutFrom lexed runMachine reading puts ruleOf meaningOf bit rulesTrue separated allowed fills check given pointsFor good firstRow placesOf ruleTokens withName namesAfter gatheredOf gathered pairOf rowTo linksTo givenPlan rowPlan plansOf onFirst linesOf blankByte blankLine filled namesIn atomsIn judgeNames judgeAtoms judgeRoom judgeText judgeAdd judgeLines judgeLoad digits decimal headLine pointNames namesOrNone pointLine pointLines planText rulesText sheetText
 three-lines = refl

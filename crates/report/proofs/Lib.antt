@@ -5,6 +5,7 @@ pub mod Kept
 pub mod Bounds
 pub mod Short
 pub mod Reporting
+pub mod AsRead
 pub mod Examples
 pub mod Printing
 pub mod Claims

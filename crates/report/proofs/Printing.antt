@@ -25,34 +25,58 @@ use Rattle.table.specs.Numbers.{loadOutcome}
 use Rattle.table.proofs.Standing.{not-loaded}
 use Rattle.table.proofs.LoadRows.{load-done}
 use Rattle.table.proofs.Claims.{formulas-computed, load-answered, load-answered-only}
-use Rattle.report.specs.Output.{plansText, rulesText, outcomeText, outputOf}
-use Rattle.report.specs.Lines.{ended, headLine, planText, refusedText}
-use Rattle.report.specs.Printed.{Printed, plan-lines, no-plan-line, refused-line}
+use Rattle.report.specs.Output.{plansText, rulesText, outcomeText, sheetText, outputOf, asReadOf}
+use Rattle.report.specs.Lines.{ended, headLine, planText, ruleLines, refusedText}
+use Rattle.report.specs.Printed.{Printed, plan-lines, no-plan-line, refused-line, AsRead}
 
 module _ (file : Text) where
-  -- a refused sheet has the text of its refusal
-  refused-output : {number line place : ℕ} → LoadRow file (Outcome.RefusedLine number line place) → refusedText number line place ≡ outputOf file
-  unfolding outputOf
-  refused-output row =
-      let told = load-answered-only file _ row in
-      ap outcomeText told
-      ∙ sym (not-loaded (judgeLoad file) (rulesText (formulasOf (filled (linesOf file)))) (outcomeText (loadOutcome (judgeLoad file)))
-      (λ e. let y = ap loadOutcome e in absurd (let z : _≡_ {A = ℕ} 0 1 = cc in omega arith)))
+  -- what its rules are given
+  module _ (given : List (Formula Name) → List ℕ) where
+    -- a refused sheet has the text of its refusal
+    refused-output : {number line place : ℕ} → LoadRow file (Outcome.RefusedLine number line place)
+        → refusedText number line place ≡ sheetText given file
+    unfolding sheetText
+    refused-output row =
+        let told = load-answered-only file _ row in
+        ap outcomeText told
+        ∙ sym (not-loaded (judgeLoad file) (given (formulasOf (filled (linesOf file)))) (outcomeText (loadOutcome (judgeLoad file)))
+        (λ e. let y = ap loadOutcome e in absurd (let z : _≡_ {A = ℕ} 0 1 = cc in omega arith)))
 
-  -- a loaded one that of its rules
-  loaded-output : {fs : List (Formula Name)} → LoadRow file Outcome.Done → AreRules (filled (linesOf file)) fs → rulesText fs ≡ outputOf file
-  unfolding outputOf
-  loaded-output {fs} done are =
-      ap rulesText (formulas-computed (filled (linesOf file)) fs are)
-      ∙ sym (ap (λ (a : LoadAnswer). ifLoaded a (rulesText (formulasOf (filled (linesOf file)))) (outcomeText (loadOutcome a))) (load-done file done))
+    -- a loaded one that of its rules
+    loaded-output : {fs : List (Formula Name)} → LoadRow file Outcome.Done → AreRules (filled (linesOf file)) fs → given fs ≡ sheetText given file
+    unfolding sheetText
+    loaded-output {fs} done are =
+        ap given (formulas-computed (filled (linesOf file)) fs are)
+        ∙ sym (ap (λ (a : LoadAnswer). ifLoaded a (given (formulasOf (filled (linesOf file)))) (outcomeText (loadOutcome a))) (load-done file done))
+
+    -- so what is said of both is said of every sheet's
+    by-row : (P : List ℕ → Type 0)
+        → ((number line place : ℕ) → LoadRow file (Outcome.RefusedLine number line place) → P (refusedText number line place))
+        → ((fs : List (Formula Name)) → LoadRow file Outcome.Done → AreRules (filled (linesOf file)) fs → P (given fs))
+        → P (sheetText given file)
+    by-row P refused loaded = go (loadOutcome (judgeLoad file)) (load-answered file)
+      where
+        no : {number line place : ℕ} → LoadRow file (Outcome.RefusedLine number line place) → P (sheetText given file)
+        no {number} {line} {place} row = subst P (refused-output row) (refused number line place row)
+
+        go : (o : Outcome) → LoadRow file o → P (sheetText given file)
+        go o (LoadRow.long h) = no (LoadRow.long h)
+        go o (LoadRow.blank h e) = no (LoadRow.blank h e)
+        go o (LoadRow.line h r) = no (LoadRow.line h r)
+        go o (LoadRow.loads h some can) =
+            let done = LoadRow.loads h some can in subst P (loaded-output done (can .rules)) (loaded (can .formulas) done (can .rules))
 
   -- ---- no other text is meant
 
   pub printed-only : (out : List ℕ) → Printed file out → out ≡ outputOf file
   unfolding rulesText
-  printed-only out (plan-lines {fs} {p} done are given) = sym (ap (plansText (namesOf fs)) (given-exactly fs p .1 given)) ∙ loaded-output done are
-  printed-only out (no-plan-line {fs} done are never) = sym (ap (plansText (namesOf fs)) (no-plan-given fs .1 never)) ∙ loaded-output done are
-  printed-only out (refused-line row) = refused-output row
+  printed-only out (plan-lines {fs} {p} done are given) = sym (ap (plansText (namesOf fs)) (given-exactly fs p .1 given)) ∙ loaded-output rulesText done are
+  printed-only out (no-plan-line {fs} done are never) = sym (ap (plansText (namesOf fs)) (no-plan-given fs .1 never)) ∙ loaded-output rulesText done are
+  printed-only out (refused-line row) = refused-output rulesText row
+
+  pub as-read-only : (out : List ℕ) → AsRead file out → out ≡ asReadOf file
+  as-read-only out (AsRead.lines done are) = loaded-output ruleLines done are
+  as-read-only out (AsRead.refused row) = refused-output ruleLines row
 
   -- ---- it is meant
 
@@ -65,18 +89,11 @@ module _ (file : Text) where
       go (p ∷ []) e = plan-lines done are (given-exactly fs p .0 e)
       go (p ∷ q ∷ ps) e = absurd (omega (arith, given-at-most-one fs, ap length e))
 
-  refused-printed : {number line place : ℕ} → LoadRow file (Outcome.RefusedLine number line place) → Printed file (outputOf file)
-  refused-printed row = subst (Printed file) (refused-output row) (refused-line row)
-
   pub printed : Printed file (outputOf file)
-  printed = go (loadOutcome (judgeLoad file)) (load-answered file)
-    where
-      go : (o : Outcome) → LoadRow file o → Printed file (outputOf file)
-      go o (LoadRow.long h) = refused-printed (LoadRow.long h)
-      go o (LoadRow.blank h e) = refused-printed (LoadRow.blank h e)
-      go o (LoadRow.line h r) = refused-printed (LoadRow.line h r)
-      go o (LoadRow.loads h some can) =
-          let done = LoadRow.loads h some can in subst (Printed file) (loaded-output done (can .rules)) (rules-printed done (can .rules))
+  printed = by-row rulesText (Printed file) (λ number line place row. refused-line row) (λ fs done are. rules-printed done are)
+
+  pub as-read : AsRead file (asReadOf file)
+  as-read = by-row ruleLines (AsRead file) (λ number line place row. AsRead.refused row) (λ fs done are. AsRead.lines done are)
 
   -- ---- the line NO PLAN
 

@@ -1,13 +1,16 @@
 -- Texts put one after the other are their list put at once, and so are those that a loop puts turn by turn. Assumes nothing.
 use mathlib.Core.Path.{_≡_, sym, ap, ap₂, _∙_, subst}
-use mathlib.Core.List.{List, [], _∷_, _++_}
-use Prim.Native.Nat.{ℕ, _+_, _≤_, _<_}
+use mathlib.Core.List.{List, [], _∷_, _++_, append-nil}
+use Prim.Native.Nat.{ℕ, _+_, _-_, _≤_, _<_}
 use native.Mathlib.Omega.{arith}
 use native.Mathlib.Nat.{add-zero}
-use lib.ListN.{length, set, length-append}
+use lib.ListN.{length, take, drop, set, length-append, length-drop}
+use lib.Seq.{take-all, drop-length, drop-drop}
+use borrow.Rule.Slice.PartMut.{putMid, midOf, post-is}
 use Rattle.lists.proofs.Below.{collect-more, collect-within}
 use Rattle.lists.specs.Search.{collect, below}
 use Rattle.plan.specs.Private.{written}
+use Rattle.plan.specs.Words.{over}
 use Rattle.plan.proofs.Buffer.{written-none, written-set, written-more, written-length}
 use Rattle.report.specs.Putting.{Puts}
 
@@ -42,6 +45,24 @@ module _ {at : ℕ} {xs buffer mid : List ℕ} {end : ℕ} (first : Puts at xs b
     place = omega (arith, first .place, second .place, length-append xs ys);
     bytes = second .bytes ∙ ap₂ (λ (x : ℕ) (l : List ℕ). written x ys l) (first .place) (first .bytes)
         ∙ written-more at xs ys buffer (first .fits);
+  }
+
+-- a text over the first bytes of the part from a place on
+module _ (at : ℕ) (buffer : List ℕ) where
+  abbrev pub partFrom : List ℕ
+  partFrom = midOf at (length buffer - at) buffer
+
+  pub part-is : partFrom ≡ drop at buffer
+  part-is = take-all (length buffer - at) (drop at buffer) (omega (arith, length-drop at buffer))
+
+  pub puts-part : {text part : List ℕ} {end : ℕ} → at + length text ≤ length buffer → end ≡ at + length text → part ≡ over text partFrom
+      → Puts at text buffer (putMid at (length buffer - at) buffer part) end
+  unfolding written over
+  puts-part {text} {part} h e p = record {
+    fits = h;
+    place = e;
+    bytes = ap₂ (λ (a b : List ℕ). take at buffer ++ (a ++ b)) (p ∙ ap (over text) part-is) (post-is at (length buffer) buffer (omega arith) ∙ drop-length buffer)
+        ∙ ap (λ (l : List ℕ). take at buffer ++ l) (append-nil (text ++ drop (length text) (drop at buffer)) ∙ ap (λ (l : List ℕ). text ++ l) (drop-drop (length text) at buffer));
   }
 
 -- a loop that puts the text f i in turn i, before that turn

@@ -46,7 +46,7 @@ use Rattle.table.specs.Numbers.{CanCome, loadOutcome, askOutcome}
 use Rattle.table.proofs.Rules.{of-computed, can-read, can-names, can-atoms}
 use Rattle.table.proofs.Standing.{not-loaded}
 use Rattle.table.proofs.Asking.{words-written, first-words}
-use Rattle.report.specs.Output.{plansText, rulesText, outcomeText, outputOf}
+use Rattle.report.specs.Output.{plansText, rulesText, outcomeText, sheetText}
 use Rattle.report.specs.Lines.{planText, ended}
 use Rattle.report.specs.Putting.{Puts}
 use Rattle.report.proofs.Short.{names-short}
@@ -57,14 +57,15 @@ pub told-other : (a : AskAnswer) → OneOf (1 ∷ 2 ∷ 3 ∷ []) (tagOf the-typ
 told-other a h n e = miss (1 ∷ 2 ∷ 3 ∷ []) 0 tt (subst (λ (x : AskAnswer). OneOf (1 ∷ 2 ∷ 3 ∷ []) (tagOf the-type x)) e h)
 
 -- an outcome that is another than a refusal on a line has no text
-pub no-refusal-text : (o : Outcome) → OneOf (0 ∷ 1 ∷ 2 ∷ 3 ∷ 4 ∷ 5 ∷ []) (tagOf outcome-type o) → outcomeText o ≡ []
+pub no-refusal-text : (o : Outcome) → OneOf (0 ∷ 1 ∷ 2 ∷ 3 ∷ 4 ∷ 5 ∷ 6 ∷ []) (tagOf outcome-type o) → outcomeText o ≡ []
 no-refusal-text Outcome.Done h = refl
 no-refusal-text (Outcome.Plan words) h = refl
 no-refusal-text Outcome.NoPlan h = refl
 no-refusal-text Outcome.Yes h = refl
 no-refusal-text (Outcome.Unmet rule) h = refl
+no-refusal-text (Outcome.Text n) h = refl
 no-refusal-text (Outcome.Refused number carried) h = refl
-no-refusal-text (Outcome.RefusedLine number line place) h = absurd (miss (0 ∷ 1 ∷ 2 ∷ 3 ∷ 4 ∷ 5 ∷ []) 6 tt h)
+no-refusal-text (Outcome.RefusedLine number line place) h = absurd (miss (0 ∷ 1 ∷ 2 ∷ 3 ∷ 4 ∷ 5 ∷ 6 ∷ []) 7 tt h)
 
 -- the outcome of a plan is a plan's alone
 is-plan : (a : AskAnswer) {n : ℕ} → askOutcome a ≡ Outcome.Plan n → a ≡ AskAnswer.Plan n
@@ -184,11 +185,12 @@ module _ (t : Table) (file : Text) (r : LoadResult) (loads : Loads t file r) whe
   answer-comes = subst CanCome (sym answer-is) (load-can-come file)
 
   -- a refused sheet has its refusal's text
-  pub refused-text : (r .answer ≡ LoadAnswer.Loaded → ⊥) → outcomeText (loadOutcome (r .answer)) ≡ outputOf file
-  unfolding outputOf
-  refused-text other =
+  pub refused-text : (given : List (Formula Name) → List ℕ) → (r .answer ≡ LoadAnswer.Loaded → ⊥)
+      → outcomeText (loadOutcome (r .answer)) ≡ sheetText given file
+  unfolding sheetText
+  refused-text given other =
       ap (λ (a : LoadAnswer). outcomeText (loadOutcome a)) answer-is
-      ∙ sym (not-loaded (judgeLoad file) (rulesText (formulasOf (filled (linesOf file)))) (outcomeText (loadOutcome (judgeLoad file))) (λ e. other (answer-is ∙ e)))
+      ∙ sym (not-loaded (judgeLoad file) (given (formulasOf (filled (linesOf file)))) (outcomeText (loadOutcome (judgeLoad file))) (λ e. other (answer-is ∙ e)))
 
   module _ (e : r .answer ≡ LoadAnswer.Loaded) where
     good : judgeLoad file ≡ LoadAnswer.Loaded
@@ -211,11 +213,11 @@ module _ (t : Table) (file : Text) (r : LoadResult) (loads : Loads t file r) whe
         go o (LoadRow.loads h none can) f = none
 
     -- and its text is that of its rules
-    pub loaded-text : rulesText (formulasOf (rulesOf (r .table))) ≡ outputOf file
-    unfolding outputOf
-    loaded-text =
-        ap (λ (rs : List Text). rulesText (formulasOf rs)) held
-        ∙ sym (ap (λ (a : LoadAnswer). ifLoaded a (rulesText (formulasOf (filled (linesOf file)))) (outcomeText (loadOutcome a))) good)
+    pub loaded-text : (given : List (Formula Name) → List ℕ) → given (formulasOf (rulesOf (r .table))) ≡ sheetText given file
+    unfolding sheetText
+    loaded-text given =
+        ap (λ (rs : List Text). given (formulasOf rs)) held
+        ∙ sym (ap (λ (a : LoadAnswer). ifLoaded a (given (formulasOf (filled (linesOf file)))) (outcomeText (loadOutcome a))) good)
 
 -- put at the first byte, a text is over the buffer
 pub puts-over : (text buffer exit : List ℕ) (end : ℕ) → Puts 0 text buffer exit end → (end ≡ length text) × (exit ≡ over text buffer) × (end ≤ length exit)

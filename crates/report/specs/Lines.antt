@@ -1,14 +1,16 @@
--- What is meant: the lines that the program floorplan prints (document 01, 'Worked sheets', the last paragraph). Assumes nothing.
+-- What is meant: the lines that the program floorplan prints (document 01, 'Worked sheets', the last paragraph), and those of asread
+-- (document 02, T-02). Assumes nothing.
 use mathlib.Core.Bool.{cond}
 use mathlib.Core.List.{List, [], _∷_, _++_}
 use Prim.Native.Nat.{ℕ, zero, suc, _+_, _/_, _%_}
 use lib.Dec.{ltb}
 use lib.ListN.{length, getD}
-use Rattle.formula.specs.Formula.{Name}
+use Rattle.formula.specs.Formula.{Formula, Name}
 use Rattle.lexer.specs.Text.{bytes, byte}
 use Rattle.lists.specs.Search.{collect, below, orElse}
 use Rattle.evalset.specs.Bit.{bit}
 use Rattle.plan.specs.Words.{Plan}
+use Rattle.printing.specs.Text.{textOf}
 
 -- ---- numbers, in decimal
 
@@ -72,3 +74,9 @@ planText names p = headLine (p .names) (length (p .points)) ++ pointLines names 
 -- ".. "refused 1 line 0 at 0" (number, line, place)"
 unfoldable pub refusedText : ℕ → ℕ → ℕ → List ℕ
 refusedText number line place = ended (labelled (bytes "refused ") number ++ labelled (bytes " line ") line ++ labelled (bytes " at ") place)
+
+-- ---- rules
+
+-- T-02: "Planners want to see a standing rule as the tool has read it.": each rule's text, one a line
+unfoldable pub ruleLines : List (Formula Name) → List ℕ
+ruleLines rules = collect (λ f. ended (textOf f)) rules

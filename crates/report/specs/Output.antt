@@ -11,7 +11,7 @@ use Rattle.table.specs.Calls.{formulasOf, judgeLoad, ifLoaded}
 use Rattle.table.specs.declared.Outcome.{Outcome}
 use Rattle.table.specs.declared.Outcome.the-variants as Outcome
 use Rattle.table.specs.Numbers.{loadOutcome}
-use Rattle.report.specs.Lines.{ended, planText, refusedText}
+use Rattle.report.specs.Lines.{ended, planText, ruleLines, refusedText}
 
 -- "Otherwise the one line is "NO PLAN" or .."
 abbrev pub plansText : List Name → List Plan → List ℕ
@@ -29,14 +29,23 @@ outcomeText (Outcome.Plan words) = []
 outcomeText Outcome.NoPlan = []
 outcomeText Outcome.Yes = []
 outcomeText (Outcome.Unmet rule) = []
+outcomeText (Outcome.Text n) = []
 outcomeText (Outcome.Refused number carried) = []
 outcomeText (Outcome.RefusedLine number line place) = refusedText number line place
 
 -- ---- a sheet
 
--- "The program floorplan reads one sheet": the text for its bytes
-unfoldable pub outputOf : Text → List ℕ
-outputOf file =
+-- what its rules are given where it is loaded, or the line of its refusal
+unfoldable pub sheetText : (List (Formula Name) → List ℕ) → Text → List ℕ
+sheetText given file =
     let answer = judgeLoad file in
-    let text = rulesText (formulasOf (filled (linesOf file))) in
+    let text = given (formulasOf (filled (linesOf file))) in
     ifLoaded answer text (outcomeText (loadOutcome answer))
+
+-- "The program floorplan reads one sheet": the text for its bytes
+abbrev pub outputOf : Text → List ℕ
+outputOf file = sheetText rulesText file
+
+-- the text of the program asread for them
+abbrev pub asReadOf : Text → List ℕ
+asReadOf file = sheetText ruleLines file

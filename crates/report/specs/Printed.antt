@@ -1,5 +1,5 @@
--- What is meant: what the program floorplan prints for a sheet (document 01, 'Worked sheets', the last paragraph); the lines themselves are
--- in Output. No algorithm: a sheet is refused by its row of the table of calls (`LoadRow`), its rules are the formulas fs that the grammar
+-- What is meant: what the program floorplan prints for a sheet (document 01, 'Worked sheets', the last paragraph), and what asread does
+-- (document 02, T-02); the lines themselves are in Lines. No algorithm: a sheet is refused by its row of the table of calls (`LoadRow`), its rules are the formulas fs that the grammar
 -- derives (`AreRules`), the plan is the one that document 01 defines (`IsGiven`), and a floor is any finite floor. Assumes nothing.
 use mathlib.Core.Path.{_≡_}
 use mathlib.Core.Bool.{true}
@@ -16,7 +16,7 @@ use Rattle.table.specs.Rules.{AreRules}
 use Rattle.table.specs.Rows.{LoadRow}
 use Rattle.table.specs.declared.Outcome.{Outcome}
 use Rattle.table.specs.declared.Outcome.the-variants as Outcome
-use Rattle.report.specs.Lines.{ended, planText, refusedText}
+use Rattle.report.specs.Lines.{ended, planText, ruleLines, refusedText}
 
 -- "The program floorplan reads one sheet": all that it prints for these bytes
 pub data Printed (file : Text) : List ℕ → Type 0 where
@@ -29,3 +29,10 @@ pub data Printed (file : Text) : List ℕ → Type 0 where
       → Printed file (ended (bytes "NO PLAN"))
   -- "or "refused 1 line 0 at 0" (number, line, place)"
   refused-line : {number line place : ℕ} → LoadRow file (Outcome.RefusedLine number line place) → Printed file (refusedText number line place)
+
+-- all that the program asread prints for these bytes
+pub data AsRead (file : Text) : List ℕ → Type 0 where
+  -- the rules of a sheet that is loaded, in their order, each as T-02 writes it
+  lines : {fs : List (Formula Name)} → LoadRow file Outcome.Done → AreRules (filled (linesOf file)) fs → AsRead file (ruleLines fs)
+  -- the line that floorplan has for a refused one
+  refused : {number line place : ℕ} → LoadRow file (Outcome.RefusedLine number line place) → AsRead file (refusedText number line place)

@@ -1,12 +1,11 @@
 -- For proofs: what the private functions do: each puts a text into the buffer, from a place on, and answers the place after it; and the
--- contract of `report` (`Reports`). Assumes nothing.
+-- contract of `report` and `as_read` (`Reports`). Assumes nothing.
 use mathlib.Core.Path.{_≡_}
 use mathlib.Core.List.{List}
 use Prim.Native.Nat.{ℕ, _+_, _≤_}
 use lib.ListN.{length}
 use Rattle.plan.specs.Private.{written}
 use Rattle.plan.specs.Words.{over}
-use Rattle.report.specs.Output.{outputOf}
 
 -- there was room for the text, and it was put there; the other bytes keep their values
 pub record Puts (at : ℕ) (text buffer exit : List ℕ) (end : ℕ) : Type 0 where
@@ -14,8 +13,8 @@ pub record Puts (at : ℕ) (text buffer exit : List ℕ) (end : ℕ) : Type 0 wh
   pub place : end ≡ at + length text
   pub bytes : exit ≡ written at text buffer
 
--- what the report of a sheet gives: the length of its text, and the text over the first bytes of the buffer
-pub record Reports (file buffer : List ℕ) (length-of : ℕ) (exit : List ℕ) : Type 0 where
-  pub counted : length-of ≡ length (outputOf file)
+-- what the text for a sheet is given as: its length, and the text over the first bytes of the buffer
+pub record Reports (text buffer : List ℕ) (length-of : ℕ) (exit : List ℕ) : Type 0 where
+  pub counted : length-of ≡ length text
   pub fits : length-of ≤ length exit
-  pub bytes : exit ≡ over (outputOf file) buffer
+  pub bytes : exit ≡ over text buffer

@@ -1,9 +1,9 @@
-// The text that the program floorplan writes for a sheet (document 01, 'Worked sheets'). What is meant is in specs/Printed.antt, what is
-// computed in specs/Output.antt: one function from the sheet's bytes to the text's. Here the text is put into a buffer piece by piece: each
+// The text that the program floorplan writes for a sheet (document 01, 'Worked sheets'), and the one of asread (document 02, T-02). What is
+// meant is in specs/Printed.antt, what is computed in specs/Output.antt: a function from the sheet's bytes to the text's. Here the text is put into a buffer piece by piece: each
 // private function puts one piece at a place, and answers the place after it. The buffer has room for the text of every sheet. Assumes nothing.
 ghost use mathlib.Core.Path.{_≡_};
 ghost use Prim.Native.Nat.{_+_, _*_, _≤_, _<_};
-ghost use lib.ListN.{length, take};
+ghost use lib.ListN.{length, take, drop};
 ghost use Rattle.evalset.specs.Bit.{bit};
 ghost use Rattle.lists.specs.Search.{collect};
 ghost use Rattle.evalset.specs.Sets.{mem, memAt};
@@ -14,8 +14,8 @@ ghost use Rattle.table.specs.Store.{rulesOf};
 ghost use Rattle.table.specs.Calls.{formulasOf, FromUs};
 ghost use Rattle.table.specs.Rows.{SomeStand};
 ghost use Rattle.table.specs.Numbers.{CanCome, loadOutcome};
-ghost use Rattle.report.specs.Output.{outcomeText, rulesText, outputOf};
-ghost use Rattle.report.specs.Lines.{decimal, labelled, headLine, nameIf, pointNames, namesOrNone, blanked, pointLine, pointLines, contactLine, planText, refusedText};
+ghost use Rattle.report.specs.Output.{outcomeText, rulesText, outputOf, asReadOf};
+ghost use Rattle.report.specs.Lines.{decimal, labelled, headLine, nameIf, pointNames, namesOrNone, blanked, pointLine, pointLines, contactLine, planText, ruleLines, refusedText};
 ghost use Rattle.report.specs.Putting.{Puts, Reports};
 use evalset::EvalSet;
 use names::KeptName;
@@ -24,6 +24,7 @@ use plan::PlanArrays;
 use table::AskAnswer;
 use table::LoadAnswer;
 use table::Outcome;
+use table::PrintAnswer;
 use table::Table;
 
 // The bytes of the buffer: the text of a plan has 10,551 at most.
@@ -291,9 +292,66 @@ fn put_report(file: &[u8], out: &mut [u8]) -> usize
     put_rules(table, out)
 }
 
+// Room for the text.
+pub fn no_text() -> [u8; ROOM]
+    ensures { λ r. ⌜ length r ≡ 16384 ⌝ }
+{
+    [0u8; ROOM]
+}
+
 // The text for a sheet of any bytes, over the first bytes of the buffer, and its length. The other bytes keep their values.
 pub fn report(file: &[u8], out: &mut [u8; ROOM]) -> usize
-    ensures { λ r. ⌜ Reports (now (file .entry)) (now (out .entry)) r (now (out .exit)) ⌝ }
+    ensures { λ r. ⌜ Reports (outputOf (now (file .entry))) (now (out .entry)) r (now (out .exit)) ⌝ }
 {
     put_report(file, out)
+}
+
+// The line of the rule at place i, from 0, as it was read, if one stands there.
+fn put_line(table: Table, i: usize, out: &mut [u8], at: usize) -> usize
+    requires { ⌜ FromUs table × (i < 16) × (at + 257 ≤ length (now out)) ⌝ }
+    ensures { λ r. ⌜ Puts at (ruleLines (formulasOf (take 1 (drop i (rulesOf table))))) (now (out .entry)) (now (out .exit)) r ⌝ }
+{
+    let printed = table.print(i + 1, &mut out[at..]);
+    let answer = printed.answer;
+    let PrintAnswer::Text(n) = answer else {
+        return at;
+    };
+    put_text(b"\n", out, at + n)
+}
+
+// The lines of the rules that stand: at most 16 of at most 257 bytes.
+fn put_lines(table: Table, out: &mut [u8]) -> usize
+    requires { ⌜ FromUs table × (16384 ≤ length (now out)) ⌝ }
+    ensures { λ r. ⌜ Puts 0 (ruleLines (formulasOf (rulesOf table))) (now (out .entry)) (now (out .exit)) r ⌝ }
+{
+    let mut end: usize = 0;
+    let mut i: usize = 0;
+    while i < 16 {
+        end = put_line(table, i, out, end);
+        i += 1;
+    }
+    end
+}
+
+// The text of a sheet as it was read.
+fn put_as_read(file: &[u8], out: &mut [u8]) -> usize
+    requires { ⌜ 16384 ≤ length (now out) ⌝ }
+    ensures { λ r. ⌜ Puts 0 (asReadOf (now (file .entry))) (now (out .entry)) (now (out .exit)) r ⌝ }
+{
+    let t = Table::empty();
+    let loaded = t.load(file);
+    let answer = loaded.answer;
+    let LoadAnswer::Loaded = answer else {
+        return put_refusal(answer, out, 0);
+    };
+    let table = loaded.table;
+    put_lines(table, out)
+}
+
+// The rules of a sheet of any bytes as they were read, or its refusal, over the first bytes of the buffer, and the length. The other bytes
+// keep their values.
+pub fn as_read(file: &[u8], out: &mut [u8; ROOM]) -> usize
+    ensures { λ r. ⌜ Reports (asReadOf (now (file .entry))) (now (out .entry)) r (now (out .exit)) ⌝ }
+{
+    put_as_read(file, out)
 }

@@ -13,6 +13,8 @@ use Rattle.table.specs.declared.WithdrawResult.{WithdrawResult}
 use Rattle.table.specs.declared.LoadResult.{LoadResult}
 use Rattle.table.specs.declared.AskResult.{AskResult}
 use Rattle.table.specs.declared.JudgeResult.{JudgeResult}
+use Rattle.table.specs.declared.PrintResult.{PrintResult}
+use Rattle.table.specs.Printing.{printAnswer, Prints}
 use Rattle.table.specs.Store.{tableOf, rulesOf}
 use Rattle.table.specs.Sheet.{Text}
 use Rattle.table.specs.Calls.{formulasOf, judgeAdd, judgeWithdraw, judgeLoad, FromUs, Adds, Withdraws, Loads}
@@ -25,9 +27,9 @@ use Rattle.plan.specs.Words.{Refusal}
 use Rattle.plan.specs.Arrays.{Reads}
 use Rattle.table.specs.declared.Outcome.{Outcome}
 use Rattle.table.specs.declared.Outcome.the-variants as Outcome
-use Rattle.table.specs.Numbers.{addOutcome, withdrawOutcome, CanCome, loadOutcome, askOutcome, judgeOutcome, ruleOutcome, planOutcome}
-use Rattle.table.specs.Rows.{AddRow, WithdrawRow, LoadRow, AskRow, JudgeRow}
-use Rattle.table.specs.Stands.{Call, add, withdraw, load, ask, judge, adds, Stands}
+use Rattle.table.specs.Numbers.{addOutcome, withdrawOutcome, CanCome, loadOutcome, askOutcome, judgeOutcome, printOutcome, ruleOutcome, planOutcome}
+use Rattle.table.specs.Rows.{AddRow, WithdrawRow, LoadRow, AskRow, JudgeRow, PrintRow}
+use Rattle.table.specs.Stands.{Call, add, withdraw, load, ask, judge, print, adds, Stands}
 use Rattle.table.specs.Runs.{step, run, after, standing, Faithful}
 use Rattle.table.proofs.Stored as Stored
 use Rattle.table.proofs.Rules as Rules
@@ -36,6 +38,7 @@ use Rattle.table.proofs.Running as Running
 use Rattle.table.proofs.Rows as Rows
 use Rattle.table.proofs.LoadRows as LoadRows
 use Rattle.table.proofs.AskRows as AskRows
+use Rattle.table.proofs.PrintRows as PrintRows
 use Rattle.table.proofs.Stands as Stands
 
 -- ---- tables and lists
@@ -82,6 +85,9 @@ ask-steps = Running.by-ask
 
 pub judge-steps : (t : Table) (words : List ℕ) (r : JudgeResult) → Judges t words r → r .table ≡ step t (judge words)
 judge-steps = Running.by-judge
+
+pub print-steps : (t : Table) (k : ℕ) (buffer : List ℕ) (r : PrintResult) (exit : List ℕ) → Prints t k buffer r exit → r .table ≡ step t (print k buffer)
+print-steps = Running.by-print
 
 -- every call maps the table of a list to the table of the list after it
 pub call-maps : (rs : List Text) (c : Call) → step (tableOf rs) c ≡ tableOf (after rs c)
@@ -160,6 +166,12 @@ judge-answered words rs fs are = AskRows.judge-row words rs (Rules.are-read rs f
 
 pub judge-answered-only : (words : List ℕ) (rs : List Text) (o : Outcome) → JudgeRow rs words o → o ≡ judgeOutcome (judgeAnswer rs words)
 judge-answered-only = AskRows.judge-row-only
+
+pub print-answered : (k room : ℕ) (rs : List Text) (fs : List (Formula Name)) → AreRules rs fs → PrintRow rs k room (printOutcome (printAnswer rs k room))
+print-answered k room rs fs are = PrintRows.print-row rs k room (Rules.are-read rs fs are)
+
+pub print-answered-only : (k room : ℕ) (rs : List Text) (o : Outcome) → PrintRow rs k room o → o ≡ printOutcome (printAnswer rs k room)
+print-answered-only k room rs = PrintRows.print-row-only rs k room
 
 -- ---- rule texts and plan words alone
 

@@ -16,6 +16,8 @@ pub mod Asking
 pub mod Loading
 pub mod Rows
 pub mod LoadRows
+pub mod PrintRows
+pub mod Printing
 pub mod Stands
 pub mod AskRows
 pub mod Claims

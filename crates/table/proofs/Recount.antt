@@ -51,7 +51,7 @@ module _ {t : Table} {i : ℕ} (v : FromUs t) (h : i < t .count) where
   abbrev pub text : Text
   text = take (line .len) (line .bytes)
 
-  text-is : text ≡ getD (rulesOf t) i []
+  pub text-is : text ≡ getD (rulesOf t) i []
   unfolding textOf
   text-is = ap textOf (line-is v h) ∙ text-line (getD (rulesOf t) i [])
 

@@ -1,12 +1,11 @@
 -- The rules that stand by the rows of the table of calls are those that are computed, so that every list of calls has exactly one such
 -- list: each call is judged by its row alone, and the list before it can stand. Assumes nothing.
-use Prim.Native.Nat.{ℕ, suc, _+_, _-_, _≤_, _<_}
+use Prim.Native.Nat.{ℕ, _+_, _-_, _≤_, _<_}
 use mathlib.Core.Path.{_≡_, refl, sym, ap, subst, _∙_}
 use mathlib.Core.Logic.{_⊎_, inl, inr, ⊎-elim}
 use mathlib.Core.List.{List, [], _∷_, _++_}
 use native.Mathlib.Omega.{arith}
-use lib.ListN.{length, take, drop, getD, length-take, take-append-drop}
-use lib.Seq.{drop-cons}
+use lib.ListN.{length, getD}
 use Rattle.table.specs.declared.AddAnswer.{AddAnswer}
 use Rattle.table.specs.declared.AddAnswer.the-variants as AddAnswer
 use Rattle.table.specs.declared.WithdrawAnswer.{WithdrawAnswer}
@@ -20,13 +19,14 @@ use Rattle.table.specs.Calls.{judgeAdd, judgeWithdraw, without, ifWithdr
 use Rattle.table.specs.Rules.{CanStand}
 use Rattle.table.specs.Numbers.{addOutcome, withdrawOutcome, loadOutcome}
 use Rattle.table.specs.Rows.{AddRow, WithdrawRow, LoadRow}
-use Rattle.table.specs.Stands.{Call, add, withdraw, load, ask, judge, IsRefused, TakesOut, StandsAfter, StandsFrom, Stands}
+use Rattle.table.specs.Stands.{Call, add, withdraw, load, ask, judge, print, IsRefused, TakesOut, StandsAfter, StandsFrom, Stands}
 use Rattle.table.specs.Runs.{after, standingFrom, standing}
 use Rattle.table.proofs.Standing.{not-withdrawn, not-loaded, added-or, added-taken, added-refused, stand-none}
 use Rattle.table.proofs.Results.{withdraw-good}
 use Rattle.table.proofs.Rows.{add-row, add-row-only, withdraw-row, withdraw-row-only}
 use Rattle.table.proofs.LoadRows.{load-row, load-row-only, load-done}
 use Rattle.table.proofs.Running.{stand-after, faithful}
+use Rattle.table.proofs.PrintRows.{kth-is}
 
 -- ---- add
 
@@ -91,14 +91,11 @@ module _ (rs : List Text) (k : ℕ) where
 
   -- the k-th, and what stands before and after it
   parted : 0 < k → k ≤ length rs → TakesOut rs k (without rs (k - 1))
-  unfolding without
+  unfolding without kth-is
   parted a b =
       record {
-        before = take (k - 1) rs;
         text = getD rs (k - 1) [];
-        later = drop (suc (k - 1)) rs;
-        parts = sym (take-append-drop (k - 1) rs) ∙ ap (λ (l : List Text). take (k - 1) rs ++ l) (drop-cons rs (k - 1) [] (omega arith));
-        place = simp length-take (omega arith);
+        kth = kth-is rs k a b;
         left = refl;
       }
 
@@ -116,11 +113,12 @@ module _ (rs : List Text) (k : ℕ) where
   withdraw-done : (ss : List Text) → Row Outcome.Done → TakesOut rs k ss → after rs (withdraw k) ≡ ss
   withdraw-done ss row out =
       let r = in-range rs k Outcome.Done row refl in
-      let z : k - 1 ≡ length (out .before) = omega (arith, out .place) in
+      let h = out .kth in
+      let z : k - 1 ≡ length (h .before) = omega (arith, h .place) in
       taken-out (withdraw-good rs k (r .0) (r .1))
       ∙ ap (without rs) z
-      ∙ ap (λ (l : List Text). without l (length (out .before))) (out .parts)
-      ∙ without-at (out .before) (out .text) (out .later)
+      ∙ ap (λ (l : List Text). without l (length (h .before))) (h .parts)
+      ∙ without-at (h .before) (out .text) (h .later)
       ∙ sym (out .left)
 
   withdraw-left : IsRefused Row → after rs (withdraw k) ≡ rs
@@ -163,6 +161,7 @@ after-stands rs (withdraw k) h = withdraw-stands rs k
 after-stands rs (load f) h = load-stands rs f
 after-stands rs (ask buffer) h = StandsAfter.asked
 after-stands rs (judge words) h = StandsAfter.judged
+after-stands rs (print k buffer) h = StandsAfter.printed
 
 after-only : (rs : List Text) (c : Call) (ss : List Text) → CanStand rs → StandsAfter rs c ss → after rs c ≡ ss
 unfolding after
@@ -174,6 +173,7 @@ after-only rs c ss h (StandsAfter.loaded {f} r) = put-in-place rs f (load-done f
 after-only rs c ss h (StandsAfter.not-loaded {f} r) = load-left rs f r
 after-only rs c ss h StandsAfter.asked = refl
 after-only rs c ss h StandsAfter.judged = refl
+after-only rs c ss h StandsAfter.printed = refl
 
 calls-stand : (cs : List Call) (rs : List Text) → CanStand rs → StandsFrom rs cs (standingFrom rs cs)
 unfolding standingFrom

@@ -8,3 +8,4 @@ pub mod Numbers
 pub mod Stands
 pub mod Runs
 pub mod Asking
+pub mod Printing

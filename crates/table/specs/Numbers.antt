@@ -1,4 +1,4 @@
--- What is meant: document 01's number of each answer, and what it carries, by the table of calls. Assumes nothing.
+-- What is meant: document 01's number of each answer, and what it carries, by the table of calls; of print, that of document 02. Assumes nothing.
 use Prim.Native.Nat.{ℕ}
 use mathlib.Core.Path.{_≡_}
 use Rattle.syntax.specs.declared.RuleAnswer.{RuleAnswer}
@@ -17,6 +17,8 @@ use Rattle.table.specs.declared.AskAnswer.{AskAnswer}
 use Rattle.table.specs.declared.AskAnswer.the-variants as AskAnswer
 use Rattle.table.specs.declared.JudgeAnswer.{JudgeAnswer}
 use Rattle.table.specs.declared.JudgeAnswer.the-variants as JudgeAnswer
+use Rattle.table.specs.declared.PrintAnswer.{PrintAnswer}
+use Rattle.table.specs.declared.PrintAnswer.the-variants as PrintAnswer
 
 abbrev pub addOutcome : AddAnswer → Outcome
 addOutcome AddAnswer.Added = Outcome.Done
@@ -41,6 +43,7 @@ onLine n (Outcome.Plan w) = Outcome.Plan w
 onLine n Outcome.NoPlan = Outcome.NoPlan
 onLine n Outcome.Yes = Outcome.Yes
 onLine n (Outcome.Unmet k) = Outcome.Unmet k
+onLine n (Outcome.Text b) = Outcome.Text b
 onLine n (Outcome.Refused k p) = Outcome.RefusedLine k n p
 onLine n (Outcome.RefusedLine k l p) = Outcome.RefusedLine k l p
 
@@ -67,6 +70,12 @@ judgeOutcome (JudgeAnswer.Unmet k) = Outcome.Unmet k
 judgeOutcome JudgeAnswer.NoRule = Outcome.Refused 11 0
 judgeOutcome (JudgeAnswer.NotAPlan i) = Outcome.Refused 13 i
 judgeOutcome (JudgeAnswer.NamesDiffer n) = Outcome.Refused 14 n
+
+-- "10 for a bad k and then 12 with the bytes needed"; "the answer carries the length written"
+abbrev pub printOutcome : PrintAnswer → Outcome
+printOutcome (PrintAnswer.Text n) = Outcome.Text n
+printOutcome (PrintAnswer.NoSuchRule k) = Outcome.Refused 10 k
+printOutcome (PrintAnswer.ShortBuffer n) = Outcome.Refused 12 n
 
 -- ---- the same of the readers' answers
 

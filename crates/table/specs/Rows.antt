@@ -22,6 +22,7 @@ use Rattle.table.specs.declared.Outcome.{Outcome}
 use Rattle.table.specs.declared.Outcome.the-variants as Outcome
 use Rattle.table.specs.Rules.{AreRules, CanStand}
 use Rattle.plan.specs.Meant.{IsGiven, FirstUnmet}
+use Rattle.printing.specs.Text.{textOf}
 
 -- add's text s where the texts rs stand
 pub data AddRow (rs : List Text) (s : Text) : Outcome → Type 0 where
@@ -74,6 +75,13 @@ pub data LoadRow (f : Text) : Outcome → Type 0 where
   line : {k n p : ℕ} → length f ≤ 8192 → RefusedLine (linesOf f) k n p → LoadRow f (Outcome.RefusedLine k n p)
   loads : length f ≤ 8192 → (filled (linesOf f) ≡ [] → ⊥) → CanStand (filled (linesOf f)) → LoadRow f Outcome.Done
 
+-- s is the k-th of the texts rs, from 1
+pub record IsKth (rs : List Text) (k : ℕ) (s : Text) : Type 0 where
+  pub before : List Text
+  pub later : List Text
+  pub parts : rs ≡ before ++ s ∷ later
+  pub place : length before + 1 ≡ k
+
 -- some rule stands
 abbrev pub SomeStand : List Text → Type 0
 SomeStand rs = rs ≡ [] → ⊥
@@ -111,3 +119,12 @@ pub data JudgeRow (rs : List Text) (words : List ℕ) : Outcome → Type 0 where
   met : {fs : List (Formula Name)} {p : Plan} → SomeStand rs → AreRules rs fs → (d : Decodes fs words p) → meetsAll (floorOf d) fs ≡ true → JudgeRow rs words Outcome.Yes
   -- "or the lowest unmet rule, from 1"
   unmet : {fs : List (Formula Name)} {p : Plan} {k : ℕ} → SomeStand rs → AreRules rs fs → (d : Decodes fs words p) → FirstUnmet (floorOf d) 1 fs k → JudgeRow rs words (Outcome.Unmet k)
+
+-- print k, with a buffer of so many bytes: document 02, T-02
+pub data PrintRow (rs : List Text) (k room : ℕ) : Outcome → Type 0 where
+  -- "10 for a bad k", "as now": "k is 0 or above the number of rules"
+  none : (k ≡ 0) ⊎ (length rs < k) → PrintRow rs k room (Outcome.Refused 10 k)
+  -- "and then 12 with the bytes needed"
+  short : {s : Text} {f : Formula Name} → IsKth rs k s → IsRule s f → room < length (textOf f) → PrintRow rs k room (Outcome.Refused 12 (length (textOf f)))
+  -- "the answer carries the length written"
+  text : {s : Text} {f : Formula Name} → IsKth rs k s → IsRule s f → length (textOf f) ≤ room → PrintRow rs k room (Outcome.Text (length (textOf f)))

@@ -6,15 +6,16 @@ use Rattle.table.specs.declared.Table.{Table}
 use Rattle.table.specs.Store.{tableOf, rulesOf}
 use Rattle.table.specs.Sheet.{Text}
 use Rattle.table.specs.Calls.{FromUs, addRules, added, withdrawRules, withdrawn, loadRules, loaded}
-use Rattle.table.specs.Stands.{Call, add, withdraw, load, ask, judge, adds}
+use Rattle.table.specs.Stands.{Call, add, withdraw, load, ask, judge, print, adds}
 
--- the table that a call gives back, by the functions that the contracts cite; "Ask passes the table on unchanged", and so does judge
+-- the table that a call gives back, by the functions that the contracts cite; "Ask passes the table on unchanged", and so do judge and print
 unfoldable pub step : Table → Call → Table
 step t (add s) = added (rulesOf t) s .table
 step t (withdraw k) = withdrawn (rulesOf t) k .table
 step t (load f) = loaded (rulesOf t) f .table
 step t (ask buffer) = t
 step t (judge words) = t
+step t (print k buffer) = t
 
 unfoldable pub runFrom : Table → List Call → Table
 runFrom t [] = t
@@ -31,6 +32,7 @@ after rs (withdraw k) = withdrawRules rs k
 after rs (load f) = loadRules rs f
 after rs (ask buffer) = rs
 after rs (judge words) = rs
+after rs (print k buffer) = rs
 
 unfoldable pub standingFrom : List Text → List Call → List Text
 standingFrom rs [] = rs

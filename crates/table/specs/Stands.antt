@@ -3,19 +3,19 @@
 use Prim.Native.Nat.{ℕ, _+_}
 use mathlib.Core.Path.{_≡_}
 use mathlib.Core.List.{List, [], _∷_, _++_, map}
-use lib.ListN.{length}
 use Rattle.table.specs.Sheet.{Text, linesOf, filled}
 use Rattle.table.specs.declared.Outcome.{Outcome}
 use Rattle.table.specs.declared.Outcome.the-variants as Outcome
-use Rattle.table.specs.Rows.{AddRow, WithdrawRow, LoadRow}
+use Rattle.table.specs.Rows.{AddRow, WithdrawRow, LoadRow, IsKth}
 
--- a call, with any text, number, plan buffer or plan words
+-- a call, with any text, number, buffer or plan words
 pub data Call : Type 0 where
   add : Text → Call
   withdraw : ℕ → Call
   load : Text → Call
   ask : List ℕ → Call
   judge : List ℕ → Call
+  print : ℕ → List ℕ → Call
 
 -- "The run it is compared with has one add for each standing rule, with that rule's text"
 unfoldable pub adds : List Text → List Call
@@ -29,12 +29,9 @@ pub record IsRefused (Row : Outcome → Type 0) : Type 0 where
 
 -- ss is rs with the k-th, from 1, taken out
 pub record TakesOut (rs : List Text) (k : ℕ) (ss : List Text) : Type 0 where
-  pub before : List Text
   pub text : Text
-  pub later : List Text
-  pub parts : rs ≡ before ++ text ∷ later
-  pub place : length before + 1 ≡ k
-  pub left : ss ≡ before ++ later
+  pub kth : IsKth rs k text
+  pub left : ss ≡ kth .before ++ kth .later
 
 -- where rs stand, these stand after a call: "Ask, judge and every refused call leave the list as it was"
 pub data StandsAfter (rs : List Text) : Call → List Text → Type 0 where
@@ -50,6 +47,7 @@ pub data StandsAfter (rs : List Text) : Call → List Text → Type 0 where
   not-loaded : {f : Text} → IsRefused (LoadRow f) → StandsAfter rs (load f) rs
   asked : {buffer : List ℕ} → StandsAfter rs (ask buffer) rs
   judged : {words : List ℕ} → StandsAfter rs (judge words) rs
+  printed : {k : ℕ} {buffer : List ℕ} → StandsAfter rs (print k buffer) rs
 
 -- where rs stand, these stand after the calls, one after the other
 pub data StandsFrom : List Text → List Call → List Text → Type 0 where

@@ -15,8 +15,9 @@ ghost use Rattle.table.specs.Store.{keptLine, tableOf, rulesOf};
 ghost use Rattle.table.specs.Calls.{namesIn, readAnswer, namesAnswer, judgeText, linesFrom, FromUs, Adds, Withdraws, Loads};
 ghost use Rattle.table.specs.Sheet.{blankByte, blankLine, linesOf};
 ghost use Rattle.table.specs.Asking.{Asks, Judges};
+ghost use Rattle.table.specs.Printing.{Prints};
 ghost use Rattle.table.specs.Steps.{judgedAnswer, WasRead, atomPlaces, countsOf, Counting, CountsWith, loadResult};
-ghost use Rattle.table.specs.Numbers.{addOutcome, withdrawOutcome, onLine, CanCome, loadOutcome, askOutcome, judgeOutcome};
+ghost use Rattle.table.specs.Numbers.{addOutcome, withdrawOutcome, onLine, CanCome, loadOutcome, askOutcome, judgeOutcome, printOutcome};
 ghost use Rattle.table.specs.declared.AddAnswer.the-variants as AddAnswer;
 use judging::Judged;
 use lexer::Class;
@@ -24,6 +25,7 @@ use names::Names;
 use names::NamesAnswer;
 use plan::PlanAnswer;
 use plan::Written;
+use printing::Printed;
 use ruleset::Compiling;
 use search::ATOMS;
 use solver::RowAnswer;
@@ -126,7 +128,21 @@ pub struct JudgeResult {
     pub answer: JudgeAnswer,
 }
 
-// What an answer says: done, a plan of so many words, no plan, yes, or the lowest unmet rule; or a refusal, by document 01's number and
+// How print answers: the text of the rule is written, with its number of bytes, or why it is not. A number of which there is no rule is
+// carried as it was passed, and a short buffer carries the bytes needed.
+pub enum PrintAnswer {
+    Text(usize),
+    NoSuchRule(usize),
+    ShortBuffer(usize),
+}
+
+// What print hands back.
+pub struct PrintResult {
+    pub table: Table,
+    pub answer: PrintAnswer,
+}
+
+// What an answer says: done, a plan of so many words, no plan, yes, the lowest unmet rule, or a text of so many bytes; or a refusal, by document 01's number and
 // what it carries, and for a load by its number, line and place.
 pub enum Outcome {
     Done,
@@ -134,6 +150,7 @@ pub enum Outcome {
     NoPlan,
     Yes,
     Unmet(usize),
+    Text(usize),
     Refused(usize, usize),
     RefusedLine(usize, usize, usize),
 }
@@ -411,6 +428,7 @@ fn on_line(line: usize, said: Outcome) -> Outcome
         Outcome::NoPlan => Outcome::NoPlan,
         Outcome::Yes => Outcome::Yes,
         Outcome::Unmet(k) => Outcome::Unmet(k),
+        Outcome::Text(n) => Outcome::Text(n),
         Outcome::Refused(number, place) => Outcome::RefusedLine(number, line, place),
         Outcome::RefusedLine(number, at, place) => Outcome::RefusedLine(number, at, place),
     }
@@ -450,6 +468,17 @@ pub fn judge_outcome(answer: JudgeAnswer) -> Outcome
         JudgeAnswer::NoRule => Outcome::Refused(11, 0),
         JudgeAnswer::NotAPlan(i) => Outcome::Refused(13, i),
         JudgeAnswer::NamesDiffer(n) => Outcome::Refused(14, n),
+    }
+}
+
+// That of print's answer: document 02, T-02.
+pub fn print_outcome(answer: PrintAnswer) -> Outcome
+    ensures { λ r. ⌜ r ≡ printOutcome answer ⌝ }
+{
+    match answer {
+        PrintAnswer::Text(n) => Outcome::Text(n),
+        PrintAnswer::NoSuchRule(k) => Outcome::Refused(10, k),
+        PrintAnswer::ShortBuffer(n) => Outcome::Refused(12, n),
     }
 }
 
@@ -684,6 +713,42 @@ impl Table {
         JudgeResult {
             table: self,
             answer,
+        }
+    }
+    // The k-th rule, from 1, as it was read, its text written over the first bytes of the buffer. Where there is no such rule the answer
+    // carries k, and where the buffer is shorter than the text the bytes needed. The bytes past the text, and all bytes of another
+    // answer, keep their values; the table comes back as it was.
+    pub fn print(self, k: usize, buffer: &mut [u8]) -> PrintResult
+        requires { ⌜ FromUs self ⌝ }
+        ensures { λ r. ⌜ Prints self k (now (buffer .entry)) r (now (buffer .exit)) ⌝ }
+    {
+        if k <= 0 {
+            return PrintResult {
+                table: self,
+                answer: PrintAnswer::NoSuchRule(k),
+            };
+        }
+        if self.count < k {
+            return PrintResult {
+                table: self,
+                answer: PrintAnswer::NoSuchRule(k),
+            };
+        }
+        let line = self.lines[k - 1];
+        let len = line.len;
+        let bytes = line.bytes;
+        let text = &bytes[..len];
+        let rule = syntax::read_rule(text);
+        let printed = printing::print(text, rule, buffer);
+        match printed {
+            Printed::Text(n) => PrintResult {
+                table: self,
+                answer: PrintAnswer::Text(n),
+            },
+            Printed::Needs(n) => PrintResult {
+                table: self,
+                answer: PrintAnswer::ShortBuffer(n),
+            },
         }
     }
 }

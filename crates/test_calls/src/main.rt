@@ -5,6 +5,7 @@
 // Every other line that is not empty is one call, and is written again with ` => ` and its answer:
 //
 //     add TEXT     withdraw K     load TEXT     ask N, with N words lent     judge WORDS
+//     print K N, which prints rule K into N bytes that are lent
 //     every N, which judges the plan over N names that has every point and every contact
 //
 // In a text `/` is byte 10, a backslash and two hexadecimal digits are that byte, and `{N:PART}` is N times PART. A refusal has
@@ -17,6 +18,7 @@ ghost use lib.ListN.{length};
 ghost use Rattle.table.specs.Calls.{FromUs};
 use table::AskAnswer;
 use table::Outcome;
+use table::PrintAnswer;
 use table::Table;
 use table::WithdrawAnswer;
 use test_kit::no_text;
@@ -39,6 +41,7 @@ enum Command {
     Load,
     Ask,
     Judge,
+    Print,
     Every,
 }
 
@@ -62,6 +65,10 @@ fn write_outcome(done: &[u8], said: Outcome) {
         }
         Outcome::Unmet(k) => {
             write_labelled(b"unmet rule ", k);
+        }
+        Outcome::Text(n) => {
+            write_labelled(b"text of ", n);
+            write_bytes(b" bytes");
         }
         Outcome::Refused(number, carried) => {
             write_refusal(number, carried);
@@ -123,6 +130,7 @@ fn command_of(line: &[u8]) -> Command {
         b'w' => Command::Withdraw,
         b'l' => Command::Load,
         b'j' => Command::Judge,
+        b'p' => Command::Print,
         b'e' => Command::Every,
         _ => Command::Heading,
     }
@@ -519,6 +527,51 @@ fn ask_plan(t: Table, rest: &[u8]) -> Table
     next
 }
 
+// Writes whether bytes are those that were lent, none of which a text has.
+fn write_bytes_kept(bytes: &[u8]) {
+    let lent = [255u8; 300];
+    let n = at_most(bytes.len(), 300);
+    if check::same(bytes, &lent[0..n]) {
+        write_bytes(b"; kept");
+    } else {
+        write_bytes(b"; not kept");
+    }
+}
+
+// Writes what print answered, with its text and whether the other bytes are kept.
+fn write_printed(a: PrintAnswer, bytes: [u8; 300]) {
+    write_outcome(b"", table::print_outcome(a));
+    let PrintAnswer::Text(n) = a else {
+        write_bytes_kept(&bytes);
+        return;
+    };
+    if n <= 300 {
+        write_bytes(b" ");
+        write_bytes(&bytes[0..n]);
+        write_bytes_kept(&bytes[n..300]);
+    }
+}
+
+// Prints a rule into the first n bytes of a buffer, at most 300.
+fn print_rule(t: Table, rest: &[u8]) -> Table
+    requires { ⌜ FromUs t ⌝ }
+    ensures { λ r. ⌜ FromUs r ⌝ }
+{
+    if rest.len() <= 0 {
+        return t;
+    }
+    let k = number_of(rest);
+    let at = after(rest, 0, b' ');
+    let n = at_most(number_of(&rest[at..]), 300);
+    let mut bytes = [255u8; 300];
+    let r = t.print(k, &mut bytes[0..n]);
+    let next = r.table;
+    let answer = r.answer;
+    write_printed(answer, bytes);
+    write_same(t, next);
+    next
+}
+
 fn call(t: Table, c: Command, rest: &[u8]) -> Table
     requires { ⌜ FromUs t ⌝ }
     ensures { λ r. ⌜ FromUs r ⌝ }
@@ -530,6 +583,7 @@ fn call(t: Table, c: Command, rest: &[u8]) -> Table
         Command::Load => load_sheet(t, rest),
         Command::Ask => ask_plan(t, rest),
         Command::Judge => judge_words(t, rest),
+        Command::Print => print_rule(t, rest),
         Command::Every => judge_every(t, rest),
     }
 }

@@ -1,23 +1,28 @@
 // The test program of the output: the text for each sheet of the folder examples, for a contact, for no plan, for each refusal that
-// a sheet can get, and for the longest sheets. The file `stdout` has the texts that document 01 asks for, worked out by hand.
-ghost use mathlib.Core.Path.{_≡_};
-ghost use lib.ListN.{length};
+// a sheet can get, and for the longest sheets; then some sheets as they were read. The file `stdout` has the texts that document 01 asks
+// for, and T-02 of document 02, worked out by hand.
 use test_kit::write_bytes;
 
-// Room for the text.
-fn no_text() -> [u8; 16384]
-    ensures { λ r. ⌜ length r ≡ 16384 ⌝ }
-{
-    [0u8; 16384]
-}
-
-// The title of a sheet, and its text.
-fn show(title: &[u8], sheet: &[u8]) {
+// The title of a sheet.
+fn show_title(title: &[u8]) {
     write_bytes(b"# ");
     write_bytes(title);
     write_bytes(b"\n");
-    let mut text = no_text();
+}
+
+// It, and the sheet's text.
+fn show(title: &[u8], sheet: &[u8]) {
+    show_title(title);
+    let mut text = report::no_text();
     let len = report::report(sheet, &mut text);
+    write_bytes(&text[0..len]);
+}
+
+// It, and the sheet as it was read.
+fn show_read(title: &[u8], sheet: &[u8]) {
+    show_title(title);
+    let mut text = report::no_text();
+    let len = report::as_read(sheet, &mut text);
     write_bytes(&text[0..len]);
 }
 
@@ -87,9 +92,17 @@ fn long_sheets() {
     show(b"8192 bytes", &sheet[..8192]);
 }
 
+// Sheets as they were read: one with no plan, and refused ones.
+fn read_back() {
+    show_read(b"no plan, as read", b"~C(raw, cooked)\n\n~(1 = 0)\n((1))=0");
+    show_read(b"empty, as read", b"");
+    show_read(b"unfinished, as read", b"C(raw,cooked)\nC(raw,\n");
+}
+
 fn main() {
     examples();
     others();
     long_lines();
     long_sheets();
+    read_back();
 }

@@ -27,18 +27,23 @@ use Rattle.table.specs.declared.WithdrawResult.{WithdrawResult}
 use Rattle.table.specs.declared.LoadResult.{LoadResult}
 use Rattle.table.specs.declared.AskResult.{AskResult}
 use Rattle.table.specs.declared.JudgeResult.{JudgeResult}
+use Rattle.table.specs.declared.PrintResult.{PrintResult}
+use Rattle.table.specs.Printing.{printAnswer, printBytes, printed, Prints}
+use Rattle.printing.specs.Text.{textOf}
 use Rattle.table.specs.Store.{tableOf, rulesOf}
 use Rattle.table.specs.Sheet.{Text}
 use Rattle.table.specs.Calls.{formulasOf, namesIn, judgeAdd, addRules, added, judgeWithdraw, withdrawRules, withdrawn, judgeLoad, loadRules, loaded, FromUs, Adds}
 use Rattle.table.specs.Rules.{AreRules, CanStand}
 use Rattle.table.proofs.Rules.{of-computed, can-rules, can-names}
 use Rattle.table.specs.Asking.{askAnswer, askWords, asked, Asks, judgeAnswer, judged, Judges}
-use Rattle.table.specs.Numbers.{addOutcome, withdrawOutcome, loadOutcome, askOutcome, judgeOutcome}
-use Rattle.table.specs.Rows.{AddRow, WithdrawRow, LoadRow, SomeStand, AskRow, floorOf, JudgeRow}
+use Rattle.table.specs.Numbers.{addOutcome, withdrawOutcome, loadOutcome, askOutcome, judgeOutcome, printOutcome}
+use Rattle.table.specs.Rows.{AddRow, WithdrawRow, LoadRow, SomeStand, AskRow, floorOf, JudgeRow, PrintRow}
 use Rattle.table.specs.Stands.{Call, adds, Stands}
 use Rattle.table.specs.Runs.{step, runFrom, run, standing}
 use Rattle.table.proofs.Standing.{refused-else, not-withdrawn, not-loaded, stand-none, stand-first}
 use Rattle.table.proofs.Results.{adds-of, withdraws-of, loads-of}
+use Rattle.table.proofs.Printing.{prints-of}
+use Rattle.table.proofs.PrintRows.{bytes-written, had-text, bytes-kept}
 use Rattle.table.proofs.Asking.{asks-of, judges-of, words-none, words-written, words-short, first-words}
 use Rattle.table.proofs.Claims as table
 use Rattle.theorems.specs.Demands.{Called, Leaves, Exactly, Answered, Met, NotMet, Given, Meant, Same}
@@ -54,10 +59,11 @@ called-runs t cs u (Called.withdraw {k = k} {r = r} {cs = ds} h l) = called-runs
 called-runs t cs u (Called.load {f = f} {r = r} {cs = ds} h l) = called-runs (r .table) ds u l ∙ ap (λ (x : Table). runFrom x ds) (table.load-steps t f r h)
 called-runs t cs u (Called.ask {buffer = buffer} {r = r} {exit = exit} {cs = ds} h l) = called-runs (r .table) ds u l ∙ ap (λ (x : Table). runFrom x ds) (table.ask-steps t buffer r exit h)
 called-runs t cs u (Called.judge {words = words} {r = r} {cs = ds} h l) = called-runs (r .table) ds u l ∙ ap (λ (x : Table). runFrom x ds) (table.judge-steps t words r h)
+called-runs t cs u (Called.print {k = k} {buffer = buffer} {r = r} {exit = exit} {cs = ds} h l) = called-runs (r .table) ds u l ∙ ap (λ (x : Table). runFrom x ds) (table.print-steps t k buffer r exit h)
 
 -- and every list of calls leaves one: the contracts can be met
 calls-run : (cs : List Call) (t : Table) → FromUs t → Called t cs (runFrom t cs)
-unfolding runFrom step asked judged
+unfolding runFrom step asked judged printed
 calls-run [] t v = Called.none
 calls-run (Call.add s ∷ cs) t v = let h = adds-of t s (added (rulesOf t) s) v refl in Called.add h (calls-run cs (added (rulesOf t) s .table) (h .from-us))
 calls-run (Call.withdraw k ∷ cs) t v = let h = withdraws-of t k (withdrawn (rulesOf t) k) v refl in Called.withdraw h (calls-run cs (withdrawn (rulesOf t) k .table) (h .from-us))
@@ -65,6 +71,8 @@ calls-run (Call.load f ∷ cs) t v = let h = loads-of t f (loaded (rulesOf t) f)
 calls-run (Call.ask buffer ∷ cs) t v =
     Called.ask (asks-of t v buffer (askAnswer (rulesOf t) (length buffer)) (askWords (rulesOf t) buffer) refl refl) (calls-run cs t v)
 calls-run (Call.judge words ∷ cs) t v = Called.judge (judges-of t v words (judgeAnswer (rulesOf t) words) refl) (calls-run cs t v)
+calls-run (Call.print k buffer ∷ cs) t v =
+    Called.print (prints-of t v k buffer (printAnswer (rulesOf t) k (length buffer)) (printBytes (rulesOf t) k buffer) refl refl) (calls-run cs t v)
 
 pub left : (cs : List Call) (t : Table) → Leaves cs t → t ≡ run cs
 unfolding run
@@ -166,6 +174,20 @@ module _ (cs : List Call) where
   judge-exactly words r h =
       by-row (JudgeRow (standing cs) words) judgeOutcome (judged-by words r h) (table.judge-answered words (standing cs) fs are) (table.judge-answered-only words (standing cs))
 
+  printed-by : (k : ℕ) (buffer : List ℕ) (r : PrintResult) (exit : List ℕ) → Prints (run cs) k buffer r exit
+      → (r .answer ≡ printAnswer (standing cs) k (length buffer)) × (exit ≡ printBytes (standing cs) k buffer)
+  unfolding printed
+  printed-by k buffer r exit h = (
+    ap (λ (x : PrintResult). x .answer) (h .result) ∙ ap (λ (rs : List Text). printAnswer rs k (length buffer)) held,
+    h .bytes ∙ ap (λ (rs : List Text). printBytes rs k buffer) held,
+  )
+
+  print-exactly : (k : ℕ) (buffer : List ℕ) (r : PrintResult) (exit : List ℕ) → Prints (run cs) k buffer r exit
+      → Exactly (PrintRow (standing cs) k (length buffer)) (printOutcome (r .answer))
+  print-exactly k buffer r exit h =
+      by-row (PrintRow (standing cs) k (length buffer)) printOutcome (printed-by k buffer r exit h .0) (table.print-answered k (length buffer) (standing cs) fs are)
+      (table.print-answered-only k (length buffer) (standing cs))
+
   -- ---- demand 1
 
   same-table : tableOf (rulesOf (run cs)) ≡ run cs
@@ -196,6 +218,11 @@ module _ (cs : List Call) where
         ask-kept = λ buffer r exit h n. asked-by buffer r exit h .1 ∙ words-kept (standing cs) buffer (askOutcome (r .answer)) (ask-exactly buffer r exit h .row) n;
         judge = judge-exactly;
         judge-same = λ words r h. h .same;
+        print = print-exactly;
+        print-same = λ k buffer r exit h. h .same;
+        print-written = λ k buffer r exit h s f at rule e. printed-by k buffer r exit h .1
+            ∙ bytes-written (standing cs) k buffer s f at rule (had-text (standing cs) k (length buffer) (printOutcome (r .answer)) (print-exactly k buffer r exit h .row) (length (textOf f)) e);
+        print-kept = λ k buffer r exit h n. printed-by k buffer r exit h .1 ∙ bytes-kept (standing cs) k buffer (printOutcome (r .answer)) (print-exactly k buffer r exit h .row) n;
       }
 
   -- ---- demand 2

@@ -1,5 +1,5 @@
 -- What is meant: the customer's three demands, each as one statement about a list of calls from the empty table. The list is any list of
--- add, withdraw, load, ask and judge, refused ones included, each with any text, number, plan buffer or plan words; the standing rules rs are those that
+-- add, withdraw, load, ask, judge and print, refused ones included, each with any text, number, buffer or plan words; the standing rules rs are those that
 -- `Stands` makes of the calls alone, by the rows of the table of calls, and their formulas those that the grammar derives. The calls of
 -- the code come in by their contracts (Adds, Withdraws, Loads, Asks, Judges, Reads): what holds of every result that a contract allows
 -- holds of what the code gives. Assumes nothing.
@@ -25,13 +25,16 @@ use Rattle.table.specs.declared.WithdrawResult.{WithdrawResult}
 use Rattle.table.specs.declared.LoadResult.{LoadResult}
 use Rattle.table.specs.declared.AskResult.{AskResult}
 use Rattle.table.specs.declared.JudgeResult.{JudgeResult}
+use Rattle.table.specs.declared.PrintResult.{PrintResult}
 use Rattle.table.specs.Store.{tableOf}
 use Rattle.table.specs.Sheet.{Text}
 use Rattle.table.specs.Rules.{AreRules}
 use Rattle.table.specs.Calls.{FromUs, Adds, Withdraws, Loads}
 use Rattle.table.specs.Asking.{Asks, Judges}
-use Rattle.table.specs.Numbers.{addOutcome, withdrawOutcome, loadOutcome, askOutcome, judgeOutcome}
-use Rattle.table.specs.Rows.{AddRow, WithdrawRow, LoadRow, SomeStand, AskRow, Decodes, floorOf, JudgeRow}
+use Rattle.table.specs.Printing.{Prints}
+use Rattle.printing.specs.Text.{textOf}
+use Rattle.table.specs.Numbers.{addOutcome, withdrawOutcome, loadOutcome, askOutcome, judgeOutcome, printOutcome}
+use Rattle.table.specs.Rows.{AddRow, WithdrawRow, LoadRow, SomeStand, AskRow, Decodes, floorOf, JudgeRow, IsKth, PrintRow}
 use Rattle.table.specs.Stands.{Call, adds}
 use Rattle.plan.specs.Meant.{IsGiven, FirstUnmet}
 
@@ -43,6 +46,8 @@ pub data Called : Table → List Call → Table → Type 0 where
   load : {t : Table} {f : Text} {r : LoadResult} {cs : List Call} {u : Table} → Loads t f r → Called (r .table) cs u → Called t (Call.load f ∷ cs) u
   ask : {t : Table} {buffer : List ℕ} {r : AskResult} {exit : List ℕ} {cs : List Call} {u : Table} → Asks t buffer r exit → Called (r .table) cs u → Called t (Call.ask buffer ∷ cs) u
   judge : {t : Table} {words : List ℕ} {r : JudgeResult} {cs : List Call} {u : Table} → Judges t words r → Called (r .table) cs u → Called t (Call.judge words ∷ cs) u
+  print : {t : Table} {k : ℕ} {buffer : List ℕ} {r : PrintResult} {exit : List ℕ} {cs : List Call} {u : Table} → Prints t k buffer r exit → Called (r .table) cs u
+      → Called t (Call.print k buffer ∷ cs) u
 
 -- "from an empty table", which is what `Table::empty` gives
 abbrev pub Leaves : List Call → Table → Type 0
@@ -75,6 +80,14 @@ pub record Answered (rs : List Text) (t : Table) : Type 0 where
   pub ask-kept : (buffer : List ℕ) (r : AskResult) (exit : List ℕ) → Asks t buffer r exit → ((n : ℕ) → askOutcome (r .answer) ≡ Outcome.Plan n → ⊥) → exit ≡ buffer
   pub judge : (words : List ℕ) (r : JudgeResult) → Judges t words r → Exactly (JudgeRow rs words) (judgeOutcome (r .answer))
   pub judge-same : (words : List ℕ) (r : JudgeResult) → Judges t words r → r .table ≡ t
+  -- document 02, T-02
+  pub print : (k : ℕ) (buffer : List ℕ) (r : PrintResult) (exit : List ℕ) → Prints t k buffer r exit → Exactly (PrintRow rs k (length buffer)) (printOutcome (r .answer))
+  pub print-same : (k : ℕ) (buffer : List ℕ) (r : PrintResult) (exit : List ℕ) → Prints t k buffer r exit → r .table ≡ t
+  -- "what lies past it is kept"
+  pub print-written : (k : ℕ) (buffer : List ℕ) (r : PrintResult) (exit : List ℕ) → Prints t k buffer r exit → (s : Text) (f : Formula Name) → IsKth rs k s → IsRule s f
+      → printOutcome (r .answer) ≡ Outcome.Text (length (textOf f)) → exit ≡ over (textOf f) buffer
+  -- "the buffer keeps its contents"
+  pub print-kept : (k : ℕ) (buffer : List ℕ) (r : PrintResult) (exit : List ℕ) → Prints t k buffer r exit → ((n : ℕ) → printOutcome (r .answer) ≡ Outcome.Text n → ⊥) → exit ≡ buffer
 
 -- ---- demand 2: "Rule text is read as the grammar of document 01 has it, and a plan given meets every standing rule .. Plan words read
 -- back give the plan that was written, and a stranger's plan is judged by the same definition."

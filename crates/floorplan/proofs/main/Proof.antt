@@ -5,7 +5,7 @@ use mathlib.Core.Path.{sym, subst}
 use native.Mathlib.Omega.{arith}
 use lib.ListN.{length}
 use lib.Seq.{length-take-le}
-use Rattle.floorplan.specs.Reading.{Within}
+use Rattle.reading.specs.Reading.{Within}
 use Rattle.floorplan.proofs.main.Statement.{statement}
 use Rattle.floorplan.proofs.main.Tie as tie
 

@@ -1,6 +1,7 @@
 -- `report::put_report` meets its contract: the sheet is loaded or refused, and each has its text (Reporting.antt). Assumes nothing.
 use borrow.Author.Needs.{needs}
 use native.Mathlib.Omega.{arith}
+use Rattle.report.specs.Output.{rulesText}
 use Rattle.report.proofs.Putting.{puts-text}
 use Rattle.report.proofs.Reporting.{told-not-loaded, answer-comes, refused-text, loaded-some, loaded-text}
 use Rattle.report.proofs.put_report.Statement.{statement}
@@ -22,7 +23,7 @@ same-length : tie.Need-same-length
 same-length c = search needs
 
 returns : tie.Need-returns
-returns c = puts-text (refused-text _ _ _ (c .before .before .before .before .before .load .ensures) (told-not-loaded _ (c .before .before .before .before .match .keys2))) (c .before .before .put-refusal .ensures)
+returns c = puts-text (refused-text _ _ _ (c .before .before .before .before .before .load .ensures) rulesText (told-not-loaded _ (c .before .before .before .before .match .keys2))) (c .before .before .put-refusal .ensures)
 
 put-rules-requires : tie.Need-put-rules-requires
 put-rules-requires c κs = (c .before .before .before .before .load .ensures .from-us, loaded-some _ _ _ (c .before .before .before .before .load .ensures) (c .before .before .enum-told .given .1), c .before .before .before .before .before .before .before .before .pre)
@@ -31,7 +32,7 @@ same-length-2 : tie.Need-same-length-2
 same-length-2 c = search needs
 
 returns-2 : tie.Need-returns-2
-returns-2 c = puts-text (loaded-text _ _ _ (c .before .before .before .before .before .before .before .load .ensures) (c .before .before .before .before .before .enum-told .given .1)) (c .before .before .put-rules .ensures)
+returns-2 c = puts-text (loaded-text _ _ _ (c .before .before .before .before .before .before .before .load .ensures) (c .before .before .before .before .before .enum-told .given .1) rulesText) (c .before .before .put-rules .ensures)
 
 pub put-report-spec : {M : Type 1} → statement M
 put-report-spec =

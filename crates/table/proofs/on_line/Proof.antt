@@ -26,6 +26,9 @@ enum-known-said-3 c = search needs
 enum-known-said-4 : tie.Need-enum-known-said-4
 enum-known-said-4 c = search needs
 
+enum-known-said-5 : tie.Need-enum-known-said-5
+enum-known-said-5 c = search needs
+
 returns : tie.Need-returns
 returns c = search needs
 
@@ -47,6 +50,9 @@ returns-6 c = sym (ap (onLine _) (c .before .said3 .given .1))
 returns-7 : tie.Need-returns-7
 returns-7 c = sym (ap (onLine _) (c .before .said4 .given .1))
 
+returns-8 : tie.Need-returns-8
+returns-8 c = sym (ap (onLine _) (c .before .said5 .given .1))
+
 pub on-line-spec : {M : Type 1} → statement M
 on-line-spec =
     tie.close
@@ -58,10 +64,12 @@ on-line-spec =
     enum-known-said-2
     enum-known-said-3
     enum-known-said-4
+    enum-known-said-5
     returns
     returns-2
     returns-3
     returns-4
     returns-5
     returns-6
-    returns-7)
+    returns-7
+    returns-8)

@@ -1,12 +1,12 @@
--- `floorplan::read_sheet` meets its contract: each read stays within the sheet, and one that gives no byte is the last. Assumes nothing.
+-- `reading::read_sheet` meets its contract: each read stays within the sheet, and one that gives no byte is the last. Assumes nothing.
 use borrow.Author.Needs.{needs}
 use Prim.Native.Nat.{_+_, _-_, _≤_}
 use mathlib.Core.Path.{_≡_, refl, sym, subst, _∙_}
-use Rattle.floorplan.specs.Reading.{Within}
+use Rattle.reading.specs.Reading.{Within}
 use lib.ListN.{length}
 use native.Mathlib.Omega.{arith}
-use Rattle.floorplan.proofs.read_sheet.Statement.{statement}
-use Rattle.floorplan.proofs.read_sheet.Tie as tie
+use Rattle.reading.proofs.read_sheet.Statement.{statement}
+use Rattle.reading.proofs.read_sheet.Tie as tie
 
 abbrev Inv-loop : tie.InvT-loop
 Inv-loop sheet₀ done₀ sheet done = (done ≤ length sheet) × (length sheet ≡ length sheet₀)

@@ -1,0 +1,13 @@
+pub mod Levels
+pub mod Sizes
+pub mod Shorter
+pub mod Derived
+pub mod Apart
+pub mod Named
+pub mod Lengths
+pub mod Cuts
+pub mod Tasks
+pub mod Arrays
+pub mod Walking
+pub mod Claims
+pub mod Examples

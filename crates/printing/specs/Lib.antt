@@ -1,0 +1,4 @@
+pub mod Tokens
+pub mod Text
+pub mod Prints
+pub mod Jobs
