@@ -2,7 +2,7 @@
 // within the sheet. Assumes nothing.
 ghost use Prim.Native.Nat.{_≤_, _<_};
 ghost use mathlib.Core.Path.{_≡_};
-ghost use lib.ListN.{length};
+ghost use lib.ListN.{length, replicate};
 ghost use Rattle.reading.specs.Reading.{Within};
 
 // What reading gave: so many bytes, or a read that failed.
@@ -46,6 +46,7 @@ pub fn read_sheet(sheet: &mut [u8]) -> Got
 // Room for a sheet, and for one byte more: enough to know that there are too many.
 pub fn no_bytes() -> [u8; 8193]
     ensures { λ r. ⌜ length r ≡ 8193 ⌝ }
+    ensures { λ r. ⌜ r ≡ replicate 8193 0 ⌝ }
 {
     [0u8; 8193]
 }

@@ -3,7 +3,7 @@
 // private function puts one piece at a place, and answers the place after it. The buffer has room for the text of every sheet. Assumes nothing.
 ghost use mathlib.Core.Path.{_≡_};
 ghost use Prim.Native.Nat.{_+_, _*_, _≤_, _<_};
-ghost use lib.ListN.{length, take, drop};
+ghost use lib.ListN.{length, replicate, take, drop};
 ghost use Rattle.evalset.specs.Bit.{bit};
 ghost use Rattle.lists.specs.Search.{collect};
 ghost use Rattle.evalset.specs.Sets.{mem, memAt};
@@ -295,6 +295,7 @@ fn put_report(file: &[u8], out: &mut [u8]) -> usize
 // Room for the text.
 pub fn no_text() -> [u8; ROOM]
     ensures { λ r. ⌜ length r ≡ 16384 ⌝ }
+    ensures { λ r. ⌜ r ≡ replicate 16384 0 ⌝ }
 {
     [0u8; ROOM]
 }
