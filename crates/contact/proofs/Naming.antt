@@ -15,7 +15,6 @@ use borrow.Author.Tests.{eqb-true, eq-eqb}
 use Rattle.formula.specs.Formula.{Term, Atom, Form, Formula, Name}
 use Rattle.lists.specs.Search.{In, here, next, any, all, collect, below}
 use Rattle.lists.proofs.Search.{none-in, uncons, at-head, in-left, in-right, map-elim, all-map, keep-intro, keep-elim, collect-intro}
-use Rattle.lists.proofs.Once.{Once, once-fits, once-kept}
 use Rattle.contact.specs.Meaning.{Floor, holds, within, partTerm, atomOn, value, meets, meetsAll, renamed}
 use Rattle.formula.specs.Atoms.{atomsOf}
 use Rattle.formula.specs.Names.{termNames, atomNames}
@@ -23,6 +22,7 @@ use Rattle.contact.specs.Numbering.{allAtoms, distinct, position, sameNa
 use Rattle.lists.proofs.Truth.{clash, cases}
 use Rattle.contact.specs.Row.{IsFirstRow, Row, Realises, Realisable, rulesTrue}
 use Rattle.contact.specs.Check.{firstRowOf}
+use Rattle.contact.proofs.Distinct.{Alike, Decides, decides-alike, position-in, position-same, in-distinct}
 use Rattle.contact.proofs.Numbered.{all-atoms-map, numbered-map}
 use Rattle.contact.proofs.Answer.{first-row, first-row-only, rowFloor, plan-gives-row, plan-meets, no-plan-exactly}
 
@@ -144,10 +144,6 @@ module _ {N : Type 0} (g : N → ℕ) (n : ℕ) where
 
 -- ---- positions
 
--- a test that decides equality
-abbrev pub Decides : {N : Type 0} → (N → N → Bool) → Type 0
-Decides {N} same = (x y : N) → (same x y ≡ true) ↔ (x ≡ y)
-
 pub same-name : Decides sameName
 same-name [] [] = (λ h. refl, λ e. refl)
 same-name [] (b ∷ w) = (λ h. clash h refl, λ e. absurd (nil≢cons e))
@@ -157,45 +153,8 @@ same-name (a ∷ v) (b ∷ w) = (
   λ e. and-intro (eq-eqb a b (head-eq-of-cons-eq e)) (same-name v w .1 (tail-eq-of-cons-eq e)),
 )
 
--- the distinct elements of a list are elements of it
-pub from-distinct : {N : Type 0} (same : N → N → Bool) (xs : List N) {w : N} → In w (distinct same xs) → In w xs
-from-distinct same [] i = i
-from-distinct same (x ∷ xs) i =
-    ⊎-elim (λ e. at-head e) (λ j. next (from-distinct same xs (keep-elim (λ y. not (same x y)) (distinct same xs) j .0))) (uncons i)
-
-module _ {N : Type 0} (same : N → N → Bool) (decides : Decides same) where
-  -- every element stands in the list of the distinct ones
-  pub distinct-in : {x : N} (xs : List N) → In x xs → In x (distinct same xs)
-  distinct-in [] i = i
-  distinct-in {x} (y ∷ ys) i =
-      cases (same y x) (λ h. at-head (sym (decides y x .0 h)))
-      (λ h. ⊎-elim (λ q. clash (decides y x .1 (sym q)) h)
-      (λ j. next (keep-intro (λ z. not (same y z)) (distinct-in ys j) (ap not h))) (uncons i))
-
-  -- each of them once
-  distinct-once : (xs : List N) → Once (distinct same xs)
-  distinct-once [] = tt
-  distinct-once (x ∷ xs) =
-      let p : N → Bool = λ y. not (same x y) in
-      (λ i. clash (keep-elim p (distinct same xs) i .1) (ap not (decides x x .1 refl)), once-kept p (distinct same xs) (distinct-once xs))
-
-  -- so elements that are all among others have no more distinct ones
-  pub distinct-fewer : (xs ys : List N) → ((z : N) → In z xs → In z ys) → length (distinct same xs) ≤ length (distinct same ys)
-  distinct-fewer xs ys s =
-      once-fits (distinct same xs) (distinct same ys) (distinct-once xs) (λ z i. distinct-in ys (s z (from-distinct same xs i)))
-
-  -- an element is found at its position
-  position-found : (d : N) {x : N} (xs : List N) → In x xs
-      → (position same xs x < length xs) × (getD xs (position same xs x) d ≡ x)
-  position-found d [] i = none-in i
-  position-found d {x} (y ∷ ys) i =
-      go (same y x) refl (λ h. position-found d ys (⊎-elim (λ q. clash (decides y x .1 (sym q)) h) (λ j. j) (uncons i)))
-    where
-      go : (b : Bool) → same y x ≡ b
-          → (same y x ≡ false → (position same ys x < length ys) × (getD ys (position same ys x) d ≡ x))
-          → (cond b 0 (suc (position same ys x)) < suc (length ys)) × (getD (y ∷ ys) (cond b 0 (suc (position same ys x))) d ≡ x)
-      go true e f = (omega arith, decides y x .0 e)
-      go false e f = let r = f e in (omega (arith, r .0), r .1)
+pub name-alike : Alike sameName
+name-alike = decides-alike sameName same-name
 
 -- ---- the rules as read and the numbered rules
 
@@ -203,8 +162,9 @@ module _ (rules : List (Formula Name)) where
   -- each name of the rules has a number below how many they are, and is found at it
   pub name-found : {x : Name} → In x (collect atomNames (allAtoms rules))
       → (numberOf rules x < length (namesOf rules)) × (nameOf rules (numberOf rules x) ≡ x)
-  name-found i =
-      position-found sameName same-name [] (namesOf rules) (distinct-in sameName same-name (collect atomNames (allAtoms rules)) i)
+  name-found {x} i =
+      let h = in-distinct sameName name-alike (collect atomNames (allAtoms rules)) x i in
+      (position-in sameName (namesOf rules) x h, same-name _ x .0 (position-same sameName [] (namesOf rules) x h))
 
   -- the numbered rules' names are below that number
   pub numbered-below : RulesBelow (length (namesOf rules)) (numberedNames rules)
