@@ -9,13 +9,14 @@ use lib.Dec.{eqb, eqb·zero-suc, eqb·suc-zero, eqb·suc-suc}
 use lib.ListN.{length, getD, set, replicate, length-append}
 use Rattle.lists.proofs.Lists.{repeated-at, stored}
 use Rattle.formula.specs.Formula.{Atom}
+use Rattle.formula.specs.Atoms.{isContact}
 use Rattle.evalset.specs.declared.EvalSet.{EvalSet}
 use Rattle.evalset.specs.Sets.{mem, memAt, noneOf}
 use Rattle.lists.proofs.Truth.{of-cond}
 use Rattle.evalset.proofs.Arrays.{empty-rows}
 use Rattle.search.specs.declared.Chart.{Chart}
 use Rattle.search.specs.Compiled.{noAtom, atomAt}
-use Rattle.compile.specs.Chart.{isContact, firstSet, secondSet, CompiledFrom, Grows}
+use Rattle.compile.specs.Chart.{firstSet, secondSet, CompiledFrom, Grows}
 use Rattle.compile.proofs.Sets.{of-zero}
 
 pub grows-same : {chart r : Chart} {b c : Bool} {x y z w : ℕ → Bool} → Grows chart r b x y → b ≡ c → x ≡ z → y ≡ w → Grows chart r c z w
