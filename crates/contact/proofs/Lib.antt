@@ -4,6 +4,7 @@ pub mod Pairs
 pub mod Fewer
 pub mod Renaming
 pub mod Distinct
+pub mod Same
 pub mod Numbered
 pub mod Answer
 pub mod Naming
