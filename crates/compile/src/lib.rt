@@ -10,7 +10,6 @@ ghost use lib.Dec.{eqb};
 ghost use lib.ListN.{length, getD};
 ghost use Rattle.evalset.specs.Sets.{mem};
 ghost use Rattle.evalset.specs.Most.{most};
-ghost use Rattle.spelling.specs.Kept.{Compares, Numbers, Storing, Stores};
 ghost use Rattle.compile.specs.Kinds.{takenBy, termKind, atomKind, namesBy, setBy, symbolBy, firstBy, secondBy, signBy};
 ghost use Rattle.compile.specs.Chart.{CompiledFrom, Grows};
 ghost use Rattle.compile.specs.Compiles.{Asked, Compiles};
@@ -207,30 +206,6 @@ fn empty_stack() -> [EvalSet; 172]
     [none; 172]
 }
 
-// STUB
-fn number_of(
-    kept: &[u8; 2048],
-    lens: [usize; 16],
-    contacts: [bool; 16],
-    many: usize,
-    row: &[u8; 256],
-    len: usize,
-    contact: bool,
-) -> usize
-    requires { ⌜ Compares (now kept) lens contacts many (now row) len contact ⌝ }
-    ensures { λ r. ⌜ Numbers (now (kept .entry)) lens contacts many (now (row .entry)) len contact r ⌝ }
-{
-    many
-}
-
-// STUB
-fn keep_row(kept: &mut [u8; 2048], row: &[u8; 256], len: usize, number: usize)
-    requires { ⌜ Storing (now row) len number ⌝ }
-    ensures { λ _. ⌜ Stores (now (kept .entry)) (now (row .entry)) len number (now (kept .exit)) ⌝ }
-{
-    kept[0] = 0;
-}
-
 // The number of the atom that a sign makes of these sets, its terms in the row, and the atoms with it behind them where it is none
 // of them: of atoms that are the same the first stays. Where the number is not below sixteen, nothing is said of the atoms.
 fn atom_placed(
@@ -250,7 +225,7 @@ fn atom_placed(
     let many = chart.atoms;
     let mut lens = before.lens;
     let contact = kind == CONTACT;
-    let number = number_of(kept, lens, contacts, many, row, len, contact);
+    let number = spelling::number_of(kept, lens, contacts, many, row, len, contact);
     if number < many {
         return Placed {
             atoms: before,
@@ -263,7 +238,7 @@ fn atom_placed(
             number,
         };
     }
-    keep_row(kept, row, len, number);
+    spelling::keep_row(kept, row, len, number);
     lens[number] = len;
     let grown = with_atom(chart, kind, x, y);
     let atoms = Atoms { chart: grown, lens };
