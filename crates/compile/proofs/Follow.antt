@@ -10,7 +10,7 @@ use native.Mathlib.Numerals.{add-one}
 use native.Mathlib.Omega.{arith}
 use lib.Dec.{leb}
 use lib.ListN.{length, getD, take, drop, set, length-append, length-drop, length-map, length-set, take-append-drop, List·getD-eq-default}
-use lib.Seq.{sets, length-sets, length-take-le, take-length, take-suc-set}
+use lib.Seq.{sets, length-take-le, take-length, take-suc-set}
 use borrow.Author.Tests.{lt-leb, le-leb}
 use Rattle.lists.specs.Search.{In}
 use Rattle.lists.proofs.Search.{none-in, collect-last, in-either, in-one, map-elim, placed}
@@ -123,6 +123,7 @@ pub record Inv (order numbers : List ℕ) (before : CompiledRule) (keeping buf k
   pub within : i ≤ length order
   pub whole : length stack ≡ 172
   pub wide : length row ≡ 256
+  pub long : length out ≡ length buf
   pub behind : len ≤ i
   pub small : (v : ℕ) → In v (take len row) → v < 16
   pub going : rule .enough ≡ true
@@ -139,6 +140,7 @@ begins order numbers before keeping buf stack row w l b =
       within = omega arith;
       whole = w;
       wide = l;
+      long = refl;
       behind = omega arith;
       small = λ v j. none-in j;
       going = b;
@@ -232,25 +234,25 @@ module _ {order numbers : List ℕ} {before : CompiledRule} {keeping buf kept ou
           first-follows .grown .ends,
           reached-bounds (q .formula) (q .numbering) (q .atoms) i (omega (arith, inv .within, same-length (q .given))) .long,
           q .fits,
-          ap length (first-follows .grown .wrote),
-          length-sets buf (before .end) (reached (q .formula) (q .numbering) (q .atoms) i .code),
+          inv .long,
         )
 
     -- ---- a turn
 
     -- the next symbol, once the values are those of the state after it
     next : {kept' out' : List ℕ} {rule' : CompiledRule} {stack' : List EvalSet} {row' : List ℕ} {height' len' used' : ℕ} → length stack' ≡ 172 → length row' ≡ 256
-        → len' ≤ i + 1 → ((v : ℕ) → In v (take len' row') → v < 16) → rule' .enough ≡ true
+        → length out' ≡ length buf → len' ≤ i + 1 → ((v : ℕ) → In v (take len' row') → v < 16) → rule' .enough ≡ true
         → ((f : Formula Name) (g : Name → ℕ) (atoms : List (Atom ℕ)) → Given order numbers (before .atoms) keeping f g atoms → kind ≡ code (symbolAt (postfix f) i)
         → Finds g (start atoms) (take i (postfix f)) (symbolAt (postfix f) i)
         → Follows before buf (reached f g atoms i) (passed (postfix f) i) kept out rule stack row height len used
         → Follows before buf (step g (symbolAt (postfix f) i) (reached f g atoms i)) (passed (postfix f) i + namesBy kind) kept' out' rule' stack' row' height' len' used')
         → Inv order numbers before keeping buf kept' out' rule' stack' row' height' len' used' (i + 1)
-    next {kept'} {out'} {rule'} {stack'} {row'} {height'} {len'} {used'} w x n p b h =
+    next {kept'} {out'} {rule'} {stack'} {row'} {height'} {len'} {used'} w x o n p b h =
         record {
           within = omega arith;
           whole = w;
           wide = x;
+          long = o;
           behind = n;
           small = p;
           going = b;
@@ -268,7 +270,7 @@ module _ {order numbers : List ℕ} {before : CompiledRule} {keeping buf kept ou
           → mem r ≡ setBy kind number (memAt stack h) (memAt stack (h + 1)) → v ≡ symbolBy kind number
           → Inv order numbers before keeping buf kept out rule (set stack h r) (set row len v) (h + 1) (len + 1) (used + more) (i + 1)
       term-again r v number more low-enough term read passes made shown =
-          next (length-set stack h r ∙ inv .whole) (length-set row len v ∙ inv .wide) (omega (arith, inv .behind))
+          next (length-set stack h r ∙ inv .whole) (length-set row len v ∙ inv .wide) (inv .long) (omega (arith, inv .behind))
           (λ s j. ⊎-elim (inv .small s) (λ m. omega (arith, in-one m, shown, symbol-small kind number (omega (arith, small-number used)))) (in-either (take len row) (v ∷ []) (subst (In s) longer j)))
           (inv .going)
           (λ f g atoms G e found F.
@@ -401,7 +403,7 @@ module _ {order numbers : List ℕ} {before : CompiledRule} {keeping buf kept ou
 
           pub sign-again : rule' .enough ≡ true → Inv order numbers before keeping buf kept' out' rule' stack row h 0 used (i + 1)
           sign-again b =
-              next (inv .whole) (inv .wide) (omega arith) (λ s j. none-in j) b
+              next (inv .whole) (inv .wide) (says .long ∙ inv .long) (omega arith) (λ s j. none-in j) b
               (λ f g atoms G e found F. cases (atomKind kind) (of-atom G found F b) (of-sign G found F))
 
           -- where sixteen atoms are not enough
@@ -431,13 +433,14 @@ unfolding Compiles
 finished {order} {numbers} {before} {keeping} {buf} {kept} {out} {rule} {stack} {row} {height} {len} {used} {i} inv past f g atoms G =
     let F = inv .follows f g atoms G in
     let z : reached f g atoms i ≡ last f g atoms = reached-end f g atoms i (omega (arith, inv .within, same-length G)) in
-    let H : Holds (rule .atoms) kept (atomsAfter g f atoms) = subst (λ (s : State). Holds (rule .atoms) kept (s .atoms)) z (F .grown .holds) in
-    (inv .going ∙ sym (le-leb (length (atomsAfter g f atoms)) 16 (H .compiled .few)),
-    λ y.
-    record {
-      names-kept = F .grown .named;
-      compiled = H .compiled;
-      keeps = H .keeps;
-      ends = F .grown .ends ∙ ap (λ (s : State). before .end + length (s .code)) z;
-      wrote = F .grown .wrote ∙ ap (λ (s : State). sets buf (before .end) (s .code)) z;
-    })
+    let H : Holds (rule .atoms) kept (atomsAfter g f atoms) = subst (λ (s : State). Holds (rule .atoms) kept (s .atoms)) z (F .grown .holds) in (
+      inv .going ∙ sym (le-leb (length (atomsAfter g f atoms)) 16 (H .compiled .few)),
+      λ y.
+          record {
+            names-kept = F .grown .named;
+            compiled = H .compiled;
+            keeps = H .keeps;
+            ends = F .grown .ends ∙ ap (λ (s : State). before .end + length (s .code)) z;
+            wrote = F .grown .wrote ∙ ap (λ (s : State). sets buf (before .end) (s .code)) z;
+          },
+    )

@@ -60,6 +60,7 @@ pub record Written (before r : CompiledRule) (buf : List ℕ) (v : ℕ) (out : L
 -- the sign of an atom is its number's, and its atom stands behind those before, or it is the seventeenth; another sign leaves the atoms as
 -- they were
 pub record Signs (before : CompiledRule) (kept buf row : List ℕ) (len kind : ℕ) (x y : ℕ → Bool) (r : CompiledRule) (keptOut out : List ℕ) : Type 0 where
+  pub long : length out ≡ length buf
   pub atom-put : atomKind kind ≡ true → r .enough ≡ true → (atoms : List (Atom ℕ)) (a : Atom ℕ) → Holds (before .atoms) kept atoms
       → Shows row len kind x y a → Written before r buf (atomSign (placeIn atoms a)) out × Holds (r .atoms) keptOut (withPut atoms a)
   pub too-many : r .enough ≡ false

@@ -292,7 +292,7 @@ fn passed(
     code: &mut [u8],
 ) -> CompiledRule
     requires { ⌜ Asked (now order) (now numbers) (rule .atoms) (now kept) (now code) (rule .end) × (rule .enough ≡ true) ⌝ }
-    ensures { λ r. ⌜ Compiles (now (order .entry)) (now (numbers .entry)) (rule .atoms) (now (kept .entry)) (now (code .entry)) (rule .end) r (now (kept .exit)) (now (code .exit)) ⌝ }
+    ensures { λ r. ⌜ Compiles (now (order .entry)) (now (numbers .entry)) (rule .atoms) (now (kept .entry)) (now (code .entry)) (rule .end) r (now (kept .exit)) (now (code .exit)) × (length (now (code .exit)) ≡ length (now (code .entry))) ⌝ }
 {
     let mut stack = empty_stack();
     let mut row = lexer::zeros();
@@ -336,7 +336,7 @@ pub fn compile_rule(
     from: usize,
 ) -> CompiledRule
     requires { ⌜ Asked (now order) (now numbers) before (now kept) (now code) from ⌝ }
-    ensures { λ r. ⌜ Compiles (now (order .entry)) (now (numbers .entry)) before (now (kept .entry)) (now (code .entry)) from r (now (kept .exit)) (now (code .exit)) ⌝ }
+    ensures { λ r. ⌜ Compiles (now (order .entry)) (now (numbers .entry)) before (now (kept .entry)) (now (code .entry)) from r (now (kept .exit)) (now (code .exit)) × (length (now (code .exit)) ≡ length (now (code .entry))) ⌝ }
 {
     let rule = CompiledRule {
         atoms: before,

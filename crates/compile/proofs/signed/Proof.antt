@@ -1,67 +1,95 @@
+-- `compile::signed` meets its contract: a sign that makes no atom writes its own code, an atom's sign that of the atom's number, where that is
+-- below sixteen. Assumes nothing.
+use mathlib.Core.Bool.{true, false}
+use Prim.Native.Nat.{_+_, _<_}
+use native.Mathlib.Omega.{arith}
+use mathlib.Core.Path.{_≡_, refl, sym, ap, _∙_}
+use lib.ListN.{set, length-set}
 use borrow.Author.Needs.{needs}
+use borrow.Author.Tests.{not-true, not-false}
+use Rattle.lists.proofs.Truth.{clash}
+use Rattle.kleene.specs.Code.{atomSign}
+use Rattle.compile.specs.Kinds.{atomKind}
+use Rattle.compile.specs.Machine.{placeIn}
+use Rattle.compile.specs.Signs.{Places}
 use Rattle.compile.proofs.signed.Statement.{statement}
 use Rattle.compile.proofs.signed.Tie as tie
-use Rattle.compile.proofs.signed.Reads as reads
-use Rattle.compile.proofs.signed.Lts as lts
-use Rattle.compile.proofs.atom_placed.Reads as atom-placed-reads
-use Rattle.compile.proofs.is_atom.Reads as is-atom-reads
-use Rattle.compile.proofs.sign_code.Reads as sign-code-reads
 
--- src/lib.rt:265:9
 is-atom-requires : tie.Need-is-atom-requires
 is-atom-requires c κs = search needs
 
--- src/lib.rt:266:21
 sign-code-requires : tie.Need-sign-code-requires
 sign-code-requires c κs = search needs
 
--- src/lib.rt:266:9
 slice-write-code : tie.Need-slice-write-code
 slice-write-code c = search needs
 
--- src/lib.rt:267:20
 add-rule : tie.Need-add-rule
 add-rule c = search needs
 
--- src/lib.rt:268:9
 same-length : tie.Need-same-length
 same-length c = search needs
 
--- src/lib.rt:268:9
 returns : tie.Need-returns
-returns c = ?
+returns c =
+    let start = c .before .before .before .before in
+    let no = sym (c .before .before .is-atom .ensures) ∙ not-true _ (c .before .if1 .taken) in
+    record {
+      long = length-set (start .args .code .now) (start .args .before .end) _;
+      atom-put = λ y b atoms a H S. clash y no;
+      too-many = λ b. clash (start .pre .going) b;
+      sign-put = λ n. (
+        record { names-kept = refl; enough = start .pre .going; ends = refl; wrote = ap (set (start .args .code .now) (start .args .before .end)) (c .sign-code .ensures) },
+        λ atoms H. H,
+      );
+    }
 
--- src/lib.rt:271:9
 atom-placed-requires : tie.Need-atom-placed-requires
-atom-placed-requires c κs = ?
+atom-placed-requires c κs = c .before .before .before .before .before .pre .placing (sym (c .before .before .before .is-atom .ensures) ∙ not-false _ (c .before .before .if1 .left))
 
--- src/lib.rt:276:9
 returns-2 : tie.Need-returns-2
-returns-2 c = ?
+unfolding Places
+returns-2 c =
+    let yes : atomKind (c .before .before .before .before .before .before .before .before .args .kind) ≡ true
+    = sym (c .before .before .before .before .before .before .is-atom .ensures) ∙ not-false _ (c .before .before .before .before .before .if1 .left) in
+    record {
+      long = refl;
+      atom-put = λ y b. clash b refl;
+      too-many = λ b. (yes, λ atoms a H S. omega (arith, c .before .before .atom-placed .ensures atoms a H S .0));
+      sign-put = λ n. clash yes n;
+    }
 
--- src/lib.rt:278:21
 cast-code : tie.Need-cast-code
 cast-code c = search needs
 
--- src/lib.rt:278:17
 add-code : tie.Need-add-code
 add-code c = search needs
 
--- src/lib.rt:278:5
 slice-write-code-2 : tie.Need-slice-write-code-2
 slice-write-code-2 c = search needs
 
--- src/lib.rt:280:16
 add-rule-2 : tie.Need-add-rule-2
 add-rule-2 c = search needs
 
--- src/lib.rt:250:1
 same-length-2 : tie.Need-same-length-2
 same-length-2 c = search needs
 
--- src/lib.rt:250:1
 returns-3 : tie.Need-returns-3
-returns-3 c = ?
+unfolding Places
+returns-3 c =
+    let start = c .before .before .before .before .before .before .before .before in
+    let yes : atomKind (start .args .kind) ≡ true
+    = sym (c .before .before .before .before .before .before .is-atom .ensures) ∙ not-false _ (c .before .before .before .before .before .if1 .left) in
+    record {
+      long = length-set (start .args .code .now) (start .args .before .end) _;
+      atom-put = λ y b atoms a H S.
+          let P = c .before .before .atom-placed .ensures atoms a H S in
+          let l : c .before .before .atom-placed .result .number < 16 = omega arith in
+          let v : 7 + c .before .before .atom-placed .result .number ≡ atomSign (placeIn atoms a) = omega (arith, P .0) in
+          (record { names-kept = P .1 l .0; enough = start .pre .going; ends = refl; wrote = ap (set (start .args .code .now) (start .args .before .end)) v }, P .1 l .1);
+      too-many = λ b. clash (start .pre .going) b;
+      sign-put = λ n. clash yes n;
+    }
 
 pub signed-spec : {M : Type 1} → statement M
 signed-spec =

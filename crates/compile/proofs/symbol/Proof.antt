@@ -1,42 +1,41 @@
-use borrow.Author.Needs.{needs}
+-- `compile::symbol` meets its contract: the kind picks the symbol; any other kind is a name's, whose number is small. Assumes nothing.
+use native.Mathlib.Omega.{arith}
+use mathlib.Core.Path.{sym}
+use borrow.Author.Tests.{ne-eqb}
+use Rattle.compile.specs.Kinds.{symbolBy}
+use Rattle.compile.proofs.Steps.{name-small}
 use Rattle.compile.proofs.symbol.Statement.{statement}
 use Rattle.compile.proofs.symbol.Tie as tie
-use Rattle.compile.proofs.symbol.Reads as reads
-use Rattle.compile.proofs.symbol.Lts as lts
 
--- src/lib.rt:155:18
 cast-result : tie.Need-cast-result
-cast-result c = search needs
+cast-result c = omega (arith, name-small (c .before .args .number) (c .before .pre))
 
--- src/lib.rt:155:14
 add-result : tie.Need-add-result
-add-result c = search needs
+add-result c = omega (arith, name-small (c .before .args .number) (c .before .pre))
 
--- src/lib.rt:145:1
 returns : tie.Need-returns
-returns c = ?
+unfolding symbolBy
+returns c = rw (c .match .keys1)
 
--- src/lib.rt:145:1
 returns-2 : tie.Need-returns-2
-returns-2 c = ?
+unfolding symbolBy
+returns-2 c = rw (c .match .keys2)
 
--- src/lib.rt:145:1
 returns-3 : tie.Need-returns-3
-returns-3 c = ?
+unfolding symbolBy
+returns-3 c = rw (c .match .keys3)
 
--- src/lib.rt:145:1
 returns-4 : tie.Need-returns-4
-returns-4 c = ?
+unfolding symbolBy
+returns-4 c = rw (c .match .keys4)
 
--- src/lib.rt:145:1
 returns-5 : tie.Need-returns-5
-returns-5 c = ?
+unfolding symbolBy
+returns-5 c = rw (c .match .keys5)
 
--- src/lib.rt:145:1
 returns-6 : tie.Need-returns-6
-returns-6 c = ?
+unfolding symbolBy
+returns-6 c = sym (simp (ne-eqb _ 16 (c .match .rest .0 .0 .0 .0 .1), ne-eqb _ 17 (c .match .rest .0 .0 .0 .1), ne-eqb _ 6 (c .match .rest .0 .0 .1), ne-eqb _ 5 (c .match .rest .0 .1), ne-eqb _ 4 (c .match .rest .1)) (omega arith))
 
 pub symbol-spec : {M : Type 1} → statement M
-symbol-spec =
-    tie.close
-    (tie.spec cast-result add-result returns returns-2 returns-3 returns-4 returns-5 returns-6)
+symbol-spec = tie.close (tie.spec cast-result add-result returns returns-2 returns-3 returns-4 returns-5 returns-6)
