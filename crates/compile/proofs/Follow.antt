@@ -1,15 +1,13 @@
 -- The loop follows the machine: after i symbols its stack, its row, its arrays and its code are those of the machine's state, for
 -- every formula, numbering and atoms that were given. Each turn is one symbol. Assumes nothing.
-use mathlib.Core.Bool.{Bool, true, false, cond}
+use mathlib.Core.Bool.{true, false}
 use mathlib.Core.Path.{_≡_, refl, sym, ap, ap₂, subst, _∙_}
 use mathlib.Core.List.{List, [], _∷_, _++_, map}
 use mathlib.Core.Logic.{⊎-elim}
 use Prim.Native.Nat.{ℕ, zero, suc, _+_, _-_, _*_, _≤_, _<_}
-use native.Mathlib.Decide.{ℕ-discrete}
 use native.Mathlib.Numerals.{add-one}
 use native.Mathlib.Omega.{arith}
-use lib.Dec.{leb}
-use lib.ListN.{length, getD, take, drop, set, length-append, length-drop, length-map, length-set, take-append-drop, List·getD-eq-default}
+use lib.ListN.{length, getD, take, drop, set, length-append, length-drop, length-set, take-append-drop, List·getD-eq-default}
 use lib.Seq.{sets, length-take-le, take-length, take-suc-set}
 use borrow.Author.Tests.{lt-leb, le-leb}
 use Rattle.lists.specs.Search.{In}
@@ -18,7 +16,6 @@ use Rattle.lists.proofs.Lists.{take-next, map-skip, sets-more}
 use Rattle.lists.proofs.Truth.{clash, cases, side}
 use Rattle.formula.specs.Formula.{Term, Atom, Formula, Name}
 use Rattle.formula.specs.Names.{formulaNames}
-use Rattle.formula.specs.Same.{sameAtom}
 use Rattle.syntax.specs.Symbol.{Leaf, leaf, opening}
 use Rattle.syntax.specs.Postfix.{postfix, symbolNames, namesAmong}
 use Rattle.syntax.specs.Machine.{Sym}
@@ -28,17 +25,16 @@ use Rattle.syntax.proofs.Claims.{length-codes, order-names}
 use Rattle.evalset.specs.declared.EvalSet.{EvalSet}
 use Rattle.evalset.specs.Most.{most}
 use Rattle.evalset.specs.Sets.{mem, memAt}
-use Rattle.contact.specs.Putting.{isIn}
-use Rattle.contact.proofs.Distinct.{position-in, position-out}
 use Rattle.spelling.specs.Symbols.{symbolsOf}
 use Rattle.compile.specs.declared.Atoms.{Atoms}
 use Rattle.compile.specs.declared.CompiledRule.{CompiledRule}
 use Rattle.compile.specs.Kinds.{takenBy, termKind, atomKind, namesBy, setBy, symbolBy, signBy}
 use Rattle.compile.specs.Machine.{State, withPut, placeIn, withAtom, withSign, start, step, run}
 use Rattle.compile.specs.Compiles.{atomsAfter, codeAfter, Given, Asked, Compiles}
-use Rattle.compile.specs.Signs.{Holds, Shows, Placing, Signing, Written, Signs}
+use Rattle.compile.specs.Signs.{Holds, Shows, Signing, Written, Signs}
 use Rattle.compile.proofs.Orders.{run-last, run-append, formula-run, Bounds, run-bounds}
 use Rattle.compile.proofs.Heights.{symbolAt, Finds, order-fine}
+use Rattle.compile.proofs.Placing.{seventeen}
 use Rattle.compile.proofs.Steps.{Stacked, spelledAll, Put, term-step, Made, atom-step, sign-step, names-by, no-name, one-at-most, symbol-small}
 
 -- ---- the names of an order
@@ -180,14 +176,6 @@ module _ {order numbers : List ℕ} {before : Atoms} {keeping : List ℕ} {f : F
 none-wait : (stack : List EvalSet) (row : List ℕ) (h : ℕ) (ts : List (Term ℕ)) → h ≡ 0 → length ts ≡ 0 → Waits stack row h 0 ts
 none-wait stack row h [] e l = record { high = e; stacked = tt; spells = refl }
 none-wait stack row h (t ∷ ts) e l = absurd (omega arith)
-
--- an atom that has none of sixteen numbers is the seventeenth
-seventeen : (atoms : List (Atom ℕ)) (a : Atom ℕ) → length atoms ≤ 16 → 16 ≤ placeIn atoms a → 16 < length (withPut atoms a)
-seventeen atoms a few l = go (isIn (sameAtom ℕ-discrete) atoms a) refl
-  where
-    go : (b : Bool) → isIn (sameAtom ℕ-discrete) atoms a ≡ b → 16 < length (cond b atoms (atoms ++ a ∷ []))
-    go true e = absurd (omega (arith, position-in (sameAtom ℕ-discrete) atoms a e))
-    go false e = omega (arith, position-out (sameAtom ℕ-discrete) atoms a e, length-append atoms (a ∷ []))
 
 module _ {order numbers : List ℕ} {before : CompiledRule} {keeping buf kept out : List ℕ} {rule : CompiledRule} {stack : List EvalSet}
     {row : List ℕ} {height len used i : ℕ} (q : Asked order numbers (before .atoms) keeping buf (before .end))

@@ -7,7 +7,7 @@ use Prim.Native.Nat.{ℕ, _≤_, _<_}
 use native.Mathlib.Decide.{ℕ-discrete}
 use native.Mathlib.Omega.{arith}
 use lib.Dec.{eqb}
-use lib.ListN.{length, getD, set}
+use lib.ListN.{length, getD, set, length-append}
 use Rattle.formula.specs.Formula.{Atom}
 use Rattle.formula.specs.Same.{sameAtom}
 use Rattle.contact.specs.Putting.{isIn}
@@ -37,6 +37,11 @@ module _ (atoms : List (Atom ℕ)) (a : Atom ℕ) where
       go : (b : Bool) → isIn (sameAtom ℕ-discrete) atoms a ≡ b → cond b atoms (atoms ++ a ∷ []) ≡ atoms ++ a ∷ []
       go true e = absurd (omega (arith, position-in (sameAtom ℕ-discrete) atoms a e))
       go false e = refl
+
+  -- one that has none of sixteen numbers is the seventeenth
+  pub seventeen : length atoms ≤ 16 → 16 ≤ placeIn atoms a → 16 < length (withPut atoms a)
+  seventeen few l =
+      omega (arith, ap length (put-last (omega arith)), length-append atoms (a ∷ []), position-most (sameAtom ℕ-discrete) atoms a)
 
 module _ {before : Atoms} {kept row : List ℕ} {len kind : ℕ} {x y : ℕ → Bool} {atoms : List (Atom ℕ)} {a : Atom ℕ} (holds : Holds before kept atoms)
     (shows : Shows row len kind x y a) (number : ℕ) (e : number ≡ placeIn atoms a) where

@@ -8,7 +8,7 @@ use borrow.Author.Needs.{needs}
 use borrow.Author.Tests.{not-true, not-false}
 use Rattle.evalset.specs.Sets.{memAt}
 use Rattle.compile.specs.Kinds.{takenBy}
-use Rattle.compile.proofs.Follow.{Inv, begins, low, lower, fits, few-names, small-number, enough, term-again, signs-asked, sign-again, refused, finished}
+use Rattle.compile.proofs.Follow.{Inv, begins, low, lower, few-names, small-number, enough, term-again, signs-asked, sign-again, refused, finished}
 use Rattle.compile.proofs.Steps.{one-at-most}
 use Rattle.compile.proofs.passed.Statement.{statement}
 use Rattle.compile.proofs.passed.Tie as tie

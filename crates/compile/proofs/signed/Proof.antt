@@ -1,6 +1,6 @@
 -- `compile::signed` meets its contract: a sign that makes no atom writes its own code, an atom's sign that of the atom's number, where that is
 -- below sixteen. Assumes nothing.
-use mathlib.Core.Bool.{true, false}
+use mathlib.Core.Bool.{true}
 use Prim.Native.Nat.{_+_, _<_}
 use native.Mathlib.Omega.{arith}
 use mathlib.Core.Path.{_≡_, refl, sym, ap, _∙_}
