@@ -1,7 +1,8 @@
 // The compiler of a rule: from its formula's order (document 01, 'Rule text') to a set of evaluations for each term of its atoms
-// ('Meaning') and postfix code over atom numbers. Atoms are numbered "by first place, rules in order, left to right". The order
-// is passed once, with a stack of sets for the terms that are whole. Only our own crates compile rules, and only what was
-// read: the requires of `compile_rule` says so, since to test for it would read the rule twice.
+// ('Meaning') and postfix code over atom numbers. Atoms are numbered "by first place, rules in order, left to right", and "atoms that
+// are the same count as one" (document 02, T-03): spelling tells which are. The order is passed once, with a stack of sets for the
+// terms that are whole and a row of their symbols. Only our own crates compile rules, and only what was read: the requires of
+// `compile_rule` says so, since to test for it would read the rule twice.
 ghost use mathlib.Core.Path.{_≡_};
 ghost use mathlib.Core.Bool.{true};
 ghost use mathlib.Core.List.{[]};
@@ -284,7 +285,7 @@ fn signed(
 // The rule with the signs of this order behind it. A token is put on neither, the first or both of two sets, and the stack is never
 // full: the place above its top can be read. Where the sign of an atom stands, its terms are all that is on the stack, and so
 // their symbols are all that is in the row.
-fn passed(
+fn order_passed(
     order: &[u8],
     numbers: &[u8],
     mut rule: CompiledRule,
@@ -343,5 +344,5 @@ pub fn compile_rule(
         end: from,
         enough: true,
     };
-    passed(order, numbers, rule, kept, code)
+    order_passed(order, numbers, rule, kept, code)
 }

@@ -1,4 +1,4 @@
--- `compile::passed` meets its contract: the loop follows the machine, symbol by symbol (Follow.antt), and the symbols that are left
+-- `compile::order_passed` meets its contract: the loop follows the machine, symbol by symbol (Follow.antt), and the symbols that are left
 -- fall. Assumes nothing.
 use Prim.Native.Nat.{ℕ, _-_, _≤_, _<_}
 use native.Mathlib.Omega.{arith}
@@ -10,8 +10,8 @@ use Rattle.evalset.specs.Sets.{memAt}
 use Rattle.compile.specs.Kinds.{takenBy}
 use Rattle.compile.proofs.Follow.{Inv, begins, low, lower, few-names, small-number, enough, term-again, signs-asked, sign-again, refused, finished}
 use Rattle.compile.proofs.Steps.{one-at-most}
-use Rattle.compile.proofs.passed.Statement.{statement}
-use Rattle.compile.proofs.passed.Tie as tie
+use Rattle.compile.proofs.order_passed.Statement.{statement}
+use Rattle.compile.proofs.order_passed.Tie as tie
 
 abbrev Inv-loop : tie.InvT-loop
 Inv-loop order numbers rule₀ kept₀ code₀ stack₀ row₀ height₀ len₀ used₀ i₀ rule kept code stack row height len used i =
@@ -155,8 +155,8 @@ same-length-2 c = c .before .loop .inv .long
 returns-2 : tie.Need-returns-2 Inv-loop μ-loop
 returns-2 c = (finished (c .before .loop .inv) (omega arith), c .before .loop .inv .long)
 
-pub passed-spec : {M : Type 1} → statement M
-passed-spec =
+pub order-passed-spec : {M : Type 1} → statement M
+order-passed-spec =
     tie.close
     (tie.spec
     Inv-loop
