@@ -66,13 +66,3 @@ module _ {N : Type 0} (F : Floor N) where
     λ u. ap (judgeFrom 1 F) (sym (u .parts)) ∙ from-parts 1 (u .earlier) (u .rule) (u .later) (u .met) (u .not-met)
         ∙ ap unmet (sym (u .number)),
   )
-
--- a rule with other names for its names has, on a floor, the value that the rule has on the floor renamed; so rules that are renamed
--- are judged as the rules are
-module _ {N M : Type 0} (g : N → M) (F : Floor M) where
-  pub judge-map : (k : ℕ) (rules : List (Formula N)) → judgeFrom k F (map (mapForm (mapAtom g)) rules) ≡ judgeFrom k (renamed g F) rules
-  judge-map k [] = refl
-  judge-map k (f ∷ rules) =
-      ap₂ (λ (b : Bool) (j : Judgement). cond b j (unmet k))
-      (value-map (mapAtom g) (atomOn F) f ∙ ap (λ (v : Atom N → Bool). value v f) (fun-ext (atom-map g F)))
-      (judge-map (suc k) rules)
