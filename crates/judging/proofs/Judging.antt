@@ -1,6 +1,6 @@
 -- The answer is the judgement on the plan's floor: the atoms' values on the arrays are those on the floor, and the numbered rules are
 -- judged as the rules are. Assumes nothing.
-use mathlib.Core.Path.{_≡_, ap, _∙_}
+use mathlib.Core.Path.{ap, _∙_}
 use mathlib.Core.List.{List}
 use Prim.Native.Nat.{ℕ}
 use native.Mathlib.Omega.{arith}

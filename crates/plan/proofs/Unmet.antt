@@ -1,15 +1,13 @@
 -- Judging goes along the rules, so the first that is not met decides, and its number is one more than the rules before it;
 -- and rules that are renamed are judged as the rules are on the floor renamed. Assumes nothing.
-use mathlib.Core.Path.{_≡_, refl, sym, ap, ap₂, _∙_, subst, fun-ext}
+use mathlib.Core.Path.{_≡_, refl, sym, ap, ap₂, _∙_, subst}
 use mathlib.Core.Bool.{Bool, true, false, _&&_, cond, and-eq-true-iff}
-use mathlib.Core.List.{List, [], _∷_, _++_, map}
+use mathlib.Core.List.{List, [], _∷_, _++_}
 use Prim.Native.Nat.{ℕ, suc, _+_}
 use native.Mathlib.Omega.{arith}
 use lib.ListN.{length}
-use Rattle.formula.specs.Formula.{Atom, Formula}
-use Rattle.contact.specs.Meaning.{Floor, atomOn, value, meets, meetsAll, renamed}
-use Rattle.contact.specs.Numbering.{mapAtom, mapForm}
-use Rattle.contact.proofs.Naming.{atom-map, value-map}
+use Rattle.formula.specs.Formula.{Formula}
+use Rattle.contact.specs.Meaning.{Floor, meets, meetsAll, renamed}
 use Rattle.plan.specs.Judging.{Judgement, yes, unmet, judgeFrom, judge}
 use Rattle.plan.specs.Meant.{FirstUnmet}
 
