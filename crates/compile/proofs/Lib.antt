@@ -3,6 +3,7 @@ pub mod Charts
 pub mod Orders
 pub mod Heights
 pub mod Steps
+pub mod Placing
 pub mod Follow
 pub mod Claims
 pub mod Searched
