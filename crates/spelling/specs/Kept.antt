@@ -29,6 +29,7 @@ pub record Keeps (kept lens : List ℕ) (contacts : List Bool) (atoms : List (At
 -- a row of symbols, up to its length, is that of an atom
 pub record Spells (row : List ℕ) (len : ℕ) (contact : Bool) (a : Atom ℕ) : Type 0 where
   pub row-is : take len row ≡ symbolsOf a
+  pub within : len ≤ length row
   pub short : len ≤ 256
   pub sign : contact ≡ isContact a
   pub small : (s : ℕ) → In s (symbolsOf a) → s < 16
