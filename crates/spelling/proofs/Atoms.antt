@@ -1,19 +1,19 @@
 -- Two atoms are the same exactly if both are contacts or neither is, and their symbols are the same, or are once the terms of the one are
 -- exchanged: symbols determine the terms (Terms.antt), and with the sign the atom, for of the atoms that are no contacts <= has two terms
 -- and =0 has one. Assumes nothing.
-use mathlib.Core.Bool.{Bool, true, false, _||_, decide-iff, or-true}
+use mathlib.Core.Bool.{Bool, true, _||_, decide-iff, or-true}
 use mathlib.Core.Path.{_≡_, refl, sym, ap, _∙_}
 use mathlib.Core.Logic.{_⊎_, inl, inr, ⊎-elim}
-use mathlib.Core.List.{List, [], _∷_, _++_}
+use mathlib.Core.List.{[], _∷_}
 use Prim.Native.Nat.{ℕ}
 use native.Mathlib.Decide.{ℕ-discrete}
 use native.Mathlib.Omega.{arith}
 use lib.ListN.{length, length-append}
-use Rattle.formula.specs.Formula.{Term, Term-discrete, Atom, Atom-discrete}
+use Rattle.formula.specs.Formula.{Term-discrete, Atom, Atom-discrete}
 use Rattle.formula.specs.Atoms.{isContact}
 use Rattle.formula.specs.Same.{exchanged, equalAtom, sameAtom}
 use Rattle.lists.proofs.Truth.{clash, or-cases}
-use Rattle.spelling.specs.Symbols.{spelled, symbolsOf}
+use Rattle.spelling.specs.Symbols.{symbolsOf}
 use Rattle.spelling.proofs.Terms.{terms-determined}
 
 -- ---- atoms with the same symbols

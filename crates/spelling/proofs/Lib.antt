@@ -3,3 +3,5 @@ pub mod Atoms
 pub mod Second
 pub mod Rows
 pub mod Scan
+pub mod Storing
+pub mod Claims

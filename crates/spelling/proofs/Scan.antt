@@ -1,9 +1,9 @@
 -- The search for an atom among those that are kept: its row matches exactly those that are the same, by the laws of rows and of atoms, so
 -- the first that matches stands at its place. Assumes nothing.
-use mathlib.Core.Bool.{Bool, true, false, cond}
-use mathlib.Core.Path.{_≡_, refl, sym, ap, ap₂, _∙_}
+use mathlib.Core.Bool.{Bool, true, false, cond, Bool·beq}
+use mathlib.Core.Path.{_≡_, sym, ap, _∙_}
 use mathlib.Core.Logic.{inl, inr, ⊎-elim}
-use mathlib.Core.List.{List, [], _∷_, _++_, append-nil}
+use mathlib.Core.List.{List, [], _++_, append-nil}
 use mathlib.Mathlib.Data.Bool.Basic.{eq-false-of-not-eq-true}
 use Prim.Native.Nat.{ℕ, suc, _+_, _≤_, _<_}
 use native.Mathlib.Decide.{ℕ-discrete}
@@ -14,11 +14,11 @@ use Rattle.formula.specs.Formula.{Atom}
 use Rattle.formula.specs.Atoms.{isContact}
 use Rattle.formula.specs.Same.{exchanged, sameAtom}
 use Rattle.lists.proofs.Lists.{rest}
-use Rattle.lists.proofs.Truth.{clash}
+use Rattle.lists.proofs.Truth.{clash, beq-same, beq-self}
 use Rattle.contact.specs.Numbering.{position}
 use Rattle.search.specs.Compiled.{noAtom, atomAt}
 use Rattle.spelling.specs.Symbols.{spelled, symbolsOf}
-use Rattle.spelling.specs.Kept.{symbolAt, Keeps, Spells, Compares, Numbers}
+use Rattle.spelling.specs.Kept.{symbolAt, Keeps, Spells, Numbers}
 use Rattle.spelling.specs.Comparing.{Starts, Turned, Matches}
 use Rattle.spelling.proofs.Atoms.{atom-determined, same-cases, same-equal, same-exchanged, same-sign, same-long}
 use Rattle.spelling.proofs.Second.{spelled-some}
@@ -117,8 +117,11 @@ module _ (kept lens : List ℕ) (contacts : List Bool) (many : ℕ) (row : List 
     pub other-length : (getD lens j 0 ≡ len → ⊥) → Passed kept lens contacts many row len contact (j + 1)
     other-length f = another (λ atoms a n k s m. f (k .long j (omega arith) ∙ same-long (atomAt atoms j) a m ∙ sym (spells-long s)))
 
-    pub other-sign : (getD contacts j false ≡ contact → ⊥) → Passed kept lens contacts many row len contact (j + 1)
-    other-sign f = another (λ atoms a n k s m. f (k .signs j (omega arith) ∙ same-sign (atomAt atoms j) a m ∙ sym (s .sign)))
+    pub other-sign : Bool·beq (getD contacts j false) contact ≡ false → Passed kept lens contacts many row len contact (j + 1)
+    other-sign f =
+        another (λ atoms a n k s m.
+        let e : getD contacts j false ≡ contact = k .signs j (omega arith) ∙ same-sign (atomAt atoms j) a m ∙ sym (s .sign) in
+        clash (ap (Bool·beq (getD contacts j false)) (sym e) ∙ beq-self (getD contacts j false)) f)
 
     module _ (second : ℕ) (starts : Starts row (cond contact len 0) second) (long : getD lens j 0 ≡ len) where
       pub unmatched : (Matches kept j row len second → ⊥) → Passed kept lens contacts many row len contact (j + 1)
@@ -126,13 +129,13 @@ module _ (kept lens : List ℕ) (contacts : List Bool) (many : ℕ) (row : List 
           another (λ atoms a n k s m. f (same-match kept j row len contact (atomAt atoms j) (sym (k .long j (omega arith)) ∙ long)
           (λ i l. k .symbols j i (omega arith) l) second starts a s m))
 
-      pub matched : getD contacts j false ≡ contact → Matches kept j row len second → Numbers kept lens contacts many row len contact j
+      pub matched : Bool·beq (getD contacts j false) contact ≡ true → Matches kept j row len second → Numbers kept lens contacts many row len contact j
       matched sign m =
           found (λ atoms a n k s. match-same kept j row len contact (atomAt atoms j) (sym (k .long j (omega arith)) ∙ long)
-          (λ i l. k .symbols j i (omega arith) l) second starts a s (sym (k .signs j (omega arith)) ∙ sign ∙ s .sign) m)
+          (λ i l. k .symbols j i (omega arith) l) second starts a s (sym (k .signs j (omega arith)) ∙ beq-same (getD contacts j false) contact sign ∙ s .sign) m)
 
   -- none is left
-  pub all-passed : (j : ℕ) → many ≤ j → Passed kept lens contacts many row len contact j → j ≡ many → Numbers kept lens contacts many row len contact many
+  pub all-passed : (j : ℕ) → many ≤ j → j ≤ many → Passed kept lens contacts many row len contact j → Numbers kept lens contacts many row len contact many
   unfolding Numbers
-  all-passed j h known e atoms a n k s =
+  all-passed j h l known atoms a n k s =
       omega (arith, known .passed atoms a n k s, ap (λ (bs : List (Atom ℕ)). position same bs a) (drop-of-length-le atoms {i = j} (omega arith)))

@@ -1,7 +1,6 @@
 -- Where the second term of a row starts: the symbols that are passed, from the row's end, take away the last of the terms that are left
 -- and put in their place those that they stand behind, so that always as many terms as are wanted stand behind the first; where none is
 -- wanted the first stands alone. Assumes nothing.
-use mathlib.Core.Bool.{Bool, cond}
 use mathlib.Core.Path.{_≡_, refl, sym, ap, _∙_}
 use mathlib.Core.List.{List, [], _∷_, _++_, append-assoc, append-nil, reverse, reverse-append, head-eq-of-cons-eq, tail-eq-of-cons-eq}
 use Prim.Native.Nat.{ℕ, zero, suc, _+_, _-_, _≤_, _<_}

@@ -2,7 +2,7 @@
 -- crates call. Assumes nothing.
 use mathlib.Core.Bool.{Bool, false, cond}
 use mathlib.Core.Path.{_≡_}
-use mathlib.Core.List.{List, [], _∷_, _++_}
+use mathlib.Core.List.{List}
 use Prim.Native.Nat.{ℕ, _+_, _*_, _/_, _%_, _≤_, _<_}
 use native.Mathlib.Decide.{ℕ-discrete}
 use lib.Dec.{eqb}
@@ -19,10 +19,11 @@ use Rattle.spelling.specs.Symbols.{symbolsOf}
 unfoldable pub symbolAt : List ℕ → ℕ → ℕ → ℕ
 symbolAt kept j i = cond (eqb (i % 2) 0) (getD kept (128 * j + i / 2) 0 % 16) (getD kept (128 * j + i / 2) 0 / 16)
 
--- the arrays keep the symbols of the atoms, how many each has, and which of them are contacts
+-- the arrays keep the symbols of the atoms, how many each has, at most 256, and which of them are contacts
 pub record Keeps (kept lens : List ℕ) (contacts : List Bool) (atoms : List (Atom ℕ)) : Type 0 where
   pub few : length atoms ≤ 16
   pub long : (j : ℕ) → j < length atoms → getD lens j 0 ≡ length (symbolsOf (atomAt atoms j))
+  pub short : (j : ℕ) → j < length atoms → getD lens j 0 ≤ 256
   pub symbols : (j i : ℕ) → j < length atoms → i < length (symbolsOf (atomAt atoms j)) → symbolAt kept j i ≡ getD (symbolsOf (atomAt atoms j)) i 0
   pub signs : (j : ℕ) → j < length atoms → getD contacts j false ≡ isContact (atomAt atoms j)
 

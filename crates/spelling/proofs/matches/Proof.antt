@@ -1,41 +1,50 @@
+-- `spelling::matches` meets its contract, by the answers on the whole row and on its two parts. Assumes nothing.
+use mathlib.Core.Path.{refl}
+use mathlib.Core.Logic.{inl, inr, ⊎-elim}
+use native.Mathlib.Omega.{arith}
 use borrow.Author.Needs.{needs}
+use Rattle.lists.proofs.Truth.{clash}
 use Rattle.spelling.proofs.matches.Statement.{statement}
 use Rattle.spelling.proofs.matches.Tie as tie
-use Rattle.spelling.proofs.matches.Reads as reads
-use Rattle.spelling.proofs.matches.Lts as lts
-use Rattle.spelling.proofs.agree.Reads as agree-reads
 
--- src/lib.rt:85:8
 agree-requires : tie.Need-agree-requires
 agree-requires c κs = search needs
 
--- src/lib.rt:86:9
 returns : tie.Need-returns
-returns c = ?
+returns c = record { yes-is = λ t. inl (c .before .agree .ensures .yes-is (c .if1 .taken)); is-yes = λ m. refl }
 
--- src/lib.rt:89:9
 returns-2 : tie.Need-returns-2
-returns-2 c = ?
+returns-2 c = record {
+  yes-is = λ t. clash t refl;
+  is-yes = λ m. ⊎-elim (λ g. clash (c .before .before .agree .ensures .is-yes g) (c .before .if1 .left)) (λ g. absurd (omega (arith, g .some, c .if2 .taken))) m;
+}
 
--- src/lib.rt:91:28
 sub-agree : tie.Need-sub-agree
 sub-agree c = search needs
 
--- src/lib.rt:91:8
 agree-requires-2 : tie.Need-agree-requires-2
 agree-requires-2 c κs = search needs
 
--- src/lib.rt:92:9
 agree-requires-3 : tie.Need-agree-requires-3
 agree-requires-3 c κs = search needs
 
--- src/lib.rt:92:9
 returns-3 : tie.Need-returns-3
-returns-3 c = ?
+returns-3 c =
+    let second = c .before .before in
+    let whole = second .before .before .before in
+    record {
+      yes-is = λ t. inr (record { some = omega (arith, second .before .if2 .left); before = second .agree2 .ensures .yes-is (c .before .if3 .taken); behind = c .agree3 .ensures .yes-is t });
+      is-yes = λ m. ⊎-elim (λ g. clash (whole .agree .ensures .is-yes g) (second .before .before .if1 .left)) (λ g. c .agree3 .ensures .is-yes (g .behind)) m;
+    }
 
--- src/lib.rt:75:1
 returns-4 : tie.Need-returns-4
-returns-4 c = ?
+returns-4 c =
+    let second = c .before in
+    let whole = second .before .before .before in
+    record {
+      yes-is = λ t. clash t refl;
+      is-yes = λ m. ⊎-elim (λ g. clash (whole .agree .ensures .is-yes g) (second .before .before .if1 .left)) (λ g. clash (second .agree2 .ensures .is-yes (g .before)) (c .if3 .left)) m;
+    }
 
 pub matches-spec : {M : Type 1} → statement M
 matches-spec =

@@ -1,6 +1,6 @@
 -- `spelling::wanted_before` meets its contract, symbol by symbol. Assumes nothing.
 use borrow.Author.Needs.{needs}
-use borrow.Author.Tests.{eq-eqb, ne-eqb}
+use borrow.Author.Tests.{ne-eqb}
 use Rattle.spelling.specs.Comparing.{wantedBefore}
 use Rattle.spelling.proofs.wanted_before.Statement.{statement}
 use Rattle.spelling.proofs.wanted_before.Tie as tie
