@@ -131,7 +131,8 @@ fn symbol_in(row: &[u8; 256], len: usize, i: usize) -> u8
     if i < len { row[i] } else { 0 }
 }
 
-// The symbols with those of a row at the number's place, two to a byte.
+// The symbols with those of a row at the number's place, two to a byte. The array is a value: its type says how long it is, which a
+// reference's does not say to a proof.
 fn with_row(kept: [u8; 2048], row: &[u8; 256], len: usize, number: usize) -> [u8; 2048]
     requires { ⌜ Storing (now row) len number ⌝ }
     ensures { λ r. ⌜ Stores kept (now (row .entry)) len number r ⌝ }
