@@ -57,7 +57,7 @@ pub record KnownRules (rules : List (Formula Name)) (k : Known) (kept : List ℕ
 
 -- nothing is known, whatever the bytes are in which symbols will be kept
 unfoldable pub NothingKnown : Known → Type 0
-NothingKnown r = (kept : List ℕ) → KnownRules [] r kept
+NothingKnown r = (kept : List ℕ) → length kept ≡ 2048 → KnownRules [] r kept
 
 -- the text is the rule f, read, the rules before it are known and fewer than 16, and the code has room for a rule
 pub record OneMore (text : List ℕ) (rule : Rule) (k : Known) (kept code : List ℕ) (from : ℕ) (rules : List (Formula Name)) (f : Formula Name) : Type 0 where
@@ -126,7 +126,7 @@ WithText text c kept code r keptOut out =
 
 -- nothing is compiled, whatever the bytes are
 unfoldable pub NothingCompiled : Compiling → Type 0
-NothingCompiled r = (kept code : List ℕ) → length code ≡ 4096 → CompiledRules [] r kept code
+NothingCompiled r = (kept code : List ℕ) → length kept ≡ 2048 → length code ≡ 4096 → CompiledRules [] r kept code
 
 -- some rules are compiled
 pub record Whole (c : Compiling) (code : List ℕ) : Type 0 where

@@ -112,7 +112,11 @@ pub fn with_rule(
     let enough = gathered.answer;
     if let NamesAnswer::SeventhName(p) = enough {
         let answer = RoomAnswer::SeventhName(p);
-        return Grown { known, end: from, answer };
+        return Grown {
+            known,
+            end: from,
+            answer,
+        };
     }
     let names = gathered.names;
     let numbers = gathered.numbers;
@@ -123,20 +127,33 @@ pub fn with_rule(
     let compiled = compile::compile_rule(&order[..len], &numbers[..used], first, kept, code, from);
     if !compiled.enough {
         let answer = RoomAnswer::ManyAtoms;
-        return Grown { known, end: from, answer };
+        return Grown {
+            known,
+            end: from,
+            answer,
+        };
     }
     let mut atoms = compiled.atoms;
     atoms.chart.names = names.count;
     let count = known.count + 1;
     Grown {
-        known: Known { names, atoms, count },
+        known: Known {
+            names,
+            atoms,
+            count,
+        },
         end: compiled.end,
         answer: RoomAnswer::Room,
     }
 }
 
 // The rule of this text, for which there is room, behind those that are compiled.
-pub fn with_text(text: &[u8], c: Compiling, kept: &mut [u8; 2048], code: &mut [u8; 4096]) -> Compiling
+pub fn with_text(
+    text: &[u8],
+    c: Compiling,
+    kept: &mut [u8; 2048],
+    code: &mut [u8; 4096],
+) -> Compiling
     requires { ⌜ Compilable (now text) c (now kept) (now code) ⌝ }
     ensures { λ r. ⌜ WithText (now (text .entry)) c (now (kept .entry)) (now (code .entry)) r (now (kept .exit)) (now (code .exit)) ⌝ }
 {
