@@ -6,13 +6,13 @@ use mathlib.Core.Path.{_≡_, refl, sym, ap, ap₂, subst, _∙_}
 use mathlib.Core.Logic.{⊎-elim, _↔_}
 use mathlib.Core.List.{List, [], _∷_, _++_, map, map-map, foldl, append-assoc, append-nil}
 use mathlib.Mathlib.Data.Bool.Basic.{eq-false-of-not-eq-true}
-use Prim.Native.Nat.{ℕ, zero, suc, _≤_, _<_}
+use Prim.Native.Nat.{ℕ, suc, _≤_, _<_}
 use native.Mathlib.Omega.{arith}
 use lib.ListN.{length, getD, length-append}
 use borrow.Author.Tests.{not-true}
 use Rattle.lists.specs.Search.{In, here, next, any, keep, from, below}
 use Rattle.lists.proofs.Lists.{map-agree}
-use Rattle.lists.proofs.Search.{none-in, uncons, at-head, any-intro, any-elim, in-left, in-right, keep-intro, keep-elim, keep-append, keep-shorter, map-from}
+use Rattle.lists.proofs.Search.{none-in, uncons, at-head, any-intro, any-elim, in-right, keep-elim, keep-append, keep-shorter, map-from}
 use Rattle.lists.proofs.Truth.{clash, cases, of-cond}
 use Rattle.contact.specs.Numbering.{distinct, position}
 use Rattle.contact.specs.Putting.{isIn, put}

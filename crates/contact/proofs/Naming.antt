@@ -1,26 +1,25 @@
 -- Numbers may stand for names: a floor over numbers is one over names, each name at its number, and gives the rules' atoms the row that
 -- it gives these with numbers for names; the atoms with the names put back are as read, so the same holds the other way round.
 -- Assumes nothing.
-use mathlib.Core.Bool.{Bool, true, not, _&&_, _||_, Bool·beq, and-eq-true-iff}
+use mathlib.Core.Bool.{Bool, true, not, _&&_, _||_, and-eq-true-iff}
 use mathlib.Core.Path.{_≡_, refl, sym, ap, ap₂, _∙_, subst, fun-ext}
 use mathlib.Core.Logic.{_↔_, ∥∥₁-map}
 use mathlib.Core.List.{List, [], _∷_, map, map-map, map-id, nil≢cons, cons≢nil, head-eq-of-cons-eq, tail-eq-of-cons-eq}
 use mathlib.Mathlib.Data.Bool.Basic.{and-intro}
 use Prim.Native.Nat.{ℕ, _≤_, _<_}
-use native.Mathlib.Omega.{arith}
 use lib.Dec.{eqb}
-use lib.ListN.{length, getD}
+use lib.ListN.{length}
 use borrow.Author.Tests.{eqb-true, eq-eqb}
-use Rattle.formula.specs.Formula.{Term, Atom, Form, Formula, Name}
+use Rattle.formula.specs.Formula.{Term, Atom, Formula, Name}
 use Rattle.lists.specs.Search.{In, here, any, collect, below}
 use Rattle.lists.proofs.Lists.{map-agree}
 use Rattle.lists.proofs.Search.{in-left, in-right, map-elim, collect-intro, collect-elim}
-use Rattle.contact.specs.Meaning.{Floor, holds, within, partTerm, atomOn, value, meetsAll, renamed}
+use Rattle.contact.specs.Meaning.{Floor, holds, within, partTerm, atomOn, meetsAll, renamed}
 use Rattle.formula.specs.Atoms.{atomsOf}
 use Rattle.formula.specs.Names.{termNames, atomNames}
 use Rattle.formula.specs.Same.{name-discrete, sameAtom}
-use Rattle.contact.specs.Numbering.{allAtoms, sameName, namesOf, mapTerm, mapAtom, mapForm, differentAtoms, numberedAtoms, rowAtoms, TermBelow, AtomBelow, AtomsBelow, numberOf, nameOf}
-use Rattle.lists.proofs.Truth.{clash, cases}
+use Rattle.contact.specs.Numbering.{allAtoms, sameName, namesOf, mapTerm, mapAtom, differentAtoms, numberedAtoms, rowAtoms, TermBelow, AtomBelow, AtomsBelow, numberOf, nameOf}
+use Rattle.lists.proofs.Truth.{clash}
 use Rattle.contact.specs.Row.{IsFirstRow, Row, Realises, Realisable, rulesTrue}
 use Rattle.contact.specs.Check.{firstRowOf}
 use Rattle.contact.proofs.Distinct.{Alike, Decides, decides-alike, from-distinct, position-in, position-same, in-distinct, distinct-fewer}
@@ -51,17 +50,6 @@ module _ {N M : Type 0} (g : N → M) where
         (within-map x) (within-map y)
     atom-map (Atom.part x y) = ap (λ (u : ℕ → Bool). not (any u (below (F .points)))) (within-map (partTerm x y))
     atom-map (Atom.empty t) = ap (λ (u : ℕ → Bool). not (any u (below (F .points)))) (within-map t)
-
-module _ {A B : Type 0} (h : A → B) where
-  pub value-map : (v : B → Bool) (f : Form A) → value v (mapForm h f) ≡ value (λ a. v (h a)) f
-  value-map v Form.truth = refl
-  value-map v Form.falsity = refl
-  value-map v (Form.atom a) = refl
-  value-map v (Form.negation f) = ap not (value-map v f)
-  value-map v (Form.conjunction f g) = ap₂ _&&_ (value-map v f) (value-map v g)
-  value-map v (Form.disjunction f g) = ap₂ _||_ (value-map v f) (value-map v g)
-  value-map v (Form.implication f g) = ap₂ (λ a b. not a || b) (value-map v f) (value-map v g)
-  value-map v (Form.equivalence f g) = ap₂ Bool·beq (value-map v f) (value-map v g)
 
 -- a floor gives renamed atoms the row that, renamed, it gives the atoms
 row-map : {N M : Type 0} (g : N → M) (F : Floor M) (atoms : List (Atom N)) → map (atomOn F) (map (mapAtom g) atoms) ≡ map (atomOn (renamed g F)) atoms

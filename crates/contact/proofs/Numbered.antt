@@ -85,7 +85,7 @@ module _ (rules : List (Formula Name)) where
 
 -- other atoms in the places of the atoms
 module _ {A B : Type 0} (h : A → B) where
-  atoms-map : (f : Form A) → atomsOf (mapForm h f) ≡ map h (atomsOf f)
+  pub atoms-map : (f : Form A) → atomsOf (mapForm h f) ≡ map h (atomsOf f)
   atoms-map Form.truth = refl
   atoms-map Form.falsity = refl
   atoms-map (Form.atom a) = refl

@@ -1,7 +1,7 @@
 -- Atoms are the same exactly if they are equal, or equal once the terms of a C are exchanged, since equality is decided; so the test is an
 -- equivalence. Contact is symmetric, so atoms that are the same have the same value on every floor. Other names for the names, different
 -- for different ones, leave the same atoms the same and different ones different. Assumes nothing.
-use mathlib.Core.Bool.{Bool, true, _||_, decide-iff, or-comm}
+use mathlib.Core.Bool.{true, _||_, decide-iff, or-comm}
 use mathlib.Core.HLevel.{Discrete}
 use mathlib.Core.Path.{_≡_, refl, sym, ap, _∙_}
 use mathlib.Core.Logic.{_⊎_, inl, inr, ⊎-elim, _↔_}

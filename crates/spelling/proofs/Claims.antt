@@ -36,11 +36,12 @@ number-exactly a b = (
 -- ---- for a caller of `number_of` and `keep_row` (Storing)
 
 -- at the start no atom is kept
-pub keeps-none : (kept lens : List ℕ) (contacts : List Bool) → Keeps kept lens contacts []
+pub keeps-none : (kept lens : List ℕ) (contacts : List Bool) → length kept ≡ 2048 → Keeps kept lens contacts []
 keeps-none = Storing.keeps-none
 
 -- the row of an atom may be stored
-pub storing : {row : List ℕ} {len number : ℕ} {contact : Bool} {a : Atom ℕ} → Spells row len contact a → number < 16 → Storing row len number
+pub storing : {kept row : List ℕ} {len number : ℕ} {contact : Bool} {a : Atom ℕ} → length kept ≡ 2048 → Spells row len contact a → number < 16
+    → Storing kept row len number
 storing = Storing.spells-storing
 
 -- once it is, at the place behind the atoms that are kept, these and it are

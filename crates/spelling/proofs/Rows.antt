@@ -1,8 +1,8 @@
 -- A row against the symbols that are kept of an atom, as lists: the row agrees with them exactly if it is their list, and its two parts
 -- exchanged agree exactly if the second part, and the first behind it, are their list. Assumes nothing.
-use mathlib.Core.Bool.{true, false}
+use mathlib.Core.Bool.{Bool, true, false}
 use mathlib.Core.Path.{_≡_, refl, sym, ap, subst, _∙_}
-use mathlib.Core.Logic.{⊎-elim}
+use mathlib.Core.Logic.{_⊎_, inl, inr, ⊎-elim}
 use mathlib.Core.List.{List, _++_}
 use Prim.Native.Nat.{ℕ, _+_, _-_, _≤_, _<_}
 use native.Mathlib.Omega.{arith}
@@ -11,6 +11,19 @@ use lib.Seq.{getD-take, getD-append-add, length-take-le, ext-getD}
 use Rattle.lists.proofs.Truth.{clash, side}
 use Rattle.spelling.specs.Kept.{symbolAt}
 use Rattle.spelling.specs.Comparing.{Agree, Turned, Tells}
+
+-- ---- the answer on the one or the other
+
+module _ {P Q : Type 0} where
+  pub tells-one : P → Tells (P ⊎ Q) true
+  tells-one p = record { yes-is = λ t. inl p; is-yes = λ m. refl }
+
+  pub tells-other : {answer : Bool} → (P → ⊥) → Tells Q answer → Tells (P ⊎ Q) answer
+  tells-other n q = record { yes-is = λ t. inr (q .yes-is t); is-yes = λ m. ⊎-elim (λ p. absurd (n p)) (q .is-yes) m }
+
+-- it is not so
+pub tells-not : {P : Type 0} → (P → ⊥) → Tells P false
+tells-not n = record { yes-is = λ t. clash t refl; is-yes = λ p. absurd (n p) }
 
 -- ---- the symbols one after the other
 
@@ -31,7 +44,7 @@ module _ (kept : List ℕ) (j at : ℕ) (row : List ℕ) (start : ℕ) where
     -- one does not
     pub agree-not : start ≤ n → n < end → (getD row n 0 ≡ symbolAt kept j (at + (n - start)) → ⊥) → Tells (Agree kept j at row start end) false
     unfolding Agree
-    agree-not l r e = record { yes-is = λ t. clash t refl; is-yes = λ h. absurd (e (h n l r)) }
+    agree-not l r e = tells-not (λ h. e (h n l r))
 
 -- ---- the lists
 

@@ -47,9 +47,9 @@ module _ (row : List ℕ) (len : ℕ) where
   unfolding symbolIn
   symbol-in i h = ap (λ (b : Bool). cond b (getD row i 0) 0) (lt-ltb i len h)
 
-  pub symbol-small : (number : ℕ) → Storing row len number → (i : ℕ) → symbolIn row len i < 16
+  pub symbol-small : (kept : List ℕ) (number : ℕ) → Storing kept row len number → (i : ℕ) → symbolIn row len i < 16
   unfolding symbolIn
-  symbol-small number h i = go (ltb i len) refl
+  symbol-small kept number h i = go (ltb i len) refl
     where
       go : (b : Bool) → ltb i len ≡ b → cond b (getD row i 0) 0 < 16
       go true e = h .small i (ltb-true i len e)
@@ -66,9 +66,9 @@ module _ (row : List ℕ) (len : ℕ) where
     stored-none h = record { full = h; there = λ i l r. absurd (omega arith); elsewhere = λ j i l r. refl }
 
     pub stored-all : (n : ℕ) (out : List ℕ) → len ≤ 2 * n → StoredTo kept number n out → Stores kept row len number out
-    stored-all n out h known = record { there = λ i l. known .there i (omega arith) l; elsewhere = known .elsewhere }
+    stored-all n out h known = record { full = known .full; there = λ i l. known .there i (omega arith) l; elsewhere = known .elsewhere }
 
-    module _ (h : Storing row len number) (n : ℕ) (out : List ℕ) (known : StoredTo kept number n out) (more : 2 * n < len) where
+    module _ (h : Storing kept row len number) (n : ℕ) (out : List ℕ) (known : StoredTo kept number n out) (more : 2 * n < len) where
       abbrev both : ℕ
       both = symbolIn row len (2 * n) + 16 * symbolIn row len (2 * n + 1)
 
@@ -79,13 +79,13 @@ module _ (row : List ℕ) (len : ℕ) where
 
       first : (i : ℕ) → i ≡ 2 * n → symbolAt (set out (128 * number + n) both) number i ≡ getD row i 0
       first i e =
-          let z : both % 16 ≡ symbolIn row len (2 * n) = omega (arith, symbol-small number h (2 * n), symbol-small number h (2 * n + 1)) in
+          let z : both % 16 ≡ symbolIn row len (2 * n) = omega (arith, symbol-small kept number h (2 * n), symbol-small kept number h (2 * n + 1)) in
           symbol-low (set out (128 * number + n) both) number i (omega arith) ∙ ap (λ (x : ℕ). x % 16) (here i (omega arith))
           ∙ z ∙ symbol-in (2 * n) more ∙ ap (λ (m : ℕ). getD row m 0) (sym e)
 
       second : (i : ℕ) → i ≡ 2 * n + 1 → i < len → symbolAt (set out (128 * number + n) both) number i ≡ getD row i 0
       second i e l =
-          let z : both / 16 ≡ symbolIn row len (2 * n + 1) = omega (arith, symbol-small number h (2 * n), symbol-small number h (2 * n + 1)) in
+          let z : both / 16 ≡ symbolIn row len (2 * n + 1) = omega (arith, symbol-small kept number h (2 * n), symbol-small kept number h (2 * n + 1)) in
           symbol-high (set out (128 * number + n) both) number i (λ q. omega arith) ∙ ap (λ (x : ℕ). x / 16) (here i (omega arith))
           ∙ z ∙ symbol-in (2 * n + 1) (omega arith) ∙ ap (λ (m : ℕ). getD row m 0) (sym e)
 
@@ -105,8 +105,10 @@ module _ (row : List ℕ) (len : ℕ) where
 -- ---- the atoms that are kept
 
 -- the row of an atom may be stored
-pub spells-storing : {row : List ℕ} {len number : ℕ} {contact : Bool} {a : Atom ℕ} → Spells row len contact a → number < 16 → Storing row len number
-spells-storing {row} {len} {number} {contact} {a} h l = record {
+pub spells-storing : {kept row : List ℕ} {len number : ℕ} {contact : Bool} {a : Atom ℕ} → length kept ≡ 2048 → Spells row len contact a → number < 16
+    → Storing kept row len number
+spells-storing {kept} {row} {len} {number} {contact} {a} w h l = record {
+  whole = w;
   room = l;
   short = h .short;
   small = λ i r. subst (λ (x : ℕ). x < 16) (sym (ap (λ (xs : List ℕ). getD xs i 0) (h .row-is)) ∙ getD-take len row i 0 r)
@@ -114,8 +116,9 @@ spells-storing {row} {len} {number} {contact} {a} h l = record {
 }
 
 -- no atom is kept
-pub keeps-none : (kept lens : List ℕ) (contacts : List Bool) → Keeps kept lens contacts []
-keeps-none kept lens contacts = record {
+pub keeps-none : (kept lens : List ℕ) (contacts : List Bool) → length kept ≡ 2048 → Keeps kept lens contacts []
+keeps-none kept lens contacts w = record {
+  whole = w;
   few = omega arith;
   long = λ j h. absurd (omega arith);
   short = λ j h. absurd (omega arith);
@@ -169,6 +172,7 @@ module _ (kept lens : List ℕ) (contacts : List Bool) (atoms : List (Atom ℕ))
 
   pub keeps-more : Keeps out (set lens number len) signs (atoms ++ a ∷ [])
   keeps-more = record {
+    whole = stores .full;
     few = omega (arith, length-append atoms (a ∷ []));
     long = λ j h. each j h .long;
     short = λ j h. each j h .short;

@@ -21,6 +21,7 @@ symbolAt kept j i = cond (eqb (i % 2) 0) (getD kept (128 * j + i / 2) 0 % 16) (g
 
 -- the arrays keep the symbols of the atoms, how many each has, at most 256, and which of them are contacts
 pub record Keeps (kept lens : List ℕ) (contacts : List Bool) (atoms : List (Atom ℕ)) : Type 0 where
+  pub whole : length kept ≡ 2048
   pub few : length atoms ≤ 16
   pub long : (j : ℕ) → j < length atoms → getD lens j 0 ≡ length (symbolsOf (atomAt atoms j))
   pub short : (j : ℕ) → j < length atoms → getD lens j 0 ≤ 256
@@ -53,13 +54,15 @@ Numbers kept lens contacts many row len contact r =
 
 -- ---- one atom more
 
--- the row's symbols are below 16
-pub record Storing (row : List ℕ) (len number : ℕ) : Type 0 where
+-- the array is whole, and the row's symbols are below 16
+pub record Storing (kept row : List ℕ) (len number : ℕ) : Type 0 where
+  pub whole : length kept ≡ 2048
   pub room : number < 16
   pub short : len ≤ 256
   pub small : (i : ℕ) → i < len → getD row i 0 < 16
 
 -- they stand at the number's place, and those of the numbers before it as they did
 pub record Stores (kept : List ℕ) (row : List ℕ) (len number : ℕ) (out : List ℕ) : Type 0 where
+  pub full : length out ≡ 2048
   pub there : (i : ℕ) → i < len → symbolAt out number i ≡ getD row i 0
   pub elsewhere : (j i : ℕ) → j < number → i < 256 → symbolAt out j i ≡ symbolAt kept j i

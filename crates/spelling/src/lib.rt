@@ -131,24 +131,14 @@ fn symbol_in(row: &[u8; 256], len: usize, i: usize) -> u8
     if i < len { row[i] } else { 0 }
 }
 
-// The symbols with those of a row at the number's place, two to a byte.
-fn with_row(kept: [u8; 2048], row: &[u8; 256], len: usize, number: usize) -> [u8; 2048]
-    requires { ⌜ Storing (now row) len number ⌝ }
-    ensures { λ r. ⌜ Stores kept (now (row .entry)) len number r ⌝ }
-{
-    let mut out = kept;
-    let mut i: usize = 0;
-    while 2 * i < len {
-        out[128 * number + i] = symbol_in(row, len, 2 * i) + 16 * symbol_in(row, len, 2 * i + 1);
-        i += 1;
-    }
-    out
-}
-
-// The row's symbols are put at the number's place.
+// The row's symbols are put at the number's place, two to a byte.
 pub fn keep_row(kept: &mut [u8; 2048], row: &[u8; 256], len: usize, number: usize)
-    requires { ⌜ Storing (now row) len number ⌝ }
+    requires { ⌜ Storing (now kept) (now row) len number ⌝ }
     ensures { λ _. ⌜ Stores (now (kept .entry)) (now (row .entry)) len number (now (kept .exit)) ⌝ }
 {
-    *kept = with_row(*kept, row, len, number);
+    let mut i: usize = 0;
+    while 2 * i < len {
+        kept[128 * number + i] = symbol_in(row, len, 2 * i) + 16 * symbol_in(row, len, 2 * i + 1);
+        i += 1;
+    }
 }

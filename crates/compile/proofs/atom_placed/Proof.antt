@@ -26,7 +26,9 @@ returns-2 c atoms a holds shows =
     (c .before .before .number-of .ensures atoms a (holds .compiled .counted) (holds .keeps) (shows .spells), λ l. absurd (omega arith))
 
 keep-row-requires : tie.Need-keep-row-requires
-keep-row-requires c κs = storing (c .before .before .before .before .before .before .before .before .pre .shows .spells) (omega arith)
+keep-row-requires c κs =
+    let pre = c .before .before .before .before .before .before .before .before .pre in
+    storing (pre .holds .keeps .whole) (pre .shows .spells) (omega arith)
 
 mul-lens : tie.Need-mul-lens
 mul-lens c = search needs

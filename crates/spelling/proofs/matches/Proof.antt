@@ -1,23 +1,24 @@
 -- `spelling::matches` meets its contract, by the answers on the whole row and on its two parts. Assumes nothing.
-use mathlib.Core.Path.{refl}
-use mathlib.Core.Logic.{inl, inr, ⊎-elim}
 use native.Mathlib.Omega.{arith}
 use borrow.Author.Needs.{needs}
 use Rattle.lists.proofs.Truth.{clash}
+use Rattle.spelling.specs.Comparing.{Agree}
+use Rattle.spelling.proofs.Rows.{tells-one, tells-other, tells-not}
 use Rattle.spelling.proofs.matches.Statement.{statement}
 use Rattle.spelling.proofs.matches.Tie as tie
 
 agree-requires : tie.Need-agree-requires
 agree-requires c κs = search needs
 
+-- the row as it is does not agree
+not-whole : (c : tie.Else1) → Agree (c .before .before .args .kept .now) (c .before .before .args .number) 0 (c .before .before .args .row .now) 0 (c .before .before .args .len) → ⊥
+not-whole c g = clash (c .before .agree .ensures .is-yes g) (c .if1 .left)
+
 returns : tie.Need-returns
-returns c = record { yes-is = λ t. inl (c .before .agree .ensures .yes-is (c .if1 .taken)); is-yes = λ m. refl }
+returns c = tells-one (c .before .agree .ensures .yes-is (c .if1 .taken))
 
 returns-2 : tie.Need-returns-2
-returns-2 c = record {
-  yes-is = λ t. clash t refl;
-  is-yes = λ m. ⊎-elim (λ g. clash (c .before .before .agree .ensures .is-yes g) (c .before .if1 .left)) (λ g. absurd (omega (arith, g .some, c .if2 .taken))) m;
-}
+returns-2 c = tells-other (not-whole (c .before)) (tells-not (λ g. omega (arith, g .some, c .if2 .taken)))
 
 sub-agree : tie.Need-sub-agree
 sub-agree c = search needs
@@ -30,21 +31,15 @@ agree-requires-3 c κs = search needs
 
 returns-3 : tie.Need-returns-3
 returns-3 c =
-    let second = c .before .before in
-    let whole = second .before .before .before in
-    record {
-      yes-is = λ t. inr (record { some = omega (arith, second .before .if2 .left); before = second .agree2 .ensures .yes-is (c .before .if3 .taken); behind = c .agree3 .ensures .yes-is t });
-      is-yes = λ m. ⊎-elim (λ g. clash (whole .agree .ensures .is-yes g) (second .before .before .if1 .left)) (λ g. c .agree3 .ensures .is-yes (g .behind)) m;
-    }
+    let parts = c .before .before in
+    tells-other (not-whole (parts .before .before))
+    (record {
+      yes-is = λ t. record { some = omega (arith, parts .before .if2 .left); before = parts .agree2 .ensures .yes-is (c .before .if3 .taken); behind = c .agree3 .ensures .yes-is t };
+      is-yes = λ g. c .agree3 .ensures .is-yes (g .behind);
+    })
 
 returns-4 : tie.Need-returns-4
-returns-4 c =
-    let second = c .before in
-    let whole = second .before .before .before in
-    record {
-      yes-is = λ t. clash t refl;
-      is-yes = λ m. ⊎-elim (λ g. clash (whole .agree .ensures .is-yes g) (second .before .before .if1 .left)) (λ g. clash (second .agree2 .ensures .is-yes (g .before)) (c .if3 .left)) m;
-    }
+returns-4 c = tells-other (not-whole (c .before .before .before)) (tells-not (λ g. clash (c .before .agree2 .ensures .is-yes (g .before)) (c .if3 .left)))
 
 pub matches-spec : {M : Type 1} → statement M
 matches-spec =

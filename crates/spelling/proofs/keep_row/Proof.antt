@@ -1,19 +1,19 @@
--- `spelling::with_row` meets its contract: so far the first i bytes are stored (Storing.antt), and those that are left fall. Assumes nothing.
+-- `spelling::keep_row` meets its contract: so far the first i bytes are stored (Storing.antt), and those that are left fall. Assumes nothing.
 use Prim.Native.Nat.{_+_, _-_, _*_, _≤_, _<_}
 use native.Mathlib.Omega.{arith}
 use borrow.Author.Needs.{needs}
 use Rattle.spelling.proofs.Storing.{symbol-small, StoredTo, stored-none, stored-all, stored-more}
-use Rattle.spelling.proofs.with_row.Statement.{statement}
-use Rattle.spelling.proofs.with_row.Tie as tie
+use Rattle.spelling.proofs.keep_row.Statement.{statement}
+use Rattle.spelling.proofs.keep_row.Tie as tie
 
 abbrev Inv-loop : tie.InvT-loop
-Inv-loop row len number out₀ i₀ out i = (2 * i ≤ len + 1) × StoredTo row len out₀ number i out
+Inv-loop kept₀ row len number i₀ kept i = (2 * i ≤ len + 1) × StoredTo row len kept₀ number i kept
 
 abbrev μ-loop : tie.MeasureT-loop
-μ-loop row len number out₀ i₀ out i = len - i
+μ-loop kept₀ row len number i₀ kept i = len - i
 
 loop-holds : tie.Need-loop-holds Inv-loop μ-loop
-loop-holds c = (omega arith, stored-none _ _ _ _ (c .good .0 .1 .0 .1))
+loop-holds c = (omega arith, stored-none _ _ _ _ (c .pre .whole))
 
 mul-loop : tie.Need-mul-loop Inv-loop μ-loop
 mul-loop c = omega arith
@@ -37,24 +37,24 @@ symbol-in-requires-2 c κs = search needs
 symbols-small : (c : tie.After-symbol-in2 Inv-loop μ-loop) → (c .before .symbol-in .result < 16) × (c .symbol-in2 .result < 16)
 symbols-small c =
     let start = c .before .before .before .before in (
-      omega (arith, c .before .symbol-in .ensures, symbol-small (start .args .row .now) (start .args .len) (start .args .number) (start .pre) (2 * c .before .before .before .loop .i)),
-      omega (arith, c .symbol-in2 .ensures, symbol-small (start .args .row .now) (start .args .len) (start .args .number) (start .pre) (2 * c .before .before .before .loop .i + 1)),
+      omega (arith, c .before .symbol-in .ensures, symbol-small (start .args .row .now) (start .args .len) _ (start .args .number) (start .pre) (2 * c .before .before .before .loop .i)),
+      omega (arith, c .symbol-in2 .ensures, symbol-small (start .args .row .now) (start .args .len) _ (start .args .number) (start .pre) (2 * c .before .before .before .loop .i + 1)),
     )
 
-mul-out : tie.Need-mul-out Inv-loop μ-loop
-mul-out c = omega (arith, symbols-small c)
+mul-kept : tie.Need-mul-kept Inv-loop μ-loop
+mul-kept c = omega (arith, symbols-small c)
 
-add-out : tie.Need-add-out Inv-loop μ-loop
-add-out c = omega (arith, symbols-small c)
+add-kept : tie.Need-add-kept Inv-loop μ-loop
+add-kept c = omega (arith, symbols-small c)
 
-mul-out-2 : tie.Need-mul-out-2 Inv-loop μ-loop
-mul-out-2 c = omega arith
+mul-kept-2 : tie.Need-mul-kept-2 Inv-loop μ-loop
+mul-kept-2 c = omega arith
 
-add-out-2 : tie.Need-add-out-2 Inv-loop μ-loop
-add-out-2 c = omega arith
+add-kept-2 : tie.Need-add-kept-2 Inv-loop μ-loop
+add-kept-2 c = omega arith
 
-array-write-out : tie.Need-array-write-out Inv-loop μ-loop
-array-write-out c = omega arith
+element-write-kept : tie.Need-element-write-kept Inv-loop μ-loop
+element-write-kept c = omega arith
 
 add-i : tie.Need-add-i Inv-loop μ-loop
 add-i c = omega arith
@@ -66,13 +66,13 @@ loop-again : tie.Need-loop-again Inv-loop μ-loop
 loop-again c =
     let k = c .before .before .before .loop in
     let start = c .before .before .before .before in
-    (omega arith, stored-more _ _ _ _ (start .pre) (k .i) (k .out) (k .inv .1) (c .before .before .loop-test .taken) _ _ (c .before .symbol-in .ensures) (c .symbol-in2 .ensures))
+    (omega arith, stored-more _ _ _ _ (start .pre) (k .i) (k .kept) (k .inv .1) (c .before .before .loop-test .taken) _ _ (c .before .symbol-in .ensures) (c .symbol-in2 .ensures))
 
 returns : tie.Need-returns Inv-loop μ-loop
 returns c = stored-all _ _ _ _ (c .before .loop .i) _ (c .loop-test .left) (c .before .loop .inv .1)
 
-pub with-row-spec : {M : Type 1} → statement M
-with-row-spec =
+pub keep-row-spec : {M : Type 1} → statement M
+keep-row-spec =
     tie.close
     (tie.spec
     Inv-loop
@@ -84,11 +84,11 @@ with-row-spec =
     mul-symbol-in-2
     add-symbol-in
     symbol-in-requires-2
-    mul-out
-    add-out
-    mul-out-2
-    add-out-2
-    array-write-out
+    mul-kept
+    add-kept
+    mul-kept-2
+    add-kept-2
+    element-write-kept
     add-i
     loop-less
     loop-again
