@@ -29,7 +29,7 @@ use Rattle.spelling.specs.Symbols.{symbolsOf}
 use Rattle.compile.specs.declared.Atoms.{Atoms}
 use Rattle.compile.specs.declared.CompiledRule.{CompiledRule}
 use Rattle.compile.specs.Kinds.{takenBy, termKind, atomKind, namesBy, setBy, symbolBy, signBy}
-use Rattle.compile.specs.Machine.{State, withPut, placeIn, withAtom, withSign, start, step, run}
+use Rattle.compile.specs.Machine.{State, withAtom, withSign, start, step, run}
 use Rattle.compile.specs.Compiles.{atomsAfter, codeAfter, Given, Asked, Compiles}
 use Rattle.compile.specs.Signs.{Holds, Shows, Signing, Written, Signs}
 use Rattle.compile.proofs.Orders.{run-last, run-append, formula-run, Bounds, run-bounds}

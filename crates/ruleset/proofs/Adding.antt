@@ -22,7 +22,7 @@ use Rattle.syntax.proofs.Claims.{length-codes, text-read}
 use Rattle.lists.specs.Search.{In, collect}
 use Rattle.lists.proofs.Search.{in-left, in-right, collect-last}
 use Rattle.evalset.specs.Most.{most}
-use Rattle.contact.specs.Numbering.{allAtoms, sameName, position, numberOf, namesOf, mapAtom, mapForm, differentAtoms, atomNumber, numberedAtoms, rowAtoms}
+use Rattle.contact.specs.Numbering.{allAtoms, sameName, numberOf, namesOf, mapAtom, mapForm, differentAtoms, atomNumber, numberedAtoms, rowAtoms}
 use Rattle.contact.specs.Putting.{isIn}
 use Rattle.contact.proofs.Distinct.{position-in, in-distinct}
 use Rattle.contact.proofs.Naming.{name-alike, atoms-fewer}
@@ -37,8 +37,7 @@ use Rattle.solver.specs.Coded.{part, PartIs, Coded}
 use Rattle.kleene.specs.Code.{postfix as postfixCode}
 use Rattle.compile.specs.Chart.{CompiledFrom}
 use Rattle.compile.specs.Machine.{placeIn}
-use Rattle.compile.specs.Compiles.{atomsAfter, numbersAfter, codeAfter, Given, Asked, Result, Compiles}
-use Rattle.compile.specs.declared.Atoms.{Atoms}
+use Rattle.compile.specs.Compiles.{atomsAfter, codeAfter, Given, Asked, Result, Compiles}
 use Rattle.compile.specs.declared.CompiledRule.{CompiledRule}
 use Rattle.compile.proofs.Claims.{code-short, order-read, order-short}
 use Rattle.spelling.specs.Kept.{Keeps}
@@ -49,7 +48,7 @@ use Rattle.ruleset.specs.declared.RoomAnswer.the-variants as RoomAnswer
 use Rattle.ruleset.specs.declared.Compiling.{Compiling}
 use Rattle.ruleset.specs.Ends.{lastEnd}
 use Rattle.ruleset.specs.Counted.{nameCount}
-use Rattle.ruleset.specs.Texts.{Fits, KnownRules, OneMore, roomAnswer, codeOf, Grows, WithRule, CompiledRules, Another}
+use Rattle.ruleset.specs.Texts.{Fits, OneMore, roomAnswer, codeOf, Grows, WithRule, CompiledRules, Another}
 use Rattle.ruleset.proofs.Numbers.{row-atoms-with, numbers-with}
 use Rattle.ruleset.proofs.Coding.{last-few, coded-with, sets-first, sets-part}
 use Rattle.ruleset.proofs.Counting.{count-few, names-counted}

@@ -1,13 +1,12 @@
 -- One rule put last changes no number: the names of the rules before it keep theirs, and so their atoms are, with numbers for names, what
 -- they were. The rule's own atoms, put behind them where none is the same, are the different atoms of all rules, since numbers for names
 -- leave the same atoms the same and different ones different. Assumes nothing.
-use mathlib.Core.Bool.{Bool, _||_}
+use mathlib.Core.Bool.{Bool}
 use mathlib.Core.Path.{_≡_, sym, ap, ap₂, _∙_}
-use mathlib.Core.Logic.{⊎-elim}
 use mathlib.Core.List.{List, [], _∷_, _++_, map, map-append, foldl}
 use Prim.Native.Nat.{ℕ}
 use native.Mathlib.Decide.{ℕ-discrete}
-use Rattle.formula.specs.Formula.{Atom, Form, Formula, Name}
+use Rattle.formula.specs.Formula.{Atom, Formula, Name}
 use Rattle.formula.specs.Atoms.{atomsOf}
 use Rattle.formula.specs.Names.{atomNames}
 use Rattle.formula.specs.Same.{name-discrete, sameAtom}

@@ -1,7 +1,7 @@
 -- `ruleset::with_rule` meets its contract: the rule that was read is compiled behind the rules before it, and so all rules are known
 -- (Adding.antt). Assumes nothing.
 use mathlib.Core.Path.{_≡_, sym}
-use Prim.Native.Nat.{ℕ, _≤_, _<_}
+use Prim.Native.Nat.{ℕ, _≤_}
 use native.Mathlib.Omega.{arith}
 use lib.ListN.{length, length-map}
 use lib.Seq.{length-take-le}

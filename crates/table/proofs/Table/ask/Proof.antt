@@ -24,7 +24,7 @@ compiled-requires : tie.Need-compiled-requires
 compiled-requires c κs = search needs
 
 -- every standing rule is compiled
-all-compiled : (c : tie.After-compiled) → CompiledRules (formulasOf (rulesOf (c .before .before .before .before .before .args .self))) (c .compiled .result) (c .compiled .last .1 .1 .0)
+all-compiled : (c : tie.After-compiled) → CompiledRules (formulasOf (rulesOf (c .before .before .before .before .before .args .self))) (c .compiled .result) (c .compiled .ensures .kept) (c .compiled .last .1 .1 .0)
 all-compiled c = reached-all (c .before .before .before .before .before .args .self) (c .compiled .result) (c .compiled .last .1 .1 .0) (c .before .before .before .before .before .pre) (c .compiled .ensures)
 
 slice-aggregate-row-of : tie.Need-slice-aggregate-row-of
@@ -43,7 +43,7 @@ returns-2 : tie.Need-returns-2
 returns-2 c =
     let t = c .before .before .before .before .before .before .before .before .before .args .self in
     asks-some t (c .before .before .before .before .before .before .before .before .before .pre) _ (c .before .before .before .before .before .before .before .if1 .left) []
-    (none-given (formulasOf (rulesOf t)) _ _ (all-compiled (c .before .before .before .before)) _ (c .before .before .row-of .ensures) (c .enum-told .given .1)) _ _ refl refl
+    (none-given (formulasOf (rulesOf t)) _ _ _ (all-compiled (c .before .before .before .before)) _ (c .before .before .row-of .ensures) (c .enum-told .given .1)) _ _ refl refl
 
 plan-of-requires : tie.Need-plan-of-requires
 plan-of-requires c κs = search needs
@@ -62,7 +62,7 @@ wrote c a e =
     let plan = c .before .before .before .before .plan-of .result in
     let out = wrote-plan plan (start c .args .buffer .now) (c .before .before .write-plan .result) (c .before .before .write-plan .last .1 .0) (c .before .before .write-plan .ensures) in
     asks-some t (start c .pre) _ (c .before .before .before .before .before .before .before .before .before .before .before .before .before .if1 .left) (planBy plan ∷ [])
-    (plan-given (formulasOf (rulesOf t)) _ _ (all-compiled (c .before .before .before .before .before .before .before .before .before .before)) _ _ _ (c .before .before .before .before .before .before .before .before .row-of .ensures) (c .before .before .before .before .before .before .found .given .1) (c .before .before .before .before .plan-of .ensures)) _ _ (sym e ∙ out .0) (out .1)
+    (plan-given (formulasOf (rulesOf t)) _ _ _ (all-compiled (c .before .before .before .before .before .before .before .before .before .before)) _ _ _ (c .before .before .before .before .before .before .before .before .row-of .ensures) (c .before .before .before .before .before .before .found .given .1) (c .before .before .before .before .plan-of .ensures)) _ _ (sym e ∙ out .0) (out .1)
 
 enum-known-written : tie.Need-enum-known-written
 enum-known-written c = search needs

@@ -31,7 +31,7 @@ compiled-requires : tie.Need-compiled-requires
 compiled-requires c κs = search needs
 
 -- every standing rule is compiled
-all-compiled : (c : tie.After-compiled) → CompiledRules (formulasOf (rulesOf (c .before .before .before .before .before .before .before .before .args .self))) (c .compiled .result) (c .compiled .last .1 .1 .0)
+all-compiled : (c : tie.After-compiled) → CompiledRules (formulasOf (rulesOf (c .before .before .before .before .before .before .before .before .args .self))) (c .compiled .result) (c .compiled .ensures .kept) (c .compiled .last .1 .1 .0)
 all-compiled c = reached-all (c .before .before .before .before .before .before .before .before .args .self) (c .compiled .result) (c .compiled .last .1 .1 .0) (c .before .before .before .before .before .before .before .before .pre) (c .compiled .ensures)
 
 cast-names : tie.Need-cast-names
@@ -41,7 +41,7 @@ returns-3 : tie.Need-returns-3
 returns-3 c =
     let t = c .before .before .before .before .before .before .before .before .before .before .before .before .before .args .self in
     judges-plan t (c .before .before .before .before .before .before .before .before .before .before .before .before .before .pre) _ _ (c .before .before .before .before .before .before .before .before .before .before .read-plan .ensures) (c .before .before .before .before .before .before .before .before .before .before .before .if1 .left) (c .before .before .before .before .before .before .before .before .enum-told .given .1) _
-    (judge-differs (formulasOf (rulesOf t)) _ _ _ (all-compiled (c .before .before .before .before .before)) (λ e. omega arith))
+    (judge-differs (formulasOf (rulesOf t)) _ _ _ _ (all-compiled (c .before .before .before .before .before)) (λ e. omega arith))
 
 slice-aggregate-judged : tie.Need-slice-aggregate-judged
 slice-aggregate-judged c = search needs
@@ -56,7 +56,7 @@ returns-4 : tie.Need-returns-4
 returns-4 c =
     let t = c .before .before .before .before .before .before .before .before .before .before .before .before .before .before .before .before .args .self in
     judges-plan t (c .before .before .before .before .before .before .before .before .before .before .before .before .before .before .before .before .pre) _ _ (c .before .before .before .before .before .before .before .before .before .before .before .before .before .read-plan .ensures) (c .before .before .before .before .before .before .before .before .before .before .before .before .before .before .if1 .left) (c .before .before .before .before .before .before .before .before .before .before .before .enum-told .given .1) _
-    (judge-equal (formulasOf (rulesOf t)) _ _ _ (all-compiled (c .before .before .before .before .before .before .before .before)) (omega arith) _ (c .before .judged .ensures) _ (c .judged-answer .ensures))
+    (judge-equal (formulasOf (rulesOf t)) _ _ _ _ (all-compiled (c .before .before .before .before .before .before .before .before)) (omega arith) _ (c .before .judged .ensures) _ (c .judged-answer .ensures))
 
 pub judge-spec : {M : Type 1} → statement M
 judge-spec =
