@@ -15,7 +15,9 @@ use Rattle.syntax.specs.declared.RuleAnswer.the-variants as RuleAnswer
 use Rattle.syntax.specs.declared.Rule.{Rule}
 use Rattle.syntax.proofs.Claims.{is-rule}
 use Rattle.contact.specs.Numbering.{differentAtoms}
-use Rattle.names.specs.Gather.{gathered}
+use Rattle.names.specs.Gather.{arraysOf, gathered}
+use Rattle.names.specs.declared.Gathered.{Gathered}
+use Rattle.names.proofs.Claims.{rule-gathered}
 use Rattle.names.specs.declared.NamesAnswer.{NamesAnswer}
 use Rattle.names.specs.declared.NamesAnswer.the-variants as NamesAnswer
 use Rattle.ruleset.specs.declared.Known.{Known}
@@ -30,7 +32,7 @@ use Rattle.table.specs.Sheet.{Text}
 use Rattle.table.specs.Calls.{formulasOf, namesIn, atomsIn, readAnswer, namesAnswer, firstRefusal, judgeNames, judgeAtoms, judgeRoom, judgeText, judgeAdd}
 use Rattle.table.specs.Rules.{CanStand}
 use Rattle.table.specs.Steps.{KnownTexts, Knowing, roomAdd, Tries}
-use Rattle.table.proofs.Standing.{NotAdded, not-full, refused-else, read-formula}
+use Rattle.table.proofs.Standing.{NotAdded, not-full, refused-else, names-last, read-formula}
 
 -- ---- how a text is judged, step by step
 
@@ -80,6 +82,14 @@ text-judged s rule a e f = text-is s (rule .answer) (sym (ap (λ (x : Rule). x .
 pub text-formula : (s : Text) → judgeText s ≡ AddAnswer.Added → ruleOf s .answer ≡ RuleAnswer.Formula
 unfolding judgeText
 text-formula s e = read-formula _ e
+
+-- the names with one text more
+pub names-with : (rs : List Text) (s : Text) → length (namesIn rs) ≤ 6 → ruleOf s .answer ≡ RuleAnswer.Formula → gathered s (namesIn rs) .answer ≡ NamesAnswer.Enough
+    → gathered s (namesIn rs) .names ≡ arraysOf (namesIn (rs ++ s ∷ []))
+unfolding namesIn
+names-with rs s h e f =
+    ap (λ (g : Gathered). g .names) (rule-gathered (formulasOf rs) h s (meaningOf s) (is-rule s e) f)
+    ∙ ap arraysOf (sym (names-last rs s))
 
 -- ---- the room
 

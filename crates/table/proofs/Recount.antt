@@ -10,6 +10,11 @@ use Rattle.lists.proofs.Lists.{take-next}
 use Rattle.lists.proofs.Padded.{pad-within}
 use Rattle.syntax.specs.Rule.{ruleOf}
 use Rattle.syntax.specs.declared.RuleAnswer.the-variants as RuleAnswer
+use Rattle.syntax.specs.declared.Rule.{Rule}
+use Rattle.names.specs.Gather.{arraysOf, knownOf, gathered, Gathers}
+use Rattle.names.specs.declared.Names.{Names}
+use Rattle.names.specs.declared.Gathered.{Gathered}
+use Rattle.names.proofs.Claims.{may-gather, known-from}
 use Rattle.ruleset.specs.declared.Known.{Known}
 use Rattle.ruleset.specs.Texts.{NothingKnown}
 use Rattle.table.specs.declared.Tried.{Tried}
@@ -17,12 +22,13 @@ use Rattle.table.specs.declared.Line.{Line}
 use Rattle.table.specs.declared.Table.{Table}
 use Rattle.table.specs.Store.{rulesOf, keptLine, textOf}
 use Rattle.table.specs.Sheet.{Text}
-use Rattle.table.specs.Calls.{FromUs}
+use Rattle.table.specs.Calls.{namesIn, FromUs}
 use Rattle.table.specs.Rules.{CanStand}
+use Rattle.table.proofs.Rules.{can-names}
 use Rattle.table.specs.Steps.{KnownTexts, Knowing, Tries}
 use Rattle.table.proofs.Stored.{text-line}
 use Rattle.table.proofs.Standing.{stand-first, stand-added, room}
-use Rattle.table.proofs.Counting.{answer-is, known-next}
+use Rattle.table.proofs.Counting.{names-with, answer-is, known-next}
 use Rattle.table.proofs.Lines.{none, count-is, line-is}
 
 -- the loop's invariant: the first i texts are known
@@ -37,6 +43,18 @@ known-none t k kept n w = record { within = omega arith; known = n kept w }
 pub known-all : (t : Table) (k : Known) (kept : List ℕ) (i : ℕ) → FromUs t → KnownTo t k kept i → t .count ≤ i → KnownTexts (rulesOf t) k kept
 known-all t k kept i v p h =
     subst (λ (rs : List Text). KnownTexts rs k kept) (take-all i (rulesOf t) (omega (arith, count-is t v))) (p .known)
+
+-- the invariant of the loop for the names alone
+pub record NamedTo (t : Table) (ns : Names) (i : ℕ) : Type 0 where
+  pub within : i ≤ length (rulesOf t)
+  pub names : ns ≡ arraysOf (namesIn (take i (rulesOf t)))
+
+pub named-none : (t : Table) (ns : Names) → ns ≡ arraysOf [] → NamedTo t ns 0
+unfolding namesIn
+named-none t ns e = record { within = omega arith; names = e }
+
+pub named-all : (t : Table) (ns : Names) (i : ℕ) → FromUs t → NamedTo t ns i → t .count ≤ i → ns ≡ arraysOf (namesIn (rulesOf t))
+named-all t ns i v p h = p .names ∙ ap (λ (rs : List Text). arraysOf (namesIn rs)) (take-all i (rulesOf t) (omega (arith, count-is t v)))
 
 -- the i-th line
 module _ {t : Table} {i : ℕ} (v : FromUs t) (h : i < t .count) where
@@ -85,4 +103,18 @@ module _ {t : Table} {i : ℕ} (v : FromUs t) (h : i < t .count) where
         record {
           within = omega (arith, count-is t v);
           known = subst (λ (l : List Text). KnownTexts l (r .known) keptOut) (sym first) (known-next k rs first-stand kept (p .known) text r keptOut says e);
+        }
+
+  module _ (ns : Names) (p : NamedTo t ns i) where
+    pub text-gathers : (rule : Rule) → rule ≡ ruleOf text → Gathers text rule ns
+    text-gathers rule e = may-gather text rule ns (namesIn (take i (rulesOf t))) e (p .names) (can-names (take i (rulesOf t)) first-stand)
+
+    pub named-more : (g : Gathered) → g ≡ gathered text (knownOf ns) → NamedTo t (g .names) (i + 1)
+    named-more g e =
+        let rs = take i (rulesOf t) in
+        let r = room rs text (stand-added rs text stands) in
+        record {
+          within = omega (arith, count-is t v);
+          names = ap (λ (x : Gathered). x .names) (e ∙ ap (gathered text) (known-from ns (namesIn rs) (p .names)))
+              ∙ names-with rs text (can-names rs first-stand) (r .read) (r .names) ∙ ap (λ (l : List Text). arraysOf (namesIn l)) (sym first);
         }

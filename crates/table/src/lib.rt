@@ -446,9 +446,20 @@ impl Table {
         requires { ⌜ FromUs self ⌝ }
         ensures { λ r. ⌜ r ≡ arraysOf (namesIn (rulesOf self)) ⌝ }
     {
-        let mut kept = no_symbols();
-        let known = self.known(&mut kept);
-        known.names
+        let rules = self.count;
+        let mut names = names::no_names();
+        let mut i: usize = 0;
+        while i < rules {
+            let line = self.lines[i];
+            let len = line.len;
+            let bytes = line.bytes;
+            let text = &bytes[..len];
+            let rule = syntax::read_rule(text);
+            let gathered = names::gather(text, rule, names);
+            names = gathered.names;
+            i += 1;
+        }
+        names
     }
 
     // The table with a rule put last, its text as it came. A refused text leaves the table as it was; the
