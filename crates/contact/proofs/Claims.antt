@@ -2,7 +2,7 @@
 -- number of names, of atoms and of points. Floors and rules are those of specs/Meaning.antt.
 use mathlib.Core.Bool.{Bool, true, not}
 use mathlib.Core.Path.{_≡_}
-use mathlib.Core.Logic.{_⊎_, _↔_}
+use mathlib.Core.Logic.{_↔_}
 use mathlib.Core.List.{List, [], _∷_, map}
 use Prim.Native.Nat.{ℕ, _+_, _*_, _^_, _≤_, _<_, max}
 use lib.Dec.{eqb}
@@ -12,7 +12,7 @@ use Rattle.lists.specs.Search.{In, first, collect, below}
 use Rattle.evalset.specs.Bit.{bit}
 use Rattle.contact.specs.Meaning.{Floor, atomOn, meetsAll}
 use Rattle.formula.specs.Names.{atomNames}
-use Rattle.formula.specs.Same.{name-discrete, exchanged, sameAtom}
+use Rattle.formula.specs.Same.{name-discrete, sameAtom}
 use Rattle.contact.specs.Numbering.{allAtoms, distinct, sameName, namesOf, numberOf, nameOf, differentAtoms, atomNumber, numberedAtoms, rowAtoms, AtomBelow, AtomsBelow}
 use Rattle.contact.specs.Row.{IsFirstRow, Row, Realises, Realisable, PartialRow, RealisesPart, rulesTrue, Sound, Exact}
 use Rattle.contact.specs.Plan.{Mark, marksOf, rowMarks, separated, pointsFor, trueContacts, falseZeros}
@@ -51,11 +51,7 @@ name-found rules i = Naming.name-found rules i
 pub numbered-below : (rules : List (Formula Name)) → AtomsBelow (length (namesOf rules)) (rowAtoms rules)
 numbered-below = Naming.numbered-below
 
--- atoms are the same exactly if they have "the same sign and the same terms as read", or for C "with its terms exchanged" (Same)
-pub same-atom : (a b : Atom Name) → (sameAtom name-discrete a b ≡ true) ↔ ((a ≡ b) ⊎ (exchanged a ≡ b))
-same-atom = Same.same-atom name-discrete
-
--- and then they have the same value on every floor
+-- atoms that are the same have the same value on every floor (Same)
 pub same-value : (F : Floor Name) (a b : Atom Name) → sameAtom name-discrete a b ≡ true → atomOn F a ≡ atomOn F b
 same-value F a b h = Same.same-value F name-discrete a b h
 

@@ -1,14 +1,14 @@
--- Atoms are the same exactly if they are equal, or equal once the terms of a C are exchanged, since equality is decided; so the test is an
--- equivalence. Contact is symmetric, so atoms that are the same have the same value on every floor. Other names for the names, different
+-- Atoms are the same exactly if they are equal, or equal once the terms of a C are exchanged; so the test is an equivalence. Contact is symmetric, so atoms that are the same have the same value on every floor. Other names for the names, different
 -- for different ones, leave the same atoms the same and different ones different. Assumes nothing.
-use mathlib.Core.Bool.{true, _||_, decide-iff, or-comm}
+use mathlib.Core.Bool.{true, _||_, or-comm}
 use mathlib.Core.HLevel.{Discrete}
 use mathlib.Core.Path.{_≡_, refl, sym, ap, _∙_}
-use mathlib.Core.Logic.{_⊎_, inl, inr, ⊎-elim, _↔_}
-use mathlib.Mathlib.Data.Bool.Basic.{or-inl, or-inr, eq-false-of-not-eq-true}
-use Rattle.formula.specs.Formula.{Term, Term-discrete, Atom, Atom-discrete}
+use mathlib.Core.Logic.{_⊎_, inl, inr, ⊎-elim}
+use mathlib.Mathlib.Data.Bool.Basic.{eq-false-of-not-eq-true}
+use Rattle.formula.specs.Formula.{Term, Atom}
 use Rattle.formula.specs.Same.{exchanged, equalAtom, sameAtom}
-use Rattle.lists.proofs.Truth.{clash, cases, or-cases}
+use Rattle.formula.proofs.Same.{same-atom}
+use Rattle.lists.proofs.Truth.{clash, cases}
 use Rattle.contact.specs.Meaning.{Floor, touches, atomOn}
 use Rattle.contact.specs.Numbering.{mapAtom}
 use Rattle.contact.proofs.Realise.{touches-intro, touches-elim}
@@ -21,19 +21,6 @@ module _ {N : Type 0} where
   twice (Atom.empty t) = refl
 
   module _ (names : Discrete N) where
-    equal-atom : (a b : Atom N) → (equalAtom names a b ≡ true) ↔ (a ≡ b)
-    unfolding equalAtom
-    equal-atom a b = decide-iff (Atom-discrete (Term-discrete names) a b)
-
-    -- the test says what the sentence says
-    pub same-atom : (a b : Atom N) → (sameAtom names a b ≡ true) ↔ ((a ≡ b) ⊎ (exchanged a ≡ b))
-    unfolding sameAtom
-    same-atom a b = (
-      λ h. ⊎-elim (λ e. inl (equal-atom a b .0 e)) (λ e. inr (equal-atom (exchanged a) b .0 e)) (or-cases (equalAtom names a b) (equalAtom names (exchanged a) b) h),
-      ⊎-elim (λ e. or-inl (equalAtom names a b) (equalAtom names (exchanged a) b) (equal-atom a b .1 e))
-          (λ e. or-inr (equalAtom names a b) (equalAtom names (exchanged a) b) (equal-atom (exchanged a) b .1 e)),
-    )
-
     exchanged-same : (a z : Atom N) → sameAtom names (exchanged a) z ≡ sameAtom names a z
     unfolding sameAtom
     exchanged-same a z = ap (λ (b : Atom N). equalAtom names (exchanged a) z || equalAtom names b z) (twice a) ∙ or-comm (equalAtom names (exchanged a) z) (equalAtom names a z)
@@ -41,10 +28,10 @@ module _ {N : Type 0} where
     pub same-alike : Alike (sameAtom names)
     same-alike =
         record {
-          self = λ a. same-atom a a .1 (inl refl);
+          self = λ a. same-atom names a a .1 (inl refl);
           alike = λ a b h z.
               ⊎-elim (λ e. ap (λ (c : Atom N). sameAtom names c z) e)
-              (λ e. sym (exchanged-same a z) ∙ ap (λ (c : Atom N). sameAtom names c z) e) (same-atom a b .0 h);
+              (λ e. sym (exchanged-same a z) ∙ ap (λ (c : Atom N). sameAtom names c z) e) (same-atom names a b .0 h);
         }
 
   -- ---- on a floor

@@ -470,8 +470,8 @@ impl Table {
     {
         let mut kept = no_symbols();
         let known = self.known(&mut kept);
-        let tried = with_text(known, text, &mut kept);
-        let answer = tried.answer;
+        let judged = with_text(known, text, &mut kept);
+        let answer = judged.answer;
         let AddAnswer::Added = answer else {
             return AddResult {
                 table: self,
