@@ -397,11 +397,10 @@ impl Maker {
 
     // What a sign that is repeated has in the text: parentheses that need not be there, and no blanks.
     fn push_copy(self, sign: u8) -> Maker {
-        let last = self.push(NEXT_SIGN);
         match sign {
             NOTHING => self.push(b'0'),
             ALL => self.push(b'1'),
-            REST => last.push(b'-'),
+            REST => self.push(NEXT_SIGN).push(b'-'),
             EMPTY => self.push(b'0').push(b'=').push(NEXT_SIGN),
             SPACED_EMPTY => self.push(b'0').push(b' ').push(b'=').push(NEXT_SIGN),
             COMMON | EITHER => self.push_both(sign),
