@@ -31,10 +31,11 @@ use Rattle.compile.specs.declared.CompiledRule.{CompiledRule}
 use Rattle.compile.specs.Kinds.{takenBy, termKind, atomKind, namesBy, setBy, symbolBy, signBy}
 use Rattle.compile.specs.Machine.{State, withAtom, withSign, start, step, run}
 use Rattle.compile.specs.Compiles.{atomsAfter, codeAfter, Given, Asked, Compiles}
-use Rattle.compile.specs.Signs.{Holds, Shows, Signing, Written, Signs}
+use Rattle.compile.specs.Signs.{Signing}
 use Rattle.compile.proofs.Orders.{run-last, run-append, formula-run, Bounds, run-bounds}
 use Rattle.compile.proofs.Heights.{symbolAt, Finds, order-fine}
-use Rattle.compile.proofs.Placing.{seventeen}
+use Rattle.compile.proofs.Placing.{Holds, Shows, seventeen}
+use Rattle.compile.proofs.Turns.{Written, Turns}
 use Rattle.compile.proofs.Steps.{Stacked, spelledAll, Put, term-step, Made, atom-step, sign-step, names-by, no-name, one-at-most, symbol-small}
 
 -- ---- the names of an order
@@ -204,6 +205,9 @@ module _ {order numbers : List ℕ} {before : CompiledRule} {keeping buf kept ou
   pub small-number : (j : ℕ) → getD numbers j 0 < most
   small-number j = number-small (q .given) j
 
+  pub few-atoms : rule .atoms .chart .atoms ≤ 16
+  few-atoms = omega (arith, first-follows .grown .holds .compiled .counted, first-follows .grown .holds .compiled .few)
+
   module _ (l : i < length order) where
     abbrev kind : ℕ
     kind = getD order i 0
@@ -329,18 +333,15 @@ module _ {order numbers : List ℕ} {before : CompiledRule} {keeping buf kept ou
               }
 
         -- what `signed` asks
-        pub signs-asked : Signing rule kept out row len kind (memAt stack h) (memAt stack (h + 1))
-        signs-asked =
-            record {
-              room = fits;
-              going = inv .going;
-              placing = λ a.
-                  let z : i < length (postfix (q .formula)) = omega (arith, same-length (q .given)) in
-                  let M = makes (q .given) (order-fine (q .numbering) (start (q .atoms)) (q .formula) refl i z) first-follows a in
-                  record { atoms = reached (q .formula) (q .numbering) (q .atoms) i .atoms; atom = M .atom; holds = first-follows .grown .holds; shows = M .shows };
-            }
+        pub signs-asked : Signing kept (rule .atoms .lens) (rule .atoms .chart .contact) (rule .atoms .chart .atoms) row len kind
+        unfolding Signing
+        signs-asked a =
+            let z : i < length (postfix (q .formula)) = omega (arith, same-length (q .given)) in
+            let M = makes (q .given) (order-fine (q .numbering) (start (q .atoms)) (q .formula) refl i z) first-follows a in
+            let H = first-follows .grown .holds in
+            (record { atoms = _; atom = M .atom; counted = H .compiled .counted; keeps = H .keeps; spells = M .shows .spells }, omega (arith, inv .behind, q .short))
 
-        module _ {kept' out' : List ℕ} {rule' : CompiledRule} (says : Signs rule kept out row len kind (memAt stack h) (memAt stack (h + 1)) rule' kept' out') where
+        module _ {kept' out' : List ℕ} {rule' : CompiledRule} (says : Turns rule kept out row len kind (memAt stack h) (memAt stack (h + 1)) rule' kept' out') where
           -- outside of terms no name is passed
           no-more : (n : ℕ) → used ≡ n → used ≡ n + namesBy kind
           no-more n e = omega (arith, no-name kind t)

@@ -4,6 +4,7 @@ pub mod Orders
 pub mod Heights
 pub mod Steps
 pub mod Placing
+pub mod Turns
 pub mod Follow
 pub mod Claims
 pub mod Searched

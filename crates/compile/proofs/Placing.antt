@@ -13,14 +13,33 @@ use Rattle.formula.specs.Same.{sameAtom}
 use Rattle.contact.specs.Putting.{isIn}
 use Rattle.contact.proofs.Distinct.{position-in, position-out, position-most}
 use Rattle.search.specs.declared.Chart.{Chart}
-use Rattle.spelling.specs.Kept.{Stores}
+use Rattle.spelling.specs.Kept.{Keeps, Spells, Compares, Numbers, Stores}
 use Rattle.spelling.proofs.Claims.{keeps-more}
 use Rattle.compile.specs.declared.Atoms.{Atoms}
 use Rattle.compile.specs.Kinds.{firstBy, secondBy}
-use Rattle.compile.specs.Chart.{Grows}
+use Rattle.compile.specs.Chart.{firstSet, secondSet, CompiledFrom, Grows}
 use Rattle.compile.specs.Machine.{withPut, placeIn}
-use Rattle.compile.specs.Signs.{Holds, Shows}
 use Rattle.compile.proofs.Charts.{grows-same, compiled-more}
+
+-- the arrays hold the atoms: their sets, and the symbols of their terms
+pub record Holds (a : Atoms) (kept : List ℕ) (atoms : List (Atom ℕ)) : Type 0 where
+  pub compiled : CompiledFrom (a .chart) atoms
+  pub keeps : Keeps kept (a .lens) (a .chart .contact) atoms
+
+-- the row and the sets are those of the atom that a sign of this kind makes
+pub record Shows (row : List ℕ) (len kind : ℕ) (x y : ℕ → Bool) (a : Atom ℕ) : Type 0 where
+  pub spells : Spells row len (eqb kind 14) a
+  pub first : firstBy kind x y ≡ firstSet a
+  pub second : secondBy kind y ≡ secondSet a
+
+-- a number is at most that of the atoms, which are at most sixteen
+pub number-few : {kept lens : List ℕ} {contacts : List Bool} {many : ℕ} {row : List ℕ} {len : ℕ} {contact : Bool} {r : ℕ}
+    → Compares kept lens contacts many row len contact → Numbers kept lens contacts many row len contact r → (r ≤ many) × (many ≤ 16)
+unfolding Numbers
+number-few q h = (
+  omega (arith, h (q .atoms) (q .atom) (q .counted) (q .keeps) (q .spells), position-most (sameAtom ℕ-discrete) (q .atoms) (q .atom), q .counted),
+  omega (arith, q .counted, q .keeps .few),
+)
 
 -- the atoms with one that is among them, and with one that is not
 module _ (atoms : List (Atom ℕ)) (a : Atom ℕ) where

@@ -1,6 +1,6 @@
 -- For proofs: the contract of `compile_rule`, which only our own crates call: what the compiler is asked and answers, over every formula,
 -- numbering of its names, and list of atoms before it. Assumes nothing.
-use mathlib.Core.Bool.{true}
+use mathlib.Core.Bool.{Bool, true}
 use mathlib.Core.Path.{_≡_}
 use mathlib.Core.List.{List, map, foldl}
 use Prim.Native.Nat.{ℕ, _+_, _≤_, _<_}
@@ -15,12 +15,20 @@ use Rattle.syntax.specs.Postfix.{postfix}
 use Rattle.syntax.specs.Reader.{codes}
 use Rattle.evalset.specs.Most.{most}
 use Rattle.contact.specs.Numbering.{mapForm, mapAtom}
+use Rattle.search.specs.declared.Chart.{Chart}
 use Rattle.spelling.specs.Kept.{Keeps}
 use Rattle.kleene.specs.Code.{postfix as postfixCode}
 use Rattle.compile.specs.declared.Atoms.{Atoms}
 use Rattle.compile.specs.declared.CompiledRule.{CompiledRule}
 use Rattle.compile.specs.Chart.{CompiledFrom}
 use Rattle.compile.specs.Machine.{withPut, placeIn}
+
+-- what is handed on as one value
+abbrev pub atomsWith : Chart → List ℕ → Atoms
+atomsWith chart lens = record { chart = chart; lens = lens }
+
+abbrev pub ruleWith : Chart → List ℕ → ℕ → Bool → CompiledRule
+ruleWith chart lens end enough = record { atoms = atomsWith chart lens; end = end; enough = enough }
 
 -- the atoms once those of the formula, its names numbered by g, are put behind them: "atoms that are the same count as one"
 abbrev pub atomsAfter : (Name → ℕ) → Formula Name → List (Atom ℕ) → List (Atom ℕ)

@@ -4,17 +4,15 @@
 // terms that are whole and a row of their symbols. Only our own crates compile rules, and only what was read: the requires of
 // `compile_rule` says so, since to test for it would read the rule twice.
 ghost use mathlib.Core.Path.{_≡_};
-ghost use mathlib.Core.Bool.{true};
 ghost use mathlib.Core.List.{[]};
 ghost use Prim.Native.Nat.{_<_};
-ghost use lib.Dec.{eqb};
 ghost use lib.ListN.{length, getD};
 ghost use Rattle.evalset.specs.Sets.{mem};
 ghost use Rattle.evalset.specs.Most.{most};
 ghost use Rattle.compile.specs.Kinds.{takenBy, termKind, atomKind, namesBy, setBy, symbolBy, firstBy, secondBy, signBy};
-ghost use Rattle.compile.specs.Chart.{CompiledFrom, Grows};
-ghost use Rattle.compile.specs.Compiles.{Asked, Compiles};
-ghost use Rattle.compile.specs.Signs.{Placing, Places, Signing, Signs};
+ghost use Rattle.compile.specs.Chart.{CompiledFrom};
+ghost use Rattle.compile.specs.Compiles.{atomsWith, ruleWith, Asked, Compiles};
+ghost use Rattle.compile.specs.Signs.{Signing, Signs};
 use evalset::EvalSet;
 use lexer::AND;
 use lexer::CONTACT;
@@ -37,7 +35,7 @@ use search::Chart;
 // The different atoms: their chart, and how many symbols the terms of each have. The symbols are lent (spelling keeps them).
 pub struct Atoms {
     pub chart: Chart,
-    pub lens: [usize; ATOMS],
+    pub lens: [u8; ATOMS],
 }
 
 // The atoms with the rule's behind them, the place after the rule's code, and whether sixteen atoms are enough. Where they are
@@ -48,11 +46,8 @@ pub struct CompiledRule {
     pub enough: bool,
 }
 
-// The atoms with one more, and its number.
-struct Placed {
-    atoms: Atoms,
-    number: usize,
-}
+// The code of the number 16, which a seventeenth atom would have.
+const SEVENTEENTH: u8 = 23;
 
 // No atoms.
 pub fn no_atoms() -> Atoms
@@ -68,7 +63,7 @@ pub fn no_atoms() -> Atoms
         xs: sets,
         ys: sets,
     };
-    let lens = [0usize; ATOMS];
+    let lens = [0u8; ATOMS];
     Atoms { chart, lens }
 }
 
@@ -157,30 +152,22 @@ fn symbol(kind: u8, number: usize) -> u8
     }
 }
 
-// The chart with one atom more.
-fn added(chart: Chart, contact: bool, x: EvalSet, y: EvalSet) -> Chart
-    requires { ⌜ chart .atoms < 16 ⌝ }
-    ensures { λ r. ⌜ Grows chart r contact (mem x) (mem y) ⌝ }
+// The first set of the atom of =0, C or <= on these sets; "<=(x,y) means x*-y=0".
+fn first_set(kind: u8, x: EvalSet, y: EvalSet) -> EvalSet
+    ensures { λ r. ⌜ mem r ≡ firstBy kind (mem x) (mem y) ⌝ }
 {
-    let mut grown = chart;
-    let i = chart.atoms;
-    grown.contact[i] = contact;
-    grown.xs[i] = x;
-    grown.ys[i] = y;
-    grown.atoms = i + 1;
-    grown
+    if kind == PART {
+        evalset::minus(x, y)
+    } else {
+        x
+    }
 }
 
-// The chart with the atom of =0, C or <= on these sets; "<=(x,y) means x*-y=0".
-fn with_atom(chart: Chart, kind: u8, x: EvalSet, y: EvalSet) -> Chart
-    requires { ⌜ chart .atoms < 16 ⌝ }
-    ensures { λ r. ⌜ Grows chart r (eqb kind 14) (firstBy kind (mem x) (mem y)) (secondBy kind (mem y)) ⌝ }
+// Its second set: only a contact has one.
+fn second_set(kind: u8, y: EvalSet) -> EvalSet
+    ensures { λ r. ⌜ mem r ≡ secondBy kind (mem y) ⌝ }
 {
-    match kind {
-        CONTACT => added(chart, true, x, y),
-        PART => added(chart, false, evalset::minus(x, y), evalset::empty()),
-        _ => added(chart, false, x, evalset::empty()),
-    }
+    if kind == CONTACT { y } else { evalset::empty() }
 }
 
 // The code of a formula's token that makes no atom.
@@ -207,93 +194,59 @@ fn empty_stack() -> [EvalSet; 172]
     [none; 172]
 }
 
-// The number of the atom that a sign makes of these sets, its terms in the row, and the atoms with it behind them where it is none
-// of them: of atoms that are the same the first stays. Where the number is not below sixteen, nothing is said of the atoms.
-fn atom_placed(
-    before: Atoms,
+// The code of a formula's token: of one that makes an atom it is the number's of the atom, whose terms are in the row. The row of an
+// atom that is none of those before is kept, where there is room: of atoms that are the same the first stays.
+fn signed(
     kept: &mut [u8; 2048],
+    lens: &mut [u8; ATOMS],
+    contacts: [bool; ATOMS],
+    many: usize,
     row: &[u8; 256],
     len: usize,
     kind: u8,
-    x: EvalSet,
-    y: EvalSet,
-) -> Placed
-    requires { ⌜ Placing before (now kept) (now row) len kind (mem x) (mem y) ⌝ }
-    ensures { λ r. ⌜ Places before (now (kept .entry)) (now (row .entry)) len kind (mem x) (mem y) r (now (kept .exit)) ⌝ }
+) -> u8
+    requires { ⌜ Signing (now kept) (now lens) contacts many (now row) len kind ⌝ }
+    ensures { λ r. ⌜ Signs (now (kept .entry)) (now (lens .entry)) contacts many (now (row .entry)) len kind r (now (kept .exit)) (now (lens .exit)) ⌝ }
 {
-    let chart = before.chart;
-    let contacts = chart.contact;
-    let many = chart.atoms;
-    let mut lens = before.lens;
+    if !is_atom(kind) {
+        return sign_code(kind);
+    }
     let contact = kind == CONTACT;
     let number = spelling::number_of(kept, lens, contacts, many, row, len, contact);
+    let sign = 7 + number as u8;
     if number < many {
-        return Placed {
-            atoms: before,
-            number,
-        };
+        return sign;
     }
     if ATOMS <= number {
-        return Placed {
-            atoms: before,
-            number,
-        };
+        return sign;
     }
     spelling::keep_row(kept, row, len, number);
-    lens[number] = len;
-    let grown = with_atom(chart, kind, x, y);
-    let atoms = Atoms { chart: grown, lens };
-    Placed { atoms, number }
+    lens[number] = len as u8;
+    sign
 }
 
-// The rule with the sign of a formula behind it: its code, and the atom that it makes, if it makes one. Where sixteen atoms are not
-// enough, nothing is said of the rest.
-fn signed(
-    before: CompiledRule,
-    kept: &mut [u8; 2048],
-    code: &mut [u8],
-    row: &[u8; 256],
-    len: usize,
-    kind: u8,
-    x: EvalSet,
-    y: EvalSet,
-) -> CompiledRule
-    requires { ⌜ Signing before (now kept) (now code) (now row) len kind (mem x) (mem y) ⌝ }
-    ensures { λ r. ⌜ Signs before (now (kept .entry)) (now (code .entry)) (now (row .entry)) len kind (mem x) (mem y) r (now (kept .exit)) (now (code .exit)) ⌝ }
+// What is compiled of a rule.
+fn whole(chart: Chart, lens: [u8; ATOMS], end: usize, enough: bool) -> CompiledRule
+    ensures { λ r. ⌜ r ≡ ruleWith chart lens end enough ⌝ }
 {
-    let mut rule = before;
-    let end = before.end;
-    if !is_atom(kind) {
-        code[end] = sign_code(kind);
-        rule.end = end + 1;
-        return rule;
-    }
-    let old = before.atoms;
-    let placed = atom_placed(old, kept, row, len, kind, x, y);
-    let atoms = placed.atoms;
-    let number = placed.number;
-    if ATOMS <= number {
-        rule.enough = false;
-        return rule;
-    }
-    code[end] = 7 + number as u8;
-    rule.atoms = atoms;
-    rule.end = end + 1;
-    rule
+    let atoms = Atoms { chart, lens };
+    CompiledRule { atoms, end, enough }
 }
 
 // The rule with the signs of this order behind it. A token is put on neither, the first or both of two sets, and the stack is never
 // full: the place above its top can be read. Where the sign of an atom stands, its terms are all that is on the stack, and so
-// their symbols are all that is in the row.
+// their symbols are all that is in the row. The chart is changed in place, since to hand it on would copy it.
 fn order_passed(
     order: &[u8],
     numbers: &[u8],
-    mut rule: CompiledRule,
+    mut chart: Chart,
+    mut lens: [u8; ATOMS],
     kept: &mut [u8; 2048],
     code: &mut [u8],
+    mut end: usize,
 ) -> CompiledRule
-    requires { ⌜ Asked (now order) (now numbers) (rule .atoms) (now kept) (now code) (rule .end) × (rule .enough ≡ true) ⌝ }
-    ensures { λ r. ⌜ Compiles (now (order .entry)) (now (numbers .entry)) (rule .atoms) (now (kept .entry)) (now (code .entry)) (rule .end) r (now (kept .exit)) (now (code .exit)) × (length (now (code .exit)) ≡ length (now (code .entry))) ⌝ }
+    requires { ⌜ Asked (now order) (now numbers) (atomsWith chart lens) (now kept) (now code) end ⌝ }
+    ensures { λ r. ⌜ Compiles (now (order .entry)) (now (numbers .entry)) (atomsWith chart lens) (now (kept .entry)) (now (code .entry)) end r (now (kept .exit)) (now (code .exit)) × (length (now (code .exit)) ≡ length (now (code .entry))) ⌝ }
 {
     let mut stack = empty_stack();
     let mut row = lexer::zeros();
@@ -316,13 +269,24 @@ fn order_passed(
             used += names_of_kind(kind);
             continue;
         }
-        rule = signed(rule, kept, code, &row, len, kind, x, y);
-        if !rule.enough {
-            return rule;
+        let contacts = chart.contact;
+        let many = chart.atoms;
+        let sign = signed(kept, &mut lens, contacts, many, &row, len, kind);
+        if SEVENTEENTH <= sign {
+            return whole(chart, lens, end, false);
         }
+        code[end] = sign;
+        end += 1;
         len = 0;
+        if sign as usize != 7 + many {
+            continue;
+        }
+        chart.contact[many] = kind == CONTACT;
+        chart.xs[many] = first_set(kind, x, y);
+        chart.ys[many] = second_set(kind, y);
+        chart.atoms = many + 1;
     }
-    rule
+    whole(chart, lens, end, true)
 }
 
 // The rule with this order, whose names have these numbers at their places: its atoms go behind those before where they are none
@@ -339,10 +303,7 @@ pub fn compile_rule(
     requires { ⌜ Asked (now order) (now numbers) before (now kept) (now code) from ⌝ }
     ensures { λ r. ⌜ Compiles (now (order .entry)) (now (numbers .entry)) before (now (kept .entry)) (now (code .entry)) from r (now (kept .exit)) (now (code .exit)) × (length (now (code .exit)) ≡ length (now (code .entry))) ⌝ }
 {
-    let rule = CompiledRule {
-        atoms: before,
-        end: from,
-        enough: true,
-    };
-    order_passed(order, numbers, rule, kept, code)
+    let chart = before.chart;
+    let lens = before.lens;
+    order_passed(order, numbers, chart, lens, kept, code, from)
 }

@@ -1,7 +1,7 @@
 -- What a rule is compiled to behind the rules before it is what all rules together are compiled to: no number of theirs changes
 -- (Numbers.antt, and contact's Numbered), and their code is kept (Coding.antt). Assumes nothing.
-use mathlib.Core.Bool.{true, false, cond}
-use mathlib.Core.Path.{_≡_, sym, ap, _∙_, subst}
+use mathlib.Core.Bool.{Bool, true, false, cond}
+use mathlib.Core.Path.{_≡_, refl, sym, ap, _∙_, subst}
 use mathlib.Core.List.{List, [], _∷_, _++_, map}
 use Prim.Native.Nat.{ℕ, _+_, _*_, _≤_, _<_}
 use native.Mathlib.Omega.{arith}
@@ -48,7 +48,7 @@ use Rattle.ruleset.specs.declared.RoomAnswer.the-variants as RoomAnswer
 use Rattle.ruleset.specs.declared.Compiling.{Compiling}
 use Rattle.ruleset.specs.Ends.{lastEnd}
 use Rattle.ruleset.specs.Counted.{nameCount}
-use Rattle.ruleset.specs.Texts.{Fits, OneMore, roomAnswer, codeOf, Grows, WithRule, CompiledRules, Another}
+use Rattle.ruleset.specs.Texts.{Fits, OneMore, roomFor, roomAnswer, codeOf, Grows, WithRule, CompiledRules, Another}
 use Rattle.ruleset.proofs.Numbers.{row-atoms-with, numbers-with}
 use Rattle.ruleset.proofs.Coding.{last-few, coded-with, sets-first, sets-part}
 use Rattle.ruleset.proofs.Counting.{count-few, names-counted}
@@ -190,19 +190,16 @@ module _ (text : List ℕ) (rule : Rule) (k : Known) (kept code : List ℕ) (fro
         enough-is : r .enough ≡ leb (length (differentAtoms every)) 16
         enough-is = said .0 ∙ ap (λ (n : ℕ). leb n 16) (ap length (atoms-after rules f) ∙ atoms-count every)
 
-        answer-for : roomAnswer (gathered text (namesOf rules) .answer) (length (differentAtoms every)) ≡ cond (r .enough) RoomAnswer.Room RoomAnswer.ManyAtoms
+        answer-for : roomAnswer (gathered text (namesOf rules) .answer) (length (differentAtoms every)) ≡ roomFor (r .enough)
         answer-for = ap₃ enough-too enough-is
           where
             ap₃ : gathered text (namesOf rules) .answer ≡ NamesAnswer.Enough → r .enough ≡ leb (length (differentAtoms every)) 16
-                → roomAnswer (gathered text (namesOf rules) .answer) (length (differentAtoms every)) ≡ cond (r .enough) RoomAnswer.Room RoomAnswer.ManyAtoms
+                → roomAnswer (gathered text (namesOf rules) .answer) (length (differentAtoms every)) ≡ roomFor (r .enough)
             ap₃ p q = ap (λ (a : _). roomAnswer a (length (differentAtoms every))) p ∙ ap (λ (b : _). cond b RoomAnswer.Room RoomAnswer.ManyAtoms) (sym q)
 
-        -- the seventeenth different atom
-        pub too-many : r .enough ≡ false → RoomAnswer.ManyAtoms ≡ roomAnswer (gathered text (namesOf rules) .answer) (length (differentAtoms every))
-        too-many e = sym (answer-for ∙ ap (λ (b : _). cond b RoomAnswer.Room RoomAnswer.ManyAtoms) e)
-
-        pub room-for : r .enough ≡ true → RoomAnswer.Room ≡ roomAnswer (gathered text (namesOf rules) .answer) (length (differentAtoms every))
-        room-for e = sym (answer-for ∙ ap (λ (b : _). cond b RoomAnswer.Room RoomAnswer.ManyAtoms) e)
+        -- there is room, or it is the seventeenth different atom
+        pub answer-now : roomFor (r .enough) ≡ roomAnswer (gathered text (namesOf rules) .answer) (length (differentAtoms every))
+        answer-now = sym answer-for
 
         module _ (yes : r .enough ≡ true) where
           result : Result f (numberOf every) (rowAtoms rules) (k .atoms) code from r keptOut out
@@ -240,6 +237,11 @@ module _ (text : List ℕ) (rule : Rule) (k : Known) (kept code : List ℕ) (fro
                 ends = result .ends ∙ ap (λ (l : List ℕ). from + length l) (code-after rules f);
                 wrote = result .wrote ∙ ap (sets code from) (code-after rules f);
               }
+
+-- where the answer is that there is room, the atoms were enough
+pub room-enough : (b : Bool) → roomFor b ≡ RoomAnswer.Room → b ≡ true
+room-enough true e = refl
+room-enough false e = absurd (let z : _≡_ {A = ℕ} 0 1 = cc in omega arith)
 
 -- ---- a text behind those that are compiled
 

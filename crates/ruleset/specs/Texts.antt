@@ -1,6 +1,6 @@
 -- For proofs: the contracts of functions that only our own crates call: what is known and what is compiled of a list of rules, what one rule
 -- more is asked and gives, and what the compiled rules answer. Assumes nothing.
-use mathlib.Core.Bool.{cond}
+use mathlib.Core.Bool.{Bool, cond}
 use mathlib.Core.Path.{_≡_}
 use mathlib.Core.List.{List, [], _∷_, _++_, map}
 use Prim.Native.Nat.{ℕ, _+_, _≤_, _<_}
@@ -74,8 +74,11 @@ pub record Ready (text : List ℕ) (rule : Rule) (k : Known) (kept code : List �
   pub one-more : OneMore text rule k kept code from rules formula
 
 -- refusal 7, and then 8: "at the seventeenth different atom"
+abbrev pub roomFor : Bool → RoomAnswer
+roomFor enough = cond enough RoomAnswer.Room RoomAnswer.ManyAtoms
+
 abbrev pub roomAnswer : NamesAnswer → ℕ → RoomAnswer
-roomAnswer NamesAnswer.Enough atoms = cond (leb atoms 16) RoomAnswer.Room RoomAnswer.ManyAtoms
+roomAnswer NamesAnswer.Enough atoms = roomFor (leb atoms 16)
 roomAnswer (NamesAnswer.SeventhName p) atoms = RoomAnswer.SeventhName p
 
 -- the code of the rule put last

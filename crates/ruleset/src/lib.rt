@@ -11,7 +11,7 @@ ghost use Rattle.search.specs.Compiled.{limit};
 ghost use Rattle.evalset.specs.Most.{most};
 ghost use Rattle.ruleset.specs.Ends.{lastEnd};
 ghost use Rattle.ruleset.specs.Counted.{nameCount};
-ghost use Rattle.ruleset.specs.Texts.{NothingKnown, Ready, WithRule, NothingCompiled, Compilable, WithText, Whole, FirstRowIs, RowPlanIs, JudgedIs};
+ghost use Rattle.ruleset.specs.Texts.{NothingKnown, roomFor, Ready, WithRule, NothingCompiled, Compilable, WithText, Whole, FirstRowIs, RowPlanIs, JudgedIs};
 use compile::Atoms;
 use judging::Judged;
 use names::Names;
@@ -35,7 +35,8 @@ pub enum RoomAnswer {
     ManyAtoms,
 }
 
-// What is known with a rule put last, where its code ends, and whether there is room for it; where there is none, what was known before.
+// What is known with a rule put last, where its code ends, and whether there is room for it; where there is none, nothing is said of
+// the rest.
 pub struct Grown {
     pub known: Known,
     pub end: usize,
@@ -95,6 +96,17 @@ fn last_end(ends: [usize; 16], count: usize) -> usize
     ends[count - 1]
 }
 
+// Whether there is room for a rule's atoms, which were enough or not.
+fn room(enough: bool) -> RoomAnswer
+    ensures { λ r. ⌜ r ≡ roomFor enough ⌝ }
+{
+    if enough {
+        RoomAnswer::Room
+    } else {
+        RoomAnswer::ManyAtoms
+    }
+}
+
 // The rule that was read from this text behind those that are known, its code from a place on; or why there is no room for it.
 pub fn with_rule(
     text: &[u8],
@@ -125,17 +137,10 @@ pub fn with_rule(
     let used = names_in(&order[..len]);
     let first = known.atoms;
     let compiled = compile::compile_rule(&order[..len], &numbers[..used], first, kept, code, from);
-    if !compiled.enough {
-        let answer = RoomAnswer::ManyAtoms;
-        return Grown {
-            known,
-            end: from,
-            answer,
-        };
-    }
     let mut atoms = compiled.atoms;
     atoms.chart.names = names.count;
     let count = known.count + 1;
+    let answer = room(compiled.enough);
     Grown {
         known: Known {
             names,
@@ -143,7 +148,7 @@ pub fn with_rule(
             count,
         },
         end: compiled.end,
-        answer: RoomAnswer::Room,
+        answer,
     }
 }
 

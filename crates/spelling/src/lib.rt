@@ -88,18 +88,25 @@ fn matches(kept: &[u8; 2048], number: usize, row: &[u8; 256], len: usize, second
     false
 }
 
+// A byte as a number of symbols.
+fn wide(n: u8) -> usize
+    ensures { λ r. ⌜ r ≡ n ⌝ }
+{
+    n as usize
+}
+
 // The number of the atom with this row: the place of the first that is the same; how many there are where none is.
 pub fn number_of(
     kept: &[u8; 2048],
-    lens: [usize; 16],
+    lens: &[u8; 16],
     contacts: [bool; 16],
     many: usize,
     row: &[u8; 256],
     len: usize,
     contact: bool,
 ) -> usize
-    requires { ⌜ Compares (now kept) lens contacts many (now row) len contact ⌝ }
-    ensures { λ r. ⌜ Numbers (now (kept .entry)) lens contacts many (now (row .entry)) len contact r ⌝ }
+    requires { ⌜ Compares (now kept) (now lens) contacts many (now row) len contact ⌝ }
+    ensures { λ r. ⌜ Numbers (now (kept .entry)) (now (lens .entry)) contacts many (now (row .entry)) len contact r ⌝ }
 {
     // Only a contact's terms may be exchanged: of another atom no symbol is passed in search of the second.
     let passed = if contact { len } else { 0 };
@@ -108,7 +115,7 @@ pub fn number_of(
     while j < many {
         let here = j;
         j += 1;
-        if lens[here] != len {
+        if wide(lens[here]) != len {
             continue;
         }
         if contacts[here] != contact {

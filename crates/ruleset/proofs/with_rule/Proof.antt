@@ -1,14 +1,13 @@
 -- `ruleset::with_rule` meets its contract: the rule that was read is compiled behind the rules before it, and so all rules are known
 -- (Adding.antt). Assumes nothing.
-use mathlib.Core.Path.{_≡_, sym}
+use mathlib.Core.Path.{_≡_, sym, _∙_}
 use Prim.Native.Nat.{ℕ, _≤_}
 use native.Mathlib.Omega.{arith}
 use lib.ListN.{length, length-map}
 use lib.Seq.{length-take-le}
 use borrow.Author.Needs.{needs}
-use borrow.Author.Tests.{not-true, not-false}
 use Rattle.ruleset.specs.Texts.{WithRule}
-use Rattle.ruleset.proofs.Adding.{gather-asked, seventh, rule-few, used-few, compile-asked, too-many, room-for, grows-now}
+use Rattle.ruleset.proofs.Adding.{gather-asked, seventh, rule-few, used-few, compile-asked, answer-now, grows-now, room-enough}
 use Rattle.ruleset.proofs.with_rule.Statement.{statement}
 use Rattle.ruleset.proofs.with_rule.Tie as tie
 
@@ -72,35 +71,27 @@ compile-rule-requires c κs =
     compile-asked _ _ _ _ _ _ _ _ (start .pre .one-more) (order-long start) _ (c .before .before .before .before .before .before .before .before .before .before .before .before .gather .ensures) (c .before .before .before .before .before .before .before .before .before .before .enum-told .given .1)
     _ (c .before .before .before .before .before .names-in .ensures)
 
+add-count : tie.Need-add-count
+add-count c =
+    let m = c .before .before .before .before .before .before .before .before .before .before .before .before .before .before .before .before .before .before .before .before .before .before .pre .one-more in
+    omega (arith, m .so-far .counted, m .few)
+
+room-requires : tie.Need-room-requires
+room-requires c κs = search needs
+
 same-length : tie.Need-same-length
 same-length c = search needs
 
 returns-2 : tie.Need-returns-2
 unfolding WithRule
-returns-2 c = λ rules f m. (
-  too-many _ _ _ _ _ _ rules f m (order-long (c .before .before .before .before .before .before .before .before .before .before .before .before .before .before .before .before .before .before .before .before .before)) _ (c .before .before .before .before .before .before .before .before .before .before .before .before .before .before .before .before .before .gather .ensures) (c .before .before .before .before .before .before .before .before .before .before .before .before .before .before .before .enum-told .given .1)
-      _ (c .before .before .before .before .before .before .before .before .before .before .names-in .ensures) _ _ _ (c .before .before .before .before .compile-rule .ensures .0) (not-true _ (c .if1 .taken)),
-  λ e. absurd (let z : _≡_ {A = ℕ} 0 1 = cc in omega arith),
-)
-
-add-count : tie.Need-add-count
-add-count c =
-    let m = c .before .before .before .before .before .before .before .before .before .before .before .before .before .before .before .before .before .before .before .before .before .before .before .before .pre .one-more in
-    omega (arith, m .so-far .counted, m .few)
-
-same-length-2 : tie.Need-same-length-2
-same-length-2 c = search needs
-
-returns-3 : tie.Need-returns-3
-unfolding WithRule
-returns-3 c = λ rules f m.
-    let long = order-long (c .before .before .before .before .before .before .before .before .before .before .before .before .before .before .before .before .before .before .before .before .before .before .before .before) in
-    let gathered = c .before .before .before .before .before .before .before .before .before .before .before .before .before .before .before .before .before .before .before .before .gather .ensures in
-    let told = c .before .before .before .before .before .before .before .before .before .before .before .before .before .before .before .before .before .before .enum-told .given .1 in
-    let counted = c .before .before .before .before .before .before .before .before .before .before .before .before .before .names-in .ensures in
-    let compiled = c .before .before .before .before .before .before .before .compile-rule .ensures .0 in (
-      room-for _ _ _ _ _ _ rules f m long _ gathered told _ counted _ _ _ compiled (not-false _ (c .before .before .before .if1 .left)),
-      λ e. grows-now _ _ _ _ _ _ rules f m long _ gathered told _ counted _ _ _ compiled (not-false _ (c .before .before .before .if1 .left)) _,
+returns-2 c = λ rules f m.
+    let long = order-long (c .before .before .before .before .before .before .before .before .before .before .before .before .before .before .before .before .before .before .before .before .before .before .before) in
+    let gathered = c .before .before .before .before .before .before .before .before .before .before .before .before .before .before .before .before .before .before .before .gather .ensures in
+    let told = c .before .before .before .before .before .before .before .before .before .before .before .before .before .before .before .before .before .enum-told .given .1 in
+    let counted = c .before .before .before .before .before .before .before .before .before .before .before .before .names-in .ensures in
+    let compiled = c .before .before .before .before .before .before .compile-rule .ensures .0 in (
+      c .room .ensures ∙ answer-now _ _ _ _ _ _ rules f m long _ gathered told _ counted _ _ _ compiled,
+      λ e. grows-now _ _ _ _ _ _ rules f m long _ gathered told _ counted _ _ _ compiled (room-enough _ (sym (c .room .ensures) ∙ e)) _,
     )
 
 pub with-rule-spec : {M : Type 1} → statement M
@@ -119,8 +110,7 @@ with-rule-spec =
     array-share-prefix-numbers
     slice-aggregate-compile-rule-2
     compile-rule-requires
-    same-length
-    returns-2
     add-count
-    same-length-2
-    returns-3)
+    room-requires
+    same-length
+    returns-2)

@@ -5,6 +5,7 @@ use mathlib.Core.Path.{_≡_, sym, ap, subst, _∙_}
 use mathlib.Core.Logic.{⊎-elim}
 use Prim.Native.Nat.{ℕ, _-_, _≤_}
 use native.Mathlib.Omega.{arith}
+use borrow.Author.Needs.{needs}
 use borrow.Author.Tests.{not-true, not-false}
 use Rattle.lists.proofs.Truth.{clash}
 use Rattle.spelling.specs.Comparing.{Starts}
@@ -13,11 +14,11 @@ use Rattle.spelling.proofs.number_of.Statement.{statement}
 use Rattle.spelling.proofs.number_of.Tie as tie
 
 abbrev Inv-loop : tie.InvT-loop
-Inv-loop kept many row len contact lens contacts passed second j₀ j =
+Inv-loop kept lens many row len contact contacts passed second j₀ j =
     (j ≤ many) × (second ≤ len) × Starts row (cond contact len 0) second × Passed kept lens contacts many row len contact j
 
 abbrev μ-loop : tie.MeasureT-loop
-μ-loop kept many row len contact lens contacts passed second j₀ j = many - j
+μ-loop kept lens many row len contact contacts passed second j₀ j = many - j
 
 -- only of a contact symbols are passed in search of the second term
 passed-is : (c : tie.Joined1 Inv-loop μ-loop) → c .if1 .passed ≡ cond (c .before .args .contact) (c .before .args .len) 0
@@ -41,19 +42,19 @@ loop-holds c =
 add-j : tie.Need-add-j Inv-loop μ-loop
 add-j c = omega arith
 
-mul-if2 : tie.Need-mul-if2 Inv-loop μ-loop
-mul-if2 c = omega arith
+element-copy-out-wide : tie.Need-element-copy-out-wide Inv-loop μ-loop
+element-copy-out-wide c = omega arith
 
-array-read-if2 : tie.Need-array-read-if2 Inv-loop μ-loop
-array-read-if2 c = omega arith
+wide-requires : tie.Need-wide-requires Inv-loop μ-loop
+wide-requires c κs = search needs
 
 loop-less : tie.Need-loop-less Inv-loop μ-loop
 loop-less c = omega arith
 
 loop-again : tie.Need-loop-again Inv-loop μ-loop
 loop-again c =
-    let k = c .before .before .loop in
-    (omega arith, k .inv .1, k .inv .2, other-length _ _ _ _ _ _ _ (k .j) (c .before .loop-test .taken) (k .inv .3) (c .if2 .taken))
+    let k = c .before .before .before .before .loop in
+    (omega arith, k .inv .1, k .inv .2, other-length _ _ _ _ _ _ _ (k .j) (c .before .before .before .loop-test .taken) (k .inv .3) (λ e. c .if2 .taken (c .before .wide .ensures ∙ e)))
 
 array-read-if3 : tie.Need-array-read-if3 Inv-loop μ-loop
 array-read-if3 c = omega arith
@@ -63,16 +64,16 @@ loop-less-2 c = omega arith
 
 loop-again-2 : tie.Need-loop-again-2 Inv-loop μ-loop
 loop-again-2 c =
-    let k = c .before .before .before .loop in
-    (omega arith, k .inv .1, k .inv .2, other-sign _ _ _ _ _ _ _ (k .j) (c .before .before .loop-test .taken) (k .inv .3) (not-true _ (c .if3 .taken)))
+    let k = c .before .before .before .before .before .loop in
+    (omega arith, k .inv .1, k .inv .2, other-sign _ _ _ _ _ _ _ (k .j) (c .before .before .before .before .loop-test .taken) (k .inv .3) (not-true _ (c .if3 .taken)))
 
 matches-requires : tie.Need-matches-requires Inv-loop μ-loop
-matches-requires c κs = (omega arith, c .before .before .before .loop .inv .1, omega (arith, c .before .before .before .before .before .before .pre .spells .short))
+matches-requires c κs = (omega arith, c .before .before .before .before .before .loop .inv .1, omega (arith, c .before .before .before .before .before .before .before .before .pre .spells .short))
 
 returns : tie.Need-returns Inv-loop μ-loop
 returns c =
-    let k = c .before .before .before .before .before .loop in
-    matched _ _ _ _ _ _ _ (k .j) (c .before .before .before .before .loop-test .taken) (k .inv .3) _ (k .inv .2) (c .before .before .before .if2 .left)
+    let k = c .before .before .before .before .before .before .before .loop in
+    matched _ _ _ _ _ _ _ (k .j) (c .before .before .before .before .before .before .loop-test .taken) (k .inv .3) _ (k .inv .2) (sym (c .before .before .before .before .wide .ensures) ∙ c .before .before .before .if2 .left)
     (not-false _ (c .before .before .if3 .left)) (c .before .matches .ensures .yes-is (c .if4 .taken))
 
 loop-less-3 : tie.Need-loop-less-3 Inv-loop μ-loop
@@ -80,11 +81,11 @@ loop-less-3 c = omega arith
 
 loop-again-3 : tie.Need-loop-again-3 Inv-loop μ-loop
 loop-again-3 c =
-    let k = c .before .before .before .before .before .loop in (
+    let k = c .before .before .before .before .before .before .before .loop in (
       omega arith,
       k .inv .1,
       k .inv .2,
-      unmatched _ _ _ _ _ _ _ (k .j) (c .before .before .before .before .loop-test .taken) (k .inv .3) _ (k .inv .2) (c .before .before .before .if2 .left)
+      unmatched _ _ _ _ _ _ _ (k .j) (c .before .before .before .before .before .before .loop-test .taken) (k .inv .3) _ (k .inv .2) (sym (c .before .before .before .before .wide .ensures) ∙ c .before .before .before .if2 .left)
           (λ m. clash (c .before .matches .ensures .is-yes m) (c .if4 .left)),
     )
 
@@ -100,8 +101,8 @@ number-of-spec =
     second-start-requires
     loop-holds
     add-j
-    mul-if2
-    array-read-if2
+    element-copy-out-wide
+    wide-requires
     loop-less
     loop-again
     array-read-if3
