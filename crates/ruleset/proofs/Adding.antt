@@ -3,7 +3,7 @@
 use mathlib.Core.Bool.{Bool, true, false, cond}
 use mathlib.Core.Path.{_≡_, refl, sym, ap, _∙_, subst}
 use mathlib.Core.List.{List, [], _∷_, _++_, map}
-use Prim.Native.Nat.{ℕ, _+_, _*_, _≤_, _<_}
+use Prim.Native.Nat.{ℕ, _+_, _≤_, _<_}
 use native.Mathlib.Omega.{arith}
 use native.Mathlib.Numerals.{add-one}
 use lib.Dec.{leb}
@@ -256,11 +256,12 @@ module _ (text : List ℕ) (c : Compiling) (kept code : List ℕ) (rules : List 
   pub place-free : c .known .count < 16
   place-free = omega (arith, few-before, a .so-far .known .counted)
 
-  start-few : start ≤ 256 * 15
+  start-few : start + 256 ≤ length code
   start-few =
       omega (
         arith,
-        few-before,
+        a .code-fits,
+        length-append rules (f ∷ []),
         numbers-count rules,
         last-few (c .known .atoms .chart .atoms) code 0 (take (c .known .count) (c .ends)) (numberedAtoms rules) (a .so-far .coded),
       )
@@ -273,7 +274,7 @@ module _ (text : List ℕ) (c : Compiling) (kept code : List ℕ) (rules : List 
           read = read;
           so-far = a .so-far .known;
           few = few-before;
-          fits = omega (arith, starts, start-few, a .so-far .whole);
+          fits = omega (arith, starts, start-few);
         }
 
     module _ (whole : length (rule .order) ≡ 256) (r : Grown) (keptOut out : List ℕ) (says : WithRule text rule (c .known) kept code from r keptOut out)
@@ -296,7 +297,10 @@ module _ (text : List ℕ) (c : Compiling) (kept code : List ℕ) (rules : List 
       ws-few = code-few text rule (c .known) kept code from rules f one-more whole
 
       ws-fits : from + length ws ≤ length code
-      ws-fits = omega (arith, starts, start-few, ws-few, a .so-far .whole)
+      ws-fits = omega (arith, starts, start-few, ws-few)
+
+      pub length-now : length out ≡ length code
+      length-now = ap length (result-now .wrote) ∙ length-sets code from ws
 
       atoms-now : r .known .atoms .chart .atoms ≡ length (differentAtoms (all rules f))
       atoms-now = result-now .known .compiled .counted ∙ atoms-count (all rules f)
@@ -337,7 +341,7 @@ module _ (text : List ℕ) (c : Compiling) (kept code : List ℕ) (rules : List 
       coded-now =
           subst (λ (es : List ℕ). Coded (r .known .atoms .chart .atoms) out es (numberedAtoms (all rules f))) (sym ends-now)
           (subst (Coded (r .known .atoms .chart .atoms) out (take (c .known .count) (c .ends) ++ r .end ∷ [])) (sym (numbered-atoms-with rules f))
-          (coded-with (c .known .atoms .chart .atoms) (r .known .atoms .chart .atoms) code out atoms-grow (ap length (result-now .wrote) ∙ length-sets code from ws)
+          (coded-with (c .known .atoms .chart .atoms) (r .known .atoms .chart .atoms) code out atoms-grow length-now
           0 (take (c .known .count) (c .ends)) (numberedAtoms rules) (r .end) (last rules f) (a .so-far .coded)
           (ap (λ (n : ℕ). take n out) (sym starts) ∙ ap (take from) (result-now .wrote) ∙ sets-first from ws code ws-fits ∙ ap (λ (n : ℕ). take n code) starts) (subst (λ (n : ℕ). PartIs (r .known .atoms .chart .atoms) out n (r .end) (last rules f)) starts part-now)))
 
@@ -345,6 +349,5 @@ module _ (text : List ℕ) (c : Compiling) (kept code : List ℕ) (rules : List 
       compiled-now =
           record {
             known = result-now .known;
-            whole = ap length (result-now .wrote) ∙ length-sets code from ws ∙ a .so-far .whole;
             coded = coded-now;
           }

@@ -4,9 +4,9 @@
 use mathlib.Core.Path.{_≡_, sym, ap, subst, _∙_}
 use mathlib.Core.Logic.{⊎-elim}
 use mathlib.Core.List.{List, [], _∷_, _++_, map, map-append}
-use Prim.Native.Nat.{ℕ, _≤_}
+use Prim.Native.Nat.{ℕ, _*_, _≤_}
 use native.Mathlib.Omega.{arith}
-use lib.ListN.{length, take}
+use lib.ListN.{length, take, length-map}
 use Rattle.formula.specs.Formula.{Formula, Name}
 use Rattle.syntax.specs.RuleText.{IsRule}
 use Rattle.syntax.specs.Rule.{meaningOf}
@@ -46,16 +46,17 @@ use Rattle.ruleset.proofs.Planning.{rowArrays, plan-stored}
 -- ---- for a caller of `with_text`: the texts
 
 -- no text at first
-pub no-texts : (c : Compiling) (kept code : List ℕ) → NothingCompiled c → length kept ≡ 2048 → length code ≡ 4096 → CompiledTexts [] c kept code
+pub no-texts : (c : Compiling) (kept code : List ℕ) → NothingCompiled c → length kept ≡ 2048 → CompiledTexts [] c kept code
 unfolding NothingCompiled
-no-texts c kept code n w l = record { are-rules = λ s i. none-in i; rules-compiled = n kept code w l }
+no-texts c kept code n w = record { are-rules = λ s i. none-in i; rules-compiled = n kept code w }
 
-module _ (texts : List (List ℕ)) (s : List ℕ) (c : Compiling) (kept code : List ℕ) (so-far : CompiledTexts texts c kept code) (rule : IsRule s (meaningOf s)) where
+module _ (texts : List (List ℕ)) (s : List ℕ) (c : Compiling) (kept code : List ℕ) (so-far : CompiledTexts texts c kept code) (rule : IsRule s (meaningOf s))
+    (fits : 256 * length (texts ++ s ∷ []) ≤ length code) where
   meanings : map meaningOf (texts ++ s ∷ []) ≡ map meaningOf texts ++ meaningOf s ∷ []
   meanings = map-append meaningOf texts (s ∷ [])
 
   another : Fits (map meaningOf (texts ++ s ∷ [])) → Another s c kept code (map meaningOf texts) (meaningOf s)
-  another room = record { is-rule = rule; so-far = so-far .rules-compiled; room = subst Fits meanings room }
+  another room = record { is-rule = rule; so-far = so-far .rules-compiled; room = subst Fits meanings room; code-fits = omega (arith, fits, ap length meanings, length-map (texts ++ s ∷ []) meaningOf) }
 
   -- a text that is a rule may be put last, if there is room for it
   pub may-add : Fits (map meaningOf (texts ++ s ∷ [])) → Compilable s c kept code

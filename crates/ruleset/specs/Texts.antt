@@ -3,7 +3,7 @@
 use mathlib.Core.Bool.{Bool, cond}
 use mathlib.Core.Path.{_≡_}
 use mathlib.Core.List.{List, [], _∷_, _++_, map}
-use Prim.Native.Nat.{ℕ, _+_, _≤_, _<_}
+use Prim.Native.Nat.{ℕ, _+_, _*_, _≤_, _<_}
 use lib.Dec.{leb}
 use lib.ListN.{length, take}
 use lib.Seq.{sets}
@@ -103,7 +103,6 @@ WithRule text rule k kept code from r keptOut out =
 -- the rules are known, and compiled: their code with numbers for atoms
 pub record CompiledRules (rules : List (Formula Name)) (c : Compiling) (kept code : List ℕ) : Type 0 where
   pub known : KnownRules rules (c .known) kept
-  pub whole : length code ≡ 4096
   pub coded : Coded (c .known .atoms .chart .atoms) code (take (c .known .count) (c .ends)) (numberedAtoms rules)
 
 -- the texts are rules, and these are compiled
@@ -111,11 +110,12 @@ pub record CompiledTexts (texts : List (List ℕ)) (c : Compiling) (kept code : 
   pub are-rules : (s : List ℕ) → In s texts → IsRule s (meaningOf s)
   pub rules-compiled : CompiledRules (map meaningOf texts) c kept code
 
--- the text is the rule f, the rules before it are compiled, and there is room for it
+-- the text is the rule f, the rules before it are compiled, there is room for it, and for 256 bytes of code a rule
 pub record Another (text : List ℕ) (c : Compiling) (kept code : List ℕ) (rules : List (Formula Name)) (f : Formula Name) : Type 0 where
   pub is-rule : IsRule text f
   pub so-far : CompiledRules rules c kept code
   pub room : Fits (rules ++ f ∷ [])
+  pub code-fits : 256 * length (rules ++ f ∷ []) ≤ length code
 
 pub record Compilable (text : List ℕ) (c : Compiling) (kept code : List ℕ) : Type 0 where
   pub rules : List (Formula Name)
@@ -129,7 +129,7 @@ WithText text c kept code r keptOut out =
 
 -- nothing is compiled, whatever the bytes are
 unfoldable pub NothingCompiled : Compiling → Type 0
-NothingCompiled r = (kept code : List ℕ) → length kept ≡ 2048 → length code ≡ 4096 → CompiledRules [] r kept code
+NothingCompiled r = (kept code : List ℕ) → length kept ≡ 2048 → CompiledRules [] r kept code
 
 -- some rules are compiled
 pub record Whole (c : Compiling) (code : List ℕ) : Type 0 where

@@ -6,7 +6,7 @@
 // (proofs/Claims.antt).
 ghost use mathlib.Core.Path.{_≡_};
 ghost use Prim.Native.Nat.{_≤_};
-ghost use lib.ListN.{take};
+ghost use lib.ListN.{length, take};
 ghost use Rattle.search.specs.Compiled.{limit};
 ghost use Rattle.evalset.specs.Most.{most};
 ghost use Rattle.ruleset.specs.Ends.{lastEnd};
@@ -153,14 +153,9 @@ pub fn with_rule(
 }
 
 // The rule of this text, for which there is room, behind those that are compiled.
-pub fn with_text(
-    text: &[u8],
-    c: Compiling,
-    kept: &mut [u8; 2048],
-    code: &mut [u8; 4096],
-) -> Compiling
+pub fn with_text(text: &[u8], c: Compiling, kept: &mut [u8; 2048], code: &mut [u8]) -> Compiling
     requires { ⌜ Compilable (now text) c (now kept) (now code) ⌝ }
-    ensures { λ r. ⌜ WithText (now (text .entry)) c (now (kept .entry)) (now (code .entry)) r (now (kept .exit)) (now (code .exit)) ⌝ }
+    ensures { λ r. ⌜ WithText (now (text .entry)) c (now (kept .entry)) (now (code .entry)) r (now (kept .exit)) (now (code .exit)) × (length (now (code .exit)) ≡ length (now (code .entry))) ⌝ }
 {
     let rule = syntax::read_rule(text);
     let before = c.known;

@@ -7,7 +7,7 @@ use Rattle.ruleset.specs.declared.Known.{Known}
 use Rattle.ruleset.specs.declared.RoomAnswer.{RoomAnswer}
 use Rattle.ruleset.specs.declared.RoomAnswer.the-variants as RoomAnswer
 use Rattle.ruleset.specs.declared.Compiling.{Compiling}
-use Rattle.ruleset.specs.Texts.{KnownRules, CompiledTexts}
+use Rattle.ruleset.specs.Texts.{KnownRules, CompiledTexts, FirstRowIs}
 use Rattle.judging.specs.declared.Judged.{Judged}
 use Rattle.judging.specs.declared.Judged.the-variants as Judged
 use Rattle.table.specs.declared.JudgeAnswer.{JudgeAnswer}
@@ -18,6 +18,7 @@ use Rattle.table.specs.declared.AddAnswer.the-variants as AddAnswer
 use Rattle.table.specs.declared.LoadAnswer.{LoadAnswer}
 use Rattle.table.specs.declared.LoadResult.{LoadResult}
 use Rattle.table.specs.declared.Tried.{Tried}
+use Rattle.table.specs.declared.Searched.{Searched}
 use Rattle.table.specs.Sheet.{Text}
 use Rattle.table.specs.Calls.{formulasOf, judgeAdd}
 use Rattle.table.specs.Rules.{CanStand}
@@ -48,6 +49,12 @@ Tries k s kept r keptOut =
 pub record TextsCompiled (texts : List Text) (c : Compiling) (code : List ℕ) : Type 0 where
   pub kept : List ℕ
   pub compiled : CompiledTexts texts c kept code
+
+-- and their first row is found
+pub record TextsSearched (texts : List Text) (r : Searched) : Type 0 where
+  pub code : List ℕ
+  pub compiled : TextsCompiled texts (r .compiled) code
+  pub first : FirstRowIs (r .compiled) code (r .found)
 
 abbrev pub loadResult : Table → LoadAnswer → LoadResult
 loadResult t a = record { table = t; answer = a }

@@ -6,7 +6,7 @@
 // is in proofs/Claims.antt.
 ghost use mathlib.Core.Path.{_≡_};
 ghost use mathlib.Core.List.{[], _∷_, _++_};
-ghost use Prim.Native.Nat.{_+_, _-_, _≤_, _<_};
+ghost use Prim.Native.Nat.{_+_, _-_, _*_, _≤_, _<_};
 ghost use lib.ListN.{length, take, drop};
 ghost use Rattle.names.specs.Gather.{arraysOf};
 ghost use Rattle.table.specs.Store.{keptLine, tableOf, rulesOf};
@@ -14,7 +14,7 @@ ghost use Rattle.table.specs.Calls.{namesIn, readAnswer, linesFrom, From
 ghost use Rattle.table.specs.Sheet.{blankByte, blankLine, linesOf};
 ghost use Rattle.table.specs.Asking.{Asks, Judges};
 ghost use Rattle.table.specs.Printing.{Prints};
-ghost use Rattle.table.specs.Steps.{KnownTexts, Knowing, roomAdd, Tries, TextsCompiled, loadResult, judgedAnswer};
+ghost use Rattle.table.specs.Steps.{KnownTexts, Knowing, roomAdd, Tries, TextsCompiled, TextsSearched, loadResult, judgedAnswer};
 ghost use Rattle.table.specs.Numbers.{addOutcome, withdrawOutcome, onLine, CanCome, loadOutcome, askOutcome, judgeOutcome, printOutcome};
 use judging::Judged;
 use lexer::Class;
@@ -32,6 +32,9 @@ use syntax::RuleAnswer;
 const RULES: usize = 16;
 
 const FILE: usize = 8192;
+
+// How many rules the smaller room for code takes.
+const HALF: usize = 8;
 
 // The byte at which a file is split.
 const LINE_END: u8 = 10;
@@ -155,6 +158,12 @@ pub enum Outcome {
 struct Tried {
     known: Known,
     answer: AddAnswer,
+}
+
+// Rules compiled, and their first row.
+struct Searched {
+    compiled: Compiling,
+    found: RowAnswer,
 }
 
 // A line with nothing in it.
@@ -301,6 +310,13 @@ fn kept(table: Table, answer: LoadAnswer) -> LoadResult
     ensures { λ r. ⌜ r ≡ loadResult table answer ⌝ }
 {
     LoadResult { table, answer }
+}
+
+// Room for the code of eight rules, which most tables do not exceed: to clear more costs more than to compile a small sheet.
+fn half_code() -> [u8; 2048]
+    ensures { λ r. ⌜ length r ≡ 2048 ⌝ }
+{
+    [0u8; 2048]
 }
 
 // Room for the code of sixteen rules.
@@ -557,9 +573,9 @@ impl Table {
     }
 
     // The first so many of the standing rules compiled, text by text.
-    fn compiled(self, rules: usize, code: &mut [u8; 4096]) -> Compiling
-        requires { ⌜ FromUs self × (rules ≤ self .count) × (length (now code) ≡ 4096) ⌝ }
-        ensures { λ r. ⌜ TextsCompiled (take rules (rulesOf self)) r (now (code .exit)) ⌝ }
+    fn compiled(self, rules: usize, code: &mut [u8]) -> Compiling
+        requires { ⌜ FromUs self × (rules ≤ self .count) × (256 * rules ≤ length (now code)) ⌝ }
+        ensures { λ r. ⌜ TextsCompiled (take rules (rulesOf self)) r (now (code .exit)) × (length (now (code .exit)) ≡ length (now (code .entry))) ⌝ }
     {
         let mut c = ruleset::nothing_compiled();
         let mut kept = no_symbols();
@@ -572,6 +588,23 @@ impl Table {
             i += 1;
         }
         c
+    }
+
+    // The first so many of the standing rules compiled, and their first row.
+    fn searched(self, rules: usize) -> Searched
+        requires { ⌜ FromUs self × (rules ≤ self .count) ⌝ }
+        ensures { λ r. ⌜ TextsSearched (take rules (rulesOf self)) r ⌝ }
+    {
+        if rules <= HALF {
+            let mut code = half_code();
+            let compiled = self.compiled(rules, &mut code);
+            let found = ruleset::row_of(compiled, &code);
+            return Searched { compiled, found };
+        }
+        let mut code = no_code();
+        let compiled = self.compiled(rules, &mut code);
+        let found = ruleset::row_of(compiled, &code);
+        Searched { compiled, found }
     }
 
     // The plan of the standing rules, its words written over the first ones of the buffer, or that no floor meets these rules. Where
@@ -588,9 +621,9 @@ impl Table {
                 answer: AskAnswer::NoRule,
             };
         }
-        let mut code = no_code();
-        let c = self.compiled(standing, &mut code);
-        let found = ruleset::row_of(c, &code);
+        let searched = self.searched(standing);
+        let c = searched.compiled;
+        let found = searched.found;
         let RowAnswer::At(row) = found else {
             return AskResult {
                 table: self,

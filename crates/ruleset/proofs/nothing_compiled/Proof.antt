@@ -10,9 +10,8 @@ nothing-known-requires c κs = search needs
 
 returns : tie.Need-returns
 unfolding NothingCompiled NothingKnown
-returns c = λ kept code w l. record {
+returns c = λ kept code w. record {
   known = c .nothing-known .ensures kept w;
-  whole = l;
   coded = coded-none _ code _ _ (c .nothing-known .ensures kept w .counted);
 }
 
