@@ -1,7 +1,10 @@
 pub mod Bits
+pub mod SameFloor
 pub mod Realise
+pub mod Pieces
 pub mod Pairs
 pub mod Fewer
+pub mod Floors
 pub mod Renaming
 pub mod Distinct
 pub mod Same
@@ -10,5 +13,5 @@ pub mod Answer
 pub mod Naming
 pub mod Searching
 pub mod Count
-pub mod SameFloor
 pub mod Claims
+pub mod Examples
