@@ -172,7 +172,7 @@ meets-same F G same rules = SameFloor.meets-same F G same rules
 
 -- and count for the same questions
 pub counts-same : {N : Type 0} (F G : Floor N) → SameFloor.SameFloor F G → (q : Question) → Counts q F → Counts q G
-counts-same F G same q c = Floors.counts-same F G same q c
+counts-same F G same q c = SameFloor.counts-same F G same q c
 
 -- ---- pieces (Pieces)
 

@@ -24,7 +24,6 @@ use Rattle.contact.specs.Row.{Row, Realises, Realisable, is, PartialRow,
 use Rattle.contact.specs.Plan.{at, evaluations, Mark, touching, apart, vacant, inhabited, marksOf, rowMarks, separated, allowed, Linked, start, onward, met, MeetsMarks, IsThePiece, AreGiven, ArePoints}
 use Rattle.contact.specs.Pieces.{wholePiece, pieceMeets, checkPieces, pieceGiven}
 use Rattle.contact.specs.Check.{passes, givenBy, pointsFor}
-use Rattle.contact.proofs.SameFloor.{SameFloor}
 use Rattle.contact.proofs.Pieces.{allowed-in, meets-elim, meets-intro, linked-on, linked-back, piece-elim, piece-own, piece-intro, piece-allowed}
 use Rattle.contact.proofs.Fewer.{met-fewer}
 use Rattle.contact.proofs.Realise.{MarkBelow, RealisesMarks, floorOf, points-own, points-realise, given-ok, some-given, given-meet, evOf, ev-at, ev-allowed, ev-separated, floor-check, touches-elim, marks-below, part-marks, marks-part, extends-self, extends-whole}
@@ -92,6 +91,49 @@ module _ (n : ℕ) (ms : List Mark) where
       unfolding floorOf
       piece-hangs i j hi hj =
           linked-way i hi (linked-on n ms (linked-back n ms ok (linked-point i hi)) (linked-point j hj)) j hj refl
+
+-- ---- from a floor to the check
+
+module _ (n : ℕ) (ms : List Mark) (names : (m : Mark) → In m ms → MarkBelow n m) (F : Floor ℕ) (real : RealisesMarks F ms)
+    (hangs : HangsTogether F) where
+  abbrev ev : ℕ → ℕ
+  ev p = evOf n F p
+
+  ok : (p : ℕ) → p < F .points → allowed n ms (ev p) ≡ true
+  ok p hp = ev-allowed n ms names F real p hp
+
+  -- points in contact, and so all points, have linked evaluations
+  way-linked : {p q : ℕ} → Way F p q → p < F .points → Linked n ms (ev 0) (ev p) → Linked n ms (ev 0) (ev q)
+  way-linked stay hp l = l
+  way-linked (step {p} {q} {r} hq t w) hp l =
+      way-linked w hq (onward l (ok q hq) (ev-separated n ms names F real p q hp hq t))
+
+  ev-piece : (p : ℕ) → p < F .points → In (ev p) (wholePiece n ms (ev 0))
+  ev-piece p hp = piece-intro n ms (ev 0) (ok 0 (F .some)) (way-linked (hangs 0 p (F .some) hp) (F .some) start)
+
+  ev-met : (m : Mark) → In m ms → met ms (wholePiece n ms (ev 0)) m ≡ true
+  ev-met (touching x y) i =
+      let o = names (touching x y) i in
+      let w = touches-elim F x y (real (touching x y) i) in
+      any-intro (λ e. at x e && any (λ f. at y f && not (separated ms e f)) (wholePiece n ms (ev 0))) (ev-piece (w .p) (w .p-lt))
+      (and-intro (ev-at n ms names F real x (w .p) (o .0) ∙ w .p-in)
+      (any-intro (λ f. at y f && not (separated ms (ev (w .p)) f)) (ev-piece (w .q) (w .q-lt))
+      (and-intro (ev-at n ms names F real y (w .q) (o .1) ∙ w .q-in)
+      (ap not (ev-separated n ms names F real (w .p) (w .q) (w .p-lt) (w .q-lt) (w .meet))))))
+  ev-met (apart x y) i = refl
+  ev-met (vacant t) i = refl
+  ev-met (inhabited t) i =
+      let r = any-elim (within F t) (below (F .points)) (not-false _ (real (inhabited t) i)) in
+      let hp : r .0 < F .points = below-elim (F .points) (r .0) (r .1) in
+      any-intro (at t) (ev-piece (r .0) hp) (ev-at n ms names F real t (r .0) (names (inhabited t) i) ∙ r .2)
+
+  floor-pieces : checkPieces n ms ≡ true
+  floor-pieces = meets-intro n ms (ev 0) (ok 0 (F .some)) ev-met
+
+floor-passes : (q : Question) (n : ℕ) (ms : List Mark) → ((m : Mark) → In m ms → MarkBelow n m) → (F : Floor ℕ) → Counts q F
+    → RealisesMarks F ms → passes q n ms ≡ true
+floor-passes plain n ms names F counts real = floor-check n ms names F real
+floor-passes building n ms names F counts real = floor-pieces n ms names F real counts
 
 -- ---- what is given
 
@@ -176,49 +218,6 @@ plan-counts building n ms checked =
     piece-hangs n ms (r .e) (r .ok) (pointsFor building n ms)
     (λ f i. subst (In f) (r .given) (points-elim building n ms f i))
     (λ f i. points-intro building n ms f (subst (In f) (sym (r .given)) i)) _ _
-
--- ---- from a floor to the check
-
-module _ (n : ℕ) (ms : List Mark) (names : (m : Mark) → In m ms → MarkBelow n m) (F : Floor ℕ) (real : RealisesMarks F ms)
-    (hangs : HangsTogether F) where
-  abbrev ev : ℕ → ℕ
-  ev p = evOf n F p
-
-  ok : (p : ℕ) → p < F .points → allowed n ms (ev p) ≡ true
-  ok p hp = ev-allowed n ms names F real p hp
-
-  -- points in contact, and so all points, have linked evaluations
-  way-linked : {p q : ℕ} → Way F p q → p < F .points → Linked n ms (ev 0) (ev p) → Linked n ms (ev 0) (ev q)
-  way-linked stay hp l = l
-  way-linked (step {p} {q} {r} hq t w) hp l =
-      way-linked w hq (onward l (ok q hq) (ev-separated n ms names F real p q hp hq t))
-
-  ev-piece : (p : ℕ) → p < F .points → In (ev p) (wholePiece n ms (ev 0))
-  ev-piece p hp = piece-intro n ms (ev 0) (ok 0 (F .some)) (way-linked (hangs 0 p (F .some) hp) (F .some) start)
-
-  ev-met : (m : Mark) → In m ms → met ms (wholePiece n ms (ev 0)) m ≡ true
-  ev-met (touching x y) i =
-      let o = names (touching x y) i in
-      let w = touches-elim F x y (real (touching x y) i) in
-      any-intro (λ e. at x e && any (λ f. at y f && not (separated ms e f)) (wholePiece n ms (ev 0))) (ev-piece (w .p) (w .p-lt))
-      (and-intro (ev-at n ms names F real x (w .p) (o .0) ∙ w .p-in)
-      (any-intro (λ f. at y f && not (separated ms (ev (w .p)) f)) (ev-piece (w .q) (w .q-lt))
-      (and-intro (ev-at n ms names F real y (w .q) (o .1) ∙ w .q-in)
-      (ap not (ev-separated n ms names F real (w .p) (w .q) (w .p-lt) (w .q-lt) (w .meet))))))
-  ev-met (apart x y) i = refl
-  ev-met (vacant t) i = refl
-  ev-met (inhabited t) i =
-      let r = any-elim (within F t) (below (F .points)) (not-false _ (real (inhabited t) i)) in
-      let hp : r .0 < F .points = below-elim (F .points) (r .0) (r .1) in
-      any-intro (at t) (ev-piece (r .0) hp) (ev-at n ms names F real t (r .0) (names (inhabited t) i) ∙ r .2)
-
-  floor-pieces : checkPieces n ms ≡ true
-  floor-pieces = meets-intro n ms (ev 0) (ok 0 (F .some)) ev-met
-
-floor-passes : (q : Question) (n : ℕ) (ms : List Mark) → ((m : Mark) → In m ms → MarkBelow n m) → (F : Floor ℕ) → Counts q F
-    → RealisesMarks F ms → passes q n ms ≡ true
-floor-passes plain n ms names F counts real = floor-check n ms names F real
-floor-passes building n ms names F counts real = floor-pieces n ms names F real counts
 
 -- ---- the claims
 
@@ -324,19 +323,3 @@ points-exactly q n ms points checked = (λ e. subst (ArePoints q n ms) (sym e) f
         ap (λ (p : ℕ → Bool). keep p (evaluations n))
         (fun-ext (λ e. elem-same e points (pointsFor q n ms) (given-once q n ms points (pointsFor q n ms) (are .given) (found .given) e)
         (given-once q n ms (pointsFor q n ms) points (found .given) (are .given) e)))
-
--- ---- floors with the same points, contacts and regions count alike
-
-module _ {N : Type 0} (F G : Floor N) (same : SameFloor F G) where
-  way-same : {p q : ℕ} → Way F p q → p < F .points → Way G p q
-  way-same stay hp = stay
-  way-same (step {p} {q} {r} hq t w) hp =
-      let e : F .points ≡ G .points = same .points in
-      let hg : q < G .points = omega arith in
-      step hg (sym (same .touch p q hp hq) ∙ t) (way-same w hq)
-
-  pub counts-same : (q : Question) → Counts q F → Counts q G
-  counts-same plain h = tt
-  counts-same building h =
-      λ p r hp hr. let e : F .points ≡ G .points = same .points in
-      way-same (h p r (omega arith) (omega arith)) (omega arith)

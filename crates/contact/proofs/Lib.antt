@@ -1,5 +1,4 @@
 pub mod Bits
-pub mod SameFloor
 pub mod Realise
 pub mod Pieces
 pub mod Pairs
@@ -13,5 +12,6 @@ pub mod Answer
 pub mod Naming
 pub mod Searching
 pub mod Count
+pub mod SameFloor
 pub mod Claims
 pub mod Examples

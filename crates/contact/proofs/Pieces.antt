@@ -130,7 +130,7 @@ module _ (n : ℕ) (ms : List Mark) where
   pub piece-elim : (e f : ℕ) → In f (wholePiece n ms e) → Linked n ms e f
   unfolding wholePiece
   piece-elim e f i =
-      linked-by e (length (allowedOnes n ms)) (e ∷ []) (λ g j. subst (Linked n ms e) (sym (in-one j)) start) f i
+      linked-by e _ (e ∷ []) (λ g j. subst (Linked n ms e) (sym (in-one j)) start) f i
 
   module _ (e : ℕ) (ok : allowed n ms e ≡ true) where
     alone : (f : ℕ) → In f (e ∷ []) → In f (allowedOnes n ms)
@@ -144,7 +144,7 @@ module _ (n : ℕ) (ms : List Mark) where
 
     pub piece-own : In e (wholePiece n ms e)
     unfolding wholePiece
-    piece-own = wider-by ms (allowedOnes n ms) unseparated-self (length (allowedOnes n ms)) (e ∷ []) alone e here
+    piece-own = wider-by ms (allowedOnes n ms) unseparated-self _ (e ∷ []) alone e here
 
     -- and what is linked with it is in the piece
     pub piece-intro : {f : ℕ} → Linked n ms e f → In f (wholePiece n ms e)
