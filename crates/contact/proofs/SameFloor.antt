@@ -17,6 +17,16 @@ pub record SameFloor {N : Type 0} (F G : Floor N) : Type 0 where
   pub touch : (p q : ℕ) → p < F .points → q < F .points → F .touch p q ≡ G .touch p q
   pub lies : (x : N) (p : ℕ) → p < F .points → F .lies x p ≡ G .lies x p
 
+-- either way round
+pub same-back : {N : Type 0} (F G : Floor N) → SameFloor F G → SameFloor G F
+same-back F G same =
+    let e : F .points ≡ G .points = same .points in
+    record {
+      points = sym e;
+      touch = λ p q hp hq. sym (same .touch p q (omega arith) (omega arith));
+      lies = λ x p hp. sym (same .lies x p (omega arith));
+    }
+
 module _ {N : Type 0} (F G : Floor N) (same : SameFloor F G) where
   within-same : (t : Term N) (p : ℕ) → p < F .points → within F t p ≡ within G t p
   within-same t p h = ap (λ (v : N → Bool). holds v t) (fun-ext (λ x. same .lies x p h))
