@@ -138,7 +138,7 @@ floor-passes building n ms names F counts real = floor-pieces n ms names F real 
 -- ---- what is given
 
 -- is allowed
-given-allowed : (q : Question) (n : ℕ) (ms : List Mark) (e : ℕ) → In e (givenBy q n ms) → allowed n ms e ≡ true
+pub given-allowed : (q : Question) (n : ℕ) (ms : List Mark) (e : ℕ) → In e (givenBy q n ms) → allowed n ms e ≡ true
 given-allowed plain n ms e i = given-ok n ms i .1
 given-allowed building n ms e i = piece-given-allowed n ms e i
 
