@@ -25,6 +25,7 @@ use Rattle.plan.specs.Judging.{yes, unmet, judge}
 use Rattle.plan.specs.Reader.{Reading, plan, refused, readOf, ReadingSays}
 use Rattle.plan.specs.Arrays.{answerOf, planIn, Reads, countOf, planBy, touchesOf, vacantOf}
 use Rattle.plan.specs.Stored.{Stored}
+use Rattle.plan.specs.Given.{IsRowPlan}
 use Rattle.plan.specs.Plans.{rowPlan, plansOf}
 use Rattle.plan.proofs.Exact.{exact, plan-read, refusal-read}
 use Rattle.plan.proofs.Contacts.{arrays-plan}
@@ -101,6 +102,11 @@ judge-unmet F rules k = unmet-exactly F rules k
 pub given-is-plan : (q : Question) (rules : List (Formula Name)) → length (namesOf rules) ≤ most → (row : Row)
     → firstRowOf q rules ≡ row ∷ [] → IsPlan (rowPlan q rules row)
 given-is-plan q rules few row found = Given.given-is-plan q rules row found few
+
+-- it is the one that is meant: its points are the question's, and all unseparated pairs of them are in contact (Given)
+pub row-plan-exactly : (q : Question) (rules : List (Formula Name)) (row : Row) → firstRowOf q rules ≡ row ∷ [] → (p : Plan)
+    → (p ≡ rowPlan q rules row) ↔ IsRowPlan q rules row p
+row-plan-exactly = Given.row-plan-exactly
 
 -- its floor counts: that of a building hangs together (Given)
 pub given-counts : (q : Question) (rules : List (Formula Name)) (row : Row)

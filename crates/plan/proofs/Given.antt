@@ -106,7 +106,7 @@ module _ (q : Question) (rules : List (Formula Name)) (row : Row) (found : first
   checked = first-good q (length (namesOf rules)) (rowAtoms rules) (numberedAtoms rules) row found .checked
 
   -- that is found is the one that is meant
-  row-plan-exactly : (p : Plan) → (p ≡ rowPlan q rules row) ↔ IsRowPlan q rules row p
+  pub row-plan-exactly : (p : Plan) → (p ≡ rowPlan q rules row) ↔ IsRowPlan q rules row p
   unfolding rowPlan givenPlan
   row-plan-exactly p = (
     λ e. subst (IsRowPlan q rules row) (sym e)
