@@ -134,6 +134,11 @@ no-plan-given = Given.no-plan-given
 pub given-exactly : (q : Question) (rules : List (Formula Name)) (p : Plan) → (plansOf q rules ≡ p ∷ []) ↔ IsGiven q rules p
 given-exactly = Given.given-exactly
 
+-- which is the row that is found (Given)
+pub given-found : (q : Question) (rules : List (Formula Name)) (p : Plan) → IsGiven q rules p
+    → (row : Row) × (firstRowOf q rules ≡ row ∷ []) × (p ≡ rowPlan q rules row)
+given-found = Given.given-found
+
 -- never more than one plan is given (Given)
 pub given-at-most-one : (q : Question) (rules : List (Formula Name)) → length (plansOf q rules) ≤ 1
 given-at-most-one = Given.given-at-most-one

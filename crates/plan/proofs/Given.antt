@@ -155,14 +155,19 @@ module _ (q : Question) (rules : List (Formula Name)) where
     λ none. ap (map (rowPlan q rules)) (no-plan-named q rules .1 none),
   )
 
+  -- the plan that is meant is that of the row found
+  pub given-found : (p : Plan) → IsGiven q rules p → (row : Row) × (firstRowOf q rules ≡ row ∷ []) × (p ≡ rowPlan q rules row)
+  given-found p g =
+      let found = first-row-only-named q rules (g .row) (g .first) in
+      (g .row, found, row-plan-exactly q rules (g .row) found p .1 (g .is))
+
   -- one exactly if it is the plan of the first realisable row that makes the rules true
   pub given-exactly : (p : Plan) → (plansOf q rules ≡ p ∷ []) ↔ IsGiven q rules p
   unfolding plansOf
   given-exactly p = (
     λ e. let r = map-one (rowPlan q rules) _ p e in
         record { row = r .0; first = first-row-named q rules (r .0) (r .1); is = row-plan-exactly q rules (r .0) (r .1) p .0 (r .2) },
-    λ g. let found = first-row-only-named q rules (g .row) (g .first) in
-        ap (map (rowPlan q rules)) found ∙ ap (λ (r : Plan). r ∷ []) (sym (row-plan-exactly q rules (g .row) found p .1 (g .is))),
+    λ g. let r = given-found p g in ap (map (rowPlan q rules)) (r .1) ∙ ap (λ (r : Plan). r ∷ []) (sym (r .2)),
   )
 
   -- and no more
