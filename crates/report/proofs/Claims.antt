@@ -2,7 +2,6 @@
 -- of asread, `asReadOf`, which `as_read` gives: for every list of bytes it is what is meant (specs/Printed.antt), and no other text is. Each
 -- claim cites the file that proves it. Assumes nothing.
 use mathlib.Core.Path.{_≡_, sym}
-use mathlib.Core.Bool.{true}
 use mathlib.Core.Logic.{_↔_}
 use mathlib.Core.List.{List}
 use Prim.Native.Nat.{ℕ}

@@ -1,7 +1,6 @@
 -- The text that is computed for a sheet is meant, and no other is: the load's judgement has the outcome of the sheet's row, the formulas and
 -- the plan that are computed are those that are meant, and the first byte tells the three sorts of text apart. Assumes nothing.
 use mathlib.Core.Path.{_≡_, refl, sym, ap, subst, _∙_}
-use mathlib.Core.Bool.{true}
 use mathlib.Core.List.{List, [], _∷_, head-eq-of-cons-eq}
 use Prim.Native.Nat.{ℕ}
 use native.Mathlib.Omega.{arith}
