@@ -11,7 +11,9 @@ use Rattle.formula.specs.Formula.{Atom}
 use Rattle.evalset.specs.declared.EvalSet.{EvalSet}
 use Rattle.lists.specs.Search.{collect, elem}
 use Rattle.evalset.specs.Sets.{room, mem, memAt}
-use Rattle.contact.specs.Plan.{Mark, rowMarks, separated, gives, given, pointsFor}
+use Rattle.contact.specs.Question.{Question, plain}
+use Rattle.contact.specs.Plan.{Mark, rowMarks, separated, gives, given}
+use Rattle.contact.specs.Check.{pointsFor}
 use Rattle.search.specs.declared.Chart.{Chart}
 use Rattle.search.specs.declared.State.{State}
 use Rattle.search.specs.declared.RowPlan.{RowPlan}
@@ -43,13 +45,13 @@ pub record Positions (count : ℕ) (points : List ℕ) : Type 0 where
   pub fits : count ≤ room
   pub low : (i : ℕ) → i < count → getD points i 0 < room
 
--- the plan of a list of marks: its points, and row i has position j exactly if both are positions and the two are not separated
-pub record PlanOf (names : ℕ) (ms : List Mark) (r : RowPlan) : Type 0 where
-  pub counted : r .count ≡ length (pointsFor names ms)
-  pub listed : r .points ≡ pad room (pointsFor names ms)
+-- the plan of a list of marks for a question: its points, and row i has position j exactly if both are positions and the two are not separated
+pub record PlanOf (q : Question) (names : ℕ) (ms : List Mark) (r : RowPlan) : Type 0 where
+  pub counted : r .count ≡ length (pointsFor q names ms)
+  pub listed : r .points ≡ pad room (pointsFor q names ms)
   pub contacts : (i j : ℕ) → memAt (r .rows) i j
       ≡ ((ltb i (r .count) && ltb j (r .count)) && not (separated ms (getD (r .points) i 0) (getD (r .points) j 0)))
 
 -- the plan is that of the row
 unfoldable pub PlanSays : Chart → ℕ → RowPlan → Type 0
-PlanSays chart row r = (atoms : List (Atom ℕ)) → Compiled chart atoms → PlanOf (chart .names) (marksIn chart atoms row) r
+PlanSays chart row r = (atoms : List (Atom ℕ)) → Compiled chart atoms → PlanOf plain (chart .names) (marksIn chart atoms row) r

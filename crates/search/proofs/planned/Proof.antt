@@ -2,6 +2,7 @@
 -- Assumes nothing.
 use borrow.Author.Needs.{needs}
 use Rattle.evalset.specs.Sets.{mem}
+use Rattle.contact.specs.Question.{plain}
 use Rattle.search.specs.Planned.{StateSays, GivenSays, PlanSays}
 use Rattle.search.proofs.Listing.{positions, plan-is}
 use Rattle.search.proofs.planned.Statement.{statement}
@@ -23,7 +24,7 @@ returns : tie.Need-returns
 unfolding PlanSays GivenSays StateSays
 returns c = λ atoms h.
     let f = c .before .before .before .before .before .state-of .ensures atoms h in
-    plan-is _ (h .few) _ (c .before .before .before .given .result) (c .before .before .before .given .ensures atoms h f) _ f _
+    plan-is plain _ (h .few) _ (c .before .before .before .given .result) (c .before .before .before .given .ensures atoms h f) _ f _
     (c .before .before .ascending .ensures .0) (c .before .before .ascending .ensures .1) (c .contact-rows .ensures)
 
 pub planned-spec : {M : Type 1} → statement M
