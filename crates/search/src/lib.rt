@@ -1,4 +1,4 @@
-// The plan of a row of the rules' chart (document 01, 'The plan that is given').
+// The plan of a row of the rules' chart (document 01, 'The plan that is given'), and for one building (document 02's T-04) its first piece.
 // A row is a number: of k atoms, atom i is true where bit k - 1 - i is clear. Its state is what the row allows, and what it separates
 // from each evaluation. Contracts speak of every list of atoms that the chart is compiled from (specs/Compiled.antt). A requires asks
 // only that indices are in range: our own crates alone call these functions, with at most 16 atoms. Assumes nothing.
@@ -14,8 +14,8 @@ ghost use Rattle.evalset.specs.Most.{most};
 ghost use Rattle.search.specs.Rows.{rowBits};
 ghost use Rattle.search.specs.Tests.{Separates, Parts, pairOf, givesOf, rowOf, rowsOf, Filled};
 ghost use Rattle.search.specs.Compiled.{limit, Fit, Follows, StepSays};
-ghost use Rattle.search.specs.Planned.{StateSays, GatheredSays, GivenSays, Positions, PlanSays};
-ghost use Rattle.search.specs.Building.{PieceSays, metOf, MetSays, FoundSays, BuildingSays};
+ghost use Rattle.search.specs.Planned.{StateSays, GatheredSays, GivenSays, Positions, PlanFrom, PlanSays};
+ghost use Rattle.search.specs.Building.{PieceSays, metOf, MetSays, FoundSays, BuildingSays, BuildingPlanSays};
 use evalset::EvalSet;
 use evalset::Found;
 use evalset::ROOM;
@@ -300,14 +300,11 @@ fn contact_rows(points: [u8; ROOM], count: usize, apart: [EvalSet; ROOM]) -> [Ev
     out
 }
 
-// The plan of a row.
-pub fn planned(chart: Chart, row: usize) -> RowPlan
-    requires { ⌜ chart .atoms ≤ limit ⌝ }
-    ensures { λ r. ⌜ PlanSays chart row r ⌝ }
+// The plan of a set of points: they ascend, and "all unseparated pairs are in contact".
+fn plan_of(given: EvalSet, apart: [EvalSet; ROOM]) -> RowPlan
+    ensures { λ r. ⌜ PlanFrom (mem given) (memAt apart) r ⌝ }
 {
-    let s = state_of(chart, row);
-    let apart = s.rows;
-    let listed = ascending(given(chart, s, row));
+    let listed = ascending(given);
     let count = listed.count;
     let points = listed.points;
     let rows = contact_rows(points, count, apart);
@@ -316,6 +313,16 @@ pub fn planned(chart: Chart, row: usize) -> RowPlan
         points,
         rows,
     }
+}
+
+// The plan of a row.
+pub fn planned(chart: Chart, row: usize) -> RowPlan
+    requires { ⌜ chart .atoms ≤ limit ⌝ }
+    ensures { λ r. ⌜ PlanSays chart row r ⌝ }
+{
+    let s = state_of(chart, row);
+    let apart = s.rows;
+    plan_of(given(chart, s, row), apart)
 }
 
 // The piece that e lies in: what is allowed and unseparated from one of its own is joined to it, until each of them was looked at.
@@ -408,4 +415,15 @@ pub fn building(chart: Chart, row: usize) -> FoundPiece
 {
     let s = state_of(chart, row);
     first_piece(chart, s, row)
+}
+
+// The plan of a row for one building: the points are the piece that is found.
+pub fn planned_building(chart: Chart, row: usize) -> RowPlan
+    requires { ⌜ chart .atoms ≤ limit ⌝ }
+    ensures { λ r. ⌜ BuildingPlanSays chart row r ⌝ }
+{
+    let s = state_of(chart, row);
+    let apart = s.rows;
+    let first = first_piece(chart, s, row);
+    plan_of(first.piece, apart)
 }

@@ -67,7 +67,8 @@ unfolding FoundSays
 returns c = λ atoms h f.
     let loop = c .before .before .before .before .loop in
     sought-none _ _ _ (loop .inv atoms h f) (h .few) _
-    (found-nothing _ room (sym (c .before .before .before .least .ensures) ∙ c .before .enum-told .given .1)) refl (congr-fun (c .empty .ensures))
+    (found-nothing _ room (sym (c .before .before .before .least .ensures) ∙ c .before .enum-told .given .1)) refl
+    (congr-fun (c .empty .ensures))
 
 piece-requires : tie.Need-piece-requires Inv-loop μ-loop
 piece-requires c κs = search needs
@@ -91,7 +92,8 @@ loop-less c =
     let loop = c .before .before .before .before .before .before .before .before .loop in
     let t = taken (c .before .before .before .before) in
     subst (λ (set : ℕ → Bool). leftOver set < leftOver (mem (loop .left))) (sym (c .minus .ensures))
-    (left-less (mem (loop .left)) (mem (c .before .before .before .piece .result)) _ (t .within) (t .passes) (c .before .before .before .piece .ensures .own (t .within)))
+    (left-less (mem (loop .left)) (mem (c .before .before .before .piece .result)) _ (t .within) (t .passes)
+    (c .before .before .before .piece .ensures .own (t .within)))
 
 loop-again : tie.Need-loop-again Inv-loop μ-loop
 loop-again c = λ atoms h f.
@@ -99,7 +101,8 @@ loop-again c = λ atoms h f.
     let t = taken (c .before .before .before .before) in
     let whole = tried (c .before .before) atoms h f in
     subst (Sought _ _) (sym (c .minus .ensures))
-    (sought-on _ _ _ (loop .inv atoms h f) _ _ (loop .inv atoms h f .within _ (t .passes)) (whole .0) (sym (whole .1) ∙ c .before .if1 .left))
+    (sought-on _ _ _ (loop .inv atoms h f) _ _ (loop .inv atoms h f .within _ (t .passes)) (whole .0)
+    (sym (whole .1) ∙ c .before .if1 .left))
 
 pub first-piece-spec : {M : Type 1} → statement M
 first-piece-spec =
