@@ -28,9 +28,9 @@ use Rattle.contact.specs.Check.{givenBy, pointsFor}
 use Rattle.contact.proofs.Floors.{given-allowed, point-allowed}
 use Rattle.search.specs.declared.State.{State}
 use Rattle.search.specs.declared.RowPlan.{RowPlan}
-use Rattle.search.specs.Tests.{rowOf, rowsOf, Filled}
+use Rattle.search.specs.Tests.{rowOf, Filled}
 use Rattle.search.specs.Compiled.{Fit}
-use Rattle.search.specs.Planned.{Positions, PlanOf}
+use Rattle.search.specs.Planned.{Positions, PlanFrom, PlanOf}
 use Rattle.evalset.specs.Arrays.{positionsOf}
 use Rattle.search.proofs.Fitting.{allowed-low}
 
@@ -83,14 +83,12 @@ module _ (q : Question) (n : ℕ) (few : n ≤ most) (ms : List Mark) (g : EvalS
       ap (λ (p : ℕ → Bool). keep p (below room)) (fun-ext h) ∙ keep-names (λ e. elem e (givenBy q n ms)) n few
       (λ e i. allowed-low n ms e (given-allowed q n ms e (elem-elim e (givenBy q n ms) i)))
 
-  module _ (s : State) (f : Fit n s ms) (r : RowPlan) (counted : r .count ≡ length (keep (mem g) (below room)))
-      (listed : r .points ≡ pad room (keep (mem g) (below room)))
-      (filled : Filled (r .count) (rowsOf (r .count) (r .points) (memAt (s .rows))) (memAt (r .rows))) where
+  module _ (s : State) (f : Fit n s ms) (r : RowPlan) (of-set : PlanFrom (mem g) (memAt (s .rows)) r) where
     count-is : r .count ≡ length (pointsFor q n ms)
-    count-is = counted ∙ ap length points-are
+    count-is = of-set .counted ∙ ap length points-are
 
     points-is : r .points ≡ pad room (pointsFor q n ms)
-    points-is = listed ∙ ap (pad room) points-are
+    points-is = of-set .listed ∙ ap (pad room) points-are
 
     point-low : (i : ℕ) → i < r .count → getD (r .points) i 0 < 2 ^ n
     point-low i l =
@@ -103,10 +101,10 @@ module _ (q : Question) (n : ℕ) (few : n ≤ most) (ms : List Mark) (g : EvalS
     unfolding positionsOf
     contact-is i j =
         ⊎-elim
-        (λ l. congr-fun (filled .done i l) j
+        (λ l. congr-fun (of-set .filled .done i l) j
         ∙ guarded j (r .count) (ltb j (r .count)) _ _ (le-ltb j (r .count)) (λ m. ap not (f .rows-are _ _ (point-low i l) (point-low j m)))
         ∙ sym (ap beside (lt-ltb i (r .count) l)))
-        (λ l. filled .past i j l ∙ sym (ap beside (le-ltb i (r .count) l))) (side i (r .count))
+        (λ l. of-set .filled .past i j l ∙ sym (ap beside (le-ltb i (r .count) l))) (side i (r .count))
       where
         beside : Bool → Bool
         beside b = (b && ltb j (r .count)) && not (separated ms (getD (r .points) i 0) (getD (r .points) j 0))
