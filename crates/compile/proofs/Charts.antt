@@ -3,19 +3,20 @@
 use mathlib.Core.Bool.{Bool, false, cond}
 use mathlib.Core.Path.{_≡_, refl, sym, ap, subst, _∙_, fun-ext}
 use mathlib.Core.List.{List, [], _∷_, _++_}
-use Prim.Native.Nat.{ℕ, zero, suc, _<_}
+use Prim.Native.Nat.{ℕ, zero, suc, _+_, _<_}
 use native.Mathlib.Omega.{arith}
 use lib.Dec.{eqb, eqb·zero-suc, eqb·suc-zero, eqb·suc-suc}
-use lib.ListN.{length, getD, set, replicate, length-append}
+use lib.ListN.{length, getD, set, replicate, length-append, length-set}
 use Rattle.lists.proofs.Lists.{repeated-at, stored}
 use Rattle.formula.specs.Formula.{Atom}
+use Rattle.formula.specs.Atoms.{isContact}
 use Rattle.evalset.specs.declared.EvalSet.{EvalSet}
 use Rattle.evalset.specs.Sets.{mem, memAt, noneOf}
 use Rattle.lists.proofs.Truth.{of-cond}
 use Rattle.evalset.proofs.Arrays.{empty-rows}
 use Rattle.search.specs.declared.Chart.{Chart}
 use Rattle.search.specs.Compiled.{noAtom, atomAt}
-use Rattle.compile.specs.Chart.{isContact, firstSet, secondSet, CompiledFrom, Grows}
+use Rattle.compile.specs.Chart.{firstSet, secondSet, CompiledFrom, Grows}
 use Rattle.compile.proofs.Sets.{of-zero}
 
 pub grows-same : {chart r : Chart} {b c : Bool} {x y z w : ℕ → Bool} → Grows chart r b x y → b ≡ c → x ≡ z → y ≡ w → Grows chart r c z w
@@ -54,6 +55,42 @@ compiled-more {chart} {r} {atoms} a c l h =
       firsts = λ i. last-of atoms a firstSet (chart .atoms) i (c .counted) _ _ (c .firsts i) (h .first-at i);
       seconds = λ i. last-of atoms a secondSet (chart .atoms) i (c .counted) _ _ (c .seconds i) (h .second-at i);
     }
+
+-- a chart and lengths whose arrays have sixteen places
+pub record Sized (chart : Chart) (lens : List ℕ) : Type 0 where
+  pub contacts : length (chart .contact) ≡ 16
+  pub firsts : length (chart .xs) ≡ 16
+  pub seconds : length (chart .ys) ≡ 16
+  pub lengths : length lens ≡ 16
+
+-- the chart in which an atom is stored behind the others
+abbrev pub storedIn : Chart → Bool → EvalSet → EvalSet → Chart
+storedIn chart contact x y =
+    record { names = chart .names; atoms = chart .atoms + 1; contact = set (chart .contact) (chart .atoms) contact; xs = set (chart .xs) (chart .atoms) x; ys = set (chart .ys) (chart .atoms) y }
+
+module _ {chart : Chart} {lens : List ℕ} (h : Sized chart lens) (l : chart .atoms < 16) (b : Bool) (x y : EvalSet) where
+  pub stored-sized : {lens' : List ℕ} → length lens' ≡ length lens → Sized (storedIn chart b x y) lens'
+  stored-sized e =
+      record {
+        contacts = length-set (chart .contact) (chart .atoms) b ∙ h .contacts;
+        firsts = length-set (chart .xs) (chart .atoms) x ∙ h .firsts;
+        seconds = length-set (chart .ys) (chart .atoms) y ∙ h .seconds;
+        lengths = e ∙ h .lengths;
+      }
+
+  pub stored-grows : {p q : ℕ → Bool} → mem x ≡ p → mem y ≡ q → Grows chart (storedIn chart b x y) b p q
+  stored-grows {p} {q} u v =
+      grows-same
+      (record {
+        names-kept = refl;
+        one-more = omega arith;
+        contact-at = stored (chart .contact) (chart .atoms) b false (omega (arith, h .contacts));
+        first-at = stored-set (chart .xs) (chart .atoms) x (omega (arith, h .firsts));
+        second-at = stored-set (chart .ys) (chart .atoms) y (omega (arith, h .seconds));
+      })
+      refl
+      u
+      v
 
 -- ---- no atom
 

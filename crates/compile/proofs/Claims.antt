@@ -1,8 +1,8 @@
--- What is proved of compiling: the pass over a formula's order makes its atoms and its code, a compiled chart has at each
--- evaluation what the terms say, and what was read can be compiled. Assumes nothing.
+-- What is proved of compiling: the pass over a formula's order puts its atoms behind those before and makes its code, no longer than the
+-- order; a compiled chart has at each evaluation what the terms say; and what was read can be compiled. Assumes nothing.
 use mathlib.Core.Bool.{Bool, _&&_}
-use mathlib.Core.Path.{_≡_, sym, ap, _∙_}
-use mathlib.Core.List.{List, [], _++_}
+use mathlib.Core.Path.{_≡_, sym, ap, subst, _∙_}
+use mathlib.Core.List.{List, [], foldl}
 use mathlib.Mathlib.Logic.Function.Defs.{congr-fun}
 use Prim.Native.Nat.{ℕ, _≤_, _<_}
 use native.Mathlib.Omega.{arith}
@@ -19,22 +19,33 @@ use Rattle.syntax.specs.Rule.{ruleOf}
 use Rattle.syntax.specs.declared.Rule.{Rule}
 use Rattle.syntax.proofs.Claims.{length-codes, text-read}
 use Rattle.evalset.specs.Sets.{room, memAt}
-use Rattle.contact.specs.Numbering.{mapAtom, mapForm, numberForm}
+use Rattle.contact.specs.Numbering.{mapAtom, mapForm}
 use Rattle.contact.specs.Plan.{at}
 use Rattle.search.specs.declared.Chart.{Chart}
 use Rattle.search.specs.Compiled.{atomAt}
 use Rattle.kleene.specs.Code.{postfix as postfixCode}
 use Rattle.compile.specs.Chart.{setOf, firstTerm, secondSet, CompiledFrom}
-use Rattle.compile.specs.Machine.{start, run}
-use Rattle.compile.proofs.Orders.{formula-run}
+use Rattle.compile.specs.Machine.{State, withPut, placeIn, start, run}
+use Rattle.compile.specs.Compiles.{codeAfter}
+use Rattle.compile.proofs.Orders.{formula-run, run-bounds}
 
 -- ---- the pass over the order
 
--- for names of any type, behind any atoms: the formula's atoms with numbers for names, and its code with numbers for atoms
+-- for names of any type, behind any atoms: the formula's atoms with numbers for names, those that are the same once, and its code with
+-- their numbers
 pub order-compiled : {N : Type 0} (g : N → ℕ) (f : Formula N) (atoms : List (Atom ℕ))
-    → run g (postfix f) (start atoms) ≡ record { terms = []; atoms = atoms ++ atomsOf (mapForm (mapAtom g) f); code = postfixCode (numberForm (length atoms) f) }
+    → run g (postfix f) (start atoms)
+    ≡ (let F : Formula ℕ = mapForm (mapAtom g) f in
+    let all : List (Atom ℕ) = foldl withPut atoms (atomsOf F) in
+    record { terms = []; atoms = all; code = postfixCode (mapForm (placeIn all) F) })
 unfolding run
 order-compiled g f atoms = formula-run g f [] (start atoms)
+
+-- the code is no longer than the order
+pub code-short : (g : Name → ℕ) (f : Formula Name) (atoms : List (Atom ℕ)) → length (codeAfter g f atoms) ≤ length (postfix f)
+code-short g f atoms =
+    subst (λ (s : State). length (s .code) ≤ length (postfix f)) (order-compiled g f atoms)
+    (omega (arith, run-bounds g (postfix f) (start atoms) .long))
 
 -- ---- a compiled chart
 

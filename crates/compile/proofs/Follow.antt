@@ -1,16 +1,21 @@
--- The loop follows the machine: after i symbols its stack, its chart and its array are those of the machine's state, for every
--- formula, numbering and atoms that were given. Each turn is one symbol. Assumes nothing.
+-- The loop follows the machine: after i symbols its stack, its row, its arrays and its code are those of the machine's state, for
+-- every formula, numbering and atoms that were given. Each turn is one symbol. Assumes nothing.
 use mathlib.Core.Bool.{true, false}
 use mathlib.Core.Path.{_≡_, refl, sym, ap, ap₂, subst, _∙_}
 use mathlib.Core.List.{List, [], _∷_, _++_, map}
+use mathlib.Core.Logic.{⊎-elim}
 use Prim.Native.Nat.{ℕ, zero, suc, _+_, _-_, _*_, _≤_, _<_}
+use native.Mathlib.Numerals.{add-one}
 use native.Mathlib.Omega.{arith}
-use lib.Dec.{eqb}
-use lib.ListN.{length, getD, take, drop, set, length-append, length-drop, length-set, take-append-drop}
-use lib.Seq.{sets, length-take-le, take-length}
-use Rattle.lists.proofs.Search.{collect-last}
+use lib.ListN.{length, getD, take, drop, set, length-append, length-drop, length-set, take-append-drop, List·getD-eq-default}
+use lib.Seq.{sets, length-take-le, take-length, take-suc-set}
+use borrow.Author.Tests.{lt-leb, le-leb}
+use Rattle.lists.specs.Search.{In}
+use Rattle.lists.proofs.Search.{none-in, collect-last, in-either, in-one, map-elim, placed}
 use Rattle.lists.proofs.Lists.{take-next, map-skip, sets-more}
-use Rattle.formula.specs.Formula.{Atom, Formula, Name}
+use Rattle.lists.proofs.Truth.{clash, cases, side}
+use Rattle.formula.specs.Formula.{Term, Atom, Formula, Name}
+use Rattle.formula.specs.Names.{formulaNames}
 use Rattle.syntax.specs.Symbol.{Leaf, leaf, opening}
 use Rattle.syntax.specs.Postfix.{postfix, symbolNames, namesAmong}
 use Rattle.syntax.specs.Machine.{Sym}
@@ -18,15 +23,20 @@ use Rattle.syntax.specs.Reader.{code}
 use Rattle.syntax.proofs.Heads.{code-at}
 use Rattle.syntax.proofs.Claims.{length-codes, order-names}
 use Rattle.evalset.specs.declared.EvalSet.{EvalSet}
+use Rattle.evalset.specs.Most.{most}
 use Rattle.evalset.specs.Sets.{mem, memAt}
-use Rattle.search.specs.declared.Chart.{Chart}
-use Rattle.compile.specs.Kinds.{takenBy, termKind, atomKind, namesBy, setBy, firstBy, secondBy, signBy}
-use Rattle.compile.specs.Chart.{CompiledFrom, Grows}
-use Rattle.compile.specs.Machine.{State, start, step, run}
+use Rattle.spelling.specs.Symbols.{symbolsOf}
+use Rattle.compile.specs.declared.Atoms.{Atoms}
+use Rattle.compile.specs.declared.CompiledRule.{CompiledRule}
+use Rattle.compile.specs.Kinds.{takenBy, termKind, atomKind, namesBy, setBy, symbolBy, signBy}
+use Rattle.compile.specs.Machine.{State, withAtom, withSign, start, step, run}
 use Rattle.compile.specs.Compiles.{atomsAfter, codeAfter, Given, Asked, Compiles}
-use Rattle.compile.proofs.Orders.{compiled, run-last, run-append, formula-run, Bounds, run-bounds}
-use Rattle.compile.proofs.Heights.{symbolAt, order-fine}
-use Rattle.compile.proofs.Steps.{Stacked, Put, term-step, Made, atom-step, sign-step, atom-grows, names-by, no-name, one-at-most}
+use Rattle.compile.specs.Signs.{Signing}
+use Rattle.compile.proofs.Orders.{run-last, run-append, formula-run, Bounds, run-bounds}
+use Rattle.compile.proofs.Heights.{symbolAt, Finds, order-fine}
+use Rattle.compile.proofs.Placing.{Holds, Shows, seventeen}
+use Rattle.compile.proofs.Turns.{Written, Turns}
+use Rattle.compile.proofs.Steps.{Stacked, spelledAll, Put, term-step, Made, atom-step, sign-step, names-by, no-name, one-at-most, symbol-small}
 
 -- ---- the names of an order
 
@@ -60,15 +70,17 @@ module _ (g : Name → ℕ) where
 abbrev reached : Formula Name → (Name → ℕ) → List (Atom ℕ) → ℕ → State
 reached f g atoms i = run g (take i (postfix f)) (start atoms)
 
+-- and in the end, with the formula's atoms and its code
+abbrev last : Formula Name → (Name → ℕ) → List (Atom ℕ) → State
+last f g atoms = record { terms = []; atoms = atomsAfter g f atoms; code = codeAfter g f atoms }
+
 module _ (f : Formula Name) (g : Name → ℕ) (atoms : List (Atom ℕ)) where
-  abbrev here : ℕ → Sym
-  here i = symbolAt (postfix f) i
+  reached-next : (i : ℕ) → i < length (postfix f) → reached f g atoms (i + 1) ≡ step g (symbolAt (postfix f) i) (reached f g atoms i)
+  reached-next i l =
+      ap (λ (p : List Sym). run g p (start atoms)) (take-next (postfix f) i opening l)
+      ∙ run-last g (take i (postfix f)) (symbolAt (postfix f) i) (start atoms)
 
-  reached-next : (i : ℕ) → i < length (postfix f) → reached f g atoms (i + 1) ≡ step g (here i) (reached f g atoms i)
-  reached-next i l = ap (λ (p : List Sym). run g p (start atoms)) (take-next (postfix f) i opening l) ∙ run-last g (take i (postfix f)) (here i) (start atoms)
-
-  -- at the end stand the formula's atoms and its code
-  reached-end : (i : ℕ) → i ≡ length (postfix f) → reached f g atoms i ≡ record { terms = []; atoms = atomsAfter g f atoms; code = codeAfter f atoms }
+  reached-end : (i : ℕ) → i ≡ length (postfix f) → reached f g atoms i ≡ last f g atoms
   unfolding run
   reached-end i e = ap (λ (p : List Sym). run g p (start atoms)) (ap (λ (k : ℕ). take k (postfix f)) e ∙ take-length (postfix f)) ∙ formula-run g f [] (start atoms)
 
@@ -76,53 +88,71 @@ module _ (f : Formula Name) (g : Name → ℕ) (atoms : List (Atom ℕ)) where
   reached-bounds i l = subst (λ (k : ℕ). Bounds g k (start atoms) (reached f g atoms i)) (length-take-le i (postfix f) l) (run-bounds g (take i (postfix f)) (start atoms))
 
   -- the symbols left lead from there to the end
-  reached-on : (i : ℕ) → Bounds g (length (drop i (postfix f))) (reached f g atoms i) (record { terms = []; atoms = atomsAfter g f atoms; code = codeAfter f atoms })
+  reached-on : (i : ℕ) → Bounds g (length (drop i (postfix f))) (reached f g atoms i) (last f g atoms)
   reached-on i =
       subst (Bounds g (length (drop i (postfix f))) (reached f g atoms i))
       (sym (run-append g (take i (postfix f)) (drop i (postfix f)) (start atoms)) ∙ ap (λ (p : List Sym). run g p (start atoms)) (take-append-drop i (postfix f) ∙ sym (take-length (postfix f)))
       ∙ reached-end (length (postfix f)) refl)
       (run-bounds g (drop i (postfix f)) (reached f g atoms i))
 
--- the loop's values are those of the machine's state s, where so many names are passed
-pub record Follows (names from : ℕ) (buf : List ℕ) (s : State) (count : ℕ) (out : List ℕ) (stack : List EvalSet) (height used : ℕ) (chart : Chart) (end : ℕ) : Type 0 where
-  pub high : height ≡ length (s .terms)
-  pub stacked : Stacked stack (s .terms)
-  pub counted : used ≡ count
-  pub compiled-from : CompiledFrom chart (s .atoms)
-  pub named : chart .names ≡ names
-  pub ends : end ≡ from + length (s .code)
-  pub wrote : out ≡ sets buf from (s .code)
+-- the stack and the row are those of the terms
+pub record Waits (stack : List EvalSet) (row : List ℕ) (height len : ℕ) (ts : List (Term ℕ)) : Type 0 where
+  pub high : height ≡ length ts
+  pub stacked : Stacked stack ts
+  pub spells : take len row ≡ spelledAll ts
 
-pub record Inv (order numbers : List ℕ) (before : Chart) (buf : List ℕ) (from : ℕ) (out : List ℕ) (stack : List EvalSet) (height used : ℕ) (chart : Chart) (end i : ℕ) : Type 0 where
+-- the rule, from the one before, is that of the atoms and the code
+pub record Grown (before : CompiledRule) (buf kept out : List ℕ) (rule : CompiledRule) (s : State) : Type 0 where
+  pub named : rule .atoms .chart .names ≡ before .atoms .chart .names
+  pub holds : Holds (rule .atoms) kept (s .atoms)
+  pub ends : rule .end ≡ before .end + length (s .code)
+  pub wrote : out ≡ sets buf (before .end) (s .code)
+
+-- the loop's values are those of the machine's state s, where so many names are passed
+pub record Follows (before : CompiledRule) (buf : List ℕ) (s : State) (count : ℕ) (kept out : List ℕ) (rule : CompiledRule) (stack : List EvalSet)
+    (row : List ℕ) (height len used : ℕ) : Type 0 where
+  pub waits : Waits stack row height len (s .terms)
+  pub counted : used ≡ count
+  pub grown : Grown before buf kept out rule s
+
+pub record Inv (order numbers : List ℕ) (before : CompiledRule) (keeping buf kept out : List ℕ) (rule : CompiledRule) (stack : List EvalSet)
+    (row : List ℕ) (height len used i : ℕ) : Type 0 where
   pub within : i ≤ length order
   pub whole : length stack ≡ 172
-  pub follows : (f : Formula Name) (g : Name → ℕ) (atoms : List (Atom ℕ)) → Given order numbers before f g atoms
-      → Follows (before .names) from buf (reached f g atoms i) (passed (postfix f) i) out stack height used chart end
+  pub wide : length row ≡ 256
+  pub long : length out ≡ length buf
+  pub behind : len ≤ i
+  pub small : (v : ℕ) → In v (take len row) → v < 16
+  pub going : rule .enough ≡ true
+  pub follows : (f : Formula Name) (g : Name → ℕ) (atoms : List (Atom ℕ)) → Given order numbers (before .atoms) keeping f g atoms
+      → Follows before buf (reached f g atoms i) (passed (postfix f) i) kept out rule stack row height len used
 
 -- ---- before the first symbol
 
-pub begins : (order numbers : List ℕ) (before : Chart) (buf : List ℕ) (from : ℕ) (stack : List EvalSet) → length stack ≡ 172
-    → Inv order numbers before buf from buf stack 0 0 before from 0
+pub begins : (order numbers : List ℕ) (before : CompiledRule) (keeping buf : List ℕ) (stack : List EvalSet) (row : List ℕ) → length stack ≡ 172
+    → length row ≡ 256 → before .enough ≡ true → Inv order numbers before keeping buf keeping buf before stack row 0 0 0 0
 unfolding run namesAmong
-begins order numbers before buf from stack w =
+begins order numbers before keeping buf stack row w l b =
     record {
       within = omega arith;
       whole = w;
+      wide = l;
+      long = refl;
+      behind = omega arith;
+      small = λ v j. none-in j;
+      going = b;
       follows = λ f g atoms G.
           record {
-            high = refl;
-            stacked = tt;
+            waits = record { high = refl; stacked = tt; spells = refl };
             counted = refl;
-            compiled-from = G .compiled;
-            named = refl;
-            ends = omega arith;
-            wrote = refl;
+            grown = record { named = refl; holds = record { compiled = G .compiled; keeps = G .keeps }; ends = omega arith; wrote = refl };
           };
     }
 
 -- ---- at a symbol
 
-module _ {order numbers : List ℕ} {before : Chart} {f : Formula Name} {g : Name → ℕ} {atoms : List (Atom ℕ)} (G : Given order numbers before f g atoms) where
+module _ {order numbers : List ℕ} {before : Atoms} {keeping : List ℕ} {f : Formula Name} {g : Name → ℕ} {atoms : List (Atom ℕ)}
+    (G : Given order numbers before keeping f g atoms) where
   same-length : length (postfix f) ≡ length order
   same-length = sym (length-codes (postfix f)) ∙ ap length (sym (G .order-is))
 
@@ -134,171 +164,272 @@ module _ {order numbers : List ℕ} {before : Chart} {f : Formula Name} {g : Nam
       ap (λ (o : List ℕ). getD o (passed (postfix f) i) 0) (G .numbers-are ∙ ap (map g) (sym (order-names f)))
       ∙ name-here g (postfix f) i y (omega (arith, same-length)) e
 
-module _ {order numbers : List ℕ} {before : Chart} {buf : List ℕ} {from : ℕ} {out : List ℕ} {stack : List EvalSet} {height used : ℕ} {chart : Chart} {end i : ℕ}
-    (q : Asked order numbers before from) (inv : Inv order numbers before buf from out stack height used chart end i) where
-  abbrev first-follows : Follows (before .names) from buf (reached (q .formula) (q .numbering) (q .atoms) i) (passed (postfix (q .formula)) i) out stack height used chart end
+  -- every number is small, and past the last stands 0
+  number-small : (j : ℕ) → getD numbers j 0 < most
+  number-small j =
+      ⊎-elim
+      (λ l.
+      let m = map-elim g (formulaNames f) (subst (In (getD numbers j 0)) (G .numbers-are) (placed 0 numbers j l)) in
+      omega (arith, m .1, G .small (m .0) (m .2)))
+      (λ l. omega (arith, List·getD-eq-default numbers 0 {n = j} l)) (side j (length numbers))
+
+-- where no term waits
+none-wait : (stack : List EvalSet) (row : List ℕ) (h : ℕ) (ts : List (Term ℕ)) → h ≡ 0 → length ts ≡ 0 → Waits stack row h 0 ts
+none-wait stack row h [] e l = record { high = e; stacked = tt; spells = refl }
+none-wait stack row h (t ∷ ts) e l = absurd (omega arith)
+
+module _ {order numbers : List ℕ} {before : CompiledRule} {keeping buf kept out : List ℕ} {rule : CompiledRule} {stack : List EvalSet}
+    {row : List ℕ} {height len used i : ℕ} (q : Asked order numbers (before .atoms) keeping buf (before .end))
+    (inv : Inv order numbers before keeping buf kept out rule stack row height len used i) where
+  abbrev first-follows : Follows before buf (reached (q .formula) (q .numbering) (q .atoms) i) (passed (postfix (q .formula)) i) kept out rule stack row height len used
   first-follows = inv .follows (q .formula) (q .numbering) (q .atoms) (q .given)
 
-  -- the stack is no higher than the symbols passed, the code no longer, and the chart no fuller than in the end
+  -- the stack is no higher than the symbols passed, and the code no longer
   pub low : height ≤ i
-  low = omega (arith, first-follows .high, reached-bounds (q .formula) (q .numbering) (q .atoms) i (omega (arith, inv .within, same-length (q .given))) .high)
+  low = omega (arith, first-follows .waits .high, reached-bounds (q .formula) (q .numbering) (q .atoms) i (omega (arith, inv .within, same-length (q .given))) .high)
 
   -- nor higher than what the symbols left can take away
   pub lower : height ≤ 2 * (length order - i)
   lower =
       omega (
         arith,
-        first-follows .high,
+        first-follows .waits .high,
         reached-on (q .formula) (q .numbering) (q .atoms) i .low,
         length-drop i (postfix (q .formula)),
         same-length (q .given),
       )
 
-  pub fits : end ≤ from + i
-  fits = omega (arith, first-follows .ends, reached-bounds (q .formula) (q .numbering) (q .atoms) i (omega (arith, inv .within, same-length (q .given))) .long)
-
   pub few-names : used ≤ i
   few-names = omega (arith, first-follows .counted, passed-few (postfix (q .formula)) i (omega (arith, inv .within, same-length (q .given))))
 
-  pub few-atoms : chart .atoms ≤ 16
-  few-atoms = omega (arith, first-follows .compiled-from .counted, first-follows .compiled-from .few)
+  pub small-number : (j : ℕ) → getD numbers j 0 < most
+  small-number j = number-small (q .given) j
+
+  pub few-atoms : rule .atoms .chart .atoms ≤ 16
+  few-atoms = omega (arith, first-follows .grown .holds .compiled .counted, first-follows .grown .holds .compiled .few)
 
   module _ (l : i < length order) where
-    pub enough : takenBy (getD order i 0) ≤ height
+    abbrev kind : ℕ
+    kind = getD order i 0
+
+    pub enough : takenBy kind ≤ height
     enough =
         let e = kind-is (q .given) i l in
         let z : i < length (postfix (q .formula)) = omega (arith, same-length (q .given)) in
-        omega (arith, ap takenBy e, order-fine (q .numbering) (start (q .atoms)) (q .formula) i z .enough, first-follows .high)
+        omega (arith, ap takenBy e, order-fine (q .numbering) (start (q .atoms)) (q .formula) refl i z .enough, first-follows .waits .high)
 
-    pub space : atomKind (getD order i 0) ≡ true → chart .atoms < 16
-    space a =
-        let e = kind-is (q .given) i l in
-        let z : i < length (postfix (q .formula)) = omega (arith, same-length (q .given)) in
+    -- the code has a place for one number more
+    pub fits : rule .end < length out
+    fits =
         omega (
           arith,
-          first-follows .compiled-from .counted,
-          q .given .few,
-          reached-on (q .formula) (q .numbering) (q .atoms) (i + 1) .more,
-          ap (λ (s : State). length (s .atoms)) (reached-next (q .formula) (q .numbering) (q .atoms) i z),
-          atom-grows (q .numbering) (symbolAt (postfix (q .formula)) i) (reached (q .formula) (q .numbering) (q .atoms) i) (ap atomKind (sym e) ∙ a),
+          first-follows .grown .ends,
+          reached-bounds (q .formula) (q .numbering) (q .atoms) i (omega (arith, inv .within, same-length (q .given))) .long,
+          q .fits,
+          inv .long,
         )
 
     -- ---- a turn
 
-    abbrev kind : ℕ
-    kind = getD order i 0
+    -- the next symbol, once the values are those of the state after it
+    next : {kept' out' : List ℕ} {rule' : CompiledRule} {stack' : List EvalSet} {row' : List ℕ} {height' len' used' : ℕ} → length stack' ≡ 172 → length row' ≡ 256
+        → length out' ≡ length buf → len' ≤ i + 1 → ((v : ℕ) → In v (take len' row') → v < 16) → rule' .enough ≡ true
+        → ((f : Formula Name) (g : Name → ℕ) (atoms : List (Atom ℕ)) → Given order numbers (before .atoms) keeping f g atoms → kind ≡ code (symbolAt (postfix f) i)
+        → Finds g (start atoms) (take i (postfix f)) (symbolAt (postfix f) i)
+        → Follows before buf (reached f g atoms i) (passed (postfix f) i) kept out rule stack row height len used
+        → Follows before buf (step g (symbolAt (postfix f) i) (reached f g atoms i)) (passed (postfix f) i + namesBy kind) kept' out' rule' stack' row' height' len' used')
+        → Inv order numbers before keeping buf kept' out' rule' stack' row' height' len' used' (i + 1)
+    next {kept'} {out'} {rule'} {stack'} {row'} {height'} {len'} {used'} w x o n p b h =
+        record {
+          within = omega arith;
+          whole = w;
+          wide = x;
+          long = o;
+          behind = n;
+          small = p;
+          going = b;
+          follows = λ f g atoms G.
+              let z : i < length (postfix f) = omega (arith, same-length G) in
+              subst (λ (s : State). Follows before buf s (passed (postfix f) (i + 1)) kept' out' rule' stack' row' height' len' used')
+              (sym (reached-next f g atoms i z))
+              (subst (λ (k : ℕ). Follows before buf (step g (symbolAt (postfix f) i) (reached f g atoms i)) k kept' out' rule' stack' row' height' len' used')
+              (sym (passed-next (postfix f) i z ∙ ap (λ (k : ℕ). passed (postfix f) i + namesBy k) (sym (kind-is G i l))))
+              (h f g atoms G (kind-is G i l) (order-fine g (start atoms) f refl i z) (inv .follows f g atoms G)));
+        }
 
     module _ (h : ℕ) (d : h ≡ height - takenBy kind) where
-      -- the next symbol, once the values are those of the state after it
-      next : {out' : List ℕ} {stack' : List EvalSet} {height' used' : ℕ} {chart' : Chart} {end' : ℕ} → length stack' ≡ 172
-          → ((f : Formula Name) (g : Name → ℕ) (atoms : List (Atom ℕ)) → Given order numbers before f g atoms → kind ≡ code (symbolAt (postfix f) i)
-          → Follows (before .names) from buf (reached f g atoms i) (passed (postfix f) i) out stack height used chart end
-          → Follows (before .names) from buf (step g (symbolAt (postfix f) i) (reached f g atoms i)) (passed (postfix f) i + namesBy kind) out' stack' height' used' chart' end')
-          → Inv order numbers before buf from out' stack' height' used' chart' end' (i + 1)
-      next {out'} {stack'} {height'} {used'} {chart'} {end'} w h' =
-          record {
-            within = omega arith;
-            whole = w;
-            follows = λ f g atoms G.
-                let z : i < length (postfix f) = omega (arith, same-length G) in
-                subst (λ (s : State). Follows (before .names) from buf s (passed (postfix f) (i + 1)) out' stack' height' used' chart' end')
-                (sym (reached-next f g atoms i z))
-                (subst (λ (k : ℕ). Follows (before .names) from buf (step g (symbolAt (postfix f) i) (reached f g atoms i)) k out' stack' height' used' chart' end')
-                (sym (passed-next (postfix f) i z ∙ ap (λ (k : ℕ). passed (postfix f) i + namesBy k) (sym (kind-is G i l)))) (h' f g atoms G (kind-is G i l) (inv .follows f g atoms G)));
-          }
-
-      pub term-again : (r : EvalSet) (number more : ℕ) → h < 172 → termKind kind ≡ true → number ≡ getD numbers used 0 → more ≡ namesBy kind
-          → mem r ≡ setBy kind number (memAt stack h) (memAt stack (h + 1))
-          → Inv order numbers before buf from out (set stack h r) (h + 1) (used + more) chart end (i + 1)
-      term-again r number more low-enough term read passes made =
-          next (length-set stack h r ∙ inv .whole)
-          (λ f g atoms G e F.
+      pub term-again : (r : EvalSet) (v number more : ℕ) → h < 172 → termKind kind ≡ true → number ≡ getD numbers used 0 → more ≡ namesBy kind
+          → mem r ≡ setBy kind number (memAt stack h) (memAt stack (h + 1)) → v ≡ symbolBy kind number
+          → Inv order numbers before keeping buf kept out rule (set stack h r) (set row len v) (h + 1) (len + 1) (used + more) (i + 1)
+      term-again r v number more low-enough term read passes made shown =
+          next (length-set stack h r ∙ inv .whole) (length-set row len v ∙ inv .wide) (inv .long) (omega (arith, inv .behind))
+          (λ s j. ⊎-elim (inv .small s) (λ m. omega (arith, in-one m, shown, symbol-small kind number (omega (arith, small-number used)))) (in-either (take len row) (v ∷ []) (subst (In s) longer j)))
+          (inv .going)
+          (λ f g atoms G e found F.
           let S : State = reached f g atoms i in
           let x : Sym = symbolAt (postfix f) i in
-          let P : Put (set stack h r) h S (step g x S)
-          = term-step g stack r number height h (S .atoms) (S .code) (omega (arith, inv .whole)) x (S .terms) (ap termKind (sym e) ∙ term) (F .high)
-          (subst (λ (j : ℕ). takenBy j ≤ height) e enough) (d ∙ ap (λ (j : ℕ). height - takenBy j) e) (F .stacked)
+          let P : Put (set stack h r) h (symbolBy (code x) number) S (step g x S)
+          = term-step g stack r number height h (S .atoms) (S .code) (omega (arith, inv .whole)) x (S .terms) (ap termKind (sym e) ∙ term) (F .waits .high)
+          (subst (λ (j : ℕ). takenBy j ≤ height) e enough) (d ∙ ap (λ (j : ℕ). height - takenBy j) e) (F .waits .stacked)
           (λ y w. read ∙ ap (λ (j : ℕ). getD numbers j 0) (F .counted) ∙ number-is G i y l w)
           (made ∙ ap (λ (j : ℕ). setBy j number (memAt stack h) (memAt stack (h + 1))) e) in
           record {
-            high = P .high;
-            stacked = P .stacked;
+            waits = record {
+              high = P .high;
+              stacked = P .stacked;
+              spells = longer ∙ ap₂ (λ (s : List ℕ) (j : ℕ). s ++ j ∷ []) (F .waits .spells) (shown ∙ ap (λ (j : ℕ). symbolBy j number) e) ∙ sym (P .spells);
+            };
             counted = ap₂ _+_ (F .counted) passes;
-            compiled-from = subst (CompiledFrom chart) (sym (P .same-atoms)) (F .compiled-from);
-            named = F .named;
-            ends = F .ends ∙ ap (λ (c : List ℕ). from + length c) (sym (P .same-code));
-            wrote = F .wrote ∙ ap (λ (c : List ℕ). sets buf from c) (sym (P .same-code));
+            grown = record {
+              named = F .grown .named;
+              holds = subst (Holds (rule .atoms) kept) (sym (P .same-atoms)) (F .grown .holds);
+              ends = F .grown .ends ∙ ap (λ (c : List ℕ). before .end + length c) (sym (P .same-code));
+              wrote = F .grown .wrote ∙ ap (λ (c : List ℕ). sets buf (before .end) c) (sym (P .same-code));
+            };
           })
+        where
+          -- the row is longer by the symbol
+          longer : take (len + 1) (set row len v) ≡ take len row ++ v ∷ []
+          longer = rw add-one (take-suc-set row len v (omega (arith, inv .behind, inv .wide, q .short)))
 
-      module _ (v : ℕ) (c : v ≡ signBy kind (chart .atoms)) (t : termKind kind ≡ false) where
-        -- outside of terms no name is passed
-        no-more : (n : ℕ) → used ≡ n → used ≡ n + namesBy kind
-        no-more n e = omega (arith, no-name kind t)
+      module _ (t : termKind kind ≡ false) where
+        -- the atom that the sign makes of the state
+        pub record Makes (g : Name → ℕ) (x : Sym) (s : State) : Type 0 where
+          pub atom : Atom ℕ
+          pub made : step g x s ≡ withAtom atom [] s
+          pub shows : Shows row len kind (memAt stack h) (memAt stack (h + 1)) atom
 
-        -- the code goes one place on
-        code-more : {s : State} {n : ℕ} (x : Sym) (cs : List ℕ) → kind ≡ code x → Follows (before .names) from buf s n out stack height used chart end
-            → cs ≡ s .code ++ signBy (code x) (length (s .atoms)) ∷ [] → (end + 1 ≡ from + length cs) × (set out end v ≡ sets buf from cs)
-        code-more {s} x cs e F w =
-            let z : cs ≡ s .code ++ v ∷ [] = w ∙ ap (λ (j : ℕ). s .code ++ j ∷ []) (ap₂ signBy (sym e) (sym (F .compiled-from .counted)) ∙ sym c) in (
-              omega (arith, F .ends, ap length z, length-append (s .code) (v ∷ [])),
-              ap (λ (o : List ℕ). set o end v) (F .wrote) ∙ sets-more (s .code) from v buf end (F .ends) ∙ ap (λ (o : List ℕ). sets buf from o) (sym z),
-            )
+        module _ {f : Formula Name} {g : Name → ℕ} {atoms : List (Atom ℕ)} (G : Given order numbers (before .atoms) keeping f g atoms)
+            (found : Finds g (start atoms) (take i (postfix f)) (symbolAt (postfix f) i))
+            (F : Follows before buf (reached f g atoms i) (passed (postfix f) i) kept out rule stack row height len used) where
+          -- the sign finds its terms alone, so nothing is left below them
+          emptied : h ≡ 0
+          emptied = omega (arith, d, ap takenBy (kind-is G i l), F .waits .high, found .alone (ap termKind (sym (kind-is G i l)) ∙ t))
 
-        pub atom-again : (r : Chart) → atomKind kind ≡ true
-            → Grows chart r (eqb kind 14) (firstBy kind (memAt stack h) (memAt stack (h + 1))) (secondBy kind (memAt stack (h + 1)))
-            → Inv order numbers before buf from (set out end v) stack h used r (end + 1) (i + 1)
-        atom-again r a m =
-            next (inv .whole)
-            (λ f g atoms G e F.
-            let S : State = reached f g atoms i in
-            let x : Sym = symbolAt (postfix f) i in
-            let M : Made stack h (signBy (code x) (length (S .atoms))) r S (step g x S)
-            = atom-step g stack height h (S .atoms) (S .code) (F .compiled-from) (omega (arith, space a, F .compiled-from .counted)) x (S .terms) (ap atomKind (sym e) ∙ a) (F .high)
-            (subst (λ (j : ℕ). takenBy j ≤ height) e enough) (d ∙ ap (λ (j : ℕ). height - takenBy j) e) (F .stacked)
-            (subst (λ (j : ℕ). Grows chart r (eqb j 14) (firstBy j (memAt stack h) (memAt stack (h + 1))) (secondBy j (memAt stack (h + 1)))) e m) in
-            let C = code-more x (step g x S .code) e F (M .coded) in
-            record {
-              high = M .high;
-              stacked = M .stacked;
-              counted = no-more (passed (postfix f) i) (F .counted);
-              compiled-from = M .compiled;
-              named = m .names-kept ∙ F .named;
-              ends = C .0;
-              wrote = C .1;
-            })
+          makes : atomKind kind ≡ true → Makes g (symbolAt (postfix f) i) (reached f g atoms i)
+          makes a =
+              let S : State = reached f g atoms i in
+              let x : Sym = symbolAt (postfix f) i in
+              let e : kind ≡ code x = kind-is G i l in
+              let M : Made stack x S (step g x S)
+              = atom-step g stack (S .atoms) (S .code) x (S .terms) (ap atomKind (sym e) ∙ a) (found .alone (ap termKind (sym e) ∙ t)) (F .waits .stacked) in
+              let spelt : take len row ≡ symbolsOf (M .atom) = F .waits .spells ∙ M .spells in
+              record {
+                atom = M .atom;
+                made = M .made;
+                shows = subst (λ (k : ℕ). Shows row len k (memAt stack h) (memAt stack (h + 1)) (M .atom)) (sym e)
+                    (subst (λ (j : ℕ). Shows row len (code x) (memAt stack j) (memAt stack (j + 1)) (M .atom)) (sym emptied)
+                    (record {
+                      spells = record {
+                        row-is = spelt;
+                        short = omega (arith, inv .behind, inv .within, q .short);
+                        within = omega (arith, inv .behind, inv .within, inv .wide, q .short);
+                        sign = M .sign;
+                        small = λ s j. inv .small s (subst (In s) (sym spelt) j);
+                      };
+                      first = M .first;
+                      second = M .second;
+                    }));
+              }
 
-        pub sign-again : atomKind kind ≡ false → Inv order numbers before buf from (set out end v) stack h used chart (end + 1) (i + 1)
-        sign-again a =
-            next (inv .whole)
-            (λ f g atoms G e F.
-            let S : State = reached f g atoms i in
-            let x : Sym = symbolAt (postfix f) i in
-            let z : i < length (postfix f) = omega (arith, same-length G) in
-            let W = sign-step g x S (order-fine g (start atoms) f i z .proper) (ap termKind (sym e) ∙ t) (ap atomKind (sym e) ∙ a) in
-            let C = code-more x (step g x S .code) e F (ap (λ (s : State). s .code) (W .0)) in
-            record {
-              high = omega (arith, d, F .high, W .1, ap takenBy e, ap (λ (s : State). length (s .terms)) (W .0));
-              stacked = subst (λ (s : State). Stacked stack (s .terms)) (sym (W .0)) (F .stacked);
-              counted = no-more (passed (postfix f) i) (F .counted);
-              compiled-from = subst (λ (s : State). CompiledFrom chart (s .atoms)) (sym (W .0)) (F .compiled-from);
-              named = F .named;
-              ends = C .0;
-              wrote = C .1;
-            })
+        -- what `signed` asks
+        pub signs-asked : Signing kept (rule .atoms .lens) (rule .atoms .chart .contact) (rule .atoms .chart .atoms) row len kind
+        unfolding Signing
+        signs-asked a =
+            let z : i < length (postfix (q .formula)) = omega (arith, same-length (q .given)) in
+            let M = makes (q .given) (order-fine (q .numbering) (start (q .atoms)) (q .formula) refl i z) first-follows a in
+            let H = first-follows .grown .holds in
+            (record { atoms = _; atom = M .atom; counted = H .compiled .counted; keeps = H .keeps; spells = M .shows .spells }, omega (arith, inv .behind, q .short))
+
+        module _ {kept' out' : List ℕ} {rule' : CompiledRule} (says : Turns rule kept out row len kind (memAt stack h) (memAt stack (h + 1)) rule' kept' out') where
+          -- outside of terms no name is passed
+          no-more : (n : ℕ) → used ≡ n → used ≡ n + namesBy kind
+          no-more n e = omega (arith, no-name kind t)
+
+          -- the rule with the sign v
+          grown-more : {s : State} {atoms : List (Atom ℕ)} (ts : List (Term ℕ)) (v : ℕ) → Grown before buf kept out rule s → Written rule rule' out v out'
+              → Holds (rule' .atoms) kept' atoms → Grown before buf kept' out' rule' (record { terms = ts; atoms = atoms; code = s .code ++ v ∷ [] })
+          grown-more {s} ts v G W H =
+              record {
+                named = W .names-kept ∙ G .named;
+                holds = H;
+                ends = omega (arith, W .ends, G .ends, length-append (s .code) (v ∷ []));
+                wrote = W .wrote ∙ ap (λ (o : List ℕ). set o (rule .end) v) (G .wrote) ∙ sets-more (s .code) (before .end) v buf (rule .end) (G .ends);
+              }
+
+          module _ {f : Formula Name} {g : Name → ℕ} {atoms : List (Atom ℕ)} (G : Given order numbers (before .atoms) keeping f g atoms)
+              (found : Finds g (start atoms) (take i (postfix f)) (symbolAt (postfix f) i))
+              (F : Follows before buf (reached f g atoms i) (passed (postfix f) i) kept out rule stack row height len used) where
+            -- the state after the sign is followed
+            abbrev After : Type 0
+            After = Follows before buf (step g (symbolAt (postfix f) i) (reached f g atoms i)) (passed (postfix f) i + namesBy kind) kept' out' rule' stack row h 0 used
+
+            of-atom : rule' .enough ≡ true → atomKind kind ≡ true → After
+            of-atom b a =
+                let S : State = reached f g atoms i in
+                let M = makes G found F a in
+                let W = says .atom-put a b (S .atoms) (M .atom) (F .grown .holds) (M .shows) in
+                record {
+                  waits = subst (λ (s : State). Waits stack row h 0 (s .terms)) (sym (M .made)) (none-wait stack row h [] (emptied G found F) refl);
+                  counted = no-more (passed (postfix f) i) (F .counted);
+                  grown = subst (Grown before buf kept' out' rule') (sym (M .made)) (grown-more [] _ (F .grown) (W .0) (W .1));
+                }
+
+            of-sign : atomKind kind ≡ false → After
+            of-sign a =
+                let S : State = reached f g atoms i in
+                let x : Sym = symbolAt (postfix f) i in
+                let e : kind ≡ code x = kind-is G i l in
+                let T = sign-step g x S (found .proper) (ap termKind (sym e) ∙ t) (ap atomKind (sym e) ∙ a) in
+                let W = says .sign-put a in
+                record {
+                  waits = subst (λ (s : State). Waits stack row h 0 (s .terms)) (sym (T .0))
+                      (none-wait stack row h (S .terms) (emptied G found F) (sym (found .alone (ap termKind (sym e) ∙ t)) ∙ T .1));
+                  counted = no-more (passed (postfix f) i) (F .counted);
+                  grown = subst (Grown before buf kept' out' rule') (sym (T .0 ∙ ap (λ (k : ℕ). withSign (signBy k) S) (sym e)))
+                      (grown-more (S .terms) (signBy kind) (F .grown) (W .0) (W .1 (S .atoms) (F .grown .holds)));
+                }
+
+          pub sign-again : rule' .enough ≡ true → Inv order numbers before keeping buf kept' out' rule' stack row h 0 used (i + 1)
+          sign-again b =
+              next (inv .whole) (inv .wide) (says .long ∙ inv .long) (omega arith) (λ s j. none-in j) b
+              (λ f g atoms G e found F. cases (atomKind kind) (of-atom G found F b) (of-sign G found F))
+
+          -- where sixteen atoms are not enough
+          pub refused : rule' .enough ≡ false → Compiles order numbers (before .atoms) keeping buf (before .end) rule' kept' out'
+          unfolding Compiles
+          refused b f g atoms G =
+              let S : State = reached f g atoms i in
+              let z : i < length (postfix f) = omega (arith, same-length G) in
+              let F = inv .follows f g atoms G in
+              let T = says .too-many b in
+              let M = makes G (order-fine g (start atoms) f refl i z) F (T .0) in
+              let many : 16 < length (atomsAfter g f atoms)
+              = omega (
+                arith,
+                seventeen (S .atoms) (M .atom) (F .grown .holds .compiled .few) (T .1 (S .atoms) (M .atom) (F .grown .holds) (M .shows)),
+                ap (λ (s : State). length (s .atoms)) (reached-next f g atoms i z ∙ M .made),
+                reached-on f g atoms (i + 1) .more,
+              ) in
+              (b ∙ sym (lt-leb (length (atomsAfter g f atoms)) 16 many), λ y. clash y b)
 
 -- ---- past the last symbol
 
-pub finished : {order numbers : List ℕ} {before : Chart} {buf : List ℕ} {from : ℕ} {out : List ℕ} {stack : List EvalSet} {height used : ℕ} {chart : Chart} {end i : ℕ}
-    → Inv order numbers before buf from out stack height used chart end i → length order ≤ i
-    → Compiles order numbers before buf from (record { chart = chart; end = end }) out
+pub finished : {order numbers : List ℕ} {before : CompiledRule} {keeping buf kept out : List ℕ} {rule : CompiledRule} {stack : List EvalSet}
+    {row : List ℕ} {height len used i : ℕ} → Inv order numbers before keeping buf kept out rule stack row height len used i → length order ≤ i
+    → Compiles order numbers (before .atoms) keeping buf (before .end) rule kept out
 unfolding Compiles
-finished {order} {numbers} {before} {buf} {from} {out} {stack} {height} {used} {chart} {end} {i} inv past f g atoms G =
+finished {order} {numbers} {before} {keeping} {buf} {kept} {out} {rule} {stack} {row} {height} {len} {used} {i} inv past f g atoms G =
     let F = inv .follows f g atoms G in
-    let z : reached f g atoms i ≡ record { terms = []; atoms = atomsAfter g f atoms; code = codeAfter f atoms }
-    = reached-end f g atoms i (omega (arith, inv .within, same-length G)) in
-    record {
-      names-kept = F .named;
-      compiled = subst (λ (s : State). CompiledFrom chart (s .atoms)) z (F .compiled-from);
-      ends = F .ends ∙ ap (λ (s : State). from + length (s .code)) z;
-      wrote = F .wrote ∙ ap (λ (s : State). sets buf from (s .code)) z;
-    }
+    let z : reached f g atoms i ≡ last f g atoms = reached-end f g atoms i (omega (arith, inv .within, same-length G)) in
+    let H : Holds (rule .atoms) kept (atomsAfter g f atoms) = subst (λ (s : State). Holds (rule .atoms) kept (s .atoms)) z (F .grown .holds) in (
+      inv .going ∙ sym (le-leb (length (atomsAfter g f atoms)) 16 (H .compiled .few)),
+      λ y.
+          record {
+            names-kept = F .grown .named;
+            compiled = H .compiled;
+            keeps = H .keeps;
+            ends = F .grown .ends ∙ ap (λ (s : State). before .end + length (s .code)) z;
+            wrote = F .grown .wrote ∙ ap (λ (s : State). sets buf (before .end) (s .code)) z;
+          },
+    )

@@ -3,6 +3,8 @@ pub mod Charts
 pub mod Orders
 pub mod Heights
 pub mod Steps
+pub mod Placing
+pub mod Turns
 pub mod Follow
 pub mod Claims
 pub mod Searched

@@ -1,20 +1,58 @@
 -- The order of a term leaves the term on the stack, that of a formula its atoms and its code, whatever stood before: each sign
--- stands behind what it is put on. Assumes nothing.
-use mathlib.Core.Bool.{true, false}
-use mathlib.Core.Path.{_≡_, refl, sym, ap, ap₂, _∙_}
-use mathlib.Core.List.{List, [], _∷_, _++_, append-assoc, append-nil, tail}
+-- stands behind what it is put on. The number of an atom does not change when others are put behind it, so the code is written with
+-- the numbers that the atoms have in the end. Assumes nothing.
+use mathlib.Core.Bool.{Bool, true, false}
+use mathlib.Core.Path.{_≡_, refl, sym, ap, _∙_}
+use mathlib.Core.List.{List, [], _∷_, _++_, foldl, foldl-append, append-assoc, append-nil, tail, head-eq-of-cons-eq}
+use mathlib.Core.Logic.{⊎-elim}
 use Prim.Native.Nat.{ℕ, _+_, _*_, _≤_}
+use native.Mathlib.Decide.{ℕ-discrete}
 use native.Mathlib.Omega.{arith}
 use lib.ListN.{length, length-append}
+use Rattle.lists.specs.Search.{In}
+use Rattle.lists.proofs.Search.{none-in, uncons}
 use Rattle.formula.specs.declared.Sign.the-variants.{Implies, Iff, Or, And, Plus, Times}
 use Rattle.formula.specs.Formula.{Term, Atom, Form, Formula}
 use Rattle.formula.specs.Atoms.{atomsOf}
+use Rattle.formula.specs.Same.{sameAtom}
 use Rattle.syntax.specs.Symbol.{Symbol, leaf, minus, tilde, opening, closing, comma, isZero, binary, constant, relation, contact, part}
 use Rattle.syntax.specs.Postfix.{termAfter, formulaAfter}
-use Rattle.contact.specs.Numbering.{mapTerm, mapAtom, mapForm, numberForm}
-use Rattle.contact.proofs.Numbered.{count-map}
+use Rattle.contact.specs.Numbering.{position, mapTerm, mapAtom, mapForm}
+use Rattle.contact.specs.Putting.{put}
+use Rattle.contact.proofs.Distinct.{Alike, put-all-position, put-all-longer}
+use Rattle.contact.proofs.Renaming.{forms-same}
+use Rattle.contact.proofs.Same.{same-alike}
 use Rattle.kleene.specs.Code.{atomSign, postfix as postfixCode}
-use Rattle.compile.specs.Machine.{State, withTerms, withAtom, withSign, step, run}
+use Rattle.compile.specs.Machine.{State, withPut, placeIn, withTerms, withAtom, withSign, step, run}
+
+-- ---- numbers
+
+module _ {A : Type 0} (same : A → A → Bool) (is : Alike same) where
+  -- what was put has its place, whatever is put behind it
+  place-stays : (ks ws more : List A) {w : A} → In w ws → position same (foldl (put same) ks (ws ++ more)) w ≡ position same (foldl (put same) ks ws) w
+  place-stays ks [] more i = none-in i
+  place-stays ks (v ∷ ws) more i =
+      ⊎-elim
+      (λ e.
+      ap (position same (foldl (put same) ks (v ∷ (ws ++ more)))) e ∙ put-all-position same is ks (ws ++ more) v
+      ∙ sym (ap (position same (foldl (put same) ks (v ∷ ws))) e ∙ put-all-position same is ks ws v))
+      (λ j. place-stays (put same ks v) ws more j) (uncons i)
+
+-- the formula with numbers for its atoms, among the atoms
+abbrev numbered : List (Atom ℕ) → Formula ℕ → Form ℕ
+numbered atoms f = mapForm (placeIn atoms) f
+
+-- its atoms put behind the atoms
+abbrev grown : List (Atom ℕ) → Formula ℕ → List (Atom ℕ)
+grown atoms f = foldl withPut atoms (atomsOf f)
+
+numbers-stay : (atoms more : List (Atom ℕ)) (f : Formula ℕ) → numbered (foldl withPut atoms (atomsOf f ++ more)) f ≡ numbered (grown atoms f) f
+numbers-stay atoms more f =
+    head-eq-of-cons-eq
+    (forms-same (placeIn (foldl withPut atoms (atomsOf f ++ more))) (placeIn (grown atoms f)) (f ∷ [])
+    (λ a i. place-stays (sameAtom ℕ-discrete) (same-alike ℕ-discrete) atoms (atomsOf f) more (rw (append-nil (atomsOf f)) at i)))
+
+-- ---- orders
 
 module _ {N : Type 0} (g : N → ℕ) where
   pub run-append : (a b : List (Symbol N)) (s : State) → run g (a ++ b) s ≡ run g b (run g a s)
@@ -36,8 +74,8 @@ module _ {N : Type 0} (g : N → ℕ) where
   compiled f s =
       record {
         terms = s .terms;
-        atoms = s .atoms ++ atomsOf (mapForm (mapAtom g) f);
-        code = s .code ++ postfixCode (numberForm (length (s .atoms)) f);
+        atoms = grown (s .atoms) (mapForm (mapAtom g) f);
+        code = s .code ++ postfixCode (numbered (grown (s .atoms) (mapForm (mapAtom g) f)) (mapForm (mapAtom g) f));
       }
 
   -- ---- terms
@@ -56,39 +94,46 @@ module _ {N : Type 0} (g : N → ℕ) where
 
   -- ---- formulas
 
-  -- a constant; a sign behind one formula; a sign behind two
-  constant-more : (c : ℕ) (s : State) → withSign c s ≡ record { terms = s .terms; atoms = s .atoms ++ []; code = s .code ++ c ∷ [] }
-  constant-more c s = ap (λ (a : List (Atom ℕ)). record { terms = s .terms; atoms = a; code = s .code ++ c ∷ [] }) (sym (append-nil (s .atoms)))
+  -- an atom; a sign behind one formula; a sign behind two
+  atom-more : (a : Atom ℕ) (ts : List (Term ℕ)) (s : State) → withAtom a ts s
+      ≡ record { terms = ts; atoms = withPut (s .atoms) a; code = s .code ++ atomSign (placeIn (withPut (s .atoms) a) a) ∷ [] }
+  atom-more a ts s =
+      ap (λ (i : ℕ). record { terms = ts; atoms = withPut (s .atoms) a; code = s .code ++ atomSign i ∷ [] })
+      (sym (put-all-position (sameAtom ℕ-discrete) (same-alike ℕ-discrete) (s .atoms) [] a))
 
   tilde-more : (f : Formula N) (s : State) → withSign 0 (compiled f s) ≡ compiled (Form.negation f) s
   unfolding postfixCode
   tilde-more f s =
-      ap (λ (c : List ℕ). record { terms = s .terms; atoms = s .atoms ++ atomsOf (mapForm (mapAtom g) f); code = c })
-      (append-assoc (s .code) (postfixCode (numberForm (length (s .atoms)) f)) (0 ∷ []))
+      let F : Formula ℕ = mapForm (mapAtom g) f in
+      ap (λ (c : List ℕ). record { terms = s .terms; atoms = grown (s .atoms) F; code = c })
+      (append-assoc (s .code) (postfixCode (numbered (grown (s .atoms) F) F)) (0 ∷ []))
 
   sign-more : (f h : Formula N) (c : ℕ) (s : State) → withSign c (compiled h (compiled f s))
-      ≡ record {
-        terms = s .terms;
-        atoms = s .atoms ++ (atomsOf (mapForm (mapAtom g) f) ++ atomsOf (mapForm (mapAtom g) h));
-        code = s .code ++ (postfixCode (numberForm (length (s .atoms)) f) ++ (postfixCode (numberForm (length (s .atoms) + length (atomsOf f)) h) ++ c ∷ []));
-      }
+      ≡ (let F : Formula ℕ = mapForm (mapAtom g) f in
+      let H : Formula ℕ = mapForm (mapAtom g) h in
+      let all : List (Atom ℕ) = foldl withPut (s .atoms) (atomsOf F ++ atomsOf H) in
+      record { terms = s .terms; atoms = all; code = s .code ++ (postfixCode (numbered all F) ++ (postfixCode (numbered all H) ++ c ∷ [])) })
   sign-more f h c s =
-      let x : List ℕ = postfixCode (numberForm (length (s .atoms)) f) in
-      let n : length (s .atoms ++ atomsOf (mapForm (mapAtom g) f)) ≡ length (s .atoms) + length (atomsOf f)
-      = length-append (s .atoms) (atomsOf (mapForm (mapAtom g) f)) ∙ ap (λ (k : ℕ). length (s .atoms) + k) (count-map (mapAtom g) f) in
-      ap₂ (λ (a : List (Atom ℕ)) (k : List ℕ). record { terms = s .terms; atoms = a; code = k })
-      (append-assoc (s .atoms) (atomsOf (mapForm (mapAtom g) f)) (atomsOf (mapForm (mapAtom g) h)))
-      (ap (λ (k : ℕ). ((s .code ++ x) ++ postfixCode (numberForm k h)) ++ c ∷ []) n
-      ∙ append-assoc (s .code ++ x) (postfixCode (numberForm (length (s .atoms) + length (atomsOf f)) h)) (c ∷ [])
-      ∙ append-assoc (s .code) x (postfixCode (numberForm (length (s .atoms) + length (atomsOf f)) h) ++ c ∷ []))
+      let F : Formula ℕ = mapForm (mapAtom g) f in
+      let H : Formula ℕ = mapForm (mapAtom g) h in
+      let left : List (Atom ℕ) = grown (s .atoms) F in
+      let both : List (Atom ℕ) = grown left H in
+      let all : List (Atom ℕ) = foldl withPut (s .atoms) (atomsOf F ++ atomsOf H) in
+      ap (λ (k : List ℕ). record { terms = s .terms; atoms = both; code = k })
+      (append-assoc (s .code ++ postfixCode (numbered left F)) (postfixCode (numbered both H)) (c ∷ [])
+      ∙ append-assoc (s .code) (postfixCode (numbered left F)) (postfixCode (numbered both H) ++ c ∷ []))
+      ∙ ap (λ (x : Form ℕ). record { terms = s .terms; atoms = both; code = s .code ++ (postfixCode x ++ (postfixCode (numbered both H) ++ c ∷ [])) })
+      (sym (numbers-stay (s .atoms) (atomsOf H) F))
+      ∙ ap (λ (k : List (Atom ℕ)). record { terms = s .terms; atoms = k; code = s .code ++ (postfixCode (numbered all F) ++ (postfixCode (numbered k H) ++ c ∷ [])) })
+      (sym (foldl-append withPut (s .atoms) (atomsOf F) (atomsOf H)))
 
   pub formula-run : (f : Formula N) (o : List (Symbol N)) (s : State) → run g (formulaAfter f o) s ≡ compiled f (run g o s)
   unfolding formulaAfter postfixCode
-  formula-run Form.truth o s = run-last o _ s ∙ constant-more 6 (run g o s)
-  formula-run Form.falsity o s = run-last o _ s ∙ constant-more 5 (run g o s)
-  formula-run (Form.atom (Atom.contact t u)) o s = run-last (termAfter u (termAfter t o)) _ s ∙ ap (step g (relation contact)) (terms-run t u o s)
-  formula-run (Form.atom (Atom.part t u)) o s = run-last (termAfter u (termAfter t o)) _ s ∙ ap (step g (relation part)) (terms-run t u o s)
-  formula-run (Form.atom (Atom.empty t)) o s = run-last (termAfter t o) _ s ∙ ap (step g isZero) (term-run t o s)
+  formula-run Form.truth o s = run-last o _ s
+  formula-run Form.falsity o s = run-last o _ s
+  formula-run (Form.atom (Atom.contact t u)) o s = run-last (termAfter u (termAfter t o)) _ s ∙ ap (step g (relation contact)) (terms-run t u o s) ∙ atom-more _ _ (run g o s)
+  formula-run (Form.atom (Atom.part t u)) o s = run-last (termAfter u (termAfter t o)) _ s ∙ ap (step g (relation part)) (terms-run t u o s) ∙ atom-more _ _ (run g o s)
+  formula-run (Form.atom (Atom.empty t)) o s = run-last (termAfter t o) _ s ∙ ap (step g isZero) (term-run t o s) ∙ atom-more _ _ (run g o s)
   formula-run (Form.negation f) o s = run-last (formulaAfter f o) _ s ∙ ap (step g tilde) (formula-run f o s) ∙ tilde-more f (run g o s)
   formula-run (Form.conjunction f h) o s =
       run-last (formulaAfter h (formulaAfter f o)) _ s ∙ ap (step g (binary And)) (formula-run h (formulaAfter f o) s ∙ ap (compiled h) (formula-run f o s)) ∙ sign-more f h 1 (run g o s)
@@ -114,7 +159,12 @@ module _ {N : Type 0} (g : N → ℕ) where
 
   by-atom : (a : Atom ℕ) (ts : List (Term ℕ)) (s : State) → length ts ≤ length (s .terms) → length (s .terms) ≤ length ts + 2 → Bounds 1 s (withAtom a ts s)
   by-atom a ts s l k =
-      record { high = omega arith; low = omega arith; long = omega (arith, length-append (s .code) (atomSign (length (s .atoms)) ∷ [])); more = omega (arith, length-append (s .atoms) (a ∷ [])) }
+      record {
+        high = omega arith;
+        low = omega arith;
+        long = omega (arith, length-append (s .code) (atomSign (placeIn (s .atoms) a) ∷ []));
+        more = put-all-longer (sameAtom ℕ-discrete) (s .atoms) (a ∷ []);
+      }
 
   by-sign : (c : ℕ) (s : State) → Bounds 1 s (withSign c s)
   by-sign c s = record { high = omega arith; low = omega arith; long = omega (arith, length-append (s .code) (c ∷ [])); more = omega arith }

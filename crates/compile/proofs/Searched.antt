@@ -4,6 +4,7 @@ use mathlib.Core.Path.{_≡_, refl, ap, _∙_}
 use mathlib.Core.List.{List}
 use Prim.Native.Nat.{ℕ, _^_, _≤_, _<_}
 use native.Mathlib.Omega.{arith}
+use Rattle.formula.specs.Atoms.{isContact}
 use Rattle.formula.specs.Formula.{Atom}
 use Rattle.evalset.specs.Sets.{room, memAt}
 use Rattle.evalset.specs.Most.{most}
@@ -11,7 +12,7 @@ use Rattle.evalset.proofs.Members.{names-room}
 use Rattle.contact.specs.Plan.{at}
 use Rattle.search.specs.Compiled.{AtomIs, atomAt, contactAt, Compiled}
 use Rattle.search.specs.declared.Chart.{Chart}
-use Rattle.compile.specs.Chart.{isContact, firstTerm, CompiledFrom}
+use Rattle.compile.specs.Chart.{firstTerm, CompiledFrom}
 use Rattle.compile.proofs.Claims.{first-members, second-members}
 
 pub compiled-search : (chart : Chart) (atoms : List (Atom ℕ)) → chart .names ≤ most → CompiledFrom chart atoms → Compiled chart atoms

@@ -1,28 +1,30 @@
--- One symbol: the stack of sets follows the stack of terms, the chart the atoms and the array the code. Assumes nothing.
+-- One symbol: the stack of sets and the row of symbols follow the stack of terms, an atom's sign finds the sets and the symbols of its
+-- terms, and another sign writes its code. Assumes nothing.
 use mathlib.Core.Bool.{Bool, true, false, cond}
 use mathlib.Core.Path.{_≡_, refl, sym, ap, ap₂, _∙_}
-use mathlib.Core.List.{List, [], _∷_, _++_}
+use mathlib.Core.List.{List, [], _∷_, _++_, append-assoc, append-nil}
 use Prim.Native.Nat.{ℕ, suc, _+_, _-_, _≤_, _<_}
 use native.Mathlib.Omega.{arith}
 use lib.Dec.{eqb}
-use lib.ListN.{length, set, length-append}
+use lib.ListN.{length, set}
 use borrow.Author.Tests.{eqb-true}
 use Rattle.formula.specs.declared.Sign.the-variants.{Implies, Iff, Or, And, Plus, Times}
 use Rattle.formula.specs.Formula.{Term, Atom, Name}
+use Rattle.formula.specs.Atoms.{isContact}
 use Rattle.syntax.specs.Symbol.{Leaf, leaf, minus, tilde, opening, closing, comma, isZero, binary, constant, relation, contact, part}
 use Rattle.syntax.specs.Postfix.{symbolNames}
 use Rattle.syntax.specs.Machine.{Sym}
 use Rattle.syntax.specs.Reader.{code}
 use Rattle.evalset.specs.declared.EvalSet.{EvalSet}
+use Rattle.evalset.specs.Most.{most}
 use Rattle.evalset.specs.Sets.{mem, memAt, fullOf, meetOf, joinOf, minusOf}
-use Rattle.lists.proofs.Truth.{clash, cases}
+use Rattle.lists.proofs.Truth.{clash, cases, cond-holds}
 use Rattle.evalset.proofs.Arrays.{mem-at-same, mem-at-other}
-use Rattle.search.specs.declared.Chart.{Chart}
-use Rattle.compile.specs.Kinds.{takenBy, termKind, atomKind, namesBy, setBy, firstBy, secondBy, signBy}
-use Rattle.compile.specs.Chart.{setOf, CompiledFrom, Grows}
-use Rattle.compile.specs.Machine.{State, withSign, step}
+use Rattle.spelling.specs.Symbols.{spelled, symbolsOf}
+use Rattle.compile.specs.Kinds.{takenBy, termKind, atomKind, namesBy, setBy, symbolBy, firstBy, secondBy, signBy}
+use Rattle.compile.specs.Chart.{setOf, firstSet, secondSet}
+use Rattle.compile.specs.Machine.{State, withAtom, withSign, step}
 use Rattle.compile.proofs.Sets.{of-zero, of-one, of-name, of-intersection, of-union, of-part, of-complement}
-use Rattle.compile.proofs.Charts.{grows-same, compiled-more}
 use Rattle.compile.proofs.Heights.{Proper}
 
 -- ---- the stack
@@ -44,10 +46,16 @@ module _ (st : List EvalSet) (h : ℕ) (ts : List (Term ℕ)) (e : h ≡ length 
   two-down : (u t : Term ℕ) → Stacked st (u ∷ (t ∷ ts)) → memAt st (h + 1) ≡ setOf u
   two-down u t s = let z : h + 1 ≡ suc (length ts) = omega arith in ap (memAt st) z ∙ s .0
 
--- what a symbol of a term leaves: h is the place of its set
-pub record Put (st : List EvalSet) (h : ℕ) (s r : State) : Type 0 where
+-- the symbols of the terms, from the bottom up
+abbrev pub spelledAll : List (Term ℕ) → List ℕ
+spelledAll [] = []
+spelledAll (t ∷ ts) = spelledAll ts ++ spelled t
+
+-- what a symbol of a term leaves: h is the place of its set, v its symbol
+pub record Put (st : List EvalSet) (h v : ℕ) (s r : State) : Type 0 where
   pub stacked : Stacked st (r .terms)
   pub high : h + 1 ≡ length (r .terms)
+  pub spells : spelledAll (r .terms) ≡ spelledAll (s .terms) ++ v ∷ []
   pub same-atoms : r .atoms ≡ s .atoms
   pub same-code : r .code ≡ s .code
 
@@ -55,36 +63,48 @@ module _ (g : Name → ℕ) (st : List EvalSet) (set-r : EvalSet) (k n h : ℕ) 
   abbrev state : List (Term ℕ) → State
   state ts = record { terms = ts; atoms = atoms; code = cs }
 
-  put : (t : Term ℕ) (ts us : List (Term ℕ)) → h ≡ length ts → Stacked st ts → mem set-r ≡ setOf t → Put (set st h set-r) h (state us) (state (t ∷ ts))
-  put t ts us e s m =
+  put : (t : Term ℕ) (ts us : List (Term ℕ)) (v : ℕ) → h ≡ length ts → Stacked st ts → mem set-r ≡ setOf t → spelledAll (t ∷ ts) ≡ spelledAll us ++ v ∷ []
+      → Put (set st h set-r) h v (state us) (state (t ∷ ts))
+  put t ts us v e s m w =
       record {
         stacked = (ap (memAt (set st h set-r)) (sym e) ∙ mem-at-same st h set-r fits ∙ m, stacked-below ts st h set-r (omega arith) s);
         high = omega arith;
+        spells = w;
         same-atoms = refl;
         same-code = refl;
       }
 
+  -- the sign of two terms behind their symbols
+  behind-two : (ts : List (Term ℕ)) (t u : Term ℕ) (v : ℕ) → spelledAll ts ++ (spelled t ++ (spelled u ++ v ∷ [])) ≡ ((spelledAll ts ++ spelled t) ++ spelled u) ++ v ∷ []
+  behind-two ts t u v =
+      sym (append-assoc (spelledAll ts ++ spelled t) (spelled u) (v ∷ []) ∙ append-assoc (spelledAll ts) (spelled t) (spelled u ++ v ∷ []))
+
   pub term-step : (x : Sym) (ts : List (Term ℕ)) → termKind (code x) ≡ true → n ≡ length ts → takenBy (code x) ≤ n → h ≡ n - takenBy (code x)
       → Stacked st ts → ((y : Name) → x ≡ leaf (Leaf.name y) → k ≡ g y) → mem set-r ≡ setBy (code x) k (memAt st h) (memAt st (h + 1))
-      → Put (set st h set-r) h (state ts) (step g x (state ts))
-  unfolding takenBy termKind setBy
-  term-step (leaf Leaf.zero) ts q e l d s w m = put Term.zero ts ts (omega arith) s (m ∙ of-zero)
-  term-step (leaf Leaf.one) ts q e l d s w m = put Term.one ts ts (omega arith) s (m ∙ of-one)
-  term-step (leaf (Leaf.name y)) ts q e l d s w m = put (Term.name (g y)) ts ts (omega arith) s (m ∙ of-name k ∙ ap (λ (i : ℕ). setOf (Term.name i)) (w y refl))
+      → Put (set st h set-r) h (symbolBy (code x) k) (state ts) (step g x (state ts))
+  unfolding takenBy termKind setBy symbolBy
+  term-step (leaf Leaf.zero) ts q e l d s w m = put Term.zero ts ts 0 (omega arith) s (m ∙ of-zero) refl
+  term-step (leaf Leaf.one) ts q e l d s w m = put Term.one ts ts 1 (omega arith) s (m ∙ of-one) refl
+  term-step (leaf (Leaf.name y)) ts q e l d s w m =
+      put (Term.name (g y)) ts ts (5 + k) (omega arith) s (m ∙ of-name k ∙ ap (λ (i : ℕ). setOf (Term.name i)) (w y refl))
+      (ap (λ (i : ℕ). spelledAll ts ++ (5 + i) ∷ []) (sym (w y refl)))
   term-step minus [] q e l d s w m = absurd (omega arith)
   term-step minus (t ∷ ts) q e l d s w m =
       let z : h ≡ length ts = omega arith in
-      put (Term.complement t) ts (t ∷ ts) z (s .1) (m ∙ ap (minusOf fullOf) (one-down st h ts z t s) ∙ of-complement t)
+      put (Term.complement t) ts (t ∷ ts) 2 z (s .1) (m ∙ ap (minusOf fullOf) (one-down st h ts z t s) ∙ of-complement t)
+      (sym (append-assoc (spelledAll ts) (spelled t) (2 ∷ [])))
   term-step (binary Times) [] q e l d s w m = absurd (omega arith)
   term-step (binary Times) (u ∷ []) q e l d s w m = absurd (omega arith)
   term-step (binary Times) (u ∷ (t ∷ ts)) q e l d s w m =
       let z : h ≡ length ts = omega arith in
-      put (Term.intersection t u) ts (u ∷ (t ∷ ts)) z (s .1 .1) (m ∙ ap₂ meetOf (one-down st h ts z t (s .1)) (two-down st h ts z u t s) ∙ of-intersection t u)
+      put (Term.intersection t u) ts (u ∷ (t ∷ ts)) 3 z (s .1 .1) (m ∙ ap₂ meetOf (one-down st h ts z t (s .1)) (two-down st h ts z u t s) ∙ of-intersection t u)
+      (behind-two ts t u 3)
   term-step (binary Plus) [] q e l d s w m = absurd (omega arith)
   term-step (binary Plus) (u ∷ []) q e l d s w m = absurd (omega arith)
   term-step (binary Plus) (u ∷ (t ∷ ts)) q e l d s w m =
       let z : h ≡ length ts = omega arith in
-      put (Term.union t u) ts (u ∷ (t ∷ ts)) z (s .1 .1) (m ∙ ap₂ joinOf (one-down st h ts z t (s .1)) (two-down st h ts z u t s) ∙ of-union t u)
+      put (Term.union t u) ts (u ∷ (t ∷ ts)) 4 z (s .1 .1) (m ∙ ap₂ joinOf (one-down st h ts z t (s .1)) (two-down st h ts z u t s) ∙ of-union t u)
+      (behind-two ts t u 4)
   term-step (binary Implies) ts q e l d s w m = clash q refl
   term-step (binary Iff) ts q e l d s w m = clash q refl
   term-step (binary Or) ts q e l d s w m = clash q refl
@@ -99,62 +119,56 @@ module _ (g : Name → ℕ) (st : List EvalSet) (set-r : EvalSet) (k n h : ℕ) 
   term-step (relation contact) ts q e l d s w m = clash q refl
   term-step (relation part) ts q e l d s w m = clash q refl
 
--- what the sign of an atom leaves: h is the height, r the chart, c the code
-pub record Made (st : List EvalSet) (h c : ℕ) (r : Chart) (s q : State) : Type 0 where
-  pub stacked : Stacked st (q .terms)
-  pub high : h ≡ length (q .terms)
-  pub compiled : CompiledFrom r (q .atoms)
-  pub coded : q .code ≡ s .code ++ c ∷ []
+-- the atom that a sign makes, where its terms are alone on the stack: its symbols are those of the row, its sets those of the stack
+pub record Made (st : List EvalSet) (x : Sym) (s q : State) : Type 0 where
+  pub atom : Atom ℕ
+  pub made : q ≡ withAtom atom [] s
+  pub spells : spelledAll (s .terms) ≡ symbolsOf atom
+  pub sign : eqb (code x) 14 ≡ isContact atom
+  pub first : firstBy (code x) (memAt st 0) (memAt st 1) ≡ firstSet atom
+  pub second : secondBy (code x) (memAt st 1) ≡ secondSet atom
 
-module _ (g : Name → ℕ) (st : List EvalSet) (n h : ℕ) (atoms : List (Atom ℕ)) (cs : List ℕ) {chart r : Chart} (from : CompiledFrom chart atoms) (room : length atoms < 16) where
-  pub atom-step : (x : Sym) (ts : List (Term ℕ)) → atomKind (code x) ≡ true → n ≡ length ts → takenBy (code x) ≤ n → h ≡ n - takenBy (code x)
-      → Stacked st ts → Grows chart r (eqb (code x) 14) (firstBy (code x) (memAt st h) (memAt st (h + 1))) (secondBy (code x) (memAt st (h + 1)))
-      → Made st h (signBy (code x) (length atoms)) r (record { terms = ts; atoms = atoms; code = cs }) (step g x (record { terms = ts; atoms = atoms; code = cs }))
-  unfolding takenBy atomKind firstBy secondBy signBy
-  atom-step isZero [] q e l d s w = absurd (omega arith)
-  atom-step isZero (t ∷ ts) q e l d s w =
-      let z : h ≡ length ts = omega arith in
-      record { stacked = s .1; high = z; compiled = compiled-more (Atom.empty t) from room (grows-same w refl (one-down st h ts z t s) refl); coded = refl }
-  atom-step (relation contact) [] q e l d s w = absurd (omega arith)
-  atom-step (relation contact) (u ∷ []) q e l d s w = absurd (omega arith)
-  atom-step (relation contact) (u ∷ (t ∷ ts)) q e l d s w =
-      let z : h ≡ length ts = omega arith in
-      record {
-        stacked = s .1 .1;
-        high = z;
-        compiled = compiled-more (Atom.contact t u) from room (grows-same w refl (one-down st h ts z t (s .1)) (two-down st h ts z u t s));
-        coded = refl;
-      }
-  atom-step (relation part) [] q e l d s w = absurd (omega arith)
-  atom-step (relation part) (u ∷ []) q e l d s w = absurd (omega arith)
-  atom-step (relation part) (u ∷ (t ∷ ts)) q e l d s w =
-      let z : h ≡ length ts = omega arith in
-      record {
-        stacked = s .1 .1;
-        high = z;
-        compiled = compiled-more (Atom.part t u) from room (grows-same w refl (ap₂ minusOf (one-down st h ts z t (s .1)) (two-down st h ts z u t s) ∙ of-part t u) refl);
-        coded = refl;
-      }
-  atom-step (leaf Leaf.zero) ts q e l d s w = clash q refl
-  atom-step (leaf Leaf.one) ts q e l d s w = clash q refl
-  atom-step (leaf (Leaf.name y)) ts q e l d s w = clash q refl
-  atom-step minus ts q e l d s w = clash q refl
-  atom-step tilde ts q e l d s w = clash q refl
-  atom-step opening ts q e l d s w = clash q refl
-  atom-step closing ts q e l d s w = clash q refl
-  atom-step comma ts q e l d s w = clash q refl
-  atom-step (binary Implies) ts q e l d s w = clash q refl
-  atom-step (binary Iff) ts q e l d s w = clash q refl
-  atom-step (binary Or) ts q e l d s w = clash q refl
-  atom-step (binary And) ts q e l d s w = clash q refl
-  atom-step (binary Plus) ts q e l d s w = clash q refl
-  atom-step (binary Times) ts q e l d s w = clash q refl
-  atom-step (constant true) ts q e l d s w = clash q refl
-  atom-step (constant false) ts q e l d s w = clash q refl
+module _ (g : Name → ℕ) (st : List EvalSet) (atoms : List (Atom ℕ)) (cs : List ℕ) where
+  two-spelled : (t u : Term ℕ) → spelled t ++ spelled u ≡ spelled t ++ (spelled u ++ [])
+  two-spelled t u = ap (λ (l : List ℕ). spelled t ++ l) (sym (append-nil (spelled u)))
+
+  pub atom-step : (x : Sym) (ts : List (Term ℕ)) → atomKind (code x) ≡ true → takenBy (code x) ≡ length ts → Stacked st ts
+      → Made st x (record { terms = ts; atoms = atoms; code = cs }) (step g x (record { terms = ts; atoms = atoms; code = cs }))
+  unfolding takenBy atomKind firstBy secondBy
+  atom-step isZero [] q e s = absurd (omega arith)
+  atom-step isZero (t ∷ []) q e s =
+      record { atom = Atom.empty t; made = refl; spells = sym (append-nil (spelled t)); sign = refl; first = s .0; second = refl }
+  atom-step isZero (u ∷ (t ∷ ts)) q e s = absurd (omega arith)
+  atom-step (relation contact) [] q e s = absurd (omega arith)
+  atom-step (relation contact) (u ∷ []) q e s = absurd (omega arith)
+  atom-step (relation contact) (u ∷ (t ∷ [])) q e s =
+      record { atom = Atom.contact t u; made = refl; spells = two-spelled t u; sign = refl; first = s .1 .0; second = s .0 }
+  atom-step (relation contact) (u ∷ (t ∷ (w ∷ ts))) q e s = absurd (omega arith)
+  atom-step (relation part) [] q e s = absurd (omega arith)
+  atom-step (relation part) (u ∷ []) q e s = absurd (omega arith)
+  atom-step (relation part) (u ∷ (t ∷ [])) q e s =
+      record { atom = Atom.part t u; made = refl; spells = two-spelled t u; sign = refl; first = ap₂ minusOf (s .1 .0) (s .0) ∙ of-part t u; second = refl }
+  atom-step (relation part) (u ∷ (t ∷ (w ∷ ts))) q e s = absurd (omega arith)
+  atom-step (leaf Leaf.zero) ts q e s = clash q refl
+  atom-step (leaf Leaf.one) ts q e s = clash q refl
+  atom-step (leaf (Leaf.name y)) ts q e s = clash q refl
+  atom-step minus ts q e s = clash q refl
+  atom-step tilde ts q e s = clash q refl
+  atom-step opening ts q e s = clash q refl
+  atom-step closing ts q e s = clash q refl
+  atom-step comma ts q e s = clash q refl
+  atom-step (binary Implies) ts q e s = clash q refl
+  atom-step (binary Iff) ts q e s = clash q refl
+  atom-step (binary Or) ts q e s = clash q refl
+  atom-step (binary And) ts q e s = clash q refl
+  atom-step (binary Plus) ts q e s = clash q refl
+  atom-step (binary Times) ts q e s = clash q refl
+  atom-step (constant true) ts q e s = clash q refl
+  atom-step (constant false) ts q e s = clash q refl
 
 -- any other symbol is a connective or a constant: it takes no set, and only its code is written
 pub sign-step : (g : Name → ℕ) (x : Sym) (s : State) → Proper x → termKind (code x) ≡ false → atomKind (code x) ≡ false
-    → (step g x s ≡ withSign (signBy (code x) (length (s .atoms))) s) × (takenBy (code x) ≡ 0)
+    → (step g x s ≡ withSign (signBy (code x)) s) × (takenBy (code x) ≡ 0)
 unfolding takenBy termKind atomKind signBy
 sign-step g tilde s p q a = (refl, refl)
 sign-step g (binary Implies) s p q a = (refl, refl)
@@ -214,25 +228,17 @@ pub one-at-most : (k : ℕ) → namesBy k ≤ 1
 unfolding namesBy
 one-at-most k = cases (eqb k 18) (λ e. rw e (omega arith)) (λ e. rw e (omega arith))
 
--- the sign of an atom makes one atom
-pub atom-grows : (g : Name → ℕ) (x : Sym) (s : State) → atomKind (code x) ≡ true → length (step g x s .atoms) ≡ length (s .atoms) + 1
-unfolding atomKind
-atom-grows g isZero s q = length-append (s .atoms) _
-atom-grows g (relation contact) s q = length-append (s .atoms) _
-atom-grows g (relation part) s q = length-append (s .atoms) _
-atom-grows g (leaf Leaf.zero) s q = clash q refl
-atom-grows g (leaf Leaf.one) s q = clash q refl
-atom-grows g (leaf (Leaf.name y)) s q = clash q refl
-atom-grows g minus s q = clash q refl
-atom-grows g tilde s q = clash q refl
-atom-grows g opening s q = clash q refl
-atom-grows g closing s q = clash q refl
-atom-grows g comma s q = clash q refl
-atom-grows g (binary Implies) s q = clash q refl
-atom-grows g (binary Iff) s q = clash q refl
-atom-grows g (binary Or) s q = clash q refl
-atom-grows g (binary And) s q = clash q refl
-atom-grows g (binary Plus) s q = clash q refl
-atom-grows g (binary Times) s q = clash q refl
-atom-grows g (constant true) s q = clash q refl
-atom-grows g (constant false) s q = clash q refl
+-- ---- symbols
+
+-- all are below 16, since there are at most 11 names
+pub name-small : (name : ℕ) → name < most → 5 + name < 16
+name-small name l = omega arith
+
+pub symbol-small : (k name : ℕ) → name < most → symbolBy k name < 16
+unfolding symbolBy
+symbol-small k name l =
+    let small : ℕ → Type 0 = λ v. v < 16 in
+    cond-holds small (eqb k 16) _ _ (omega arith)
+    (cond-holds small (eqb k 17) _ _ (omega arith)
+    (cond-holds small (eqb k 6) _ _ (omega arith)
+    (cond-holds small (eqb k 5) _ _ (omega arith) (cond-holds small (eqb k 4) _ _ (omega arith) (name-small name l)))))

@@ -1,11 +1,12 @@
 -- For proofs: when a chart is compiled from a list of atoms, as the contracts have it. Assumes nothing.
-use mathlib.Core.Bool.{Bool, true, false, _&&_, cond}
+use mathlib.Core.Bool.{Bool, false, _&&_, cond}
 use mathlib.Core.Path.{_≡_}
 use mathlib.Core.List.{List}
 use Prim.Native.Nat.{ℕ, suc, _≤_}
 use lib.Dec.{ltb, eqb}
 use lib.ListN.{length, getD}
 use Rattle.formula.specs.Formula.{Term, Atom}
+use Rattle.formula.specs.Atoms.{isContact}
 use Rattle.evalset.specs.Sets.{room, memAt, noneOf}
 use Rattle.contact.specs.Meaning.{partTerm}
 use Rattle.contact.specs.Plan.{at}
@@ -17,11 +18,6 @@ unfoldable pub setOf : Term ℕ → ℕ → Bool
 setOf t e = ltb e room && at t e
 
 -- ---- an atom on a chart
-
-abbrev pub isContact : Atom ℕ → Bool
-isContact (Atom.contact x y) = true
-isContact (Atom.part x y) = false
-isContact (Atom.empty t) = false
 
 -- "Zero atoms .. are the =0 atoms and the <= atoms, the term of <=(x,y) being x*-y": that term stands first
 abbrev pub firstTerm : Atom ℕ → Term ℕ

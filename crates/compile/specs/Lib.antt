@@ -2,3 +2,4 @@ pub mod Kinds
 pub mod Chart
 pub mod Machine
 pub mod Compiles
+pub mod Signs

@@ -1,12 +1,15 @@
 -- For proofs: a machine which no contract names: what is computed, on terms in place of sets. A formula's order is passed once, from left
--- to right. The terms that are whole wait on a stack, its top first; the atoms and the code are written behind those before. Assumes
--- nothing.
+-- to right. The terms that are whole wait on a stack, its top first; an atom is put behind those before where it is none of them, and
+-- the code is written with its place among them. Assumes nothing.
 use mathlib.Core.Bool.{true, false}
 use mathlib.Core.List.{List, [], _∷_, _++_, tail}
 use Prim.Native.Nat.{ℕ}
-use lib.ListN.{length}
+use native.Mathlib.Decide.{ℕ-discrete}
 use Rattle.formula.specs.declared.Sign.the-variants.{Implies, Iff, Or, And, Plus, Times}
 use Rattle.formula.specs.Formula.{Term, Atom}
+use Rattle.formula.specs.Same.{sameAtom}
+use Rattle.contact.specs.Numbering.{position}
+use Rattle.contact.specs.Putting.{put}
 use Rattle.kleene.specs.Code.{atomSign}
 use Rattle.syntax.specs.Symbol.{Leaf, Symbol, leaf, minus, tilde, opening, closing, comma, isZero, binary, constant, relation, contact, part}
 
@@ -20,12 +23,19 @@ abbrev pub top : List (Term ℕ) → Term ℕ
 top [] = Term.zero
 top (t ∷ ts) = t
 
--- the state with other terms; with an atom more, whose number is that of the atoms before it; with a sign more
+-- the atoms with one put behind them, and its number
+abbrev pub withPut : List (Atom ℕ) → Atom ℕ → List (Atom ℕ)
+withPut = put (sameAtom ℕ-discrete)
+
+abbrev pub placeIn : List (Atom ℕ) → Atom ℕ → ℕ
+placeIn = position (sameAtom ℕ-discrete)
+
+-- the state with other terms; with an atom put behind the atoms, and its sign; with a sign more
 abbrev pub withTerms : List (Term ℕ) → State → State
 withTerms ts s = record { terms = ts; atoms = s .atoms; code = s .code }
 
 abbrev pub withAtom : Atom ℕ → List (Term ℕ) → State → State
-withAtom a ts s = record { terms = ts; atoms = s .atoms ++ a ∷ []; code = s .code ++ atomSign (length (s .atoms)) ∷ [] }
+withAtom a ts s = record { terms = ts; atoms = withPut (s .atoms) a; code = s .code ++ atomSign (placeIn (s .atoms) a) ∷ [] }
 
 abbrev pub withSign : ℕ → State → State
 withSign c s = record { terms = s .terms; atoms = s .atoms; code = s .code ++ c ∷ [] }

@@ -1,16 +1,18 @@
 // The compiler of a rule: from its formula's order (document 01, 'Rule text') to a set of evaluations for each term of its atoms
-// ('Meaning') and postfix code over atom numbers. Atoms are numbered "by first place, rules in order, left to right". The order
-// is passed once, with a stack of sets for the terms that are whole. Only our own crates compile rules, and only what was
-// read: the requires of `compile_rule` says so, since to test for it would read the rule twice.
+// ('Meaning') and postfix code over atom numbers. Atoms are numbered "by first place, rules in order, left to right", and "atoms that
+// are the same count as one" (document 02, T-03): spelling tells which are. The order is passed once, with a stack of sets for the
+// terms that are whole and a row of their symbols. Only our own crates compile rules, and only what was read: the requires of
+// `compile_rule` says so, since to test for it would read the rule twice.
 ghost use mathlib.Core.Path.{_≡_};
 ghost use mathlib.Core.List.{[]};
-ghost use Prim.Native.Nat.{_≤_, _<_};
-ghost use lib.Dec.{eqb};
+ghost use Prim.Native.Nat.{_<_};
 ghost use lib.ListN.{length, getD};
 ghost use Rattle.evalset.specs.Sets.{mem};
-ghost use Rattle.compile.specs.Kinds.{takenBy, termKind, atomKind, namesBy, setBy, firstBy, secondBy, signBy};
-ghost use Rattle.compile.specs.Chart.{CompiledFrom, Grows};
-ghost use Rattle.compile.specs.Compiles.{Asked, Compiles};
+ghost use Rattle.evalset.specs.Most.{most};
+ghost use Rattle.compile.specs.Kinds.{takenBy, termKind, atomKind, namesBy, setBy, symbolBy, firstBy, secondBy, signBy};
+ghost use Rattle.compile.specs.Chart.{CompiledFrom};
+ghost use Rattle.compile.specs.Compiles.{atomsWith, ruleWith, Asked, Compiles};
+ghost use Rattle.compile.specs.Signs.{Signing, Signs};
 use evalset::EvalSet;
 use lexer::AND;
 use lexer::CONTACT;
@@ -26,31 +28,43 @@ use lexer::PART;
 use lexer::PLUS;
 use lexer::TILDE;
 use lexer::TIMES;
-use lexer::TRUTH;
 use lexer::ZERO;
 use search::ATOMS;
 use search::Chart;
 
-// The chart with the rule's atoms behind those before, and the place after the rule's code.
-pub struct CompiledRule {
+// The different atoms: their chart, and how many symbols the terms of each have. The symbols are lent (spelling keeps them).
+pub struct Atoms {
     pub chart: Chart,
-    pub end: usize,
+    pub lens: [u8; ATOMS],
 }
 
-// The chart of no atoms.
-pub fn blank_chart(names: usize) -> Chart
-    ensures { λ r. ⌜ (r .names ≡ names) × CompiledFrom r [] ⌝ }
+// The atoms with the rule's behind them, the place after the rule's code, and whether sixteen atoms are enough. Where they are
+// not, nothing is said of the rest.
+pub struct CompiledRule {
+    pub atoms: Atoms,
+    pub end: usize,
+    pub enough: bool,
+}
+
+// The code of the number 16, which a seventeenth atom would have.
+const SEVENTEENTH: u8 = 23;
+
+// No atoms.
+pub fn no_atoms() -> Atoms
+    ensures { λ r. ⌜ (r .chart .names ≡ 0) × CompiledFrom (r .chart) [] ⌝ }
 {
     let none = evalset::empty();
     let contact = [false; ATOMS];
     let sets = [none; ATOMS];
-    Chart {
-        names,
+    let chart = Chart {
+        names: 0,
         atoms: 0,
         contact,
         xs: sets,
         ys: sets,
-    }
+    };
+    let lens = [0u8; ATOMS];
+    Atoms { chart, lens }
 }
 
 // How many sets a token takes off the stack.
@@ -123,36 +137,42 @@ fn term_set(kind: u8, number: usize, x: EvalSet, y: EvalSet) -> EvalSet
     }
 }
 
-// The chart with one atom more.
-fn added(chart: Chart, contact: bool, x: EvalSet, y: EvalSet) -> Chart
-    requires { ⌜ chart .atoms < 16 ⌝ }
-    ensures { λ r. ⌜ Grows chart r contact (mem x) (mem y) ⌝ }
-{
-    let mut grown = chart;
-    let i = chart.atoms;
-    grown.contact[i] = contact;
-    grown.xs[i] = x;
-    grown.ys[i] = y;
-    grown.atoms = i + 1;
-    grown
-}
-
-// The chart with the atom of =0, C or <= on these sets; "<=(x,y) means x*-y=0".
-fn with_atom(chart: Chart, kind: u8, x: EvalSet, y: EvalSet) -> Chart
-    requires { ⌜ chart .atoms < 16 ⌝ }
-    ensures { λ r. ⌜ Grows chart r (eqb kind 14) (firstBy kind (mem x) (mem y)) (secondBy kind (mem y)) ⌝ }
+// The symbol of a term's token, by which atoms are compared: a name by its number.
+fn symbol(kind: u8, number: usize) -> u8
+    requires { ⌜ number < most ⌝ }
+    ensures { λ r. ⌜ r ≡ symbolBy kind number ⌝ }
 {
     match kind {
-        CONTACT => added(chart, true, x, y),
-        PART => added(chart, false, evalset::minus(x, y), evalset::empty()),
-        _ => added(chart, false, x, evalset::empty()),
+        ZERO => 0,
+        ONE => 1,
+        MINUS => 2,
+        TIMES => 3,
+        PLUS => 4,
+        _ => 5 + number as u8,
     }
 }
 
-// The code of a formula's token where so many atoms stand before it.
-fn sign_code(kind: u8, atoms: usize) -> u8
-    requires { ⌜ atoms ≤ 16 ⌝ }
-    ensures { λ r. ⌜ r ≡ signBy kind atoms ⌝ }
+// The first set of the atom of =0, C or <= on these sets; "<=(x,y) means x*-y=0".
+fn first_set(kind: u8, x: EvalSet, y: EvalSet) -> EvalSet
+    ensures { λ r. ⌜ mem r ≡ firstBy kind (mem x) (mem y) ⌝ }
+{
+    if kind == PART {
+        evalset::minus(x, y)
+    } else {
+        x
+    }
+}
+
+// Its second set: only a contact has one.
+fn second_set(kind: u8, y: EvalSet) -> EvalSet
+    ensures { λ r. ⌜ mem r ≡ secondBy kind (mem y) ⌝ }
+{
+    if kind == CONTACT { y } else { evalset::empty() }
+}
+
+// The code of a formula's token that makes no atom.
+fn sign_code(kind: u8) -> u8
+    ensures { λ r. ⌜ r ≡ signBy kind ⌝ }
 {
     match kind {
         TILDE => 0,
@@ -161,8 +181,7 @@ fn sign_code(kind: u8, atoms: usize) -> u8
         IMPLIES => 3,
         IFF => 4,
         FALSITY => 5,
-        TRUTH => 6,
-        _ => 7 + atoms as u8,
+        _ => 6,
     }
 }
 
@@ -175,44 +194,116 @@ fn empty_stack() -> [EvalSet; 172]
     [none; 172]
 }
 
-// The rule with this order, whose names have these numbers at their places: its atoms go behind those of the chart, its code
-// into the array from a place on. The requires asks for the order of a formula, a compiled chart, and room for the rule's atoms
-// and code: a caller has them of what was read (`order-read` and `order-short` of proofs/Claims.antt) and counted.
-pub fn compile_rule(
+// The code of a formula's token: of one that makes an atom it is the number's of the atom, whose terms are in the row. The row of an
+// atom that is none of those before is kept, where there is room: of atoms that are the same the first stays.
+fn signed(
+    kept: &mut [u8; 2048],
+    lens: &mut [u8; ATOMS],
+    contacts: [bool; ATOMS],
+    many: usize,
+    row: &[u8; 256],
+    len: usize,
+    kind: u8,
+) -> u8
+    requires { ⌜ Signing (now kept) (now lens) contacts many (now row) len kind ⌝ }
+    ensures { λ r. ⌜ Signs (now (kept .entry)) (now (lens .entry)) contacts many (now (row .entry)) len kind r (now (kept .exit)) (now (lens .exit)) ⌝ }
+{
+    if !is_atom(kind) {
+        return sign_code(kind);
+    }
+    let contact = kind == CONTACT;
+    let number = spelling::number_of(kept, lens, contacts, many, row, len, contact);
+    let sign = 7 + number as u8;
+    if number < many {
+        return sign;
+    }
+    if ATOMS <= number {
+        return sign;
+    }
+    spelling::keep_row(kept, row, len, number);
+    lens[number] = len as u8;
+    sign
+}
+
+// What is compiled of a rule.
+fn whole(chart: Chart, lens: [u8; ATOMS], end: usize, enough: bool) -> CompiledRule
+    ensures { λ r. ⌜ r ≡ ruleWith chart lens end enough ⌝ }
+{
+    let atoms = Atoms { chart, lens };
+    CompiledRule { atoms, end, enough }
+}
+
+// The rule with the signs of this order behind it. A token is put on neither, the first or both of two sets, and the stack is never
+// full: the place above its top can be read. Where the sign of an atom stands, its terms are all that is on the stack, and so
+// their symbols are all that is in the row. The chart is changed in place, since to hand it on would copy it.
+fn order_passed(
     order: &[u8],
     numbers: &[u8],
-    chart: Chart,
-    code: &mut [u8; 4096],
-    from: usize,
+    mut chart: Chart,
+    mut lens: [u8; ATOMS],
+    kept: &mut [u8; 2048],
+    code: &mut [u8],
+    mut end: usize,
 ) -> CompiledRule
-    requires { ⌜ Asked (now order) (now numbers) chart from ⌝ }
-    ensures { λ r. ⌜ Compiles (now (order .entry)) (now (numbers .entry)) chart (now (code .entry)) from r (now (code .exit)) ⌝ }
+    requires { ⌜ Asked (now order) (now numbers) (atomsWith chart lens) (now kept) (now code) end ⌝ }
+    ensures { λ r. ⌜ Compiles (now (order .entry)) (now (numbers .entry)) (atomsWith chart lens) (now (kept .entry)) (now (code .entry)) end r (now (kept .exit)) (now (code .exit)) × (length (now (code .exit)) ≡ length (now (code .entry))) ⌝ }
 {
     let mut stack = empty_stack();
+    let mut row = lexer::zeros();
     let mut height: usize = 0;
+    let mut len: usize = 0;
     let mut used: usize = 0;
-    let mut grown = chart;
-    let mut end = from;
     let mut i: usize = 0;
     while i < order.len() {
         let kind = order[i];
         i += 1;
         height -= taken(kind);
-        // The sets that the token is put on; it is put on neither, the first or both. The stack is never full: the place above its
-        // top can be read.
         let x = stack[height];
         let y = stack[height + 1];
         if is_term(kind) {
-            stack[height] = term_set(kind, number_at(numbers, used), x, y);
+            let number = number_at(numbers, used);
+            stack[height] = term_set(kind, number, x, y);
+            row[len] = symbol(kind, number);
             height += 1;
+            len += 1;
             used += names_of_kind(kind);
             continue;
         }
-        code[end] = sign_code(kind, grown.atoms);
-        end += 1;
-        if is_atom(kind) {
-            grown = with_atom(grown, kind, x, y);
+        let contacts = chart.contact;
+        let many = chart.atoms;
+        let sign = signed(kept, &mut lens, contacts, many, &row, len, kind);
+        if SEVENTEENTH <= sign {
+            return whole(chart, lens, end, false);
         }
+        code[end] = sign;
+        end += 1;
+        len = 0;
+        if sign as usize != 7 + many {
+            continue;
+        }
+        chart.contact[many] = kind == CONTACT;
+        chart.xs[many] = first_set(kind, x, y);
+        chart.ys[many] = second_set(kind, y);
+        chart.atoms = many + 1;
     }
-    CompiledRule { chart: grown, end }
+    whole(chart, lens, end, true)
+}
+
+// The rule with this order, whose names have these numbers at their places: its atoms go behind those before where they are none
+// of them, its code into the array from a place on. The requires asks for the order of a formula, compiled atoms, and room for
+// the code: a caller has them of what was read (`order-read` and `order-short` of proofs/Claims.antt).
+pub fn compile_rule(
+    order: &[u8],
+    numbers: &[u8],
+    before: Atoms,
+    kept: &mut [u8; 2048],
+    code: &mut [u8],
+    from: usize,
+) -> CompiledRule
+    requires { ⌜ Asked (now order) (now numbers) before (now kept) (now code) from ⌝ }
+    ensures { λ r. ⌜ Compiles (now (order .entry)) (now (numbers .entry)) before (now (kept .entry)) (now (code .entry)) from r (now (kept .exit)) (now (code .exit)) × (length (now (code .exit)) ≡ length (now (code .entry))) ⌝ }
+{
+    let chart = before.chart;
+    let lens = before.lens;
+    order_passed(order, numbers, chart, lens, kept, code, from)
 }

@@ -1,6 +1,6 @@
--- The first row that makes the rules true and passes the check decides the rules: its plan gives exactly the row, so it meets
--- them; and the row of any floor that meets them is one of those tried, so where no row is found no floor meets them. The
--- claims hold for any numbering of the atoms under which the numbered rules say what the rules say. Assumes nothing.
+-- The first row that makes the rules true and passes the check decides the rules: its plan gives exactly the row, so it makes
+-- them true; and the row of any floor that does is one of those tried, so where no row is found no floor does. The
+-- laws hold for any list of atoms and any rules over their numbers. Assumes nothing.
 use mathlib.Core.Bool.{Bool, true, false, Bool-set, and-eq-true-iff}
 use mathlib.Core.Path.{_≡_, refl, sym, ap, ap₂, _∙_, subst}
 use mathlib.Core.Logic.{⊎-elim, _↔_, ∥∥₁-elim}
@@ -10,16 +10,15 @@ use Prim.Native.Nat.{ℕ, zero, suc}
 use native.Mathlib.Omega.{arith}
 use native.Mathlib.Nat.{ℕ-set}
 use lib.ListN.{length, length-map}
-use Rattle.formula.specs.Formula.{Atom, Form, Formula}
+use Rattle.formula.specs.Formula.{Atom, Form, Formula, Name}
 use Rattle.lists.specs.Search.{In, here, any, first, orElse}
 use Rattle.lists.proofs.Search.{none-in, uncons, in-left, in-right, in-either, map-intro, map-elim, any-intro, none-elim, none-intro, first-some, first-none, first-found, first-append, first-map}
 use Rattle.lists.proofs.Truth.{clash, cases}
-use Rattle.contact.specs.Meaning.{Floor, atomOn, meetsAll}
-use Rattle.contact.specs.Numbering.{allAtoms, numberedAtoms, AtomBelow, RulesBelow}
+use Rattle.contact.specs.Meaning.{Floor, atomOn}
+use Rattle.contact.specs.Numbering.{differentAtoms, AtomsBelow}
 use Rattle.contact.specs.Row.{IsFirstRow, Row, Realises, Realisable, rulesTrue, Before}
 use Rattle.contact.specs.Plan.{rowMarks}
-use Rattle.contact.specs.Check.{check, rows, good, firstRow, firstRowOf}
-use Rattle.contact.proofs.Numbered.{Faithful, numbered-faithful}
+use Rattle.contact.specs.Check.{check, rows, good, firstRow}
 use Rattle.contact.proofs.Realise.{marksFloor, plan-row, row-check}
 
 -- ---- the rows of n atoms are the lists of n Booleans, in the order of rows
@@ -96,13 +95,13 @@ realisable-length atoms row real =
     ∥∥₁-elim real (ℕ-set _ _) (λ f. ap length (sym (f .1)) ∙ length-map atoms (atomOn (f .0)))
 
 -- so the first realisable row that makes the rules true is one
-pub first-row-once : {N : Type 0} (rules : List (Formula N)) (row other : Row) → IsFirstRow rules row → IsFirstRow rules other → row ≡ other
+pub first-row-once : (rules : List (Formula Name)) (row other : Row) → IsFirstRow rules row → IsFirstRow rules other → row ≡ other
 first-row-once rules row other r s =
     neither-before row other
-    (realisable-length (allAtoms rules) row (r .realisable) ∙ sym (realisable-length (allAtoms rules) other (s .realisable)))
+    (realisable-length (differentAtoms rules) row (r .realisable) ∙ sym (realisable-length (differentAtoms rules) other (s .realisable)))
     (s .earliest row (r .realisable) (r .makes)) (r .earliest other (s .realisable) (s .makes))
 
--- ---- the claims, for any faithful numbering of the atoms
+-- ---- for any atoms and rules over their numbers
 
 module _ (n : ℕ) (atoms : List (Atom ℕ)) (nums : List (Form ℕ)) where
   -- what a found row is
@@ -117,25 +116,34 @@ module _ (n : ℕ) (atoms : List (Atom ℕ)) (nums : List (Form ℕ)) where
       let k = and-eq-true-iff (rulesTrue nums row) (check n (rowMarks atoms row)) .0 g in
       record { whole = rows-elim (length atoms) row i; makes = k .0; checked = k .1 }
 
-  first-good : (row : Row) → firstRow n atoms nums ≡ row ∷ [] → Good row
+  pub first-good : (row : Row) → firstRow n atoms nums ≡ row ∷ [] → Good row
   unfolding firstRow
   first-good row e = let r = first-found (good n atoms nums) (rows (length atoms)) e in good-elim row (r .0) (r .1)
 
-  module _ (rules : List (Formula ℕ)) (faithful : Faithful rules atoms nums) where
-    -- the plan of a good row meets every rule
-    good-meets : (row : Row) (g : Good row) → meetsAll (marksFloor n (rowMarks atoms row) (g .checked)) rules ≡ true
-    good-meets row g =
-        sym (faithful (marksFloor n (rowMarks atoms row) (g .checked)))
-        ∙ ap (rulesTrue nums) (plan-row n atoms row (g .whole) (g .checked)) ∙ g .makes
+  -- the floor makes the rules true
+  abbrev pub Makes : Floor ℕ → Type 0
+  Makes F = rulesTrue nums (map (atomOn F) atoms) ≡ true
 
-  module _ (names : (a : Atom ℕ) → In a atoms → AtomBelow n a) where
+  good-makes : (row : Row) (g : Good row) → Makes (marksFloor n (rowMarks atoms row) (g .checked))
+  good-makes row g = ap (rulesTrue nums) (plan-row n atoms row (g .whole) (g .checked)) ∙ g .makes
+
+  module _ (row : Row) (e : firstRow n atoms nums ≡ row ∷ []) where
+    -- the plan of the first row
+    abbrev pub rowFloor : Floor ℕ
+    rowFloor = marksFloor n (rowMarks atoms row) (first-good row e .checked)
+
+    -- gives exactly the row
+    pub plan-gives-row : Realises rowFloor atoms row
+    plan-gives-row = plan-row n atoms row (first-good row e .whole) (first-good row e .checked)
+
+  module _ (names : AtomsBelow n atoms) where
     -- a realisable row that makes the rules true is good
     realised-good : (row : Row) (F : Floor ℕ) → Realises F atoms row → rulesTrue nums row ≡ true → good n atoms nums row ≡ true
     unfolding good
     realised-good row F h k = and-intro k (row-check n atoms names row F h)
 
     -- no realisable row before the first makes the rules true
-    first-earliest : (row other : Row) → firstRow n atoms nums ≡ row ∷ [] → Realisable atoms other → rulesTrue nums other ≡ true
+    pub first-earliest : (row other : Row) → firstRow n atoms nums ≡ row ∷ [] → Realisable atoms other → rulesTrue nums other ≡ true
         → Before other row → ⊥
     unfolding firstRow
     first-earliest row other e real k b =
@@ -143,64 +151,27 @@ module _ (n : ℕ) (atoms : List (Atom ℕ)) (nums : List (Form ℕ)) where
         (λ f. clash (realised-good other (f .0) (f .1) k)
         (before-first (length atoms) (good n atoms nums) row other e (realisable-length atoms other real) b))
 
-    module _ (rules : List (Formula ℕ)) (faithful : Faithful rules atoms nums) where
-      -- the row of a floor that meets the rules is among those tried, and good
-      some-good : (F : Floor ℕ) → meetsAll F rules ≡ true → any (good n atoms nums) (rows (length atoms)) ≡ true
-      some-good F h =
-          let row : Row = map (atomOn F) atoms in
-          any-intro (good n atoms nums) (subst (λ k. In row (rows k)) (length-map atoms (atomOn F)) (rows-intro row))
-          (realised-good row F refl (faithful F ∙ h))
+    -- the row of a floor that makes the rules true is among those tried, and good
+    some-good : (F : Floor ℕ) → Makes F → any (good n atoms nums) (rows (length atoms)) ≡ true
+    some-good F h =
+        let row : Row = map (atomOn F) atoms in
+        any-intro (good n atoms nums) (subst (λ k. In row (rows k)) (length-map atoms (atomOn F)) (rows-intro row)) (realised-good row F refl h)
 
-      -- no row is found exactly where no floor meets every rule
-      none-exactly : (firstRow n atoms nums ≡ []) ↔ ((F : Floor ℕ) → meetsAll F rules ≡ true → ⊥)
-      unfolding firstRow
-      none-exactly = (
-        λ e F h. let r = first-some (good n atoms nums) (rows (length atoms)) (some-good F h) in nil≢cons (sym e ∙ r .1),
-        λ h. first-none (good n atoms nums) (rows (length atoms))
-            (none-intro (good n atoms nums) (rows (length atoms))
-            (λ row i g. let a = good-elim row i g in
-            h (marksFloor n (rowMarks atoms row) (a .checked)) (good-meets rules faithful row a))),
-      )
+    -- so a row is found where some realisable row makes the rules true
+    pub some-found : (row : Row) → Realisable atoms row → rulesTrue nums row ≡ true → (other : Row) × (firstRow n atoms nums ≡ other ∷ [])
+    unfolding firstRow
+    some-found row real k =
+        let found : any (good n atoms nums) (rows (length atoms)) ≡ true =
+        ∥∥₁-elim real (Bool-set _ _) (λ f. some-good (f .0) (ap (rulesTrue nums) (f .1) ∙ k)) in
+        let r = first-some (good n atoms nums) (rows (length atoms)) found in
+        (r .0, r .1)
 
--- ---- the same with the atoms numbered by place
-
-module _ (n : ℕ) (rules : List (Formula ℕ)) where
-  abbrev RowOf : Row → Type 0
-  RowOf row = Good n (allAtoms rules) (numberedAtoms rules) row
-
-  pub row-found : (row : Row) → firstRowOf n rules ≡ row ∷ [] → RowOf row
-  row-found row e = first-good n (allAtoms rules) (numberedAtoms rules) row e
-
-  -- the plan of the first row
-  abbrev pub rowFloor : (row : Row) → firstRowOf n rules ≡ row ∷ [] → Floor ℕ
-  rowFloor row e = marksFloor n (rowMarks (allAtoms rules) row) (row-found row e .checked)
-
-  -- gives exactly the row
-  pub plan-gives-row : (row : Row) (e : firstRowOf n rules ≡ row ∷ []) → Realises (rowFloor row e) (allAtoms rules) row
-  plan-gives-row row e = plan-row n (allAtoms rules) row (row-found row e .whole) (row-found row e .checked)
-
-  -- and meets every rule
-  pub plan-meets : (row : Row) (e : firstRowOf n rules ≡ row ∷ []) → meetsAll (rowFloor row e) rules ≡ true
-  plan-meets row e = good-meets n (allAtoms rules) (numberedAtoms rules) rules (numbered-faithful rules) row (row-found row e)
-
-  pub no-plan-exactly : RulesBelow n rules → (firstRowOf n rules ≡ []) ↔ ((F : Floor ℕ) → meetsAll F rules ≡ true → ⊥)
-  no-plan-exactly names = none-exactly n (allAtoms rules) (numberedAtoms rules) names rules (numbered-faithful rules)
-
-  pub first-row : RulesBelow n rules → (row : Row) → firstRowOf n rules ≡ row ∷ [] → IsFirstRow rules row
-  first-row names row e =
-      record {
-        realisable = ∣ (rowFloor row e, plan-gives-row row e) ∣₁;
-        makes = row-found row e .makes;
-        earliest = λ other real k b. first-earliest n (allAtoms rules) (numberedAtoms rules) names row other e real k b;
-      }
-
-  -- and the first realisable row that makes the rules true is found
-  pub first-row-only : RulesBelow n rules → (row : Row) → IsFirstRow rules row → firstRowOf n rules ≡ row ∷ []
-  unfolding firstRow
-  first-row-only names row is =
-      let found : any (good n (allAtoms rules) (numberedAtoms rules)) (rows (length (allAtoms rules))) ≡ true =
-      ∥∥₁-elim (is .realisable) (Bool-set _ _)
-      (λ f. some-good n (allAtoms rules) (numberedAtoms rules) names rules (numbered-faithful rules) (f .0)
-      (sym (numbered-faithful rules (f .0)) ∙ ap (rulesTrue (numberedAtoms rules)) (f .1) ∙ is .makes)) in
-      let r = first-some (good n (allAtoms rules) (numberedAtoms rules)) (rows (length (allAtoms rules))) found in
-      r .1 ∙ ap (λ s. s ∷ []) (first-row-once rules (r .0) row (first-row names (r .0) (r .1)) is)
+    -- and none exactly where no floor does
+    pub none-exactly : (firstRow n atoms nums ≡ []) ↔ ((F : Floor ℕ) → Makes F → ⊥)
+    unfolding firstRow
+    none-exactly = (
+      λ e F h. let r = first-some (good n atoms nums) (rows (length atoms)) (some-good F h) in nil≢cons (sym e ∙ r .1),
+      λ h. first-none (good n atoms nums) (rows (length atoms))
+          (none-intro (good n atoms nums) (rows (length atoms))
+          (λ row i g. let a = good-elim row i g in h (marksFloor n (rowMarks atoms row) (a .checked)) (good-makes row a))),
+    )

@@ -5,13 +5,15 @@ use mathlib.Core.Path.{_≡_}
 use mathlib.Core.Logic.{_↔_}
 use mathlib.Core.List.{List, [], _∷_, map}
 use Prim.Native.Nat.{ℕ, _+_, _*_, _^_, _≤_, _<_, max}
+use lib.Dec.{eqb}
 use lib.ListN.{length, getD}
 use Rattle.formula.specs.Formula.{Atom, Form, Formula, Name}
 use Rattle.lists.specs.Search.{In, first, collect, below}
 use Rattle.evalset.specs.Bit.{bit}
 use Rattle.contact.specs.Meaning.{Floor, atomOn, meetsAll}
 use Rattle.formula.specs.Names.{atomNames}
-use Rattle.contact.specs.Numbering.{allAtoms, sameName, namesOf, numberOf, nameOf, numberedNames, numberedAtoms, AtomBelow, RulesBelow}
+use Rattle.formula.specs.Same.{name-discrete, sameAtom}
+use Rattle.contact.specs.Numbering.{allAtoms, distinct, sameName, namesOf, numberOf, nameOf, differentAtoms, atomNumber, numberedAtoms, rowAtoms, AtomBelow, AtomsBelow}
 use Rattle.contact.specs.Row.{IsFirstRow, Row, Realises, Realisable, PartialRow, RealisesPart, rulesTrue, Sound, Exact}
 use Rattle.contact.specs.Plan.{Mark, marksOf, rowMarks, separated, pointsFor, trueContacts, falseZeros}
 use Rattle.contact.specs.Check.{check, rows, good, firstRowOf}
@@ -20,6 +22,7 @@ use Rattle.contact.specs.Tableau.{refutes, closes, search}
 use Rattle.contact.proofs.Bits
 use Rattle.contact.proofs.Realise
 use Rattle.contact.proofs.Pairs
+use Rattle.contact.proofs.Same
 use Rattle.contact.proofs.Numbered
 use Rattle.contact.proofs.Answer
 use Rattle.contact.proofs.Naming
@@ -44,18 +47,32 @@ pub name-found : (rules : List (Formula Name)) {x : Name} → In x (collect atom
     → (numberOf rules x < length (namesOf rules)) × (nameOf rules (numberOf rules x) ≡ x)
 name-found rules i = Naming.name-found rules i
 
--- so the numbered rules' names are below that number
-pub numbered-below : (rules : List (Formula Name)) → RulesBelow (length (namesOf rules)) (numberedNames rules)
+-- so the names of the atoms that rows run over are below that number
+pub numbered-below : (rules : List (Formula Name)) → AtomsBelow (length (namesOf rules)) (rowAtoms rules)
 numbered-below = Naming.numbered-below
 
--- the atoms are numbered from 0, rules in order, left to right
-pub numbered-in-order : {A : Type 0} (rules : List (Form A)) → allAtoms (numberedAtoms rules) ≡ below (length (allAtoms rules))
-numbered-in-order rules = Numbered.numbered-in-order rules
+-- atoms that are the same have the same value on every floor (Same)
+pub same-value : (F : Floor Name) (a b : Atom Name) → sameAtom name-discrete a b ≡ true → atomOn F a ≡ atomOn F b
+same-value F a b h = Same.same-value F name-discrete a b h
 
--- and the numbered rules say of a floor what the rules say
-pub numbered-faithful : (rules : List (Formula ℕ)) (F : Floor ℕ)
-    → rulesTrue (numberedAtoms rules) (map (atomOn F) (allAtoms rules)) ≡ meetsAll F rules
+-- each atom has a number below how many different ones there are, and the atom of that number is the same
+pub atom-found : (rules : List (Formula Name)) (none : Atom Name) {a : Atom Name} → In a (allAtoms rules)
+    → (atomNumber rules a < length (differentAtoms rules)) × (sameAtom name-discrete (getD (differentAtoms rules) (atomNumber rules a) none) a ≡ true)
+atom-found rules none i = Numbered.atom-found rules none i
+
+-- "numbered by first place": the numbers as they stand in the rules, each at its first place, are 0, 1, 2 and so on
+pub numbered-in-order : (rules : List (Formula Name)) → distinct eqb (allAtoms (numberedAtoms rules)) ≡ below (length (differentAtoms rules))
+numbered-in-order = Numbered.numbered-in-order
+
+-- the numbered rules say of a floor what the rules say
+pub numbered-faithful : (rules : List (Formula Name)) (F : Floor Name)
+    → rulesTrue (numberedAtoms rules) (map (atomOn F) (differentAtoms rules)) ≡ meetsAll F rules
 numbered-faithful = Numbered.numbered-faithful
+
+-- rules that are all among others have no more different atoms, so a withdrawn rule adds none
+pub atoms-fewer : (rules others : List (Formula Name)) → ((f : Formula Name) → In f rules → In f others)
+    → length (differentAtoms rules) ≤ length (differentAtoms others)
+atoms-fewer = Naming.atoms-fewer
 
 -- ---- which rows are realisable (Realise)
 
@@ -97,58 +114,34 @@ pub plan-row : (n : ℕ) (atoms : List (Atom ℕ)) (row : Row) → length row �
     → Realises (Realise.marksFloor n (rowMarks atoms row) h) atoms row
 plan-row = Realise.plan-row
 
--- the row that is found is realisable, makes the rules true, and no realisable row before it does
-pub first-row : (n : ℕ) (rules : List (Formula ℕ)) → RulesBelow n rules → (row : Row) → firstRowOf n rules ≡ row ∷ []
-    → IsFirstRow rules row
-first-row = Answer.first-row
-
--- there is only one such row, and it is found
-pub first-row-once : {N : Type 0} (rules : List (Formula N)) (row other : Row) → IsFirstRow rules row → IsFirstRow rules other → row ≡ other
+-- there is only one first row
+pub first-row-once : (rules : List (Formula Name)) (row other : Row) → IsFirstRow rules row → IsFirstRow rules other → row ≡ other
 first-row-once rules row other r s = Answer.first-row-once rules row other r s
 
-pub first-row-only : (n : ℕ) (rules : List (Formula ℕ)) → RulesBelow n rules → (row : Row) → IsFirstRow rules row
-    → firstRowOf n rules ≡ row ∷ []
-first-row-only = Answer.first-row-only
-
--- its plan gives the atoms exactly this row
-pub plan-gives-row : (n : ℕ) (rules : List (Formula ℕ)) (row : Row) (e : firstRowOf n rules ≡ row ∷ [])
-    → Realises (Answer.rowFloor n rules row e) (allAtoms rules) row
-plan-gives-row = Answer.plan-gives-row
-
--- and meets every rule
-pub plan-meets : (n : ℕ) (rules : List (Formula ℕ)) (row : Row) (e : firstRowOf n rules ≡ row ∷ [])
-    → meetsAll (Answer.rowFloor n rules row e) rules ≡ true
-plan-meets = Answer.plan-meets
-
--- no row is found exactly if no floor meets every rule
-pub no-plan-exactly : (n : ℕ) (rules : List (Formula ℕ)) → RulesBelow n rules
-    → (firstRowOf n rules ≡ []) ↔ ((F : Floor ℕ) → meetsAll F rules ≡ true → ⊥)
-no-plan-exactly = Answer.no-plan-exactly
-
--- of the rules as read, over names: the row found is the first realisable one that makes them true
+-- the row found is realisable, makes the rules true, and no realisable row before it does
 pub first-row-named : (rules : List (Formula Name)) (row : Row)
-    → firstRowOf (length (namesOf rules)) (numberedNames rules) ≡ row ∷ [] → IsFirstRow rules row
+    → firstRowOf rules ≡ row ∷ [] → IsFirstRow rules row
 first-row-named = Naming.first-row-named
 
 -- and the first realisable one that makes them true is found
 pub first-row-only-named : (rules : List (Formula Name)) (row : Row) → IsFirstRow rules row
-    → firstRowOf (length (namesOf rules)) (numberedNames rules) ≡ row ∷ []
+    → firstRowOf rules ≡ row ∷ []
 first-row-only-named = Naming.first-row-only-named
 
 -- the plan, each name at its number, gives their atoms this row
 pub plan-row-named : (rules : List (Formula Name)) (row : Row)
-    (e : firstRowOf (length (namesOf rules)) (numberedNames rules) ≡ row ∷ [])
-    → Realises (Naming.namedPlan rules row e) (allAtoms rules) row
+    (e : firstRowOf rules ≡ row ∷ [])
+    → Realises (Naming.namedPlan rules row e) (differentAtoms rules) row
 plan-row-named = Naming.plan-row-named
 
 -- and meets all of them
 pub plan-meets-named : (rules : List (Formula Name)) (row : Row)
-    (e : firstRowOf (length (namesOf rules)) (numberedNames rules) ≡ row ∷ []) → meetsAll (Naming.namedPlan rules row e) rules ≡ true
+    (e : firstRowOf rules ≡ row ∷ []) → meetsAll (Naming.namedPlan rules row e) rules ≡ true
 plan-meets-named = Naming.plan-meets-named
 
 -- and no row is found exactly if no floor over names meets all of them
 pub no-plan-named : (rules : List (Formula Name))
-    → (firstRowOf (length (namesOf rules)) (numberedNames rules) ≡ []) ↔ ((F : Floor Name) → meetsAll F rules ≡ true → ⊥)
+    → (firstRowOf rules ≡ []) ↔ ((F : Floor Name) → meetsAll F rules ≡ true → ⊥)
 no-plan-named = Naming.no-plan-named
 
 -- floors with the same points, contacts and regions meet the same rules
@@ -188,6 +181,6 @@ pub closes-exact : (n : ℕ) (atoms : List (Atom ℕ)) (nums : List (Form ℕ)) 
 closes-exact = Searching.closes-exact
 
 -- so the search that closes branches early finds the row that the answer uses
-pub search-answer : (n : ℕ) (rules : List (Formula ℕ))
-    → search (closes n (allAtoms rules) (numberedAtoms rules)) (length (allAtoms rules)) [] ≡ firstRowOf n rules
+pub search-answer : (rules : List (Formula Name))
+    → search (closes (length (namesOf rules)) (rowAtoms rules) (numberedAtoms rules)) (length (rowAtoms rules)) [] ≡ firstRowOf rules
 search-answer = Searching.search-answer

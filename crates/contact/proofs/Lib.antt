@@ -3,6 +3,8 @@ pub mod Realise
 pub mod Pairs
 pub mod Fewer
 pub mod Renaming
+pub mod Distinct
+pub mod Same
 pub mod Numbered
 pub mod Answer
 pub mod Naming

@@ -1,30 +1,31 @@
--- Numbers may stand for names: a floor over numbers is one over names, each name at its number, and meets the rules as read
--- where it meets the numbered ones; the numbered rules with the names put back are the rules as read, so the same holds the
--- other way round. The distinct elements of a list are its elements, each once, so a part of a list has no more of them.
+-- Numbers may stand for names: a floor over numbers is one over names, each name at its number, and gives the rules' atoms the row that
+-- it gives these with numbers for names; the atoms with the names put back are as read, so the same holds the other way round.
 -- Assumes nothing.
-use mathlib.Core.Bool.{Bool, true, false, not, _&&_, _||_, Bool·beq, cond, and-eq-true-iff}
+use mathlib.Core.Bool.{Bool, true, not, _&&_, _||_, and-eq-true-iff}
 use mathlib.Core.Path.{_≡_, refl, sym, ap, ap₂, _∙_, subst, fun-ext}
-use mathlib.Core.Logic.{⊎-elim, _↔_, ∥∥₁-map}
-use mathlib.Core.List.{List, [], _∷_, _++_, map, map-map, nil≢cons, cons≢nil, head-eq-of-cons-eq, tail-eq-of-cons-eq}
+use mathlib.Core.Logic.{_↔_, ∥∥₁-map}
+use mathlib.Core.List.{List, [], _∷_, map, map-map, map-id, nil≢cons, cons≢nil, head-eq-of-cons-eq, tail-eq-of-cons-eq}
 use mathlib.Mathlib.Data.Bool.Basic.{and-intro}
-use Prim.Native.Nat.{ℕ, zero, suc, _≤_, _<_}
-use native.Mathlib.Omega.{arith}
+use Prim.Native.Nat.{ℕ, _≤_, _<_}
 use lib.Dec.{eqb}
-use lib.ListN.{length, getD}
+use lib.ListN.{length}
 use borrow.Author.Tests.{eqb-true, eq-eqb}
-use Rattle.formula.specs.Formula.{Term, Atom, Form, Formula, Name}
-use Rattle.lists.specs.Search.{In, here, next, any, all, collect, below}
-use Rattle.lists.proofs.Search.{none-in, uncons, at-head, in-left, in-right, map-elim, all-map, keep-intro, keep-elim, collect-intro}
-use Rattle.lists.proofs.Once.{Once, once-fits, once-kept}
-use Rattle.contact.specs.Meaning.{Floor, holds, within, partTerm, atomOn, value, meets, meetsAll, renamed}
+use Rattle.formula.specs.Formula.{Term, Atom, Formula, Name}
+use Rattle.lists.specs.Search.{In, here, any, collect, below}
+use Rattle.lists.proofs.Lists.{map-agree}
+use Rattle.lists.proofs.Search.{in-left, in-right, map-elim, collect-intro, collect-elim}
+use Rattle.contact.specs.Meaning.{Floor, holds, within, partTerm, atomOn, meetsAll, renamed}
 use Rattle.formula.specs.Atoms.{atomsOf}
 use Rattle.formula.specs.Names.{termNames, atomNames}
-use Rattle.contact.specs.Numbering.{allAtoms, distinct, position, sameName, namesOf, mapTerm, mapAtom, mapForm, numberedNames, numberedAtoms, TermBelow, AtomBelow, RulesBelow, numberOf, nameOf}
-use Rattle.lists.proofs.Truth.{clash, cases}
+use Rattle.formula.specs.Same.{name-discrete, sameAtom}
+use Rattle.contact.specs.Numbering.{allAtoms, sameName, namesOf, mapTerm, mapAtom, differentAtoms, numberedAtoms, rowAtoms, TermBelow, AtomBelow, AtomsBelow, numberOf, nameOf}
+use Rattle.lists.proofs.Truth.{clash}
 use Rattle.contact.specs.Row.{IsFirstRow, Row, Realises, Realisable, rulesTrue}
 use Rattle.contact.specs.Check.{firstRowOf}
-use Rattle.contact.proofs.Numbered.{all-atoms-map, numbered-map}
-use Rattle.contact.proofs.Answer.{first-row, first-row-only, rowFloor, plan-gives-row, plan-meets, no-plan-exactly}
+use Rattle.contact.proofs.Distinct.{Alike, Decides, decides-alike, from-distinct, position-in, position-same, in-distinct, distinct-fewer}
+use Rattle.contact.proofs.Same.{same-alike}
+use Rattle.contact.proofs.Numbered.{numbered-faithful}
+use Rattle.contact.proofs.Answer.{first-good, first-row-once, first-earliest, some-found, none-exactly, rowFloor, plan-gives-row}
 
 -- ---- renaming
 
@@ -50,31 +51,9 @@ module _ {N M : Type 0} (g : N → M) where
     atom-map (Atom.part x y) = ap (λ (u : ℕ → Bool). not (any u (below (F .points)))) (within-map (partTerm x y))
     atom-map (Atom.empty t) = ap (λ (u : ℕ → Bool). not (any u (below (F .points)))) (within-map t)
 
-module _ {A B : Type 0} (h : A → B) where
-  pub value-map : (v : B → Bool) (f : Form A) → value v (mapForm h f) ≡ value (λ a. v (h a)) f
-  value-map v Form.truth = refl
-  value-map v Form.falsity = refl
-  value-map v (Form.atom a) = refl
-  value-map v (Form.negation f) = ap not (value-map v f)
-  value-map v (Form.conjunction f g) = ap₂ _&&_ (value-map v f) (value-map v g)
-  value-map v (Form.disjunction f g) = ap₂ _||_ (value-map v f) (value-map v g)
-  value-map v (Form.implication f g) = ap₂ (λ a b. not a || b) (value-map v f) (value-map v g)
-  value-map v (Form.equivalence f g) = ap₂ Bool·beq (value-map v f) (value-map v g)
-
--- a floor meets the renamed rules exactly if, renamed, it meets the rules
-meets-map : {N M : Type 0} (g : N → M) (F : Floor M) (rules : List (Formula N))
-    → meetsAll F (map (mapForm (mapAtom g)) rules) ≡ meetsAll (renamed g F) rules
-meets-map {N} g F rules =
-    all-map (mapForm (mapAtom g)) (meets F) rules
-    ∙ ap (λ (p : Formula N → Bool). all p rules)
-    (fun-ext (λ f. value-map (mapAtom g) (atomOn F) f ∙ ap (λ (v : Atom N → Bool). value v f) (fun-ext (atom-map g F))))
-
--- and gives their atoms the row that, renamed, it gives the atoms of the rules
-row-map : {N M : Type 0} (g : N → M) (F : Floor M) (rules : List (Formula N))
-    → map (atomOn F) (allAtoms (map (mapForm (mapAtom g)) rules)) ≡ map (atomOn (renamed g F)) (allAtoms rules)
-row-map {N} g F rules =
-    ap (map (atomOn F)) (all-atoms-map (mapAtom g) rules) ∙ map-map (atomOn F) (mapAtom g) (allAtoms rules)
-    ∙ ap (λ (v : Atom N → Bool). map v (allAtoms rules)) (fun-ext (atom-map g F))
+-- a floor gives renamed atoms the row that, renamed, it gives the atoms
+row-map : {N M : Type 0} (g : N → M) (F : Floor M) (atoms : List (Atom N)) → map (atomOn F) (map (mapAtom g) atoms) ≡ map (atomOn (renamed g F)) atoms
+row-map {N} g F atoms = map-map (atomOn F) (mapAtom g) atoms ∙ ap (λ (v : Atom N → Bool). map v atoms) (fun-ext (atom-map g F))
 
 -- ---- and back again
 
@@ -95,32 +74,6 @@ module _ {N M : Type 0} (g : N → M) (back : M → N) where
   atom-back (Atom.part s t) h =
       ap₂ Atom.part (term-back s (λ x i. h x (in-left (termNames t) i))) (term-back t (λ x i. h x (in-right (termNames s) i)))
   atom-back (Atom.empty t) h = ap Atom.empty (term-back t h)
-
-module _ {A B : Type 0} (g : A → B) (back : B → A) where
-  abbrev Undone : List A → Type 0
-  Undone atoms = (a : A) → In a atoms → back (g a) ≡ a
-
-  -- the two sides of a binary sign
-  sides-back : (f h : Form A) (c : Form A → Form A → Form A) → Undone (atomsOf f ++ atomsOf h)
-      → (Undone (atomsOf f) → mapForm back (mapForm g f) ≡ f) → (Undone (atomsOf h) → mapForm back (mapForm g h) ≡ h)
-      → c (mapForm back (mapForm g f)) (mapForm back (mapForm g h)) ≡ c f h
-  sides-back f h c u left right =
-      ap₂ c (left (λ a i. u a (in-left (atomsOf h) i))) (right (λ a i. u a (in-right (atomsOf f) i)))
-
-  form-back : (f : Form A) → Undone (atomsOf f) → mapForm back (mapForm g f) ≡ f
-  form-back Form.truth u = refl
-  form-back Form.falsity u = refl
-  form-back (Form.atom a) u = ap Form.atom (u a here)
-  form-back (Form.negation f) u = ap Form.negation (form-back f u)
-  form-back (Form.conjunction f h) u = sides-back f h Form.conjunction u (form-back f) (form-back h)
-  form-back (Form.disjunction f h) u = sides-back f h Form.disjunction u (form-back f) (form-back h)
-  form-back (Form.implication f h) u = sides-back f h Form.implication u (form-back f) (form-back h)
-  form-back (Form.equivalence f h) u = sides-back f h Form.equivalence u (form-back f) (form-back h)
-
-  forms-back : (fs : List (Form A)) → Undone (allAtoms fs) → map (mapForm back) (map (mapForm g) fs) ≡ fs
-  forms-back [] u = refl
-  forms-back (f ∷ fs) u =
-      ap₂ _∷_ (form-back f (λ a i. u a (in-left (allAtoms fs) i))) (forms-back fs (λ a i. u a (in-right (atomsOf f) i)))
 
 -- ---- names below a number
 
@@ -144,10 +97,6 @@ module _ {N : Type 0} (g : N → ℕ) (n : ℕ) where
 
 -- ---- positions
 
--- a test that decides equality
-abbrev pub Decides : {N : Type 0} → (N → N → Bool) → Type 0
-Decides {N} same = (x y : N) → (same x y ≡ true) ↔ (x ≡ y)
-
 pub same-name : Decides sameName
 same-name [] [] = (λ h. refl, λ e. refl)
 same-name [] (b ∷ w) = (λ h. clash h refl, λ e. absurd (nil≢cons e))
@@ -157,45 +106,8 @@ same-name (a ∷ v) (b ∷ w) = (
   λ e. and-intro (eq-eqb a b (head-eq-of-cons-eq e)) (same-name v w .1 (tail-eq-of-cons-eq e)),
 )
 
--- the distinct elements of a list are elements of it
-pub from-distinct : {N : Type 0} (same : N → N → Bool) (xs : List N) {w : N} → In w (distinct same xs) → In w xs
-from-distinct same [] i = i
-from-distinct same (x ∷ xs) i =
-    ⊎-elim (λ e. at-head e) (λ j. next (from-distinct same xs (keep-elim (λ y. not (same x y)) (distinct same xs) j .0))) (uncons i)
-
-module _ {N : Type 0} (same : N → N → Bool) (decides : Decides same) where
-  -- every element stands in the list of the distinct ones
-  pub distinct-in : {x : N} (xs : List N) → In x xs → In x (distinct same xs)
-  distinct-in [] i = i
-  distinct-in {x} (y ∷ ys) i =
-      cases (same y x) (λ h. at-head (sym (decides y x .0 h)))
-      (λ h. ⊎-elim (λ q. clash (decides y x .1 (sym q)) h)
-      (λ j. next (keep-intro (λ z. not (same y z)) (distinct-in ys j) (ap not h))) (uncons i))
-
-  -- each of them once
-  distinct-once : (xs : List N) → Once (distinct same xs)
-  distinct-once [] = tt
-  distinct-once (x ∷ xs) =
-      let p : N → Bool = λ y. not (same x y) in
-      (λ i. clash (keep-elim p (distinct same xs) i .1) (ap not (decides x x .1 refl)), once-kept p (distinct same xs) (distinct-once xs))
-
-  -- so elements that are all among others have no more distinct ones
-  pub distinct-fewer : (xs ys : List N) → ((z : N) → In z xs → In z ys) → length (distinct same xs) ≤ length (distinct same ys)
-  distinct-fewer xs ys s =
-      once-fits (distinct same xs) (distinct same ys) (distinct-once xs) (λ z i. distinct-in ys (s z (from-distinct same xs i)))
-
-  -- an element is found at its position
-  position-found : (d : N) {x : N} (xs : List N) → In x xs
-      → (position same xs x < length xs) × (getD xs (position same xs x) d ≡ x)
-  position-found d [] i = none-in i
-  position-found d {x} (y ∷ ys) i =
-      go (same y x) refl (λ h. position-found d ys (⊎-elim (λ q. clash (decides y x .1 (sym q)) h) (λ j. j) (uncons i)))
-    where
-      go : (b : Bool) → same y x ≡ b
-          → (same y x ≡ false → (position same ys x < length ys) × (getD ys (position same ys x) d ≡ x))
-          → (cond b 0 (suc (position same ys x)) < suc (length ys)) × (getD (y ∷ ys) (cond b 0 (suc (position same ys x))) d ≡ x)
-      go true e f = (omega arith, decides y x .0 e)
-      go false e f = let r = f e in (omega (arith, r .0), r .1)
+pub name-alike : Alike sameName
+name-alike = decides-alike sameName same-name
 
 -- ---- the rules as read and the numbered rules
 
@@ -203,89 +115,96 @@ module _ (rules : List (Formula Name)) where
   -- each name of the rules has a number below how many they are, and is found at it
   pub name-found : {x : Name} → In x (collect atomNames (allAtoms rules))
       → (numberOf rules x < length (namesOf rules)) × (nameOf rules (numberOf rules x) ≡ x)
-  name-found i =
-      position-found sameName same-name [] (namesOf rules) (distinct-in sameName same-name (collect atomNames (allAtoms rules)) i)
+  name-found {x} i =
+      let h = in-distinct sameName name-alike (collect atomNames (allAtoms rules)) x i in
+      (position-in sameName (namesOf rules) x h, same-name _ x .0 (position-same sameName [] (namesOf rules) x h))
 
-  -- the numbered rules' names are below that number
-  pub numbered-below : RulesBelow (length (namesOf rules)) (numberedNames rules)
+  -- the names of an atom of the rules
+  atom-names : {a : Atom Name} {x : Name} → In a (differentAtoms rules) → In x (atomNames a) → In x (collect atomNames (allAtoms rules))
+  atom-names i j = collect-intro atomNames (from-distinct (sameAtom name-discrete) (allAtoms rules) i) j
+
+  -- the atoms' names are below that number
+  pub numbered-below : AtomsBelow (length (namesOf rules)) (rowAtoms rules)
   numbered-below a i =
-      let r = map-elim (mapAtom (numberOf rules)) (allAtoms rules) (subst (In a) (all-atoms-map (mapAtom (numberOf rules)) rules) i) in
+      let r = map-elim (mapAtom (numberOf rules)) (differentAtoms rules) i in
       subst (AtomBelow (length (namesOf rules))) (sym (r .1))
-      (atom-below (numberOf rules) (length (namesOf rules)) (r .0) (λ x j. name-found (collect-intro atomNames (r .2) j) .0))
+      (atom-below (numberOf rules) (length (namesOf rules)) (r .0) (λ x j. name-found (atom-names (r .2) j) .0))
 
-  -- with the names put back they are the rules as read
-  names-back : map (mapForm (mapAtom (nameOf rules))) (numberedNames rules) ≡ rules
+  -- with the names put back an atom is as read
+  pub atom-again : {a : Atom Name} → In a (allAtoms rules) → mapAtom (nameOf rules) (mapAtom (numberOf rules) a) ≡ a
+  atom-again {a} i = atom-back (numberOf rules) (nameOf rules) a (λ x j. name-found (collect-intro atomNames i j) .1)
+
+  names-back : map (mapAtom (nameOf rules)) (rowAtoms rules) ≡ differentAtoms rules
   names-back =
-      forms-back (mapAtom (numberOf rules)) (mapAtom (nameOf rules)) rules
-      (λ a i. atom-back (numberOf rules) (nameOf rules) a (λ x j. name-found (collect-intro atomNames i j) .1))
+      map-map (mapAtom (nameOf rules)) (mapAtom (numberOf rules)) (differentAtoms rules)
+      ∙ map-agree (λ a. mapAtom (nameOf rules) (mapAtom (numberOf rules) a)) (λ a. a) (differentAtoms rules)
+      (λ a i. atom-again (from-distinct (sameAtom name-discrete) (allAtoms rules) i))
+      ∙ map-id (differentAtoms rules)
 
-  -- a floor over numbers, as one over names, gives the rules' atoms the same values and meets the same rules
-  pub numbers-row : (F : Floor ℕ) → map (atomOn (renamed (numberOf rules) F)) (allAtoms rules) ≡ map (atomOn F) (allAtoms (numberedNames rules))
-  numbers-row F = sym (row-map (numberOf rules) F rules)
-
-  pub numbers-meet : (F : Floor ℕ) → meetsAll (renamed (numberOf rules) F) rules ≡ meetsAll F (numberedNames rules)
-  numbers-meet F = sym (meets-map (numberOf rules) F rules)
+  -- a floor over numbers, as one over names, gives the different atoms the same values
+  pub numbers-row : (F : Floor ℕ) → map (atomOn (renamed (numberOf rules) F)) (differentAtoms rules) ≡ map (atomOn F) (rowAtoms rules)
+  numbers-row F = sym (row-map (numberOf rules) F (differentAtoms rules))
 
   -- and so does a floor over names, as one over numbers
-  names-row : (F : Floor Name) → map (atomOn (renamed (nameOf rules) F)) (allAtoms (numberedNames rules)) ≡ map (atomOn F) (allAtoms rules)
-  names-row F =
-      sym (row-map (nameOf rules) F (numberedNames rules))
-      ∙ ap (λ (rs : List (Formula Name)). map (atomOn F) (allAtoms rs)) names-back
-
-  names-meet : (F : Floor Name) → meetsAll (renamed (nameOf rules) F) (numberedNames rules) ≡ meetsAll F rules
-  names-meet F = sym (meets-map (nameOf rules) F (numberedNames rules)) ∙ ap (meetsAll F) names-back
+  names-row : (F : Floor Name) → map (atomOn (renamed (nameOf rules) F)) (rowAtoms rules) ≡ map (atomOn F) (differentAtoms rules)
+  names-row F = sym (row-map (nameOf rules) F (rowAtoms rules)) ∙ ap (map (atomOn F)) names-back
 
   -- so the realisable rows are the same
-  realisable-named : (row : Row) → Realisable (allAtoms (numberedNames rules)) row ↔ Realisable (allAtoms rules) row
+  realisable-named : (row : Row) → Realisable (rowAtoms rules) row ↔ Realisable (differentAtoms rules) row
   realisable-named row = (
     λ r. ∥∥₁-map r (λ f. (renamed (numberOf rules) (f .0), numbers-row (f .0) ∙ f .1)),
     λ r. ∥∥₁-map r (λ f. (renamed (nameOf rules) (f .0), names-row (f .0) ∙ f .1)),
   )
 
-  -- and the numbers of the atoms
-  rules-true-named : (row : Row) → rulesTrue (numberedAtoms (numberedNames rules)) row ≡ rulesTrue (numberedAtoms rules) row
-  rules-true-named row = ap (λ (nums : List (Form ℕ)). rulesTrue nums row) (numbered-map (mapAtom (numberOf rules)) rules)
+  -- what is found, of these atoms and rules
+  abbrev Found : Row → Type 0
+  Found row = firstRowOf rules ≡ row ∷ []
 
   -- the row found is the first realisable one that makes the rules true
-  pub first-row-named : (row : Row) → firstRowOf (length (namesOf rules)) (numberedNames rules) ≡ row ∷ [] → IsFirstRow rules row
+  pub first-row-named : (row : Row) → Found row → IsFirstRow rules row
   first-row-named row e =
-      let r = first-row (length (namesOf rules)) (numberedNames rules) numbered-below row e in
+      let n = length (namesOf rules) in
       record {
-        realisable = realisable-named row .0 (r .realisable);
-        makes = sym (rules-true-named row) ∙ r .makes;
-        earliest = λ other real k b. r .earliest other (realisable-named other .1 real) (rules-true-named other ∙ k) b;
+        realisable = realisable-named row .0 ∣ (rowFloor n (rowAtoms rules) (numberedAtoms rules) row e, plan-gives-row n (rowAtoms rules) (numberedAtoms rules) row e) ∣₁;
+        makes = first-good n (rowAtoms rules) (numberedAtoms rules) row e .makes;
+        earliest = λ other real k b.
+            first-earliest n (rowAtoms rules) (numberedAtoms rules) numbered-below row other e (realisable-named other .1 real) k b;
       }
 
   -- and that row is found
-  pub first-row-only-named : (row : Row) → IsFirstRow rules row → firstRowOf (length (namesOf rules)) (numberedNames rules) ≡ row ∷ []
+  pub first-row-only-named : (row : Row) → IsFirstRow rules row → Found row
   first-row-only-named row r =
-      first-row-only (length (namesOf rules)) (numberedNames rules) numbered-below row
-      (record {
-        realisable = realisable-named row .1 (r .realisable);
-        makes = rules-true-named row ∙ r .makes;
-        earliest = λ other real k b. r .earliest other (realisable-named other .0 real) (sym (rules-true-named other) ∙ k) b;
-      })
+      let f = some-found (length (namesOf rules)) (rowAtoms rules) (numberedAtoms rules) numbered-below row (realisable-named row .1 (r .realisable)) (r .makes) in
+      f .1 ∙ ap (λ (s : Row). s ∷ []) (first-row-once rules (f .0) row (first-row-named (f .0) (f .1)) r)
 
   -- no row is found exactly where no floor meets the rules as read
-  pub no-plan-named : (firstRowOf (length (namesOf rules)) (numberedNames rules) ≡ []) ↔ ((F : Floor Name) → meetsAll F rules ≡ true → ⊥)
+  pub no-plan-named : (firstRowOf rules ≡ []) ↔ ((F : Floor Name) → meetsAll F rules ≡ true → ⊥)
   no-plan-named =
-      let w = no-plan-exactly (length (namesOf rules)) (numberedNames rules) numbered-below in (
-        λ e F h. w .0 e (renamed (nameOf rules) F) (names-meet F ∙ h),
-        λ none. w .1 (λ F h. none (renamed (numberOf rules) F) (numbers-meet F ∙ h)),
+      let w = none-exactly (length (namesOf rules)) (rowAtoms rules) (numberedAtoms rules) numbered-below in (
+        λ e F h. w .0 e (renamed (nameOf rules) F) (ap (rulesTrue (numberedAtoms rules)) (names-row F) ∙ numbered-faithful rules F ∙ h),
+        λ none. w .1 (λ F h. none (renamed (numberOf rules) F)
+            (sym (numbered-faithful rules (renamed (numberOf rules) F)) ∙ ap (rulesTrue (numberedAtoms rules)) (numbers-row F) ∙ h)),
       )
 
   -- the plan of the first row, over names, gives the row and meets the rules as read
-  abbrev pub namedPlan : (row : Row) → firstRowOf (length (namesOf rules)) (numberedNames rules) ≡ row ∷ [] → Floor Name
-  namedPlan row e = renamed (numberOf rules) (rowFloor (length (namesOf rules)) (numberedNames rules) row e)
+  abbrev pub namedPlan : (row : Row) → Found row → Floor Name
+  namedPlan row e = renamed (numberOf rules) (rowFloor (length (namesOf rules)) (rowAtoms rules) (numberedAtoms rules) row e)
 
-  pub plan-row-named : (row : Row) (e : firstRowOf (length (namesOf rules)) (numberedNames rules) ≡ row ∷ [])
-      → Realises (namedPlan row e) (allAtoms rules) row
+  pub plan-row-named : (row : Row) (e : Found row) → Realises (namedPlan row e) (differentAtoms rules) row
   plan-row-named row e =
-      numbers-row (rowFloor (length (namesOf rules)) (numberedNames rules) row e)
-      ∙ plan-gives-row (length (namesOf rules)) (numberedNames rules) row e
+      numbers-row (rowFloor (length (namesOf rules)) (rowAtoms rules) (numberedAtoms rules) row e)
+      ∙ plan-gives-row (length (namesOf rules)) (rowAtoms rules) (numberedAtoms rules) row e
 
-  pub plan-meets-named : (row : Row) (e : firstRowOf (length (namesOf rules)) (numberedNames rules) ≡ row ∷ [])
-      → meetsAll (namedPlan row e) rules ≡ true
-  plan-meets-named row e =
-      numbers-meet (rowFloor (length (namesOf rules)) (numberedNames rules) row e)
-      ∙ plan-meets (length (namesOf rules)) (numberedNames rules) row e
+  -- a floor that gives the different atoms a row that makes the rules true meets them
+  pub row-meets : (F : Floor Name) (row : Row) → Realises F (differentAtoms rules) row → rulesTrue (numberedAtoms rules) row ≡ true → meetsAll F rules ≡ true
+  row-meets F row real k = sym (numbered-faithful rules F) ∙ ap (rulesTrue (numberedAtoms rules)) real ∙ k
+
+  pub plan-meets-named : (row : Row) (e : Found row) → meetsAll (namedPlan row e) rules ≡ true
+  plan-meets-named row e = row-meets (namedPlan row e) row (plan-row-named row e) (first-row-named row e .makes)
+
+-- rules that are all among others have no more different atoms
+pub atoms-fewer : (rules others : List (Formula Name)) → ((f : Formula Name) → In f rules → In f others)
+    → length (differentAtoms rules) ≤ length (differentAtoms others)
+atoms-fewer rules others h =
+    distinct-fewer (sameAtom name-discrete) (same-alike name-discrete) (allAtoms rules) (allAtoms others)
+    (λ a i. let r = collect-elim atomsOf rules i in collect-intro atomsOf (h (r .0) (r .1)) (r .2))

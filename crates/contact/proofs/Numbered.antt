@@ -1,146 +1,91 @@
--- The numbered rules say what the rules say, and their atoms are the numbers from 0 in order: the numbers that the two sides
--- of a sign get are as many as their atoms, one run after the other; so one rule put last changes
--- no number before it. Assumes nothing.
-use mathlib.Core.Bool.{Bool, false, not, _&&_, _||_, Bool·beq}
+-- The numbered rules say what the rules say: the atom at an atom's number is the same, and so has the same value on every floor. The
+-- numbers, each at its first place, are those from 0 in order; one rule put last changes no number before it. Assumes nothing.
+use mathlib.Core.Bool.{Bool, true, false, not, _&&_, _||_, Bool·beq}
 use mathlib.Core.Path.{_≡_, refl, sym, ap, ap₂, _∙_, subst}
 use mathlib.Core.List.{List, [], _∷_, _++_, map, map-append}
-use Prim.Native.Nat.{ℕ, suc, _+_, _<_}
-use native.Mathlib.Omega.{arith}
-use lib.ListN.{length, getD, length-append, length-map}
-use Rattle.formula.specs.Formula.{Atom, Form, Formula}
-use Rattle.lists.specs.Search.{In, all, from, below}
-use Rattle.lists.proofs.Lists.{map-at}
-use Rattle.lists.proofs.Search.{from-append, below-elim}
-use Rattle.contact.specs.Meaning.{Floor, atomOn, value, meetsAll}
+use mathlib.Mathlib.Data.Bool.Basic.{eq-false-of-not-eq-true}
+use Prim.Native.Nat.{ℕ, _<_}
+use lib.Dec.{eqb}
+use lib.ListN.{length, getD, length-map}
+use borrow.Author.Tests.{eqb-true, eq-eqb}
+use Rattle.formula.specs.Formula.{Atom, Form, Formula, Name}
 use Rattle.formula.specs.Atoms.{atomsOf}
-use Rattle.contact.specs.Numbering.{allAtoms, mapForm, numberForm, numberFrom, numberedAtoms}
+use Rattle.formula.specs.Same.{name-discrete, sameAtom}
+use Rattle.lists.specs.Search.{In, here, all, below}
+use Rattle.lists.proofs.Lists.{map-at}
+use Rattle.lists.proofs.Search.{in-left, in-right, map-elim, collect-last}
+use Rattle.lists.proofs.Truth.{clash, cases}
+use Rattle.contact.specs.Meaning.{Floor, atomOn, value, meetsAll}
+use Rattle.contact.specs.Numbering.{allAtoms, distinct, position, mapForm, differentAtoms, atomNumber, numberedAtoms}
+use Rattle.contact.specs.Putting.{isIn}
 use Rattle.contact.specs.Row.{rulesTrue}
+use Rattle.contact.proofs.Distinct.{Alike, position-in, position-same, position-alike, in-distinct, position-distinct, distinct-places, distinct-map}
+use Rattle.contact.proofs.Renaming.{forms-same}
+use Rattle.contact.proofs.Same.{same-alike, same-value}
 
 -- ---- the values
 
-module _ {A : Type 0} (v : A → Bool) where
-  -- r gives the atoms numbered from k on their values
-  abbrev pub Agrees : (ℕ → Bool) → ℕ → List A → Type 0
-  Agrees r k [] = Unit {0}
-  Agrees r k (a ∷ atoms) = (r k ≡ v a) × Agrees r (suc k) atoms
+module _ {A : Type 0} (h : A → ℕ) (r : ℕ → Bool) (v : A → Bool) where
+  -- r gives the numbers of these atoms their values
+  abbrev pub Agrees : List A → Type 0
+  Agrees atoms = (a : A) → In a atoms → r (h a) ≡ v a
 
-  pub agrees-left : (r : ℕ → Bool) (k : ℕ) (xs ys : List A) → Agrees r k (xs ++ ys) → Agrees r k xs
-  agrees-left r k [] ys h = tt
-  agrees-left r k (x ∷ xs) ys h = (h .0, agrees-left r (suc k) xs ys (h .1))
+  -- the two sides of a binary sign
+  number-both : (f g : Form A) (c : Bool → Bool → Bool) → Agrees (atomsOf f ++ atomsOf g)
+      → (Agrees (atomsOf f) → value r (mapForm h f) ≡ value v f) → (Agrees (atomsOf g) → value r (mapForm h g) ≡ value v g)
+      → c (value r (mapForm h f)) (value r (mapForm h g)) ≡ c (value v f) (value v g)
+  number-both f g c u left right = ap₂ c (left (λ a i. u a (in-left (atomsOf g) i))) (right (λ a i. u a (in-right (atomsOf f) i)))
 
-  pub agrees-right : (r : ℕ → Bool) (k : ℕ) (xs ys : List A) → Agrees r k (xs ++ ys) → Agrees r (k + length xs) ys
-  agrees-right r k [] ys h = let e : k ≡ k + 0 = omega arith in subst (λ j. Agrees r j ys) e h
-  agrees-right r k (x ∷ xs) ys h =
-      let e : suc k + length xs ≡ k + suc (length xs) = omega arith in
-      subst (λ j. Agrees r j ys) e (agrees-right r (suc k) xs ys (h .1))
+  pub number-value : (f : Form A) → Agrees (atomsOf f) → value r (mapForm h f) ≡ value v f
+  number-value Form.truth u = refl
+  number-value Form.falsity u = refl
+  number-value (Form.atom a) u = u a here
+  number-value (Form.negation f) u = ap not (number-value f u)
+  number-value (Form.conjunction f g) u = number-both f g _&&_ u (number-value f) (number-value g)
+  number-value (Form.disjunction f g) u = number-both f g _||_ u (number-value f) (number-value g)
+  number-value (Form.implication f g) u = number-both f g (λ a b. not a || b) u (number-value f) (number-value g)
+  number-value (Form.equivalence f g) u = number-both f g Bool·beq u (number-value f) (number-value g)
 
-  module _ (r : ℕ → Bool) where
-    -- the two sides of a binary sign
-    number-both : (k : ℕ) (f g : Form A) (c : Bool → Bool → Bool) → Agrees r k (atomsOf f ++ atomsOf g)
-        → (Agrees r k (atomsOf f) → value r (numberForm k f) ≡ value v f)
-        → (Agrees r (k + length (atomsOf f)) (atomsOf g) → value r (numberForm (k + length (atomsOf f)) g) ≡ value v g)
-        → c (value r (numberForm k f)) (value r (numberForm (k + length (atomsOf f)) g)) ≡ c (value v f) (value v g)
-    number-both k f g c h left right =
-        ap₂ c (left (agrees-left r k (atomsOf f) (atomsOf g) h)) (right (agrees-right r k (atomsOf f) (atomsOf g) h))
+  numbers-value : (fs : List (Form A)) → Agrees (allAtoms fs) → all (value r) (map (mapForm h) fs) ≡ all (value v) fs
+  numbers-value [] u = refl
+  numbers-value (f ∷ fs) u =
+      ap₂ _&&_ (number-value f (λ a i. u a (in-left (allAtoms fs) i))) (numbers-value fs (λ a i. u a (in-right (atomsOf f) i)))
 
-    pub number-value : (k : ℕ) (f : Form A) → Agrees r k (atomsOf f) → value r (numberForm k f) ≡ value v f
-    number-value k Form.truth h = refl
-    number-value k Form.falsity h = refl
-    number-value k (Form.atom a) h = h .0
-    number-value k (Form.negation f) h = ap not (number-value k f h)
-    number-value k (Form.conjunction f g) h =
-        number-both k f g _&&_ h (number-value k f) (number-value (k + length (atomsOf f)) g)
-    number-value k (Form.disjunction f g) h =
-        number-both k f g _||_ h (number-value k f) (number-value (k + length (atomsOf f)) g)
-    number-value k (Form.implication f g) h =
-        number-both k f g (λ a b. not a || b) h (number-value k f) (number-value (k + length (atomsOf f)) g)
-    number-value k (Form.equivalence f g) h =
-        number-both k f g Bool·beq h (number-value k f) (number-value (k + length (atomsOf f)) g)
+abbrev same : Atom Name → Atom Name → Bool
+same = sameAtom name-discrete
 
-    numbers-value : (k : ℕ) (fs : List (Form A)) → Agrees r k (allAtoms fs) → all (value r) (numberFrom k fs) ≡ all (value v) fs
-    numbers-value k [] h = refl
-    numbers-value k (f ∷ fs) h =
-        ap₂ _&&_ (number-value k f (agrees-left r k (atomsOf f) (allAtoms fs) h))
-        (numbers-value (k + length (atomsOf f)) fs (agrees-right r k (atomsOf f) (allAtoms fs) h))
+abbrev alike : Alike same
+alike = same-alike name-discrete
 
-  -- r gives the atoms numbered from k on their values, if it does so at each place
-  pub agrees-places : (none : A) (r : ℕ → Bool) (k : ℕ) (xs : List A) → ((i : ℕ) → i < length xs → r (k + i) ≡ v (getD xs i none))
-      → Agrees r k xs
-  agrees-places none r k [] h = tt
-  agrees-places none r k (x ∷ xs) h =
-      let e : k ≡ k + 0 = omega arith in (
-        ap r e ∙ h 0 (omega arith),
-        agrees-places none r (suc k) xs (λ i l. let f : suc k + i ≡ k + suc i = omega arith in ap r f ∙ h (suc i) (omega arith)),
-      )
+module _ (rules : List (Formula Name)) where
+  there : {a : Atom Name} → In a (allAtoms rules) → isIn same (differentAtoms rules) a ≡ true
+  there {a} i = in-distinct same alike (allAtoms rules) a i
 
-  agrees-map : (xs : List A) → Agrees (λ i. getD (map v xs) i false) 0 xs
-  agrees-map [] = tt
-  agrees-map (x ∷ xs) =
-      agrees-places x (λ i. getD (map v (x ∷ xs)) i false) 0 (x ∷ xs)
-      (λ i l. let e : 0 + i ≡ i = omega arith in ap (λ (j : ℕ). getD (map v (x ∷ xs)) j false) e ∙ map-at v (x ∷ xs) i x false l)
+  -- each atom has a number below how many different ones there are, and the atom of that number is the same
+  pub atom-found : (none : Atom Name) {a : Atom Name} → In a (allAtoms rules)
+      → (atomNumber rules a < length (differentAtoms rules)) × (same (getD (differentAtoms rules) (atomNumber rules a) none) a ≡ true)
+  atom-found none {a} i = (position-in same (differentAtoms rules) a (there i), position-same same none (differentAtoms rules) a (there i))
 
--- the numbered rules `nums` over the atoms `atoms` say of a floor what the rules say
-abbrev pub Faithful : List (Formula ℕ) → List (Atom ℕ) → List (Form ℕ) → Type 0
-Faithful rules atoms nums = (F : Floor ℕ) → rulesTrue nums (map (atomOn F) atoms) ≡ meetsAll F rules
+  -- so values of the different atoms on a floor give each atom its own
+  pub values-agree : (F : Floor Name) (r : ℕ → Bool) (none : Atom Name)
+      → ((i : ℕ) → i < length (differentAtoms rules) → r i ≡ atomOn F (getD (differentAtoms rules) i none)) → Agrees (atomNumber rules) r (atomOn F) (allAtoms rules)
+  values-agree F r none h a i =
+      let w = atom-found none i in
+      h (atomNumber rules a) (w .0) ∙ same-value F name-discrete (getD (differentAtoms rules) (atomNumber rules a) none) a (w .1)
 
-pub numbered-faithful : (rules : List (Formula ℕ)) → Faithful rules (allAtoms rules) (numberedAtoms rules)
-unfolding rulesTrue
-numbered-faithful rules F =
-    numbers-value (atomOn F) (λ i. getD (map (atomOn F) (allAtoms rules)) i false) 0 rules (agrees-map (atomOn F) (allAtoms rules))
+  -- the numbered rules say of a floor what the rules say
+  pub numbered-faithful : (F : Floor Name) → rulesTrue (numberedAtoms rules) (map (atomOn F) (differentAtoms rules)) ≡ meetsAll F rules
+  unfolding rulesTrue
+  numbered-faithful F =
+      numbers-value (atomNumber rules) (λ i. getD (map (atomOn F) (differentAtoms rules)) i false) (atomOn F) rules
+      (λ a i. values-agree F (λ j. getD (map (atomOn F) (differentAtoms rules)) j false) a
+      (λ j l. map-at (atomOn F) (differentAtoms rules) j a false l) a i)
 
 -- ---- the numbers
 
--- "Names and atoms are numbered from 0 by first place, rules in order, left to right."
-module _ {A : Type 0} where
-  join-runs : (k : ℕ) (xs ys : List A) → from k (length xs) ++ from (k + length xs) (length ys) ≡ from k (length (xs ++ ys))
-  join-runs k xs ys = sym (from-append k (length xs) (length ys)) ∙ ap (from k) (sym (length-append xs ys))
-
-  form-numbers : (k : ℕ) (f : Form A) → atomsOf (numberForm k f) ≡ from k (length (atomsOf f))
-  form-numbers k Form.truth = refl
-  form-numbers k Form.falsity = refl
-  form-numbers k (Form.atom a) = refl
-  form-numbers k (Form.negation f) = form-numbers k f
-  form-numbers k (Form.conjunction f g) =
-      ap₂ _++_ (form-numbers k f) (form-numbers (k + length (atomsOf f)) g) ∙ join-runs k (atomsOf f) (atomsOf g)
-  form-numbers k (Form.disjunction f g) =
-      ap₂ _++_ (form-numbers k f) (form-numbers (k + length (atomsOf f)) g) ∙ join-runs k (atomsOf f) (atomsOf g)
-  form-numbers k (Form.implication f g) =
-      ap₂ _++_ (form-numbers k f) (form-numbers (k + length (atomsOf f)) g) ∙ join-runs k (atomsOf f) (atomsOf g)
-  form-numbers k (Form.equivalence f g) =
-      ap₂ _++_ (form-numbers k f) (form-numbers (k + length (atomsOf f)) g) ∙ join-runs k (atomsOf f) (atomsOf g)
-
-  run-numbers : (k : ℕ) (fs : List (Form A)) → allAtoms (numberFrom k fs) ≡ from k (length (allAtoms fs))
-  run-numbers k [] = refl
-  run-numbers k (f ∷ fs) =
-      ap₂ _++_ (form-numbers k f) (run-numbers (k + length (atomsOf f)) fs) ∙ join-runs k (atomsOf f) (allAtoms fs)
-
-  pub numbered-in-order : (fs : List (Form A)) → allAtoms (numberedAtoms fs) ≡ below (length (allAtoms fs))
-  numbered-in-order fs = run-numbers 0 fs
-
-pub numbers-count : {A : Type 0} (k : ℕ) (fs : List (Form A)) → length (numberFrom k fs) ≡ length fs
-numbers-count k [] = refl
-numbers-count k (f ∷ fs) = ap suc (numbers-count (k + length (atomsOf f)) fs)
-
--- one rule more, put last: the atoms before it keep their numbers, and its own are numbered from there on
-module _ {A : Type 0} where
-  number-from-with : (k : ℕ) (rules : List (Form A)) (f : Form A)
-      → numberFrom k (rules ++ f ∷ []) ≡ numberFrom k rules ++ numberForm (k + length (allAtoms rules)) f ∷ []
-  number-from-with k [] f = let e : k ≡ k + 0 = omega arith in ap (λ (j : ℕ). numberForm j f ∷ []) e
-  number-from-with k (g ∷ rules) f =
-      let m = k + length (atomsOf g) in
-      let e : m + length (allAtoms rules) ≡ k + length (atomsOf g ++ allAtoms rules) = omega (arith, length-append (atomsOf g) (allAtoms rules)) in
-      ap (λ (l : List (Form ℕ)). numberForm k g ∷ l)
-      (number-from-with m rules f ∙ ap (λ (j : ℕ). numberFrom m rules ++ numberForm j f ∷ []) e)
-
-  pub numbered-atoms-with : (rules : List (Form A)) (f : Form A)
-      → numberedAtoms (rules ++ f ∷ []) ≡ numberedAtoms rules ++ numberForm (length (allAtoms rules)) f ∷ []
-  numbered-atoms-with rules f =
-      let e : 0 + length (allAtoms rules) ≡ length (allAtoms rules) = omega arith in
-      number-from-with 0 rules f ∙ ap (λ (j : ℕ). numberedAtoms rules ++ numberForm j f ∷ []) e
-
--- other atoms in the places of the atoms have the same numbers
+-- other atoms in the places of the atoms
 module _ {A B : Type 0} (h : A → B) where
-  atoms-map : (f : Form A) → atomsOf (mapForm h f) ≡ map h (atomsOf f)
+  pub atoms-map : (f : Form A) → atomsOf (mapForm h f) ≡ map h (atomsOf f)
   atoms-map Form.truth = refl
   atoms-map Form.falsity = refl
   atoms-map (Form.atom a) = refl
@@ -154,39 +99,43 @@ module _ {A B : Type 0} (h : A → B) where
   all-atoms-map [] = refl
   all-atoms-map (f ∷ fs) = ap₂ _++_ (atoms-map f) (all-atoms-map fs) ∙ sym (map-append h (atomsOf f) (allAtoms fs))
 
-  pub count-map : (f : Form A) → length (atomsOf (mapForm h f)) ≡ length (atomsOf f)
-  count-map f = ap length (atoms-map f) ∙ length-map (atomsOf f) h
+module _ (rules : List (Formula Name)) where
+  -- atoms have the same number exactly if they are the same
+  number-exactly : (a b : Atom Name) → In a (allAtoms rules) → In b (allAtoms rules) → eqb (atomNumber rules a) (atomNumber rules b) ≡ same a b
+  number-exactly a b i j =
+      cases (same a b) (λ h. eq-eqb _ _ (position-alike same alike (differentAtoms rules) a b h) ∙ sym h)
+      (λ h. eq-false-of-not-eq-true (λ e. clash (joined (eqb-true _ _ e)) h) ∙ sym h)
+    where
+      joined : atomNumber rules a ≡ atomNumber rules b → same a b ≡ true
+      joined e =
+          let k : Atom Name = getD (differentAtoms rules) (atomNumber rules a) a in
+          let x : same k a ≡ true = atom-found rules a i .1 in
+          let y : same k b ≡ true = ap (λ (n : ℕ). same (getD (differentAtoms rules) n a) b) e ∙ atom-found rules a j .1 in
+          sym (alike .alike k a x b) ∙ y
 
-  -- the two sides of a binary sign
-  sides-map : (k : ℕ) (f g : Form A) (c : Form ℕ → Form ℕ → Form ℕ) → ((j : ℕ) → numberForm j (mapForm h f) ≡ numberForm j f)
-      → ((j : ℕ) → numberForm j (mapForm h g) ≡ numberForm j g)
-      → c (numberForm k (mapForm h f)) (numberForm (k + length (atomsOf (mapForm h f))) (mapForm h g))
-      ≡ c (numberForm k f) (numberForm (k + length (atomsOf f)) g)
-  sides-map k f g c left right =
-      ap₂ c (left k) (ap (λ (j : ℕ). numberForm (k + j) (mapForm h g)) (count-map f) ∙ right (k + length (atomsOf f)))
+  -- "numbered by first place": the numbers as they stand in the rules, each at its first place, are 0, 1, 2 and so on
+  pub numbered-in-order : distinct eqb (allAtoms (numberedAtoms rules)) ≡ below (length (differentAtoms rules))
+  numbered-in-order =
+      ap (distinct eqb) (all-atoms-map (atomNumber rules) rules)
+      ∙ distinct-map same eqb (atomNumber rules) (allAtoms rules) number-exactly
+      ∙ distinct-places same alike (allAtoms rules)
 
-  form-map : (f : Form A) (k : ℕ) → numberForm k (mapForm h f) ≡ numberForm k f
-  form-map Form.truth k = refl
-  form-map Form.falsity k = refl
-  form-map (Form.atom a) k = refl
-  form-map (Form.negation f) k = ap Form.negation (form-map f k)
-  form-map (Form.conjunction f g) k = sides-map k f g Form.conjunction (form-map f) (form-map g)
-  form-map (Form.disjunction f g) k = sides-map k f g Form.disjunction (form-map f) (form-map g)
-  form-map (Form.implication f g) k = sides-map k f g Form.implication (form-map f) (form-map g)
-  form-map (Form.equivalence f g) k = sides-map k f g Form.equivalence (form-map f) (form-map g)
+  pub numbers-count : length (numberedAtoms rules) ≡ length rules
+  numbers-count = length-map rules (mapForm (atomNumber rules))
 
-  run-map : (k : ℕ) (fs : List (Form A)) → numberFrom k (map (mapForm h) fs) ≡ numberFrom k fs
-  run-map k [] = refl
-  run-map k (f ∷ fs) =
-      ap₂ _∷_ (form-map f k)
-      (ap (λ (j : ℕ). numberFrom (k + j) (map (mapForm h) fs)) (count-map f) ∙ run-map (k + length (atomsOf f)) fs)
-
-  pub numbered-map : (fs : List (Form A)) → numberedAtoms (map (mapForm h) fs) ≡ numberedAtoms fs
-  numbered-map fs = run-map 0 fs
+  -- one rule more, put last: the atoms before it keep their numbers
+  pub numbered-atoms-with : (f : Formula Name) → numberedAtoms (rules ++ f ∷ []) ≡ numberedAtoms rules ++ mapForm (atomNumber (rules ++ f ∷ [])) f ∷ []
+  numbered-atoms-with f =
+      map-append (mapForm (atomNumber (rules ++ f ∷ []))) rules (f ∷ [])
+      ∙ ap (λ (l : List (Form ℕ)). l ++ mapForm (atomNumber (rules ++ f ∷ [])) f ∷ [])
+      (forms-same (atomNumber (rules ++ f ∷ [])) (atomNumber rules) rules
+      (λ a i. ap (λ (l : List (Atom Name)). position same (distinct same l) a) (collect-last atomsOf rules f) ∙ position-distinct same alike (allAtoms rules) (atomsOf f) a i))
 
 -- the numbers in the rules are below m
 abbrev pub NumbersBelow : ℕ → List (Form ℕ) → Type 0
 NumbersBelow m nums = (i : ℕ) → In i (allAtoms nums) → i < m
 
-pub numbers-below : {A : Type 0} (fs : List (Form A)) → NumbersBelow (length (allAtoms fs)) (numberedAtoms fs)
-numbers-below fs i h = below-elim (length (allAtoms fs)) i (subst (In i) (numbered-in-order fs) h)
+pub numbers-below : (rules : List (Formula Name)) → NumbersBelow (length (differentAtoms rules)) (numberedAtoms rules)
+numbers-below rules i h =
+    let r = map-elim (atomNumber rules) (allAtoms rules) (subst (In i) (all-atoms-map (atomNumber rules) rules) h) in
+    subst (λ (n : ℕ). n < length (differentAtoms rules)) (sym (r .1)) (atom-found rules (r .0) (r .2) .0)

@@ -276,23 +276,23 @@ module _ (n : ℕ) (ms : List Mark) where
 -- ---- from a floor to the check
 
 -- a contact, by its two points
-touches-intro : (F : Floor ℕ) (x y : Term ℕ) (p q : ℕ) → p < F .points → q < F .points → within F x p ≡ true → within F y q ≡ true
+pub touches-intro : {N : Type 0} (F : Floor N) (x y : Term N) (p q : ℕ) → p < F .points → q < F .points → within F x p ≡ true → within F y q ≡ true
     → F .touch p q ≡ true → touches F x y ≡ true
 touches-intro F x y p q hp hq ix iy h =
     any-intro (λ k. within F x k && any (λ l. within F y l && F .touch k l) (below (F .points))) (below-intro (F .points) p hp)
     (and-intro ix
     (any-intro (λ l. within F y l && F .touch p l) (below-intro (F .points) q hq) (and-intro iy h)))
 
-record Met (F : Floor ℕ) (x y : Term ℕ) : Type 0 where
-  p : ℕ
-  q : ℕ
-  p-lt : p < F .points
-  q-lt : q < F .points
-  p-in : within F x p ≡ true
-  q-in : within F y q ≡ true
-  meet : F .touch p q ≡ true
+pub record Met {N : Type 0} (F : Floor N) (x y : Term N) : Type 0 where
+  pub p : ℕ
+  pub q : ℕ
+  pub p-lt : p < F .points
+  pub q-lt : q < F .points
+  pub p-in : within F x p ≡ true
+  pub q-in : within F y q ≡ true
+  pub meet : F .touch p q ≡ true
 
-touches-elim : (F : Floor ℕ) (x y : Term ℕ) → touches F x y ≡ true → Met F x y
+pub touches-elim : {N : Type 0} (F : Floor N) (x y : Term N) → touches F x y ≡ true → Met F x y
 touches-elim F x y h =
     let r = any-elim (λ k. within F x k && any (λ l. within F y l && F .touch k l) (below (F .points))) (below (F .points)) h in
     let k = and-eq-true-iff (within F x (r .0)) (any (λ l. within F y l && F .touch (r .0) l) (below (F .points))) .0 (r .2) in

@@ -40,7 +40,7 @@ module _ {A B : Type 0} (g h : A → B) where
       → c (mapForm g f) (mapForm g k) ≡ c (mapForm h f) (mapForm h k)
   sides-same c f k u left right = ap₂ c (left (λ x i. u x (in-left (atomsOf k) i))) (right (λ x i. u x (in-right (atomsOf f) i)))
 
-  form-same : (f : Form A) → Agree g h (atomsOf f) → mapForm g f ≡ mapForm h f
+  pub form-same : (f : Form A) → Agree g h (atomsOf f) → mapForm g f ≡ mapForm h f
   form-same Form.truth u = refl
   form-same Form.falsity u = refl
   form-same (Form.atom a) u = ap Form.atom (u a here)
@@ -54,3 +54,15 @@ module _ {A B : Type 0} (g h : A → B) where
   forms-same [] u = refl
   forms-same (f ∷ fs) u =
       ap₂ _∷_ (form-same f (λ x i. u x (in-left (allAtoms fs) i))) (forms-same fs (λ x i. u x (in-right (atomsOf f) i)))
+
+-- one renaming after another
+module _ {A B C : Type 0} (g : B → C) (h : A → B) where
+  pub form-twice : (f : Form A) → mapForm g (mapForm h f) ≡ mapForm (λ a. g (h a)) f
+  form-twice Form.truth = refl
+  form-twice Form.falsity = refl
+  form-twice (Form.atom a) = refl
+  form-twice (Form.negation f) = ap Form.negation (form-twice f)
+  form-twice (Form.conjunction f k) = ap₂ Form.conjunction (form-twice f) (form-twice k)
+  form-twice (Form.disjunction f k) = ap₂ Form.disjunction (form-twice f) (form-twice k)
+  form-twice (Form.implication f k) = ap₂ Form.implication (form-twice f) (form-twice k)
+  form-twice (Form.equivalence f k) = ap₂ Form.equivalence (form-twice f) (form-twice k)

@@ -9,16 +9,16 @@ use mathlib.Core.List.{List, [], _∷_, _++_, map, append-assoc, append-nil, map
 use mathlib.Mathlib.Data.Bool.Basic.{eq-false-of-not-eq-true}
 use Prim.Native.Nat.{ℕ, zero, suc, _+_}
 use native.Mathlib.Omega.{arith}
-use lib.ListN.{length, getD, length-append}
+use lib.ListN.{length, getD, length-append, length-map}
 use borrow.Author.Tests.{not-true, not-false}
-use Rattle.formula.specs.Formula.{Atom, Form, Formula}
+use Rattle.formula.specs.Formula.{Atom, Form, Formula, Name}
 use Rattle.lists.specs.Search.{In, here, next, any, all, first, orElse}
 use Rattle.lists.proofs.Search.{none-in, uncons, at-head, in-left, in-right, map-elim, any-elim, none-intro, all-elim, first-none, first-append}
 use Rattle.lists.proofs.Truth.{clash, cases, or-cases, beq-true, beq-false, or-as, morgan}
 use Rattle.lists.proofs.Lists.{map-at}
 use Rattle.contact.specs.Meaning.{value}
 use Rattle.formula.specs.Atoms.{atomsOf}
-use Rattle.contact.specs.Numbering.{allAtoms, numberedAtoms}
+use Rattle.contact.specs.Numbering.{allAtoms, namesOf, numberOf, mapAtom, differentAtoms, numberedAtoms, rowAtoms}
 use Rattle.contact.specs.Row.{Row, rulesTrue, Three, is, unknown, PartialRow, Extends, Sound, Exact}
 use Rattle.contact.specs.Plan.{Mark, mark, marksOf, rowMarks}
 use Rattle.contact.specs.Check.{check, rows, good, firstRow, firstRowOf}
@@ -257,7 +257,9 @@ module _ (n : ℕ) (atoms : List (Atom ℕ)) (nums : List (Form ℕ)) where
   search-firstRow numbers =
       search-first (length atoms) (good n atoms nums) (closes n atoms nums) closes-sound (closes-exact numbers)
 
--- the same with the atoms numbered by place
-pub search-answer : (n : ℕ) (rules : List (Formula ℕ))
-    → search (closes n (allAtoms rules) (numberedAtoms rules)) (length (allAtoms rules)) [] ≡ firstRowOf n rules
-search-answer n rules = search-firstRow n (allAtoms rules) (numberedAtoms rules) (numbers-below rules)
+-- the same of rules as read
+pub search-answer : (rules : List (Formula Name))
+    → search (closes (length (namesOf rules)) (rowAtoms rules) (numberedAtoms rules)) (length (rowAtoms rules)) [] ≡ firstRowOf rules
+search-answer rules =
+    search-firstRow (length (namesOf rules)) (rowAtoms rules) (numberedAtoms rules)
+    (λ i h. omega (arith, numbers-below rules i h, length-map (differentAtoms rules) (mapAtom (numberOf rules))))

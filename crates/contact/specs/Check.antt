@@ -4,9 +4,9 @@ use mathlib.Core.Bool.{Bool, true, false, _&&_}
 use mathlib.Core.List.{List, [], _∷_, _++_, map}
 use Prim.Native.Nat.{ℕ, zero, suc}
 use lib.ListN.{length}
-use Rattle.formula.specs.Formula.{Atom, Form, Formula}
+use Rattle.formula.specs.Formula.{Atom, Form, Formula, Name}
 use Rattle.lists.specs.Search.{any, all, first}
-use Rattle.contact.specs.Numbering.{allAtoms, numberedAtoms}
+use Rattle.contact.specs.Numbering.{namesOf, numberedAtoms, rowAtoms}
 use Rattle.contact.specs.Row.{Row, rulesTrue}
 use Rattle.contact.specs.Plan.{Mark, touching, apart, vacant, inhabited, evaluations, rowMarks, allowed, fills, leads}
 
@@ -34,6 +34,6 @@ good names atoms rules row = rulesTrue rules row && check names (rowMarks atoms 
 unfoldable pub firstRow : ℕ → List (Atom ℕ) → List (Form ℕ) → List Row
 firstRow names atoms rules = first (good names atoms rules) (rows (length atoms))
 
--- the same of rules with numbers for names
-abbrev pub firstRowOf : ℕ → List (Formula ℕ) → List Row
-firstRowOf names rules = firstRow names (allAtoms rules) (numberedAtoms rules)
+-- the same of rules as read
+abbrev pub firstRowOf : List (Formula Name) → List Row
+firstRowOf rules = firstRow (length (namesOf rules)) (rowAtoms rules) (numberedAtoms rules)

@@ -1,5 +1,6 @@
 pub mod Meaning
 pub mod Numbering
+pub mod Putting
 pub mod Row
 pub mod Plan
 pub mod Check

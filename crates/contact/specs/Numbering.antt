@@ -1,13 +1,14 @@
--- What is meant: "Names and atoms are numbered from 0 by first place, rules in order, left to right." The last definitions (`TermBelow`,
--- `AtomBelow`, `RulesBelow`) are for proofs. Assumes nothing.
+-- What is meant: "Names and atoms are numbered from 0 by first place, rules in order, left to right.", and of the atoms those that are
+-- different: document 02, T-03. The last definitions (`TermBelow`, `AtomBelow`, `AtomsBelow`) are for proofs. Assumes nothing.
 use mathlib.Core.Bool.{Bool, true, false, not, _&&_, cond}
 use mathlib.Core.List.{List, [], _∷_, map}
-use Prim.Native.Nat.{ℕ, zero, suc, _+_, _<_}
+use Prim.Native.Nat.{ℕ, suc, _<_}
 use lib.Dec.{eqb}
-use lib.ListN.{length, getD}
+use lib.ListN.{getD}
 use Rattle.formula.specs.Formula.{Term, Atom, Form, Formula, Name}
 use Rattle.formula.specs.Atoms.{atomsOf}
 use Rattle.formula.specs.Names.{atomNames}
+use Rattle.formula.specs.Same.{name-discrete, sameAtom}
 use Rattle.lists.specs.Search.{In, keep, collect}
 
 module _ {A : Type 0} where
@@ -72,30 +73,25 @@ module _ {A B : Type 0} (g : A → B) where
   mapForm (Form.implication f h) = Form.implication (mapForm f) (mapForm h)
   mapForm (Form.equivalence f h) = Form.equivalence (mapForm f) (mapForm h)
 
--- the rules with numbers for names
-abbrev pub numberedNames : List (Formula Name) → List (Formula ℕ)
-numberedNames rules = map (mapForm (mapAtom (numberOf rules))) rules
+-- ---- the different atoms: document 02, T-03
 
--- the rules with numbers for atoms, k the first
-module _ {A : Type 0} where
-  abbrev pub numberForm : ℕ → Form A → Form ℕ
-  numberForm k Form.truth = Form.truth
-  numberForm k Form.falsity = Form.falsity
-  numberForm k (Form.atom a) = Form.atom k
-  numberForm k (Form.negation f) = Form.negation (numberForm k f)
-  numberForm k (Form.conjunction f g) = Form.conjunction (numberForm k f) (numberForm (k + length (atomsOf f)) g)
-  numberForm k (Form.disjunction f g) = Form.disjunction (numberForm k f) (numberForm (k + length (atomsOf f)) g)
-  numberForm k (Form.implication f g) = Form.implication (numberForm k f) (numberForm (k + length (atomsOf f)) g)
-  numberForm k (Form.equivalence f g) = Form.equivalence (numberForm k f) (numberForm (k + length (atomsOf f)) g)
+-- "atoms that are the same count as one", each at its first place
+abbrev pub differentAtoms : List (Formula Name) → List (Atom Name)
+differentAtoms rules = distinct (sameAtom name-discrete) (allAtoms rules)
 
-  abbrev pub numberFrom : ℕ → List (Form A) → List (Form ℕ)
-  numberFrom k [] = []
-  numberFrom k (f ∷ fs) = numberForm k f ∷ numberFrom (k + length (atomsOf f)) fs
+-- "numbered by first place"
+abbrev pub atomNumber : List (Formula Name) → Atom Name → ℕ
+atomNumber rules = position (sameAtom name-discrete) (differentAtoms rules)
 
-  abbrev pub numberedAtoms : List (Form A) → List (Form ℕ)
-  numberedAtoms rules = numberFrom 0 rules
+-- the rules with numbers for atoms
+abbrev pub numberedAtoms : List (Formula Name) → List (Form ℕ)
+numberedAtoms rules = map (mapForm (atomNumber rules)) rules
 
--- the names of a term, of an atom, of the rules are numbered below n
+-- "Rows run over the different atoms": these, with numbers for names
+abbrev pub rowAtoms : List (Formula Name) → List (Atom ℕ)
+rowAtoms rules = map (mapAtom (numberOf rules)) (differentAtoms rules)
+
+-- the names of a term, of an atom, of a list of atoms are numbered below n
 abbrev pub TermBelow : ℕ → Term ℕ → Type 0
 TermBelow n Term.zero = Unit {0}
 TermBelow n Term.one = Unit {0}
@@ -109,5 +105,5 @@ AtomBelow n (Atom.contact x y) = TermBelow n x × TermBelow n y
 AtomBelow n (Atom.part x y) = TermBelow n x × TermBelow n y
 AtomBelow n (Atom.empty t) = TermBelow n t
 
-abbrev pub RulesBelow : ℕ → List (Formula ℕ) → Type 0
-RulesBelow n rules = (a : Atom ℕ) → In a (allAtoms rules) → AtomBelow n a
+abbrev pub AtomsBelow : ℕ → List (Atom ℕ) → Type 0
+AtomsBelow n atoms = (a : Atom ℕ) → In a atoms → AtomBelow n a

@@ -5,10 +5,10 @@ use mathlib.Core.Path.{_≡_}
 use mathlib.Core.List.{List, [], _∷_, map}
 use Prim.Native.Nat.{ℕ}
 use lib.ListN.{length, getD}
-use Rattle.formula.specs.Formula.{Atom, Form, Formula}
+use Rattle.formula.specs.Formula.{Atom, Form, Formula, Name}
 use Rattle.lists.specs.Search.{all}
 use Rattle.contact.specs.Meaning.{Floor, atomOn, value}
-use Rattle.contact.specs.Numbering.{allAtoms, numberedAtoms}
+use Rattle.contact.specs.Numbering.{differentAtoms, numberedAtoms}
 
 -- "A row gives each atom true or false."
 abbrev pub Row : Type 0
@@ -35,11 +35,11 @@ Before (true ∷ r) (false ∷ s) = Unit {0}
 Before (false ∷ r) (true ∷ s) = ⊥
 Before (false ∷ r) (false ∷ s) = Before r s
 
--- "The answer uses the first realisable row that makes all rules true."
-pub record IsFirstRow {N : Type 0} (rules : List (Formula N)) (row : Row) : Type 0 where
-  pub realisable : Realisable (allAtoms rules) row
+-- "The answer uses the first realisable row that makes all rules true."; "Rows run over the different atoms, numbered by first place."
+pub record IsFirstRow (rules : List (Formula Name)) (row : Row) : Type 0 where
+  pub realisable : Realisable (differentAtoms rules) row
   pub makes : rulesTrue (numberedAtoms rules) row ≡ true
-  pub earliest : (other : Row) → Realisable (allAtoms rules) other → rulesTrue (numberedAtoms rules) other ≡ true → Before other row
+  pub earliest : (other : Row) → Realisable (differentAtoms rules) other → rulesTrue (numberedAtoms rules) other ≡ true → Before other row
       → ⊥
 
 -- ---- partial rows

@@ -10,12 +10,14 @@ pub data Term (N : Type 0) : Type 0 where
   complement : Term N → Term N
   intersection : Term N → Term N → Term N
   union : Term N → Term N → Term N
+  deriving Discrete as Term-discrete
 
 -- "An atom is a C, <= or =0 place in a rule; every place counts."
 pub data Atom (N : Type 0) : Type 0 where
   contact : Term N → Term N → Atom N
   part : Term N → Term N → Atom N
   empty : Term N → Atom N
+  deriving Discrete as Atom-discrete
 
 -- over the atoms as written, or over their numbers
 pub data Form (A : Type 0) : Type 0 where

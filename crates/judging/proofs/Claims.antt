@@ -7,20 +7,19 @@ use mathlib.Core.List.{List}
 use Prim.Native.Nat.{ℕ}
 use Rattle.formula.specs.Formula.{Formula, Name}
 use Rattle.contact.specs.Meaning.{meetsAll}
-use Rattle.contact.specs.Numbering.{allAtoms, numberedNames, numberedAtoms, numberOf}
+use Rattle.contact.specs.Numbering.{numberedAtoms, rowAtoms}
 use Rattle.search.specs.declared.Chart.{Chart}
 use Rattle.plan.specs.declared.PlanArrays.{PlanArrays}
 use Rattle.plan.specs.Words.{Plan, IsPlan}
 use Rattle.plan.specs.Stored.{Stored}
 use Rattle.plan.specs.Judging.{Judgement, yes, unmet, judge}
-use Rattle.plan.specs.Floor.{planFloor, namedFloor}
+use Rattle.plan.specs.Floor.{namedFloor}
 use Rattle.plan.proofs.Claims.{judge-yes, judge-unmet}
 use Rattle.solver.specs.Tree.{ComesFrom}
 use Rattle.judging.specs.declared.Judged.{Judged}
 use Rattle.judging.specs.declared.Judged.the-variants.{Yes, Unmet}
 use Rattle.judging.specs.Values.{judgedOf}
 use Rattle.judging.specs.Judges.{JudgesSay}
-use Rattle.plan.proofs.Unmet.{judge-map}
 use Rattle.plan.specs.Meant.{FirstUnmet}
 
 -- ---- the answer
@@ -34,26 +33,21 @@ judged-unmet yes k e = cc
 judged-unmet (unmet n) k e = cc
 
 module _ (plan : PlanArrays) (chart : Chart) (code ends : List ℕ) (r : Judged) (says : JudgesSay plan chart code ends r)
-    (rules : List (Formula ℕ)) (from : ComesFrom code ends chart (allAtoms rules) (numberedAtoms rules)) (p : Plan) (is : IsPlan p) (named : p .names ≡ chart .names)
+    (rules : List (Formula Name)) (from : ComesFrom code ends chart (rowAtoms rules) (numberedAtoms rules)) (p : Plan) (is : IsPlan p) (named : p .names ≡ chart .names)
     (stored : Stored plan p) where
   -- the answer is the judgement (Judging)
-  pub answer-is : r ≡ judgedOf (judge (planFloor p is) rules)
+  pub answer-is : r ≡ judgedOf (judge (namedFloor rules p is) rules)
   unfolding JudgesSay
   answer-is = says rules from p is named stored
 
   -- it is yes exactly if the plan's floor meets all rules
-  pub yes-exactly : (r ≡ Yes) ↔ (meetsAll (planFloor p is) rules ≡ true)
+  pub yes-exactly : (r ≡ Yes) ↔ (meetsAll (namedFloor rules p is) rules ≡ true)
   yes-exactly =
-      let j = judge-yes (planFloor p is) rules in
+      let j = judge-yes (namedFloor rules p is) rules in
       (λ e. j .0 (judged-yes _ (sym answer-is ∙ e)), λ e. answer-is ∙ ap judgedOf (j .1 e))
 
   -- and number k exactly if rule k, counted from 1, is not met and all before it are
-  pub unmet-exactly : (k : ℕ) → (r ≡ Unmet k) ↔ FirstUnmet (planFloor p is) 1 rules k
+  pub unmet-exactly : (k : ℕ) → (r ≡ Unmet k) ↔ FirstUnmet (namedFloor rules p is) 1 rules k
   unmet-exactly k =
-      let j = judge-unmet (planFloor p is) rules k in
+      let j = judge-unmet (namedFloor rules p is) rules k in
       (λ e. j .0 (judged-unmet _ k (sym answer-is ∙ e)), λ u. answer-is ∙ ap judgedOf (j .1 u))
-
--- the numbered rules are judged on the plan's floor as the rules as read are on the one over their names (Unmet of plan)
-pub names-judged : (rules : List (Formula Name)) (p : Plan) (is : IsPlan p)
-    → judge (planFloor p is) (numberedNames rules) ≡ judge (namedFloor rules p is) rules
-names-judged rules p is = judge-map (numberOf rules) (planFloor p is) 1 rules

@@ -3,20 +3,20 @@
 use mathlib.Core.Path.{_≡_}
 use mathlib.Core.List.{List}
 use Prim.Native.Nat.{ℕ}
-use Rattle.formula.specs.Formula.{Formula}
-use Rattle.contact.specs.Numbering.{allAtoms, numberedAtoms}
+use Rattle.formula.specs.Formula.{Formula, Name}
+use Rattle.contact.specs.Numbering.{numberedAtoms, rowAtoms}
 use Rattle.search.specs.declared.Chart.{Chart}
 use Rattle.plan.specs.declared.PlanArrays.{PlanArrays}
 use Rattle.plan.specs.Words.{Plan, IsPlan}
 use Rattle.plan.specs.Stored.{Stored}
 use Rattle.plan.specs.Judging.{judge}
 use Rattle.solver.specs.Tree.{ComesFrom}
-use Rattle.plan.specs.Floor.{planFloor}
+use Rattle.plan.specs.Floor.{namedFloor}
 use Rattle.judging.specs.declared.Judged.{Judged}
 use Rattle.judging.specs.Values.{judgedOf}
 
--- the judgement of the rules on the floor of the plan that the arrays hold
+-- the judgement of the rules on the floor of the plan that the arrays hold, each name at its number
 unfoldable pub JudgesSay : PlanArrays → Chart → List ℕ → List ℕ → Judged → Type 0
 JudgesSay plan chart code ends r =
-    (rules : List (Formula ℕ)) → ComesFrom code ends chart (allAtoms rules) (numberedAtoms rules)
-    → (p : Plan) (h : IsPlan p) → p .names ≡ chart .names → Stored plan p → r ≡ judgedOf (judge (planFloor p h) rules)
+    (rules : List (Formula Name)) → ComesFrom code ends chart (rowAtoms rules) (numberedAtoms rules)
+    → (p : Plan) (h : IsPlan p) → p .names ≡ chart .names → Stored plan p → r ≡ judgedOf (judge (namedFloor rules p h) rules)

@@ -2,6 +2,5 @@ pub mod Truth
 pub mod Search
 pub mod Lists
 pub mod Padded
-pub mod Once
 pub mod Entries
 pub mod Below

@@ -74,6 +74,11 @@ module _ {A B : Type 0} where
   map-same f g here e = head-eq-of-cons-eq e
   map-same f g (next i) e = map-same f g i (tail-eq-of-cons-eq e)
 
+-- functions that agree on a list have the same values on it
+pub map-agree : {A B : Type 0} (f g : A → B) (xs : List A) → ((x : A) → In x xs → f x ≡ g x) → map f xs ≡ map g xs
+map-agree f g [] e = refl
+map-agree f g (x ∷ xs) e = ap₂ _∷_ (e x here) (map-agree f g xs (λ y i. e y (next i)))
+
 -- one value everywhere, and another past the end
 pub repeated-at : {A : Type 0} (P : A → Type 0) {a d : A} → P a → P d → (n i : ℕ) → P (getD (replicate n a) i d)
 repeated-at P h k zero i = k

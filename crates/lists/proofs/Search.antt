@@ -210,6 +210,14 @@ module _ {A : Type 0} where
   keep-nothing p [] h = refl
   keep-nothing p (x ∷ xs) h = rw (h x here) (keep-nothing p xs (λ y i. h y (next i)))
 
+  pub keep-shorter : (p : A → Bool) (xs : List A) → length (keep p xs) ≤ length xs
+  keep-shorter p [] = omega arith
+  keep-shorter p (x ∷ xs) = go (p x) (keep-shorter p xs)
+    where
+      go : (b : Bool) → length (keep p xs) ≤ length xs → length (cond b (x ∷ keep p xs) (keep p xs)) ≤ suc (length xs)
+      go true l = omega arith
+      go false l = omega arith
+
   pub keep-append : (p : A → Bool) (xs ys : List A) → keep p (xs ++ ys) ≡ keep p xs ++ keep p ys
   keep-append p [] ys = refl
   keep-append p (x ∷ xs) ys = go (p x) (keep-append p xs ys)
@@ -301,6 +309,10 @@ pub from-elim : (k n e : ℕ) → In e (from k n) → (k ≤ e) × (e < k + n)
 from-elim k zero e i = none-in i
 from-elim k (suc n) e i =
     ⊎-elim (λ q. omega arith) (λ j. let r = from-elim (suc k) n e j in omega (arith, r)) (uncons i)
+
+pub map-from : (k n : ℕ) → map suc (from k n) ≡ from (suc k) n
+map-from k zero = refl
+map-from k (suc n) = ap (λ (l : List ℕ). suc k ∷ l) (map-from (suc k) n)
 
 pub from-append : (k m n : ℕ) → from k (m + n) ≡ from k m ++ from (k + m) n
 from-append k zero n =

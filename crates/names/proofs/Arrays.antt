@@ -21,9 +21,10 @@ use Rattle.contact.specs.Numbering.{position, sameName}
 use Rattle.contact.proofs.Naming.{same-name}
 use Rattle.names.specs.declared.KeptName.{KeptName}
 use Rattle.names.specs.declared.Names.{Names}
-use Rattle.names.specs.Gather.{isIn, withName, keptName, arraysOf, bytesIn, knownOf, Kept}
+use Rattle.contact.specs.Putting.{isIn}
+use Rattle.names.specs.Gather.{withName, keptName, arraysOf, bytesIn, knownOf, Kept}
 use Rattle.names.specs.Steps.{sameKept, placeIn, push, withKept}
-use Rattle.names.proofs.Distinct.{position-in, position-out}
+use Rattle.contact.proofs.Distinct.{position-in, position-out}
 
 -- ---- one name
 

@@ -16,14 +16,14 @@ use Rattle.syntax.specs.declared.Rule.{Rule}
 use Rattle.lists.specs.Search.{In, collect}
 use Rattle.evalset.specs.Most.{most}
 use Rattle.contact.specs.Numbering.{allAtoms, distinct, position, sameName, namesOf}
-use Rattle.contact.proofs.Naming.{same-name}
+use Rattle.contact.proofs.Naming.{name-alike}
 use Rattle.names.specs.declared.Names.{Names}
 use Rattle.names.specs.declared.NamesAnswer.{NamesAnswer}
 use Rattle.names.specs.declared.NamesAnswer.the-variants as NamesAnswer
 use Rattle.names.specs.declared.Gathered.{Gathered}
 use Rattle.names.specs.Gather.{ruleTokens, namesAfter, arraysOf, knownOf, gatheredOf, gathered, Kept, Gathers}
 use Rattle.names.specs.Seventh.{namesAt, SeventhAt, placesOf}
-use Rattle.names.proofs.Distinct.{position-distinct}
+use Rattle.contact.proofs.Distinct.{position-distinct}
 use Rattle.names.proofs.Arrays.{known-back, kept-names}
 use Rattle.names.proofs.Outcome.{few-after}
 use Rattle.names.proofs.Places.{places-enough, places-known, places-seventh}
@@ -84,7 +84,7 @@ module _ (s : List ℕ) (f : Formula Name) (rule : IsRule s f) (earlier : List N
 -- a name keeps its number when further names come
 pub number-stays : (earlier later : List Name) (w : Name) → In w earlier
     → position sameName (distinct sameName (earlier ++ later)) w ≡ position sameName (distinct sameName earlier) w
-number-stays = position-distinct sameName same-name
+number-stays = position-distinct sameName name-alike
 
 -- ---- the rules in order
 

@@ -25,7 +25,7 @@ use Rattle.names.specs.declared.Gathered.{Gathered}
 use Rattle.names.specs.Gather.{ruleTokens, withName, Numbered, numbered, behind, namesAfter, arraysOf, knownOf, gatheredOf, gathered, Gathers}
 use Rattle.names.specs.Seventh.{NameAt, nameAt, placesOf}
 use Rattle.names.specs.Steps.{placeIn, withKept}
-use Rattle.names.proofs.Distinct.{position-most}
+use Rattle.contact.proofs.Distinct.{position-most}
 use Rattle.names.proofs.Arrays.{kept-count, number-kept, with-kept, too-many, not-too-many}
 use Rattle.names.proofs.Tokens.{rule-tokens, tokens-lie, past, token-within, at-name, at-other, at-end}
 use Rattle.evalset.specs.Most.{most}

@@ -1,5 +1,4 @@
 pub mod Scans
-pub mod Distinct
 pub mod Arrays
 pub mod Tokens
 pub mod Gathering

@@ -12,12 +12,13 @@ use borrow.Author.Tests.{lt-ltb, le-ltb, ltb-true, ltb-false}
 use Rattle.formula.specs.Formula.{Name}
 use Rattle.evalset.specs.Most.{most}
 use Rattle.contact.specs.Numbering.{position, sameName}
-use Rattle.contact.proofs.Naming.{same-name}
+use Rattle.contact.proofs.Naming.{name-alike}
 use Rattle.names.specs.declared.NamesAnswer.{NamesAnswer}
 use Rattle.names.specs.declared.NamesAnswer.the-variants as NamesAnswer
-use Rattle.names.specs.Gather.{withName, Numbered, numbered, behind, namesAfter, isIn, put}
+use Rattle.names.specs.Gather.{withName, Numbered, numbered, behind, namesAfter}
+use Rattle.contact.specs.Putting.{isIn, put}
 use Rattle.names.specs.Seventh.{namesAt, NameAt, nameAt}
-use Rattle.names.proofs.Distinct.{put-all-longer, put-all-position}
+use Rattle.contact.proofs.Distinct.{put-all-longer, put-all-position}
 
 -- all the different names, and where each stands among them
 abbrev pub allOf : List Name → List NameAt → List Name
@@ -68,7 +69,7 @@ module _ (ks : List Name) (x : NameAt) (xs : List NameAt) where
       go false e l = (e, omega (arith, length-append ks (x .name ∷ [])))
 
   first-number : (more : List NameAt) → position sameName ks (x .name) ≡ position sameName (allOf after more) (x .name)
-  first-number more = sym (put-all-position sameName same-name ks (namesAt more) (x .name))
+  first-number more = sym (put-all-position sameName name-alike ks (namesAt more) (x .name))
 
 pub outcome : (ks : List Name) (xs : List NameAt) → length ks ≤ most → Fits ks xs ⊎ Stops ks xs
 unfolding namesAfter

@@ -12,12 +12,13 @@ use Rattle.formula.specs.Formula.{Name}
 use Rattle.evalset.specs.Most.{most}
 use Rattle.lists.proofs.Truth.{clash}
 use Rattle.contact.specs.Numbering.{distinct, sameName}
-use Rattle.contact.proofs.Naming.{same-name}
+use Rattle.contact.proofs.Naming.{same-name, name-alike}
 use Rattle.names.specs.declared.NamesAnswer.{NamesAnswer}
 use Rattle.names.specs.declared.NamesAnswer.the-variants as NamesAnswer
-use Rattle.names.specs.Gather.{Numbered, numbered, namesAfter, isIn}
+use Rattle.names.specs.Gather.{Numbered, numbered, namesAfter}
+use Rattle.contact.specs.Putting.{isIn}
 use Rattle.names.specs.Seventh.{namesAt, SeventhAt, NameAt, nameAt}
-use Rattle.names.proofs.Distinct.{distinct-append, in-distinct, distinct-in-list}
+use Rattle.contact.proofs.Distinct.{distinct-append, in-distinct, distinct-in-list}
 use Rattle.names.proofs.Outcome.{allOf, numbersIn, Fits, Stops, outcome, seventh-answered, stops-many}
 
 -- the different names of earlier texts and of those at their places
@@ -25,7 +26,7 @@ abbrev different : List Name → List NameAt → List Name
 different earlier xs = distinct sameName (earlier ++ namesAt xs)
 
 different-is : (earlier : List Name) (xs : List NameAt) → different earlier xs ≡ allOf (distinct sameName earlier) xs
-different-is earlier xs = distinct-append sameName same-name earlier (namesAt xs)
+different-is earlier xs = distinct-append sameName name-alike earlier (namesAt xs)
 
 apart : {a : NamesAnswer} {p : ℕ} → a ≡ NamesAnswer.SeventhName p → a ≡ NamesAnswer.Enough → ⊥
 apart e f = let z : _≡_ {A = ℕ} 0 1 = cc in omega arith
@@ -54,7 +55,7 @@ module _ (earlier : List Name) (xs : List NameAt) where
         after = r .after;
         split = r .split ∙ ap (λ (n : ℕ). r .before ++ nameAt n (r .name) ∷ r .after) same;
         six = ap length six ∙ r .full;
-        new = λ i. clash (ap (λ (l : List Name). isIn sameName l (r .name)) (sym six) ∙ in-distinct sameName same-name (earlier ++ namesAt (r .before)) (r .name) i) (r .new);
+        new = λ i. clash (ap (λ (l : List Name). isIn sameName l (r .name)) (sym six) ∙ in-distinct sameName name-alike (earlier ++ namesAt (r .before)) (r .name) i) (r .new);
       }
 
   -- and the seventh different one is answered, with the names and numbers before it

@@ -1,6 +1,6 @@
 -- What is computed: the names of a rule's text, numbered by first place behind those that are known, up to the seventh different one.
 -- Assumes nothing.
-use mathlib.Core.Bool.{Bool, cond}
+use mathlib.Core.Bool.{cond}
 use mathlib.Core.Path.{_≡_}
 use mathlib.Core.List.{List, [], _∷_, _++_, map}
 use Prim.Native.Nat.{ℕ, _-_, _≤_}
@@ -14,9 +14,9 @@ use Rattle.syntax.specs.Rule.{tokensIn, ruleOf}
 use Rattle.syntax.specs.declared.RuleAnswer.{RuleAnswer}
 use Rattle.syntax.specs.declared.RuleAnswer.the-variants as RuleAnswer
 use Rattle.syntax.specs.declared.Rule.{Rule}
-use Rattle.lists.specs.Search.{any}
 use Rattle.evalset.specs.Most.{most}
 use Rattle.contact.specs.Numbering.{position, sameName}
+use Rattle.contact.specs.Putting.{put}
 use Rattle.names.specs.Seventh.{NameAt, placesOf}
 use Rattle.names.specs.declared.KeptName.{KeptName}
 use Rattle.names.specs.declared.Names.{Names}
@@ -41,15 +41,6 @@ unfoldable pub ruleTokens : List ℕ → List Token
 ruleTokens s = ifRead (ruleOf s .answer) (tokensIn (cutting s))
 
 -- ---- numbered behind those that are known
-
-module _ {N : Type 0} (same : N → N → Bool) where
-  -- one of them is the same
-  abbrev pub isIn : List N → N → Bool
-  isIn ks w = any (λ k. same k w) ks
-
-  -- put last, if it is not among them
-  abbrev pub put : List N → N → List N
-  put ks w = cond (isIn ks w) ks (ks ++ w ∷ [])
 
 -- a name put last, if it is not among them
 unfoldable pub withName : List Name → Name → List Name

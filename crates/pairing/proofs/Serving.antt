@@ -10,6 +10,7 @@ use native.Mathlib.Omega.{arith}
 use lib.Bits.{bitAnd, bitOr, bitXor, xor-lt, or-lt, or-shr, or-zero-r, and-le-l}
 use lib.ListN.{length, getD}
 use lib.Pow.{shr-lt}
+use Rattle.formula.specs.Atoms.{isContact}
 use Rattle.formula.specs.Formula.{Atom}
 use Rattle.lists.specs.Search.{In}
 use Rattle.lists.proofs.Search.{none-in, uncons}
@@ -24,7 +25,7 @@ use Rattle.search.specs.declared.Chart.{Chart}
 use Rattle.search.specs.Rows.{rowBits}
 use Rattle.search.specs.Compiled.{Compiled, AtomIs, atomAt, contactAt}
 use Rattle.search.proofs.Rows.{row-length, row-at, mark-in}
-use Rattle.pairing.specs.Words.{Spelt, isContact, Contacts, servesAt, IsWord}
+use Rattle.pairing.specs.Words.{Spelt, Contacts, servesAt, IsWord}
 use Rattle.pairing.specs.Masks.{MaskIs, pairWord}
 use Rattle.pairing.proofs.Words.{differs, bit-lower, spelt-few}
 

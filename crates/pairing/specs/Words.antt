@@ -9,6 +9,7 @@ use lib.Bits.{bitAnd, bitXor}
 use lib.Dec.{eqb}
 use lib.ListN.{length}
 use Rattle.formula.specs.Formula.{Atom}
+use Rattle.formula.specs.Atoms.{isContact}
 use Rattle.lists.specs.Search.{In, any}
 use Rattle.evalset.specs.Bit.{bit}
 use Rattle.contact.specs.Plan.{mark, rowMarks}
@@ -24,12 +25,6 @@ use Rattle.pairing.specs.Sums.{entry}
 pub record Spelt (n : ℕ) (f : ℕ → Bool) (w : ℕ) : Type 0 where
   pub small : w < 2 ^ n
   pub bits : (p : ℕ) → p < n → bit w p ≡ f (n - 1 - p)
-
--- the atom is a contact
-abbrev pub isContact : Atom ℕ → Bool
-isContact (Atom.contact x y) = true
-isContact (Atom.part x y) = false
-isContact (Atom.empty t) = false
 
 -- the word of the atoms that are contacts
 abbrev pub Contacts : List (Atom ℕ) → ℕ → Type 0

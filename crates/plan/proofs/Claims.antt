@@ -11,7 +11,7 @@ use Rattle.evalset.specs.declared.EvalSet.{EvalSet}
 use Rattle.evalset.specs.Sets.{mem, memAt}
 use Rattle.evalset.specs.Most.{most}
 use Rattle.contact.specs.Meaning.{Floor, atomOn, meetsAll}
-use Rattle.contact.specs.Numbering.{allAtoms, namesOf, numberedNames}
+use Rattle.contact.specs.Numbering.{namesOf, differentAtoms}
 use Rattle.contact.specs.Row.{Row, Realises}
 use Rattle.contact.specs.Plan.{Means}
 use Rattle.contact.specs.Check.{firstRowOf}
@@ -99,18 +99,18 @@ judge-unmet F rules k = unmet-exactly F rules k
 
 -- the plan of the row that is found is a plan in words, for at most six names (Given)
 pub given-is-plan : (rules : List (Formula Name)) → length (namesOf rules) ≤ most → (row : Row)
-    → firstRowOf (length (namesOf rules)) (numberedNames rules) ≡ row ∷ [] → IsPlan (rowPlan rules row)
+    → firstRowOf rules ≡ row ∷ [] → IsPlan (rowPlan rules row)
 given-is-plan rules few row found = Given.given-is-plan rules row found few
 
 -- its floor gives the rules' atoms this row (Given)
 pub given-row : (rules : List (Formula Name)) (row : Row)
-    → firstRowOf (length (namesOf rules)) (numberedNames rules) ≡ row ∷ [] → (h : IsPlan (rowPlan rules row))
-    → Realises (namedFloor rules (rowPlan rules row) h) (allAtoms rules) row
+    → firstRowOf rules ≡ row ∷ [] → (h : IsPlan (rowPlan rules row))
+    → Realises (namedFloor rules (rowPlan rules row) h) (differentAtoms rules) row
 given-row = Given.given-row
 
 -- and meets every rule (Given)
 pub given-meets : (rules : List (Formula Name)) (row : Row)
-    → firstRowOf (length (namesOf rules)) (numberedNames rules) ≡ row ∷ [] → (h : IsPlan (rowPlan rules row))
+    → firstRowOf rules ≡ row ∷ [] → (h : IsPlan (rowPlan rules row))
     → meetsAll (namedFloor rules (rowPlan rules row) h) rules ≡ true
 given-meets = Given.given-meets
 
@@ -127,11 +127,11 @@ pub given-at-most-one : (rules : List (Formula Name)) → length (plansOf rules)
 given-at-most-one = Given.given-at-most-one
 
 -- it has at most 32 points for at most 16 atoms (Given)
-pub given-points : (rules : List (Formula Name)) → length (allAtoms rules) ≤ 16 → (p : Plan) → plansOf rules ≡ p ∷ []
+pub given-points : (rules : List (Formula Name)) → length (differentAtoms rules) ≤ 16 → (p : Plan) → plansOf rules ≡ p ∷ []
     → length (p .points) ≤ 32
 given-points = Given.given-points
 
 -- so "an answered plan takes at most 530 words" (Given)
-pub given-words : (rules : List (Formula Name)) → length (allAtoms rules) ≤ 16 → (p : Plan) → plansOf rules ≡ p ∷ []
+pub given-words : (rules : List (Formula Name)) → length (differentAtoms rules) ≤ 16 → (p : Plan) → plansOf rules ≡ p ∷ []
     → length (wordsOf p) ≤ 530
 given-words = Given.given-words

@@ -17,16 +17,15 @@ use Rattle.lists.proofs.Lists.{map-one}
 use Rattle.formula.specs.Formula.{Formula, Name}
 use Rattle.lists.specs.Search.{keep, collect, from, elem}
 use Rattle.contact.specs.Meaning.{Floor, meetsAll}
-use Rattle.contact.specs.Numbering.{allAtoms, namesOf, mapAtom, numberedNames, numberedAtoms, numberOf}
+use Rattle.contact.specs.Numbering.{namesOf, mapAtom, differentAtoms, numberedAtoms, rowAtoms, numberOf}
 use Rattle.contact.specs.Row.{Row, Realises, is}
 use Rattle.contact.specs.Plan.{Mark, rowMarks, separated, given, pointsFor}
 use Rattle.contact.specs.Check.{check, rows, good, firstRow, firstRowOf}
 use Rattle.contact.proofs.Realise.{marksFloor, points-some, plan-points, plan-touch, plan-lies}
-use Rattle.contact.proofs.Numbered.{all-atoms-map}
-use Rattle.contact.proofs.Answer.{row-found, rowFloor, plan-gives-row, plan-meets}
-use Rattle.contact.proofs.Naming.{numbers-row, numbers-meet, first-row-named, first-row-only-named, no-plan-named}
+use Rattle.contact.proofs.Answer.{first-good, rowFloor, plan-gives-row}
+use Rattle.contact.proofs.Naming.{numbers-row, row-meets, first-row-named, first-row-only-named, no-plan-named}
 use Rattle.contact.proofs.Count.{points-at-most}
-use Rattle.contact.proofs.SameFloor.{SameFloor, row-same, meets-same}
+use Rattle.contact.proofs.SameFloor.{SameFloor, row-same}
 use Rattle.plan.specs.Words.{Plan, Ascends, IsPlan, lastWord, before, wordsOf}
 use Rattle.evalset.specs.Most.{most}
 use Rattle.plan.specs.Floor.{liesIn, planFloor, namedFloor}
@@ -102,35 +101,31 @@ module _ (n : ℕ) (ms : List Mark) where
         }
 
 -- ---- the plan of the first row
-module _ (rules : List (Formula Name)) (row : Row) (found : firstRowOf (length (namesOf rules)) (numberedNames rules) ≡ row ∷ []) where
-  abbrev checked : check (length (namesOf rules)) (rowMarks (allAtoms (numberedNames rules)) row) ≡ true
-  checked = row-found (length (namesOf rules)) (numberedNames rules) row found .checked
+module _ (rules : List (Formula Name)) (row : Row) (found : firstRowOf rules ≡ row ∷ []) where
+  abbrev checked : check (length (namesOf rules)) (rowMarks (rowAtoms rules) row) ≡ true
+  checked = first-good (length (namesOf rules)) (rowAtoms rules) (numberedAtoms rules) row found .checked
 
   -- is a plan
   pub given-is-plan : length (namesOf rules) ≤ most → IsPlan (rowPlan rules row)
   unfolding rowPlan
-  given-is-plan few = marks-plan (length (namesOf rules)) (rowMarks (allAtoms (numberedNames rules)) row) checked few
+  given-is-plan few = marks-plan (length (namesOf rules)) (rowMarks (rowAtoms rules) row) checked few
 
   module _ (h : IsPlan (rowPlan rules row)) where
-    same : SameFloor (planFloor (rowPlan rules row) h) (rowFloor (length (namesOf rules)) (numberedNames rules) row found)
+    same : SameFloor (planFloor (rowPlan rules row) h) (rowFloor (length (namesOf rules)) (rowAtoms rules) (numberedAtoms rules) row found)
     unfolding rowPlan
-    same = marks-same (length (namesOf rules)) (rowMarks (allAtoms (numberedNames rules)) row) checked h
+    same = marks-same (length (namesOf rules)) (rowMarks (rowAtoms rules) row) checked h
 
     -- gives the atoms the row
-    pub given-row : Realises (namedFloor rules (rowPlan rules row) h) (allAtoms rules) row
+    pub given-row : Realises (namedFloor rules (rowPlan rules row) h) (differentAtoms rules) row
     given-row =
         numbers-row rules (planFloor (rowPlan rules row) h)
-        ∙ row-same (planFloor (rowPlan rules row) h) (rowFloor (length (namesOf rules)) (numberedNames rules) row found) same
-        (allAtoms (numberedNames rules))
-        ∙ plan-gives-row (length (namesOf rules)) (numberedNames rules) row found
+        ∙ row-same (planFloor (rowPlan rules row) h) (rowFloor (length (namesOf rules)) (rowAtoms rules) (numberedAtoms rules) row found) same
+        (rowAtoms rules)
+        ∙ plan-gives-row (length (namesOf rules)) (rowAtoms rules) (numberedAtoms rules) row found
 
     -- and meets the rules
     pub given-meets : meetsAll (namedFloor rules (rowPlan rules row) h) rules ≡ true
-    given-meets =
-        numbers-meet rules (planFloor (rowPlan rules row) h)
-        ∙ meets-same (planFloor (rowPlan rules row) h) (rowFloor (length (namesOf rules)) (numberedNames rules) row found) same
-        (numberedNames rules)
-        ∙ plan-meets (length (namesOf rules)) (numberedNames rules) row found
+    given-meets = row-meets rules (namedFloor rules (rowPlan rules row) h) row given-row (first-row-named rules row found .makes)
 
 -- ---- the plans of rules are none or one
 module _ (rules : List (Formula Name)) where
@@ -157,9 +152,8 @@ module _ (rules : List (Formula Name)) where
   given-at-most-one =
       omega (
         arith,
-        length-map (firstRowOf (length (namesOf rules)) (numberedNames rules)) (rowPlan rules),
-        first-short (good (length (namesOf rules)) (allAtoms (numberedNames rules)) (numberedAtoms (numberedNames rules)))
-            (rows (length (allAtoms (numberedNames rules)))),
+        length-map (firstRowOf rules) (rowPlan rules),
+        first-short (good (length (namesOf rules)) (rowAtoms rules) (numberedAtoms rules)) (rows (length (rowAtoms rules))),
       )
 
 -- ---- how many points and words
@@ -205,16 +199,15 @@ words-at-most p h =
     let pairs : p * (p - 1) ≤ 32 * 31 = mul-le-mul h low in
     omega arith
 
-module _ (rules : List (Formula Name)) (few : length (allAtoms rules) ≤ 16) (p : Plan) (e : plansOf rules ≡ p ∷ []) where
+module _ (rules : List (Formula Name)) (few : length (differentAtoms rules) ≤ 16) (p : Plan) (e : plansOf rules ≡ p ∷ []) where
   -- 16 atoms, 32 points
   pub given-points : length (p .points) ≤ 32
   unfolding rowPlan givenPlan
   given-points =
       let g = given-exactly rules p .0 e in
-      let atoms : length (allAtoms (numberedNames rules)) ≤ 16 =
-      omega (arith, ap length (all-atoms-map (mapAtom (numberOf rules)) rules), length-map (allAtoms rules) (mapAtom (numberOf rules))) in
+      let atoms : length (rowAtoms rules) ≤ 16 = omega (arith, length-map (differentAtoms rules) (mapAtom (numberOf rules))) in
       subst (λ (q : Plan). length (q .points) ≤ 32) (sym (g .is))
-      (points-at-most (length (namesOf rules)) (allAtoms (numberedNames rules)) (map is (g .row)) atoms)
+      (points-at-most (length (namesOf rules)) (rowAtoms rules) (map is (g .row)) atoms)
 
   given-contacts : 2 * length (p .contacts) ≤ length (p .points) * (length (p .points) - 1)
   unfolding rowPlan givenPlan linksTo

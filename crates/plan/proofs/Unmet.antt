@@ -1,15 +1,13 @@
 -- Judging goes along the rules, so the first that is not met decides, and its number is one more than the rules before it;
 -- and rules that are renamed are judged as the rules are on the floor renamed. Assumes nothing.
-use mathlib.Core.Path.{_≡_, refl, sym, ap, ap₂, _∙_, subst, fun-ext}
+use mathlib.Core.Path.{_≡_, refl, sym, ap, ap₂, _∙_, subst}
 use mathlib.Core.Bool.{Bool, true, false, _&&_, cond, and-eq-true-iff}
-use mathlib.Core.List.{List, [], _∷_, _++_, map}
+use mathlib.Core.List.{List, [], _∷_, _++_}
 use Prim.Native.Nat.{ℕ, suc, _+_}
 use native.Mathlib.Omega.{arith}
 use lib.ListN.{length}
-use Rattle.formula.specs.Formula.{Atom, Formula}
-use Rattle.contact.specs.Meaning.{Floor, atomOn, value, meets, meetsAll, renamed}
-use Rattle.contact.specs.Numbering.{mapAtom, mapForm}
-use Rattle.contact.proofs.Naming.{atom-map, value-map}
+use Rattle.formula.specs.Formula.{Formula}
+use Rattle.contact.specs.Meaning.{Floor, meets, meetsAll, renamed}
 use Rattle.plan.specs.Judging.{Judgement, yes, unmet, judgeFrom, judge}
 use Rattle.plan.specs.Meant.{FirstUnmet}
 
@@ -66,13 +64,3 @@ module _ {N : Type 0} (F : Floor N) where
     λ u. ap (judgeFrom 1 F) (sym (u .parts)) ∙ from-parts 1 (u .earlier) (u .rule) (u .later) (u .met) (u .not-met)
         ∙ ap unmet (sym (u .number)),
   )
-
--- a rule with other names for its names has, on a floor, the value that the rule has on the floor renamed; so rules that are renamed
--- are judged as the rules are
-module _ {N M : Type 0} (g : N → M) (F : Floor M) where
-  pub judge-map : (k : ℕ) (rules : List (Formula N)) → judgeFrom k F (map (mapForm (mapAtom g)) rules) ≡ judgeFrom k (renamed g F) rules
-  judge-map k [] = refl
-  judge-map k (f ∷ rules) =
-      ap₂ (λ (b : Bool) (j : Judgement). cond b j (unmet k))
-      (value-map (mapAtom g) (atomOn F) f ∙ ap (λ (v : Atom N → Bool). value v f) (fun-ext (atom-map g F)))
-      (judge-map (suc k) rules)

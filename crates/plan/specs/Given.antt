@@ -4,7 +4,7 @@ use mathlib.Core.List.{List}
 use Prim.Native.Nat.{ℕ}
 use lib.ListN.{length, getD}
 use Rattle.formula.specs.Formula.{Formula, Name}
-use Rattle.contact.specs.Numbering.{allAtoms, namesOf, numberedNames}
+use Rattle.contact.specs.Numbering.{namesOf, rowAtoms}
 use Rattle.contact.specs.Row.{Row}
 use Rattle.contact.specs.Plan.{Mark, rowMarks, separated, pointsFor}
 use Rattle.plan.specs.Words.{Plan}
@@ -20,6 +20,7 @@ givenPlan names ms =
       contacts = linksTo (length points) (length points) (λ i j. not (separated ms (getD points i 0) (getD points j 0)));
     }
 
--- the plan of a row of the rules as read
+-- the plan of a row of the rules as read; of the atoms that are the same the first writing counts: "The witness of an exchanged contact is
+-- taken from its first writing"
 unfoldable pub rowPlan : List (Formula Name) → Row → Plan
-rowPlan rules row = givenPlan (length (namesOf rules)) (rowMarks (allAtoms (numberedNames rules)) row)
+rowPlan rules row = givenPlan (length (namesOf rules)) (rowMarks (rowAtoms rules) row)

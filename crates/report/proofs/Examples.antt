@@ -3,6 +3,9 @@ use mathlib.Core.Path.{_≡_, refl}
 use mathlib.Core.List.{List, [], _∷_, map}
 use Prim.Native.Nat.{ℕ}
 use Prim.Native.String.{String}
+use mathlib.Core.Bool.{decide}
+use native.Mathlib.Decide.{ℕ-discrete}
+use Rattle.formula.specs.Same.{name-discrete, equalAtom, sameAtom}
 use Rattle.lexer.specs.Text.{bytes}
 use Rattle.lexer.specs.Class.{classOf, isBlank, isAlphanumeric, isSign}
 use Rattle.lexer.specs.Spelling.{signs, starts, constantKind}
@@ -43,5 +46,5 @@ texts-computed = refl
 
 -- P3, from its rule texts
 pub three-lines : outputOf (bytes "~C(raw,cooked)\n~raw=0\n~cooked=0\n") ≡ bytes "PLAN names=2 points=2\npoint 0: raw\npoint 1: cooked\n"
-unfolding classOf isBlank isAlphanumeric isSign signs starts constantKind longest signPiece runLength runPiece pieceOf cutFrom lexed runMachine reading puts ruleOf meaningOf bit rulesTrue separated allowed fills check given pointsFor good firstRow placesOf ruleTokens withName namesAfter gatheredOf gathered pairOf rowTo linksTo givenPlan rowPlan plansOf onFirst linesOf blankByte blankLine filled namesIn atomsIn judgeNames judgeAtoms judgeRoom judgeText judgeAdd judgeLines judgeLoad digits decimal headLine pointNames namesOrNone pointLine pointLines planText rulesText sheetText
+unfolding classOf isBlank isAlphanumeric isSign signs starts constantKind longest signPiece runLength runPiece pieceOf cutFrom lexed runMachine reading puts ruleOf meaningOf decide ℕ-discrete name-discrete equalAtom sameAtom bit rulesTrue separated allowed fills check given pointsFor good firstRow placesOf ruleTokens withName namesAfter gatheredOf gathered pairOf rowTo linksTo givenPlan rowPlan plansOf onFirst linesOf blankByte blankLine filled namesIn atomsIn judgeNames judgeAtoms judgeRoom judgeText judgeAdd judgeLines judgeLoad digits decimal headLine pointNames namesOrNone pointLine pointLines planText rulesText sheetText
 three-lines = refl

@@ -9,7 +9,7 @@ use types.Run.{OneOf, miss}
 use denote.Enum.Declared.{tagOf}
 use Rattle.formula.specs.Formula.{Formula, Name}
 use Rattle.lexer.specs.Text.{bytes}
-use Rattle.contact.specs.Numbering.{namesOf, allAtoms}
+use Rattle.contact.specs.Numbering.{namesOf, differentAtoms}
 use Rattle.contact.proofs.Claims.{first-row-only-named}
 use Rattle.names.specs.Gather.{arraysOf, knownOf, Kept}
 use Rattle.names.specs.declared.Names.{Names}
@@ -92,7 +92,7 @@ module _ {t : Table} {buffer : List ℕ} {r : AskResult} {exit : List ℕ} (h : 
   abbrev rules : List (Formula Name)
   rules = formulasOf (rulesOf t)
 
-  few-atoms : length (allAtoms rules) ≤ 16
+  few-atoms : length (differentAtoms rules) ≤ 16
   unfolding atomsIn
   few-atoms = can-atoms (rulesOf t) (h .from-us .standing)
 

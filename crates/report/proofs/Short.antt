@@ -20,7 +20,7 @@ use Rattle.contact.specs.Numbering.{allAtoms, sameName}
 use Rattle.contact.proofs.Naming.{same-name}
 use Rattle.names.specs.Gather.{ruleTokens}
 use Rattle.names.specs.Seventh.{namesAt, NameAt, placesOf}
-use Rattle.names.proofs.Distinct.{distinct-in-list}
+use Rattle.contact.proofs.Distinct.{distinct-in-list}
 use Rattle.names.proofs.Tokens.{past, token-within, at-name, at-other, at-end}
 use Rattle.names.proofs.Texts.{names-of-rule, atoms-names}
 use Rattle.table.specs.Sheet.{Text}

@@ -4,19 +4,20 @@
 use mathlib.Core.Path.{_≡_, sym, ap, subst, _∙_}
 use mathlib.Core.Logic.{⊎-elim}
 use mathlib.Core.List.{List, [], _∷_, _++_, map, map-append}
-use Prim.Native.Nat.{ℕ, _≤_}
+use Prim.Native.Nat.{ℕ, _*_, _≤_}
 use native.Mathlib.Omega.{arith}
-use lib.ListN.{length, take}
+use lib.ListN.{length, take, length-map}
 use Rattle.formula.specs.Formula.{Formula, Name}
 use Rattle.syntax.specs.RuleText.{IsRule}
 use Rattle.syntax.specs.Rule.{meaningOf}
 use Rattle.lists.proofs.Search.{in-either, uncons, none-in}
-use Rattle.contact.specs.Numbering.{allAtoms, namesOf, numberedNames, numberedAtoms}
+use Rattle.contact.specs.Numbering.{namesOf, numberedAtoms, rowAtoms}
 use Rattle.contact.specs.Check.{firstRow, firstRowOf}
 use Rattle.solver.specs.declared.RowAnswer.{RowAnswer}
 use Rattle.solver.specs.declared.RowAnswer.the-variants.{At, Nothing}
 use Rattle.solver.specs.Tree.{ComesFrom, Runnable, answerFor, FirstRowSays}
 use Rattle.solver.proofs.Claims.{runnable, answer-is, answer-found, answer-none}
+use Rattle.search.specs.declared.Chart.{Chart}
 use Rattle.search.specs.declared.RowPlan.{RowPlan}
 use Rattle.search.specs.Rows.{rowBits}
 use Rattle.search.specs.Compiled.{limit}
@@ -39,84 +40,91 @@ use Rattle.judging.specs.Judges.{JudgesSay}
 use Rattle.judging.proofs.Claims as judging
 use Rattle.compile.proofs.Searched.{compiled-search}
 use Rattle.ruleset.specs.declared.Compiling.{Compiling}
-use Rattle.ruleset.specs.Texts.{Fits, CompiledRules, CompiledTexts, OneMore, Ready, WithText, NothingCompiled, FirstRowIs, RowPlanIs, JudgedIs}
+use Rattle.ruleset.specs.Texts.{Fits, CompiledRules, CompiledTexts, Another, Compilable, WithText, NothingCompiled, FirstRowIs, RowPlanIs, JudgedIs}
 use Rattle.ruleset.proofs.Planning.{rowArrays, plan-stored}
 
 -- ---- for a caller of `with_text`: the texts
 
 -- no text at first
-pub no-texts : (c : Compiling) (code : List ℕ) → NothingCompiled c → length code ≡ 4096 → CompiledTexts [] c code
+pub no-texts : (c : Compiling) (kept code : List ℕ) → NothingCompiled c → length kept ≡ 2048 → CompiledTexts [] c kept code
 unfolding NothingCompiled
-no-texts c code n l = record { are-rules = λ s i. none-in i; rules-compiled = n code l }
+no-texts c kept code n w = record { are-rules = λ s i. none-in i; rules-compiled = n kept code w }
 
-module _ (texts : List (List ℕ)) (s : List ℕ) (c : Compiling) (code : List ℕ) (so-far : CompiledTexts texts c code) (rule : IsRule s (meaningOf s)) where
+module _ (texts : List (List ℕ)) (s : List ℕ) (c : Compiling) (kept code : List ℕ) (so-far : CompiledTexts texts c kept code) (rule : IsRule s (meaningOf s))
+    (fits : 256 * length (texts ++ s ∷ []) ≤ length code) where
   meanings : map meaningOf (texts ++ s ∷ []) ≡ map meaningOf texts ++ meaningOf s ∷ []
   meanings = map-append meaningOf texts (s ∷ [])
 
-  one-more : Fits (map meaningOf (texts ++ s ∷ [])) → OneMore s c code (map meaningOf texts) (meaningOf s)
-  one-more room = record { is-rule = rule; so-far = so-far .rules-compiled; room = subst Fits meanings room }
+  another : Fits (map meaningOf (texts ++ s ∷ [])) → Another s c kept code (map meaningOf texts) (meaningOf s)
+  another room = record { is-rule = rule; so-far = so-far .rules-compiled; room = subst Fits meanings room; code-fits = omega (arith, fits, ap length meanings, length-map (texts ++ s ∷ []) meaningOf) }
 
   -- a text that is a rule may be put last, if there is room for it
-  pub may-add : Fits (map meaningOf (texts ++ s ∷ [])) → Ready s c code
-  may-add room = record { rules = map meaningOf texts; formula = meaningOf s; one-more = one-more room }
+  pub may-add : Fits (map meaningOf (texts ++ s ∷ [])) → Compilable s c kept code
+  may-add room = record { rules = map meaningOf texts; formula = meaningOf s; another = another room }
 
   -- then it is compiled too
-  pub text-added : Fits (map meaningOf (texts ++ s ∷ [])) → (r : Compiling) (out : List ℕ) → WithText s c code r out → CompiledTexts (texts ++ s ∷ []) r out
+  pub text-added : Fits (map meaningOf (texts ++ s ∷ [])) → (r : Compiling) (keptOut out : List ℕ) → WithText s c kept code r keptOut out → CompiledTexts (texts ++ s ∷ []) r keptOut out
   unfolding WithText
-  text-added room r out says =
+  text-added room r keptOut out says =
       record {
         are-rules = λ t i. ⊎-elim (so-far .are-rules t) (λ j. ⊎-elim (λ e. subst (λ (u : List ℕ). IsRule u (meaningOf u)) (sym e) rule) (λ k. none-in k) (uncons j)) (in-either texts (s ∷ []) i);
-        rules-compiled = subst (λ (fs : List (Formula Name)). CompiledRules fs r out) (sym meanings) (says (map meaningOf texts) (meaningOf s) (one-more room));
+        rules-compiled = subst (λ (fs : List (Formula Name)). CompiledRules fs r keptOut out) (sym meanings) (says (map meaningOf texts) (meaningOf s) (another room));
       }
 
 -- ---- for a caller of the search
 
-module _ (rules : List (Formula Name)) (c : Compiling) (code : List ℕ) (h : CompiledRules rules c code) where
+module _ (rules : List (Formula Name)) (c : Compiling) (kept code : List ℕ) (h : CompiledRules rules c kept code) where
+  abbrev chart : Chart
+  chart = c .known .atoms .chart
+
+  abbrev ends : List ℕ
+  ends = take (c .known .count) (c .ends)
+
   -- the chart and the code come from the numbered rules
-  pub comes-from : ComesFrom code (take (c .count) (c .ends)) (c .chart) (allAtoms (numberedNames rules)) (numberedAtoms (numberedNames rules))
+  pub comes-from : ComesFrom code ends chart (rowAtoms rules) (numberedAtoms rules)
   comes-from =
       record {
-        compiled = compiled-search (c .chart) (allAtoms (numberedNames rules)) (omega (arith, h .names-counted, h .fits .names-fit)) (h .compiled);
+        compiled = compiled-search chart (rowAtoms rules) (omega (arith, h .known .names-counted, h .known .fits .names-fit)) (h .known .compiled);
         coded = h .coded;
       }
 
   -- so `first_row` and `judge_plan` may be called with them
-  pub may-run : Runnable code (take (c .count) (c .ends)) (c .chart)
-  may-run = runnable comes-from (omega (arith, h .compiled .counted, h .compiled .few))
+  pub may-run : Runnable code ends chart
+  may-run = runnable comes-from (omega (arith, h .known .compiled .counted, h .known .compiled .few))
 
   -- and the ends of the rules have their places in the array
-  pub ends-fit : length (c .ends) ≡ 16 → c .count ≤ length (c .ends)
-  ends-fit long = omega (arith, h .counted, h .fits .rules-fit)
+  pub ends-fit : length (c .ends) ≡ 16 → c .known .count ≤ length (c .ends)
+  ends-fit long = omega (arith, h .known .counted, h .known .fits .rules-fit)
 
   -- the answer of `first_row` is the number of the first row of the numbered rules
-  pub answer-first-row : (r : RowAnswer) → FirstRowSays code (take (c .count) (c .ends)) (c .chart) r
-      → r ≡ answerFor (firstRowOf (length (namesOf rules)) (numberedNames rules))
+  pub answer-first-row : (r : RowAnswer) → FirstRowSays code ends chart r
+      → r ≡ answerFor (firstRowOf rules)
   answer-first-row r says =
-      answer-is code (take (c .count) (c .ends)) (c .chart) r says (allAtoms (numberedNames rules)) (numberedAtoms (numberedNames rules)) comes-from
-      ∙ ap (λ (n : ℕ). answerFor (firstRow n (allAtoms (numberedNames rules)) (numberedAtoms (numberedNames rules)))) (h .names-counted)
+      answer-is code ends chart r says (rowAtoms rules) (numberedAtoms rules) comes-from
+      ∙ ap (λ (n : ℕ). answerFor (firstRow n (rowAtoms rules) (numberedAtoms rules))) (h .known .names-counted)
 
   -- where `row_of` finds none, no plan is given
   pub none-given : (r : RowAnswer) → FirstRowIs c code r → r ≡ Nothing → plansOf rules ≡ []
   unfolding FirstRowIs plansOf
   none-given r says e =
       ap (map (rowPlan rules))
-      (answer-none (length (namesOf rules)) (allAtoms (numberedNames rules)) (numberedAtoms (numberedNames rules)) (sym (says rules h) ∙ e))
+      (answer-none (length (namesOf rules)) (rowAtoms rules) (numberedAtoms rules) (sym (says rules kept h) ∙ e))
 
   -- ---- for a caller of the plan of a row
 
   -- the chart has at most 6 names and 16 atoms, so `plan_of` may be called with it
-  pub may-plan : (c .chart .names ≤ most) × (c .chart .atoms ≤ limit)
-  may-plan = (omega (arith, h .names-counted, h .fits .names-fit), omega (arith, h .compiled .counted, h .compiled .few))
+  pub may-plan : (chart .names ≤ most) × (chart .atoms ≤ limit)
+  may-plan = (omega (arith, h .known .names-counted, h .known .fits .names-fit), omega (arith, h .known .compiled .counted, h .known .compiled .few))
 
   -- what `planned` answers is, beside the number of names, the plan of the row (Planning)
-  pub answer-row-plan : (row : ℕ) (r : RowPlan) → PlanSays (c .chart) row r
-      → Stored (rowArrays (c .chart .names) r) (rowPlan rules (rowBits (c .chart .atoms) row))
+  pub answer-row-plan : (row : ℕ) (r : RowPlan) → PlanSays chart row r
+      → Stored (rowArrays (chart .names) r) (rowPlan rules (rowBits (chart .atoms) row))
   unfolding rowPlan
   answer-row-plan row r says =
-      let atoms = allAtoms (numberedNames rules) in
-      let few = planned-few (c .chart) atoms (comes-from .compiled) r row says (h .compiled .few) in
-      subst (λ (n : ℕ). Stored (rowArrays (c .chart .names) r) (givenPlan n (marksIn (c .chart) atoms row))) (h .names-counted)
-      (plan-stored (c .chart .names) (marksIn (c .chart) atoms row) r (planned-is (c .chart) atoms (comes-from .compiled) row says) (omega arith))
+      let atoms = rowAtoms rules in
+      let few = planned-few chart atoms (comes-from .compiled) r row says (h .known .compiled .few) in
+      subst (λ (n : ℕ). Stored (rowArrays (chart .names) r) (givenPlan n (marksIn chart atoms row))) (h .known .names-counted)
+      (plan-stored (chart .names) (marksIn chart atoms row) r (planned-is chart atoms (comes-from .compiled) row says) (omega arith))
 
   -- where `row_of` finds a row, the arrays of `plan_of` hold the plan that is given, and no other
   pub plan-given : (r : RowAnswer) (row : ℕ) (arrays : PlanArrays) → FirstRowIs c code r → r ≡ At row → RowPlanIs c row arrays
@@ -124,21 +132,20 @@ module _ (rules : List (Formula Name)) (c : Compiling) (code : List ℕ) (h : Co
   unfolding FirstRowIs RowPlanIs plansOf
   plan-given r row arrays says e holds =
       let names = length (namesOf rules) in
-      let found = answer-found names (allAtoms (numberedNames rules)) (numberedAtoms (numberedNames rules)) (c .chart .atoms) row (h .compiled .counted)
-      (sym (says rules h) ∙ e) in
+      let found = answer-found names (rowAtoms rules) (numberedAtoms rules) (chart .atoms) row (h .known .compiled .counted)
+      (sym (says rules kept h) ∙ e) in
       ap (map (rowPlan rules)) found
-      ∙ ap (λ (p : Plan). p ∷ []) (sym (plan-again arrays _ (given-is-plan rules (h .fits .names-fit) _ found) (holds rules code h)))
+      ∙ ap (λ (p : Plan). p ∷ []) (sym (plan-again arrays _ (given-is-plan rules (h .known .fits .names-fit) _ found) (holds rules kept code h)))
 
   -- ---- for a caller of the judgement
 
   module _ (arrays : PlanArrays) (r : Judged) (p : Plan) (is : IsPlan p) (named : p .names ≡ length (namesOf rules)) (stored : Stored arrays p) where
     -- what `judge_plan` answers is the judgement of the rules as read
-    pub answer-judged : JudgesSay arrays (c .chart) code (take (c .count) (c .ends)) r → r ≡ judgedOf (judge (namedFloor rules p is) rules)
+    pub answer-judged : JudgesSay arrays chart code ends r → r ≡ judgedOf (judge (namedFloor rules p is) rules)
     answer-judged says =
-        judging.answer-is arrays (c .chart) code (take (c .count) (c .ends)) r says (numberedNames rules) comes-from p is (named ∙ sym (h .names-counted)) stored
-        ∙ ap judgedOf (judging.names-judged rules p is)
+        judging.answer-is arrays chart code ends r says rules comes-from p is (named ∙ sym (h .known .names-counted)) stored
 
     -- and so is the answer of `judged`
     pub judged-is : JudgedIs c code arrays r → r ≡ judgedOf (judge (namedFloor rules p is) rules)
     unfolding JudgedIs
-    judged-is says = says rules h p is named stored
+    judged-is says = says rules kept h p is named stored

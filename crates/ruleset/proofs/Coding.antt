@@ -1,13 +1,13 @@
 -- The code of one rule more stands behind that of the rules before it, and the bytes before it are kept, so each part is still the code
 -- of its rule; a part has at most 256 signs, so the code of 16 rules fits into 4096 bytes. Assumes nothing.
-use mathlib.Core.Path.{_≡_, refl, ap, _∙_}
+use mathlib.Core.Path.{_≡_, refl, sym, ap, subst, _∙_}
 use mathlib.Core.List.{List, [], _∷_, _++_, append-assoc}
 use Prim.Native.Nat.{ℕ, zero, suc, _+_, _*_, _-_, _≤_, _<_}
 use native.Mathlib.Omega.{arith}
 use lib.ListN.{length, getD, take, drop}
 use lib.Seq.{sets, sets-eq, length-take-le, take-at, drop-at}
 use Rattle.formula.specs.Formula.{Form}
-use Rattle.solver.specs.Coded.{part, PartIs, CodedFrom}
+use Rattle.solver.specs.Coded.{part, PartIs, CodedFrom, Coded}
 use Rattle.solver.proofs.Codes.{part-length, part-kept}
 use Rattle.ruleset.specs.Ends.{lastEnd}
 
@@ -35,6 +35,10 @@ pub last-at : (ends : List ℕ) (from n : ℕ) → n < length ends → lastEnd f
 last-at [] from n l = absurd (omega arith)
 last-at (end ∷ ends) from zero l = refl
 last-at (end ∷ ends) from (suc n) l = last-at ends end n (omega arith)
+
+-- of no rule there is none
+pub coded-none : (many : ℕ) (code ends : List ℕ) (n : ℕ) → n ≡ 0 → Coded many code (take n ends) []
+coded-none many code ends n e = subst (λ (k : ℕ). Coded many code (take k ends) []) (sym e) tt
 
 -- ---- one part more
 

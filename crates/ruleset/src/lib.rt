@@ -1,44 +1,74 @@
-// One rule text more compiled behind those before it: its names behind theirs, its atoms behind those of the chart, its code behind
-// theirs. "Names and atoms are numbered from 0 by first place, rules in order, left to right", so what is there does not change.
-// Then what the compiled rules answer: their first row, the plan of a row, and the judgement of a plan.
-// Only our own crates compile texts, and only rules for which there is room: the requires of `with_text` says so. What is compiled
-// so meets the other requires (proofs/Claims.antt).
+// Rules known and compiled one behind the other: the names of one rule more behind those before it, its atoms behind the different ones
+// before it, and its code. "Names and atoms are numbered from 0 by first place, rules in order, left to right", so what is there does
+// not change. To know rules is enough to say whether there is room for one more; what the compiled rules answer is their first row, the
+// plan of a row, and the judgement of a plan.
+// Only our own crates compile texts, and only rules: the requires say so. What is compiled so meets the other requires
+// (proofs/Claims.antt).
 ghost use mathlib.Core.Path.{_≡_};
 ghost use Prim.Native.Nat.{_≤_};
-ghost use lib.ListN.{take};
+ghost use lib.ListN.{length, take};
 ghost use Rattle.search.specs.Compiled.{limit};
 ghost use Rattle.evalset.specs.Most.{most};
 ghost use Rattle.ruleset.specs.Ends.{lastEnd};
 ghost use Rattle.ruleset.specs.Counted.{nameCount};
-ghost use Rattle.ruleset.specs.Texts.{NothingCompiled, Ready, WithText, Whole, FirstRowIs, RowPlanIs, JudgedIs};
+ghost use Rattle.ruleset.specs.Texts.{NothingKnown, roomFor, Ready, WithRule, NothingCompiled, Compilable, WithText, Whole, FirstRowIs, RowPlanIs, JudgedIs};
+use compile::Atoms;
 use judging::Judged;
 use names::Names;
+use names::NamesAnswer;
 use plan::PlanArrays;
-use search::Chart;
 use solver::RowAnswer;
+use syntax::Rule;
 
-// What is compiled so far, but for the code, which is lent: the names, the atoms, where the code of each rule ends, and how many
+// What is known of rules, but for the symbols of their atoms' terms, which are lent: their names, their different atoms, and how many
 // rules there are.
-pub struct Compiling {
+pub struct Known {
     pub names: Names,
-    pub chart: Chart,
-    pub ends: [usize; 16],
+    pub atoms: Atoms,
     pub count: usize,
+}
+
+// Whether there is room for a rule, or why not: refusals 7, with its place, and 8.
+pub enum RoomAnswer {
+    Room,
+    SeventhName(usize),
+    ManyAtoms,
+}
+
+// What is known with a rule put last, where its code ends, and whether there is room for it; where there is none, nothing is said of
+// the rest.
+pub struct Grown {
+    pub known: Known,
+    pub end: usize,
+    pub answer: RoomAnswer,
+}
+
+// What is compiled so far, but for the code, which is lent: what is known, and where the code of each rule ends.
+pub struct Compiling {
+    pub known: Known,
+    pub ends: [usize; 16],
+}
+
+// Nothing is known where there is no rule.
+pub fn nothing_known() -> Known
+    ensures { λ r. ⌜ NothingKnown r ⌝ }
+{
+    let names = names::no_names();
+    let atoms = compile::no_atoms();
+    Known {
+        names,
+        atoms,
+        count: 0,
+    }
 }
 
 // No rule at all.
 pub fn nothing_compiled() -> Compiling
     ensures { λ r. ⌜ NothingCompiled r ⌝ }
 {
-    let names = names::no_names();
-    let chart = compile::blank_chart(0);
+    let known = nothing_known();
     let ends = [0usize; 16];
-    Compiling {
-        names,
-        chart,
-        ends,
-        count: 0,
-    }
+    Compiling { known, ends }
 }
 
 // How many names an order has.
@@ -66,33 +96,76 @@ fn last_end(ends: [usize; 16], count: usize) -> usize
     ends[count - 1]
 }
 
-// The rule of this text behind those that are compiled.
-pub fn with_text(text: &[u8], c: Compiling, code: &mut [u8; 4096]) -> Compiling
-    requires { ⌜ Ready (now text) c (now code) ⌝ }
-    ensures { λ r. ⌜ WithText (now (text .entry)) c (now (code .entry)) r (now (code .exit)) ⌝ }
+// Whether there is room for a rule's atoms, which were enough or not.
+fn room(enough: bool) -> RoomAnswer
+    ensures { λ r. ⌜ r ≡ roomFor enough ⌝ }
 {
-    let known = c.names;
-    let before = c.chart;
-    let mut ends = c.ends;
-    let count = c.count;
-    let rule = syntax::read_rule(text);
-    let gathered = names::gather(text, rule, known);
+    if enough {
+        RoomAnswer::Room
+    } else {
+        RoomAnswer::ManyAtoms
+    }
+}
+
+// The rule that was read from this text behind those that are known, its code from a place on; or why there is no room for it.
+pub fn with_rule(
+    text: &[u8],
+    rule: Rule,
+    known: Known,
+    kept: &mut [u8; 2048],
+    code: &mut [u8],
+    from: usize,
+) -> Grown
+    requires { ⌜ Ready (now text) rule known (now kept) (now code) from ⌝ }
+    ensures { λ r. ⌜ WithRule (now (text .entry)) rule known (now (kept .entry)) (now (code .entry)) from r (now (kept .exit)) (now (code .exit)) ⌝ }
+{
+    let before = known.names;
+    let gathered = names::gather(text, rule, before);
+    let enough = gathered.answer;
+    if let NamesAnswer::SeventhName(p) = enough {
+        let answer = RoomAnswer::SeventhName(p);
+        return Grown {
+            known,
+            end: from,
+            answer,
+        };
+    }
     let names = gathered.names;
     let numbers = gathered.numbers;
     let order = rule.order;
     let len = rule.len;
     let used = names_in(&order[..len]);
-    let from = last_end(ends, count);
-    let compiled = compile::compile_rule(&order[..len], &numbers[..used], before, code, from);
-    let mut chart = compiled.chart;
-    chart.names = names.count;
-    ends[count] = compiled.end;
-    Compiling {
-        names,
-        chart,
-        ends,
-        count: count + 1,
+    let first = known.atoms;
+    let compiled = compile::compile_rule(&order[..len], &numbers[..used], first, kept, code, from);
+    let mut atoms = compiled.atoms;
+    atoms.chart.names = names.count;
+    let count = known.count + 1;
+    let answer = room(compiled.enough);
+    Grown {
+        known: Known {
+            names,
+            atoms,
+            count,
+        },
+        end: compiled.end,
+        answer,
     }
+}
+
+// The rule of this text, for which there is room, behind those that are compiled.
+pub fn with_text(text: &[u8], c: Compiling, kept: &mut [u8; 2048], code: &mut [u8]) -> Compiling
+    requires { ⌜ Compilable (now text) c (now kept) (now code) ⌝ }
+    ensures { λ r. ⌜ WithText (now (text .entry)) c (now (kept .entry)) (now (code .entry)) r (now (kept .exit)) (now (code .exit)) × (length (now (code .exit)) ≡ length (now (code .entry))) ⌝ }
+{
+    let rule = syntax::read_rule(text);
+    let before = c.known;
+    let mut ends = c.ends;
+    let count = before.count;
+    let from = last_end(ends, count);
+    let grown = with_rule(text, rule, before, kept, code, from);
+    ends[count] = grown.end;
+    let known = grown.known;
+    Compiling { known, ends }
 }
 
 // The first realisable row that makes the compiled rules true.
@@ -101,17 +174,17 @@ pub fn row_of(c: Compiling, code: &[u8]) -> RowAnswer
     ensures { λ r. ⌜ FirstRowIs c (now (code .entry)) r ⌝ }
 {
     let ends = c.ends;
-    let count = c.count;
-    let chart = c.chart;
+    let count = c.known.count;
+    let chart = c.known.atoms.chart;
     solver::first_row(code, &ends[..count], chart)
 }
 
 // The plan of a row of the compiled rules. Its arrays have the number of names in a byte.
 pub fn plan_of(c: Compiling, row: usize) -> PlanArrays
-    requires { ⌜ (c .chart .names ≤ most) × (c .chart .atoms ≤ limit) ⌝ }
+    requires { ⌜ (c .known .atoms .chart .names ≤ most) × (c .known .atoms .chart .atoms ≤ limit) ⌝ }
     ensures { λ r. ⌜ RowPlanIs c row r ⌝ }
 {
-    let chart = c.chart;
+    let chart = c.known.atoms.chart;
     let planned = search::planned(chart, row);
     let points = planned.points;
     let rows = planned.rows;
@@ -129,7 +202,7 @@ pub fn judged(c: Compiling, code: &[u8], plan: PlanArrays) -> Judged
     ensures { λ r. ⌜ JudgedIs c (now (code .entry)) plan r ⌝ }
 {
     let ends = c.ends;
-    let count = c.count;
-    let chart = c.chart;
+    let count = c.known.count;
+    let chart = c.known.atoms.chart;
     judging::judge_plan(plan, chart, code, &ends[..count])
 }

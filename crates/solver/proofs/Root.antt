@@ -7,6 +7,7 @@ use Prim.Native.Nat.{ℕ, zero, suc, _+_, _-_, _*_, _/_, _%_, _^_, _≤_, min}
 use native.Mathlib.Omega.{arith}
 use lib.ListN.{length, replicate, take, length-replicate}
 use lib.Pow.{pow-mono}
+use Rattle.formula.specs.Atoms.{isContact}
 use Rattle.formula.specs.Formula.{Atom}
 use Rattle.lists.specs.Search.{first}
 use Rattle.lists.proofs.Lists.{repeated-at}
@@ -19,7 +20,7 @@ use Rattle.contact.specs.Tableau.{under}
 use Rattle.search.specs.declared.Chart.{Chart}
 use Rattle.search.specs.Rows.{rowBits}
 use Rattle.search.specs.Compiled.{limit, AtomIs, atomAt, contactAt, Compiled}
-use Rattle.pairing.specs.Words.{Spelt, isContact, Contacts, Serving}
+use Rattle.pairing.specs.Words.{Spelt, Contacts, Serving}
 use Rattle.pairing.specs.Listed.{pairCount, Listable, ListSays}
 use Rattle.solver.specs.declared.Cut.{Cut}
 use Rattle.solver.specs.declared.RowAnswer.{RowAnswer}

@@ -140,18 +140,18 @@ same-judgement (unmet k) = refl
 abbrev SaysOf : List (Formula Name) → PlanArrays → JudgeAnswer → Type 0
 SaysOf rules arrays a = (p : Plan) (h : IsPlan p) → Stored arrays p → a ≡ judgePlan rules p h
 
-module _ (rules : List (Formula Name)) (c : Compiling) (code : List ℕ) (arrays : PlanArrays) (compiled : CompiledRules rules c code) where
-  pub judge-differs : (arrays .names ≡ c .chart .names → ⊥) → SaysOf rules arrays (JudgeAnswer.NamesDiffer (arrays .names))
+module _ (rules : List (Formula Name)) (c : Compiling) (kept code : List ℕ) (arrays : PlanArrays) (compiled : CompiledRules rules c kept code) where
+  pub judge-differs : (arrays .names ≡ c .known .atoms .chart .names → ⊥) → SaysOf rules arrays (JudgeAnswer.NamesDiffer (arrays .names))
   judge-differs differ p h stored =
       ap JudgeAnswer.NamesDiffer (stored .names)
       ∙ sym (ap (λ (b : Bool). cond b (judgementAnswer (judge (namedFloor rules p h) rules)) (JudgeAnswer.NamesDiffer (p .names)))
-      (ne-eqb (p .names) (length (namesOf rules)) (λ e. differ (stored .names ∙ e ∙ sym (compiled .names-counted)))))
+      (ne-eqb (p .names) (length (namesOf rules)) (λ e. differ (stored .names ∙ e ∙ sym (compiled .known .names-counted)))))
 
-  pub judge-equal : arrays .names ≡ c .chart .names → (j : Judged) → JudgedIs c code arrays j → (a : JudgeAnswer) → a ≡ judgedAnswer j → SaysOf rules arrays a
+  pub judge-equal : arrays .names ≡ c .known .atoms .chart .names → (j : Judged) → JudgedIs c code arrays j → (a : JudgeAnswer) → a ≡ judgedAnswer j → SaysOf rules arrays a
   unfolding JudgedIs
   judge-equal e j says a f p h stored =
-      let named : p .names ≡ length (namesOf rules) = sym (stored .names) ∙ e ∙ compiled .names-counted in
-      f ∙ ap judgedAnswer (says rules compiled p h named stored) ∙ same-judgement (judge (namedFloor rules p h) rules)
+      let named : p .names ≡ length (namesOf rules) = sym (stored .names) ∙ e ∙ compiled .known .names-counted in
+      f ∙ ap judgedAnswer (says rules kept compiled p h named stored) ∙ same-judgement (judge (namedFloor rules p h) rules)
       ∙ sym (ap (λ (b : Bool). cond b (judgementAnswer (judge (namedFloor rules p h) rules)) (JudgeAnswer.NamesDiffer (p .names)))
       (eq-eqb (p .names) (length (namesOf rules)) named))
 

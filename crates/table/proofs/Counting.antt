@@ -1,33 +1,38 @@
--- One text more is counted: names are gathered behind those of the texts before, atoms are
--- counted, and the first refusal of the table of calls that applies is the answer. Assumes nothing.
-use Prim.Native.Nat.{ℕ, _+_, _≤_, _<_}
-use mathlib.Core.Path.{_≡_, sym, ap, _∙_}
-use mathlib.Core.List.{List, [], _∷_, _++_}
+-- One text more is put to the texts before it: its names are gathered behind theirs, its atoms put behind their different ones, and the first
+-- refusal of the table of calls that applies is the answer. Assumes nothing.
+use Prim.Native.Nat.{ℕ, _≤_, _<_}
+use mathlib.Core.Path.{_≡_, refl, sym, ap, subst, _∙_}
+use mathlib.Core.List.{List, [], _∷_, _++_, map-append}
 use native.Mathlib.Omega.{arith}
-use lib.ListN.{length, take, length-append}
-use borrow.Author.Tests.{le-ltb, lt-leb, le-leb, lt-ltb}
+use lib.Dec.{leb}
+use lib.ListN.{length, length-map}
+use borrow.Author.Tests.{leb-true, leb-false, le-ltb, lt-leb, le-leb, lt-ltb}
+use Rattle.lists.proofs.Truth.{cases}
+use Rattle.formula.specs.Formula.{Formula, Name}
 use Rattle.syntax.specs.Rule.{ruleOf, meaningOf}
 use Rattle.syntax.specs.declared.RuleAnswer.{RuleAnswer}
 use Rattle.syntax.specs.declared.RuleAnswer.the-variants as RuleAnswer
 use Rattle.syntax.specs.declared.Rule.{Rule}
-use Rattle.names.specs.Gather.{arraysOf, knownOf, gathered, Gathers}
-use Rattle.names.specs.declared.Names.{Names}
+use Rattle.syntax.proofs.Claims.{is-rule}
+use Rattle.contact.specs.Numbering.{differentAtoms}
+use Rattle.names.specs.Gather.{arraysOf, gathered}
+use Rattle.names.specs.declared.Gathered.{Gathered}
+use Rattle.names.proofs.Claims.{rule-gathered}
 use Rattle.names.specs.declared.NamesAnswer.{NamesAnswer}
 use Rattle.names.specs.declared.NamesAnswer.the-variants as NamesAnswer
-use Rattle.names.specs.declared.Gathered.{Gathered}
-use Rattle.names.proofs.Claims.{may-gather, known-from, rule-gathered}
-use Rattle.table.specs.declared.Counts.{Counts}
-use Rattle.table.specs.declared.Counted.{Counted}
+use Rattle.ruleset.specs.declared.Known.{Known}
+use Rattle.ruleset.specs.declared.Grown.{Grown}
+use Rattle.ruleset.specs.declared.RoomAnswer.{RoomAnswer}
+use Rattle.ruleset.specs.declared.RoomAnswer.the-variants as RoomAnswer
+use Rattle.ruleset.specs.Texts.{KnownRules, OneMore, Ready, roomAnswer, WithRule}
+use Rattle.table.specs.declared.Tried.{Tried}
 use Rattle.table.specs.declared.AddAnswer.{AddAnswer}
 use Rattle.table.specs.declared.AddAnswer.the-variants as AddAnswer
 use Rattle.table.specs.Sheet.{Text}
-use Rattle.table.specs.Calls.{formulasOf, namesIn, atomsIn, readAnswer, namesAnswer, firstRefusal, judgeNames, judgeAtoms, judgeRoom, judgeText, judgeAdd, addRules}
+use Rattle.table.specs.Calls.{formulasOf, namesIn, atomsIn, readAnswer, namesAnswer, firstRefusal, judgeNames, judgeAtoms, judgeRoom, judgeText, judgeAdd}
 use Rattle.table.specs.Rules.{CanStand}
-use Rattle.table.proofs.Rules.{can-names}
-use Rattle.table.specs.Steps.{WasRead, atomPlaces, countsOf, countedOf, CountsWith}
-use Rattle.table.proofs.Standing.{NotAdded, not-full, not-many, refused-else, names-last, atoms-append, atoms-one, read-formula, names-enough, added-taken, added-refused}
-use Rattle.syntax.proofs.Claims.{is-rule}
-use Rattle.table.proofs.Atoms.{rule-atoms}
+use Rattle.table.specs.Steps.{KnownTexts, Knowing, roomAdd, Tries}
+use Rattle.table.proofs.Standing.{NotAdded, not-full, refused-else, names-last, read-formula}
 
 -- ---- how a text is judged, step by step
 
@@ -74,19 +79,11 @@ names-are rs s a e = ap namesAnswer e
 pub text-judged : (s : Text) (rule : Rule) (a : AddAnswer) → rule ≡ ruleOf s → a ≡ readAnswer (rule .answer) → judgeText s ≡ a
 text-judged s rule a e f = text-is s (rule .answer) (sym (ap (λ (x : Rule). x .answer) e)) ∙ sym f
 
-names-judged : (rs : List Text) (s : Text) (g : Gathered) (a : AddAnswer) → g ≡ gathered s (namesIn rs) → a ≡ namesAnswer (g .answer) → judgeNames rs s ≡ a
-names-judged rs s g a e f = names-are rs s (g .answer) (sym (ap (λ (x : Gathered). x .answer) e)) ∙ sym f
-
 pub text-formula : (s : Text) → judgeText s ≡ AddAnswer.Added → ruleOf s .answer ≡ RuleAnswer.Formula
 unfolding judgeText
 text-formula s e = read-formula _ e
 
-names-found : (rs : List Text) (s : Text) → judgeNames rs s ≡ AddAnswer.Added → gathered s (namesIn rs) .answer ≡ NamesAnswer.Enough
-unfolding judgeNames
-names-found rs s e = names-enough _ e
-
--- ---- names and atoms with one text more
-
+-- the names with one text more
 pub names-with : (rs : List Text) (s : Text) → length (namesIn rs) ≤ 6 → ruleOf s .answer ≡ RuleAnswer.Formula → gathered s (namesIn rs) .answer ≡ NamesAnswer.Enough
     → gathered s (namesIn rs) .names ≡ arraysOf (namesIn (rs ++ s ∷ []))
 unfolding namesIn
@@ -94,112 +91,79 @@ names-with rs s h e f =
     ap (λ (g : Gathered). g .names) (rule-gathered (formulasOf rs) h s (meaningOf s) (is-rule s e) f)
     ∙ ap arraysOf (sym (names-last rs s))
 
-pub atoms-with : (rs : List Text) (s : Text) → ruleOf s .answer ≡ RuleAnswer.Formula → atomsIn (rs ++ s ∷ []) ≡ atomsIn rs + atomPlaces (take (ruleOf s .len) (ruleOf s .order))
-atoms-with rs s e = omega (arith, atoms-append rs (s ∷ []), atoms-one s, rule-atoms s e)
+-- ---- the room
 
-pub was-read : (s : Text) (rule : Rule) → rule ≡ ruleOf s → ruleOf s .answer ≡ RuleAnswer.Formula → WasRead rule
-was-read s rule e f = record { text = s; read = e; formula = f }
+room-taken : (a : RoomAnswer) → roomAdd a ≡ AddAnswer.Added → a ≡ RoomAnswer.Room
+room-taken RoomAnswer.Room e = refl
+room-taken (RoomAnswer.SeventhName p) e = absurd (let z : _≡_ {A = ℕ} 0 1 = cc in omega arith)
+room-taken RoomAnswer.ManyAtoms e = absurd (let z : _≡_ {A = ℕ} 0 1 = cc in omega arith)
 
-pub read-atoms : (s : Text) (rule : Rule) (n : ℕ) → rule ≡ ruleOf s → n ≡ atomPlaces (take (rule .len) (rule .order)) → n ≡ atomPlaces (take (ruleOf s .len) (ruleOf s .order))
-read-atoms s rule n e f = f ∙ ap (λ (x : Rule). atomPlaces (take (x .len) (x .order))) e
+not-seventh : (p : ℕ) → NotAdded (AddAnswer.SeventhName p)
+not-seventh p e = let z : _≡_ {A = ℕ} 0 1 = cc in omega arith
 
--- ---- what is counted
+-- the answer for the room is add's, of a rule where fewer than 16 stand
+module _ (rs : List Text) (s : Text) (read : judgeText s ≡ AddAnswer.Added) (few : length rs < 16) where
+  room-judged : (a : NamesAnswer) → gathered s (namesIn rs) .answer ≡ a → roomAdd (roomAnswer a (atomsIn (rs ++ s ∷ []))) ≡ judgeAdd rs s
+  room-judged NamesAnswer.Enough e =
+      cases (leb (atomsIn (rs ++ s ∷ [])) 16)
+      (λ h. rw h (sym (judge-added rs s read few (names-are rs s NamesAnswer.Enough e) (leb-true _ _ h))))
+      (λ h. rw h (sym (judge-atoms rs s read few (names-are rs s NamesAnswer.Enough e) (leb-false _ _ h))))
+  room-judged (NamesAnswer.SeventhName p) e =
+      sym (judge-names rs s read few (AddAnswer.SeventhName p) (names-are rs s (NamesAnswer.SeventhName p) e) (not-seventh p))
 
-abbrev countsWith : ℕ → Names → ℕ → Counts
-countsWith k ns n = record { rules = k; names = ns; atoms = n }
+-- ---- a text put to what is known
 
-pub counts-are : (k : ℕ) (ns : Names) (n : ℕ) (rs : List Text) → k ≡ length rs → ns ≡ arraysOf (namesIn rs) → n ≡ atomsIn rs → countsWith k ns n ≡ countsOf rs
-unfolding countsOf
-counts-are k ns n rs e f g = rw (e, f, g)
+abbrev triedWith : Known → AddAnswer → Tried
+triedWith k a = record { known = k; answer = a }
 
-abbrev countedWith : Counts → AddAnswer → Counted
-countedWith c a = record { counts = c; answer = a }
+formulas-with : (rs : List Text) (s : Text) → formulasOf (rs ++ s ∷ []) ≡ formulasOf rs ++ meaningOf s ∷ []
+formulas-with rs s = map-append meaningOf rs (s ∷ [])
 
-module _ (c : Counts) (rs : List Text) (can : CanStand rs) (e : c ≡ countsOf rs) where
-  counted-names : c .names ≡ arraysOf (namesIn rs)
-  unfolding countsOf
-  counted-names = ap (λ (x : Counts). x .names) e
+module _ (k : Known) (s : Text) (kept : List ℕ) where
+  known-count : (rs : List Text) → KnownTexts rs k kept → k .count ≡ length rs
+  known-count rs h = h .counted ∙ length-map rs meaningOf
 
-  pub counted-atoms : c .atoms ≡ atomsIn rs
-  unfolding countsOf
-  counted-atoms = ap (λ (x : Counts). x .atoms) e
-
-  counted-rules : c .rules ≡ length rs
-  unfolding countsOf
-  counted-rules = ap (λ (x : Counts). x .rules) e
-
-  pub counted-gathers : (s : Text) (rule : Rule) → rule ≡ ruleOf s → Gathers s rule (c .names)
-  counted-gathers s rule f = may-gather s rule (c .names) (namesIn rs) f counted-names (can-names rs can)
-
-  counted-gathered : (s : Text) (g : Gathered) → g ≡ gathered s (knownOf (c .names)) → g ≡ gathered s (namesIn rs)
-  counted-gathered s g f = f ∙ ap (gathered s) (known-from (c .names) (namesIn rs) counted-names)
-
-  counted-refused : (s : Text) (a : AddAnswer) → judgeAdd rs s ≡ a → NotAdded a → countedWith c a ≡ countedOf rs s
-  unfolding countedOf
-  counted-refused s a f n =
-      ap (λ (x : Counts). countedWith x a) (e ∙ ap countsOf (sym (added-refused rs s (λ g. n (sym f ∙ g)))))
-      ∙ ap (λ (b : AddAnswer). countedWith (countsOf (addRules rs s)) b) (sym f)
-
-  counted-taken : (s : Text) (x : Counts) (a : AddAnswer) → a ≡ AddAnswer.Added → judgeAdd rs s ≡ AddAnswer.Added → x ≡ countsOf (rs ++ s ∷ [])
-      → countedWith x a ≡ countedOf rs s
-  unfolding countedOf
-  counted-taken s x a k f g =
-      ap (λ (y : Counts). countedWith y a) (g ∙ ap countsOf (sym (added-taken rs s f)))
-      ∙ ap (λ (b : AddAnswer). countedWith (countsOf (addRules rs s)) b) (k ∙ sym f)
-
-  next-names : (s : Text) (g : Gathered) → judgeText s ≡ AddAnswer.Added → judgeNames rs s ≡ AddAnswer.Added → g ≡ gathered s (namesIn rs)
-      → g .names ≡ arraysOf (namesIn (rs ++ s ∷ []))
-  next-names s g f k h = ap (λ (x : Gathered). x .names) h ∙ names-with rs s (can-names rs can) (text-formula s f) (names-found rs s k)
-
-  next-atoms : (s : Text) (rule : Rule) (n : ℕ) → rule ≡ ruleOf s → judgeText s ≡ AddAnswer.Added → n ≡ atomPlaces (take (rule .len) (rule .order))
-      → c .atoms + n ≡ atomsIn (rs ++ s ∷ [])
-  next-atoms s rule n f k h = omega (arith, counted-atoms, atoms-with rs s (text-formula s k), read-atoms s rule n f h)
-
--- ---- a text put to what is counted
-
-module _ (c : Counts) (s : Text) where
-  pub with-refused : (a : AddAnswer) → judgeText s ≡ a → NotAdded a → CountsWith c s (countedWith c a)
-  unfolding CountsWith
-  with-refused a f n rs can e = counted-refused c rs can e s a (judge-text rs s a f n) n
+  pub tries-refused : (a : AddAnswer) (keptOut : List ℕ) → judgeText s ≡ a → NotAdded a → Tries k s kept (triedWith k a) keptOut
+  unfolding Tries
+  tries-refused a keptOut f n rs can h = (sym (judge-text rs s a f n), λ e. absurd (n e))
 
   module _ (read : judgeText s ≡ AddAnswer.Added) where
-    pub with-full : 16 ≤ c .rules → CountsWith c s (countedWith c AddAnswer.TableFull)
-    unfolding CountsWith
-    with-full h rs can e = counted-refused c rs can e s AddAnswer.TableFull (judge-full rs s read (omega (arith, counted-rules c rs can e))) not-full
+    pub tries-full : (keptOut : List ℕ) → 16 ≤ k .count → Tries k s kept (triedWith k AddAnswer.TableFull) keptOut
+    unfolding Tries
+    tries-full keptOut l rs can h = (sym (judge-full rs s read (omega (arith, known-count rs h))), λ e. absurd (not-full e))
 
-    module _ (few : c .rules < 16) (g : Gathered) (a : AddAnswer) (gathers : g ≡ gathered s (knownOf (c .names))) (answers : a ≡ namesAnswer (g .answer)) where
-      few-rules : (rs : List Text) → CanStand rs → c ≡ countsOf rs → length rs < 16
-      few-rules rs can e = omega (arith, counted-rules c rs can e)
+    module _ (few : k .count < 16) (rule : Rule) (is : rule ≡ ruleOf s) (code : List ℕ) (long : 256 ≤ length code) where
+      one-more : (rs : List Text) → KnownTexts rs k kept → OneMore s rule k kept code 0 (formulasOf rs) (meaningOf s)
+      one-more rs h =
+          record {
+            is-rule = is-rule s (text-formula s read);
+            read = is;
+            so-far = h;
+            few = omega (arith, h .counted);
+            fits = omega arith;
+          }
 
-      named : (rs : List Text) → CanStand rs → c ≡ countsOf rs → judgeNames rs s ≡ a
-      named rs can e = names-judged rs s g a (counted-gathered c rs can e s g gathers) answers
+      pub ready : Knowing k kept → Ready s rule k kept code 0
+      ready h = record { rules = formulasOf (h .rules); formula = meaningOf s; one-more = one-more (h .rules) (h .known) }
 
-      pub with-seventh : NotAdded a → CountsWith c s (countedWith c a)
-      unfolding CountsWith
-      with-seventh n rs can e = counted-refused c rs can e s a (judge-names rs s read (few-rules rs can e) a (named rs can e) n) n
+      pub tries-room : (g : Grown) (keptOut out : List ℕ) → WithRule s rule k kept code 0 g keptOut out → (a : AddAnswer) → a ≡ roomAdd (g .answer)
+          → Tries k s kept (triedWith (g .known) a) keptOut
+      unfolding Tries WithRule namesIn atomsIn
+      tries-room g keptOut out says a e rs can h =
+          let w = says (formulasOf rs) (meaningOf s) (one-more rs h) in (
+            e ∙ ap roomAdd (w .0)
+                ∙ ap (λ (fs : List (Formula Name)). roomAdd (roomAnswer (gathered s (namesIn rs) .answer) (length (differentAtoms fs)))) (sym (formulas-with rs s))
+                ∙ room-judged rs s read (omega (arith, known-count rs h)) (gathered s (namesIn rs) .answer) refl,
+            λ q. subst (λ (fs : List (Formula Name)). KnownRules fs (g .known) keptOut) (sym (formulas-with rs s))
+                (w .1 (room-taken (g .answer) (sym e ∙ q)) .known),
+          )
 
-      module _ (enough : a ≡ AddAnswer.Added) (rule : Rule) (k : ℕ) (is : rule ≡ ruleOf s) (here : k ≡ atomPlaces (take (rule .len) (rule .order))) where
-        pub with-many : 16 < c .atoms + k → CountsWith c s (countedWith c AddAnswer.TooManyAtoms)
-        unfolding CountsWith
-        with-many h rs can e =
-            counted-refused c rs can e s AddAnswer.TooManyAtoms
-            (judge-atoms rs s read (few-rules rs can e) (named rs can e ∙ enough) (omega (arith, next-atoms c rs can e s rule k is read here))) not-many
-
-        pub with-added : c .atoms + k ≤ 16 → CountsWith c s (countedWith (countsWith (c .rules + 1) (g .names) (c .atoms + k)) a)
-        unfolding CountsWith
-        with-added h rs can e =
-            let many = next-atoms c rs can e s rule k is read here in
-            let fine = named rs can e ∙ enough in
-            counted-taken c rs can e s _ a enough (judge-added rs s read (few-rules rs can e) fine (omega (arith, many)))
-            (counts-are _ _ _ (rs ++ s ∷ []) (omega (arith, counted-rules c rs can e, length-append rs (s ∷ [])))
-            (next-names c rs can e s g read fine (counted-gathered c rs can e s g gathers)) many)
-
--- the answer and the counts after a text
-module _ (c : Counts) (rs : List Text) (can : CanStand rs) (e : c ≡ countsOf rs) (s : Text) (r : Counted) (h : CountsWith c s r) where
+-- the answer and what is known after a text
+module _ (k : Known) (rs : List Text) (can : CanStand rs) (kept : List ℕ) (h : KnownTexts rs k kept) (s : Text) (r : Tried) (keptOut : List ℕ) (t : Tries k s kept r keptOut) where
   pub answer-is : r .answer ≡ judgeAdd rs s
-  unfolding CountsWith countedOf
-  answer-is = ap (λ (x : Counted). x .answer) (h rs can e)
+  unfolding Tries
+  answer-is = t rs can h .0
 
-  pub counts-next : r .answer ≡ AddAnswer.Added → r .counts ≡ countsOf (rs ++ s ∷ [])
-  unfolding CountsWith countedOf
-  counts-next f = ap (λ (x : Counted). x .counts) (h rs can e) ∙ ap countsOf (added-taken rs s (sym answer-is ∙ f))
+  pub known-next : r .answer ≡ AddAnswer.Added → KnownTexts (rs ++ s ∷ []) (r .known) keptOut
+  unfolding Tries
+  known-next e = t rs can h .1 e

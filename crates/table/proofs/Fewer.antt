@@ -8,10 +8,11 @@ use Rattle.formula.specs.Names.{atomNames}
 use Rattle.lists.specs.Search.{In, collect}
 use Rattle.lists.proofs.Search.{collect-intro, collect-elim}
 use Rattle.contact.specs.Numbering.{allAtoms, sameName, namesOf}
-use Rattle.contact.proofs.Naming.{same-name, distinct-fewer}
+use Rattle.contact.proofs.Naming.{name-alike}
+use Rattle.contact.proofs.Distinct.{distinct-fewer}
 
 pub names-fewer : (fs gs : List (Formula Name)) → ((f : Formula Name) → In f fs → In f gs) → length (namesOf fs) ≤ length (namesOf gs)
-names-fewer fs gs s = distinct-fewer sameName same-name _ _ among
+names-fewer fs gs s = distinct-fewer sameName name-alike _ _ among
   where
     among : (w : Name) → In w (collect atomNames (allAtoms fs)) → In w (collect atomNames (allAtoms gs))
     among w i =

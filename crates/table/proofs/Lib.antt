@@ -7,7 +7,6 @@ pub mod Lines
 pub mod Shift
 pub mod Scan
 pub mod Results
-pub mod Atoms
 pub mod Counting
 pub mod Refusals
 pub mod Recount

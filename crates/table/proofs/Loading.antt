@@ -7,9 +7,10 @@ use mathlib.Core.Bool.{true, false}
 use native.Mathlib.Omega.{arith}
 use lib.ListN.{length, take, drop}
 use borrow.Author.Tests.{lt-leb, le-leb, le-ltb, lt-ltb}
+use Rattle.ruleset.specs.declared.Known.{Known}
+use Rattle.ruleset.specs.Texts.{NothingKnown}
 use Rattle.table.specs.declared.Table.{Table}
-use Rattle.table.specs.declared.Counts.{Counts}
-use Rattle.table.specs.declared.Counted.{Counted}
+use Rattle.table.specs.declared.Tried.{Tried}
 use Rattle.table.specs.declared.AddAnswer.{AddAnswer}
 use Rattle.table.specs.declared.AddAnswer.the-variants as AddAnswer
 use Rattle.table.specs.declared.LoadAnswer.{LoadAnswer}
@@ -17,19 +18,19 @@ use Rattle.table.specs.declared.LoadAnswer.the-variants as LoadAnswer
 use Rattle.table.specs.Store.{tableOf, rulesOf}
 use Rattle.table.specs.Sheet.{Text, linesOf, blankLine, filled}
 use Rattle.table.specs.Calls.{ifAdded, judgeAdd, linesFrom, judgeLines, isNone, judgeLoad, FromUs}
-use Rattle.table.specs.Steps.{countsOf, CountsWith}
+use Rattle.table.specs.Steps.{KnownTexts, Tries}
 use Rattle.table.proofs.Standing.{NotAdded, refused-else, stand-none, stand-more}
-use Rattle.table.proofs.Counting.{answer-is, counts-next}
+use Rattle.table.proofs.Counting.{answer-is, known-next}
 use Rattle.table.proofs.Stored.{rules-table, from-us-table}
 use Rattle.table.proofs.Lines.{count-is, none-stand}
 
--- the loop's invariant: the lines before `from`, `line` of them, are judged; those of them that are not blank are the table's rules, and are counted
-pub record Progress (file : Text) (t : Table) (c : Counts) (line from : ℕ) : Type 0 where
+-- the loop's invariant: the lines before `from`, `line` of them, are judged; those of them that are not blank are the table's rules, and are known
+pub record Progress (file : Text) (t : Table) (k : Known) (symbols : List ℕ) (line from : ℕ) : Type 0 where
   pub short : length file ≤ 8192
   pub within : from ≤ length file + 1
   pub lines : line ≤ from
   pub from-us : FromUs t
-  pub counted : c ≡ countsOf (rulesOf t)
+  pub known : KnownTexts (rulesOf t) k symbols
   pub judged : judgeLines (line + 1) (rulesOf t) (linesFrom file from) ≡ judgeLines 1 [] (linesOf file)
   pub kept : rulesOf t ++ filled (linesFrom file from) ≡ filled (linesOf file)
 
@@ -88,21 +89,22 @@ pub filled-more : (l : Text) (ls : List Text) → blankLine l ≡ false → fill
 unfolding filled
 filled-more l ls e = rw e
 
-pub start : (file : Text) (t : Table) (c : Counts) → length file ≤ 8192 → t ≡ tableOf [] → c ≡ countsOf [] → Progress file t c 0 0
-start file t c h e f =
+pub start : (file : Text) (t : Table) (k : Known) (symbols : List ℕ) → length file ≤ 8192 → t ≡ tableOf [] → NothingKnown k → length symbols ≡ 2048 → Progress file t k symbols 0 0
+unfolding NothingKnown
+start file t k symbols h e f w =
     let r : rulesOf t ≡ [] = ap rulesOf e ∙ rules-table [] in
     record {
       short = h;
       within = omega arith;
       lines = omega arith;
       from-us = subst FromUs (sym e) (from-us-table [] stand-none);
-      counted = f ∙ ap countsOf (sym r);
+      known = subst (λ (rs : List Text). KnownTexts rs k symbols) (sym r) (f symbols w);
       judged = ap (λ (rs : List Text). judgeLines 1 rs (linesFrom file 0)) r ∙ ap (judgeLines 1 []) (lines-here file 0 (omega arith));
       kept = ap (λ (rs : List Text). rs ++ filled (linesFrom file 0)) r ∙ ap filled (lines-here file 0 (omega arith));
     }
 
 -- a turn, at the line from `from` up to `e`
-module _ (file : Text) (t : Table) (c : Counts) (line from e : ℕ) (p : Progress file t c line from) (h : from ≤ length file) (low : from ≤ e) (high : e ≤ length file)
+module _ (file : Text) (t : Table) (k : Known) (symbols : List ℕ) (line from e : ℕ) (p : Progress file t k symbols line from) (h : from ≤ length file) (low : from ≤ e) (high : e ≤ length file)
     (cut : linesOf (drop from file) ≡ take (e - from) (drop from file) ∷ linesFrom file (e + 1)) where
   abbrev here : Text
   here = take (e - from) (drop from file)
@@ -113,27 +115,27 @@ module _ (file : Text) (t : Table) (c : Counts) (line from e : ℕ) (p : Progres
   whole : linesFrom file from ≡ here ∷ linesFrom file (e + 1)
   whole = lines-here file from h ∙ cut
 
-  pub after-blank : blankLine here ≡ true → Progress file t c (line + 1) (e + 1)
+  pub after-blank : blankLine here ≡ true → Progress file t k symbols (line + 1) (e + 1)
   after-blank b =
       record {
         short = p .short;
         within = omega arith;
         lines = omega (arith, p .lines);
         from-us = p .from-us;
-        counted = p .counted;
+        known = p .known;
         judged = sym (judge-blank (line + 1) held here (linesFrom file (e + 1)) b) ∙ ap (judgeLines (line + 1) held) (sym whole) ∙ p .judged;
         kept = ap (λ (ls : List Text). held ++ ls) (sym (filled-blank here (linesFrom file (e + 1)) b) ∙ ap filled (sym whole)) ∙ p .kept;
       }
 
-  module _ (r : Counted) (b : blankLine here ≡ false) (a : CountsWith c here r) where
+  module _ (r : Tried) (b : blankLine here ≡ false) (out : List ℕ) (a : Tries k here symbols r out) where
     answered : r .answer ≡ judgeAdd held here
-    answered = answer-is c held (p .from-us .standing) (p .counted) here r a
+    answered = answer-is k held (p .from-us .standing) symbols (p .known) here r out a
 
-    module _ (k : r .answer ≡ AddAnswer.Added) where
+    module _ (yes : r .answer ≡ AddAnswer.Added) where
       taken : judgeAdd held here ≡ AddAnswer.Added
-      taken = sym answered ∙ k
+      taken = sym answered ∙ yes
 
-      pub after-added : (u : Table) → u ≡ tableOf (held ++ here ∷ []) → Progress file u (r .counts) (line + 1) (e + 1)
+      pub after-added : (u : Table) → u ≡ tableOf (held ++ here ∷ []) → Progress file u (r .known) out (line + 1) (e + 1)
       after-added u f =
           let q : rulesOf u ≡ held ++ here ∷ [] = ap rulesOf f ∙ rules-table (held ++ here ∷ []) in
           record {
@@ -141,7 +143,7 @@ module _ (file : Text) (t : Table) (c : Counts) (line from e : ℕ) (p : Progres
             within = omega arith;
             lines = omega (arith, p .lines);
             from-us = subst FromUs (sym f) (from-us-table (held ++ here ∷ []) (stand-more held here (p .from-us .standing) taken));
-            counted = counts-next c held (p .from-us .standing) (p .counted) here r a k ∙ ap countsOf (sym q);
+            known = subst (λ (rs : List Text). KnownTexts rs (r .known) out) (sym q) (known-next k held (p .from-us .standing) symbols (p .known) here r out a yes);
             judged = ap (λ (x : List Text). judgeLines (line + 1 + 1) x (linesFrom file (e + 1))) q
                 ∙ sym (judge-added (line + 1) held here (linesFrom file (e + 1)) b taken) ∙ ap (judgeLines (line + 1) held) (sym whole) ∙ p .judged;
             kept = ap (λ (x : List Text). x ++ filled (linesFrom file (e + 1))) q
@@ -163,7 +165,7 @@ module _ (file : Text) (t : Table) (c : Counts) (line from e : ℕ) (p : Progres
         ∙ judge-refused (line + 1) held here (linesFrom file (e + 1)) (r .answer) b (sym answered) m
 
 -- the end of the file
-module _ (file : Text) (t : Table) (c : Counts) (line from : ℕ) (p : Progress file t c line from) (h : length file < from) where
+module _ (file : Text) (t : Table) (known : Known) (symbols : List ℕ) (line from : ℕ) (p : Progress file t known symbols line from) (h : length file < from) where
   all-kept : rulesOf t ≡ filled (linesOf file)
   unfolding filled
   all-kept = sym (append-nil (rulesOf t)) ∙ ap (λ (ls : List Text). rulesOf t ++ filled ls) (sym (lines-none file from h)) ∙ p .kept

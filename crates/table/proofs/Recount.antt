@@ -1,7 +1,7 @@
--- The names and atoms of a table's rules, found text by text: a part of a list that can stand can stand, so that each text is a rule and
--- its names are enough. Assumes nothing.
+-- What is known of a table's rules, found text by text: a part of a list that can stand can stand, so that each text is added to those before
+-- it. Assumes nothing.
 use Prim.Native.Nat.{ℕ, _+_, _≤_, _<_}
-use mathlib.Core.Path.{_≡_, refl, sym, ap, subst, _∙_}
+use mathlib.Core.Path.{_≡_, sym, ap, subst, _∙_}
 use mathlib.Core.List.{List, [], _∷_, _++_}
 use native.Mathlib.Omega.{arith}
 use lib.ListN.{length, take, drop, getD, take-append-drop}
@@ -15,33 +15,46 @@ use Rattle.names.specs.Gather.{arraysOf, knownOf, gathered, Gathers}
 use Rattle.names.specs.declared.Names.{Names}
 use Rattle.names.specs.declared.Gathered.{Gathered}
 use Rattle.names.proofs.Claims.{may-gather, known-from}
+use Rattle.ruleset.specs.declared.Known.{Known}
+use Rattle.ruleset.specs.Texts.{NothingKnown}
+use Rattle.table.specs.declared.Tried.{Tried}
 use Rattle.table.specs.declared.Line.{Line}
 use Rattle.table.specs.declared.Table.{Table}
 use Rattle.table.specs.Store.{rulesOf, keptLine, textOf}
 use Rattle.table.specs.Sheet.{Text}
-use Rattle.table.specs.Calls.{namesIn, atomsIn, FromUs}
+use Rattle.table.specs.Calls.{namesIn, FromUs}
 use Rattle.table.specs.Rules.{CanStand}
-use Rattle.table.proofs.Rules.{can-names, can-atoms}
-use Rattle.table.specs.Steps.{atomPlaces, countsOf}
+use Rattle.table.proofs.Rules.{can-names}
+use Rattle.table.specs.Steps.{KnownTexts, Knowing, Tries}
 use Rattle.table.proofs.Stored.{text-line}
 use Rattle.table.proofs.Standing.{stand-first, stand-added, room}
-use Rattle.table.proofs.Counting.{names-with, atoms-with, read-atoms, counts-are}
+use Rattle.table.proofs.Counting.{names-with, answer-is, known-next}
 use Rattle.table.proofs.Lines.{none, count-is, line-is}
 
--- the loop's invariant: the names and atoms are those of the first i texts
-pub record CountedTo (t : Table) (ns : Names) (n i : ℕ) : Type 0 where
+-- the loop's invariant: the first i texts are known
+pub record KnownTo (t : Table) (k : Known) (kept : List ℕ) (i : ℕ) : Type 0 where
+  pub within : i ≤ length (rulesOf t)
+  pub known : KnownTexts (take i (rulesOf t)) k kept
+
+pub known-none : (t : Table) (k : Known) (kept : List ℕ) → NothingKnown k → length kept ≡ 2048 → KnownTo t k kept 0
+unfolding NothingKnown
+known-none t k kept n w = record { within = omega arith; known = n kept w }
+
+pub known-all : (t : Table) (k : Known) (kept : List ℕ) (i : ℕ) → FromUs t → KnownTo t k kept i → t .count ≤ i → KnownTexts (rulesOf t) k kept
+known-all t k kept i v p h =
+    subst (λ (rs : List Text). KnownTexts rs k kept) (take-all i (rulesOf t) (omega (arith, count-is t v))) (p .known)
+
+-- the invariant of the loop for the names alone
+pub record NamedTo (t : Table) (ns : Names) (i : ℕ) : Type 0 where
   pub within : i ≤ length (rulesOf t)
   pub names : ns ≡ arraysOf (namesIn (take i (rulesOf t)))
-  pub atoms : n ≡ atomsIn (take i (rulesOf t))
 
-pub counted-none : (t : Table) (ns : Names) → ns ≡ arraysOf [] → CountedTo t ns 0 0
-unfolding namesIn atomsIn
-counted-none t ns e = record { within = omega arith; names = e; atoms = refl }
+pub named-none : (t : Table) (ns : Names) → ns ≡ arraysOf [] → NamedTo t ns 0
+unfolding namesIn
+named-none t ns e = record { within = omega arith; names = e }
 
-pub counted-all : (t : Table) (ns : Names) (n i : ℕ) → FromUs t → CountedTo t ns n i → t .count ≤ i → record { rules = t .count; names = ns; atoms = n } ≡ countsOf (rulesOf t)
-counted-all t ns n i v p h =
-    let e : take i (rulesOf t) ≡ rulesOf t = take-all i (rulesOf t) (omega (arith, count-is t v)) in
-    counts-are (t .count) ns n (rulesOf t) (count-is t v) (p .names ∙ ap (λ (rs : List Text). arraysOf (namesIn rs)) e) (p .atoms ∙ ap atomsIn e)
+pub named-all : (t : Table) (ns : Names) (i : ℕ) → FromUs t → NamedTo t ns i → t .count ≤ i → ns ≡ arraysOf (namesIn (rulesOf t))
+named-all t ns i v p h = p .names ∙ ap (λ (rs : List Text). arraysOf (namesIn rs)) (take-all i (rulesOf t) (omega (arith, count-is t v)))
 
 -- the i-th line
 module _ {t : Table} {i : ℕ} (v : FromUs t) (h : i < t .count) where
@@ -75,22 +88,33 @@ module _ {t : Table} {i : ℕ} (v : FromUs t) (h : i < t .count) where
   pub text-read : ruleOf text .answer ≡ RuleAnswer.Formula
   text-read = room (take i (rulesOf t)) text (stand-added (take i (rulesOf t)) text stands) .read
 
-  module _ (ns : Names) (n : ℕ) (p : CountedTo t ns n i) where
-    pub text-gathers : (rule : Rule) → rule ≡ ruleOf text → Gathers text rule ns
-    text-gathers rule e = may-gather text rule ns (namesIn (take i (rulesOf t))) e (p .names) (can-names (take i (rulesOf t)) (stand-first (take i (rulesOf t)) (text ∷ []) stands))
+  first-stand : CanStand (take i (rulesOf t))
+  first-stand = stand-first (take i (rulesOf t)) (text ∷ []) stands
 
-    pub counted-few : n ≤ 16
-    counted-few = omega (arith, p .atoms, can-atoms (take i (rulesOf t)) (stand-first (take i (rulesOf t)) (text ∷ []) stands))
+  module _ (k : Known) (kept : List ℕ) (p : KnownTo t k kept i) where
+    pub known-so-far : Knowing k kept
+    known-so-far = record { rules = take i (rulesOf t); standing = first-stand; known = p .known }
 
-    pub counted-next : (rule : Rule) (g : Gathered) (k : ℕ) → rule ≡ ruleOf text → g ≡ gathered text (knownOf ns) → k ≡ atomPlaces (take (rule .len) (rule .order))
-        → CountedTo t (g .names) (n + k) (i + 1)
-    counted-next rule g k e f q =
+    -- it is added, since it stands
+    pub known-more : (r : Tried) (keptOut : List ℕ) → Tries k text kept r keptOut → KnownTo t (r .known) keptOut (i + 1)
+    known-more r keptOut says =
         let rs = take i (rulesOf t) in
-        let r = room rs text (stand-added rs text stands) in
-        let known : g ≡ gathered text (namesIn rs) = f ∙ ap (gathered text) (known-from ns (namesIn rs) (p .names)) in
+        let e = answer-is k rs first-stand kept (p .known) text r keptOut says ∙ stand-added rs text stands in
         record {
           within = omega (arith, count-is t v);
-          names = ap (λ (x : Gathered). x .names) known ∙ names-with rs text (can-names rs (stand-first rs (text ∷ []) stands)) (r .read) (r .names)
-              ∙ ap (λ (l : List Text). arraysOf (namesIn l)) (sym first);
-          atoms = omega (arith, p .atoms, atoms-with rs text (r .read), read-atoms text rule k e q, ap atomsIn first);
+          known = subst (λ (l : List Text). KnownTexts l (r .known) keptOut) (sym first) (known-next k rs first-stand kept (p .known) text r keptOut says e);
+        }
+
+  module _ (ns : Names) (p : NamedTo t ns i) where
+    pub text-gathers : (rule : Rule) → rule ≡ ruleOf text → Gathers text rule ns
+    text-gathers rule e = may-gather text rule ns (namesIn (take i (rulesOf t))) e (p .names) (can-names (take i (rulesOf t)) first-stand)
+
+    pub named-more : (g : Gathered) → g ≡ gathered text (knownOf ns) → NamedTo t (g .names) (i + 1)
+    named-more g e =
+        let rs = take i (rulesOf t) in
+        let r = room rs text (stand-added rs text stands) in
+        record {
+          within = omega (arith, count-is t v);
+          names = ap (λ (x : Gathered). x .names) (e ∙ ap (gathered text) (known-from ns (namesIn rs) (p .names)))
+              ∙ names-with rs text (can-names rs first-stand) (r .read) (r .names) ∙ ap (λ (l : List Text). arraysOf (namesIn l)) (sym first);
         }

@@ -6,11 +6,11 @@ use mathlib.Core.List.{List, [], _∷_, _++_}
 use native.Mathlib.Omega.{arith}
 use lib.ListN.{length}
 use borrow.Author.Tests.{le-ltb, lt-leb, le-leb, lt-ltb}
+use Rattle.ruleset.specs.declared.Known.{Known}
 use Rattle.table.specs.declared.Table.{Table}
 use Rattle.table.specs.declared.AddAnswer.{AddAnswer}
 use Rattle.table.specs.declared.AddAnswer.the-variants as AddAnswer
-use Rattle.table.specs.declared.Counts.{Counts}
-use Rattle.table.specs.declared.Counted.{Counted}
+use Rattle.table.specs.declared.Tried.{Tried}
 use Rattle.table.specs.declared.AddResult.{AddResult}
 use Rattle.table.specs.declared.WithdrawAnswer.{WithdrawAnswer}
 use Rattle.table.specs.declared.WithdrawAnswer.the-variants as WithdrawAnswer
@@ -20,7 +20,7 @@ use Rattle.table.specs.declared.LoadResult.{LoadResult}
 use Rattle.table.specs.Store.{tableOf, rulesOf}
 use Rattle.table.specs.Sheet.{Text, linesOf, filled}
 use Rattle.table.specs.Calls.{judgeAdd, addRules, added, judgeWithdraw, without, ifWithdrawn, withdrawRules, withdrawn, judgeLoad, ifLoaded, loadRules, loaded, FromUs, Adds, Withdraws, Loads}
-use Rattle.table.specs.Steps.{countsOf, CountsWith, loadResult}
+use Rattle.table.specs.Steps.{KnownTexts, Tries, loadResult}
 use Rattle.table.proofs.Stored.{from-us-table}
 use Rattle.table.proofs.Standing.{NotAdded, room, added-taken, added-refused, stand-add, stand-withdraw, stand-load}
 use Rattle.syntax.proofs.Claims.{read-short}
@@ -45,9 +45,9 @@ loads-of t f r v e = record { result = e; from-us = rw e (from-us-table _ (stand
 
 -- ---- add
 
-module _ (t : Table) (s : Text) (c : Counts) (r : Counted) (v : FromUs t) (e : c ≡ countsOf (rulesOf t)) (h : CountsWith c s r) where
+module _ (t : Table) (s : Text) (k : Known) (kept : List ℕ) (r : Tried) (keptOut : List ℕ) (v : FromUs t) (e : KnownTexts (rulesOf t) k kept) (h : Tries k s kept r keptOut) where
   answered : r .answer ≡ judgeAdd (rulesOf t) s
-  answered = answer-is c (rulesOf t) (v .standing) e s r h
+  answered = answer-is k (rulesOf t) (v .standing) kept e s r keptOut h
 
   pub adds-refused : NotAdded (r .answer) → Adds t s (addResult t (r .answer))
   unfolding added
@@ -56,16 +56,16 @@ module _ (t : Table) (s : Text) (c : Counts) (r : Counted) (v : FromUs t) (e : c
       (ap (λ (u : Table). addResult u (r .answer)) (v .same ∙ ap tableOf (sym (added-refused (rulesOf t) s (λ f. n (answered ∙ f)))))
       ∙ ap (addResult (tableOf (addRules (rulesOf t) s))) answered)
 
-  module _ (k : r .answer ≡ AddAnswer.Added) where
+  module _ (yes : r .answer ≡ AddAnswer.Added) where
     -- there is a line for the text
     pub may-put : FromUs t × (t .count < 16) × (length s ≤ 256)
-    may-put = let m = room (rulesOf t) s (sym answered ∙ k) in (v, omega (arith, m .few, count-is t v), read-short s (m .read))
+    may-put = let m = room (rulesOf t) s (sym answered ∙ yes) in (v, omega (arith, m .few, count-is t v), read-short s (m .read))
 
     pub adds-taken : (u : Table) → u ≡ tableOf (rulesOf t ++ s ∷ []) → Adds t s (addResult u (r .answer))
     unfolding added
     adds-taken u f =
         adds-of t s _ v
-        (ap (λ (w : Table). addResult w (r .answer)) (f ∙ ap tableOf (sym (added-taken (rulesOf t) s (sym answered ∙ k))))
+        (ap (λ (w : Table). addResult w (r .answer)) (f ∙ ap tableOf (sym (added-taken (rulesOf t) s (sym answered ∙ yes))))
         ∙ ap (addResult (tableOf (addRules (rulesOf t) s))) answered)
 
 -- ---- withdraw

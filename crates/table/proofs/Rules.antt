@@ -13,7 +13,7 @@ use Rattle.syntax.specs.declared.RuleAnswer.the-variants as RuleAnswer
 use Rattle.syntax.proofs.Claims.{text-answered-only, text-means, is-rule}
 use Rattle.lists.specs.Search.{In, here, next}
 use Rattle.lists.proofs.Search.{none-in, uncons}
-use Rattle.contact.specs.Numbering.{allAtoms, namesOf}
+use Rattle.contact.specs.Numbering.{differentAtoms, namesOf}
 use Rattle.table.specs.Sheet.{Text}
 use Rattle.table.specs.Rules.{AreRules, CanStand}
 use Rattle.table.specs.Calls.{formulasOf, namesIn, atomsIn}
@@ -55,9 +55,9 @@ pub are-names : (rs : List Text) (fs : List (Formula Name)) → AreRules rs fs �
 unfolding namesIn
 are-names rs fs h = ap namesOf (are-formulas rs fs h)
 
-pub are-atoms : (rs : List Text) (fs : List (Formula Name)) → AreRules rs fs → length (allAtoms fs) ≡ atomsIn rs
+pub are-atoms : (rs : List Text) (fs : List (Formula Name)) → AreRules rs fs → length (differentAtoms fs) ≡ atomsIn rs
 unfolding atomsIn
-are-atoms rs fs h = ap (λ (gs : List (Formula Name)). length (allAtoms gs)) (are-formulas rs fs h)
+are-atoms rs fs h = ap (λ (gs : List (Formula Name)). length (differentAtoms gs)) (are-formulas rs fs h)
 
 -- ---- texts that can stand
 

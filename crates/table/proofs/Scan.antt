@@ -11,8 +11,6 @@ use borrow.Author.Tests.{eq-eqb, ne-eqb, le-leb, lt-leb}
 use Rattle.lists.proofs.Lists.{rest}
 use Rattle.table.specs.Sheet.{Text, blankByte, blankLine, linesOf, onFirst}
 use Rattle.table.specs.Calls.{linesFrom}
-use Rattle.compile.specs.Kinds.{atomKind}
-use Rattle.table.specs.Steps.{atomPlaces}
 
 module _ (s : Text) (i : ℕ) (h : i < length s) where
   pub blank-next : blankByte (getD s i 0) ≡ true → blankLine (drop i s) ≡ blankLine (drop (i + 1) s)
@@ -23,21 +21,9 @@ module _ (s : Text) (i : ℕ) (h : i < length s) where
   unfolding blankLine
   blank-not k = rw (rest s i 0 h, k)
 
-  pub atoms-here : atomKind (getD s i 0) ≡ true → atomPlaces (drop i s) ≡ suc (atomPlaces (drop (i + 1) s))
-  unfolding atomPlaces atomKind
-  atoms-here k = rw (rest s i 0 h, k)
-
-  pub atoms-next : atomKind (getD s i 0) ≡ false → atomPlaces (drop i s) ≡ atomPlaces (drop (i + 1) s)
-  unfolding atomPlaces atomKind
-  atoms-next k = rw (rest s i 0 h, k)
-
 pub blank-end : (s : Text) (i : ℕ) → length s ≤ i → blankLine (drop i s) ≡ true
 unfolding blankLine
 blank-end s i h = rw (drop-of-length-le s h)
-
-pub atoms-end : (s : Text) (i : ℕ) → length s ≤ i → atomPlaces (drop i s) ≡ 0
-unfolding atomPlaces atomKind
-atoms-end s i h = rw (drop-of-length-le s h)
 
 -- the lines of a rest, with p in front of the first
 abbrev pub onHead : Text → List Text → List Text

@@ -1,23 +1,22 @@
 -- Every call leaves a list that can stand: an add that is not refused found room for its text, a withdrawal leaves rules that stood, and
 -- a load that is not refused is a list of such adds. Assumes nothing.
-use Prim.Native.Nat.{ℕ, zero, suc, _+_, _-_, _≤_, _<_}
+use Prim.Native.Nat.{ℕ, suc, _+_, _-_, _≤_, _<_}
 use mathlib.Core.Path.{_≡_, refl, sym, ap, subst, _∙_}
 use mathlib.Core.Logic.{_↔_, _⊎_, inl, inr, ⊎-elim}
 use mathlib.Core.List.{List, [], _∷_, _++_, map-append, append-assoc, append-nil}
 use mathlib.Core.Bool.{Bool, true, false, cond, not}
 use native.Mathlib.Omega.{arith}
-use lib.ListN.{length, take, drop, length-append, length-take, length-drop, take-append-drop}
+use lib.ListN.{length, take, drop, length-append, length-take, length-drop}
 use lib.Dec.{ltb, leb}
 use borrow.Author.Tests.{ltb-false, leb-false, le-ltb, lt-leb}
 use Rattle.formula.specs.Formula.{Formula, Name}
-use Rattle.formula.specs.Atoms.{atomsOf}
 use Rattle.syntax.specs.Rule.{ruleOf, meaningOf}
 use Rattle.syntax.specs.declared.RuleAnswer.{RuleAnswer}
 use Rattle.syntax.specs.declared.RuleAnswer.the-variants as RuleAnswer
 use Rattle.syntax.proofs.Claims.{is-rule}
 use Rattle.lists.specs.Search.{In, here}
-use Rattle.lists.proofs.Search.{none-in, uncons, in-left, in-right, in-either, map-intro, map-elim, collect-append, in-take, in-drop}
-use Rattle.contact.specs.Numbering.{allAtoms, namesOf}
+use Rattle.lists.proofs.Search.{none-in, uncons, in-left, in-right, in-either, map-intro, map-elim, in-take, in-drop}
+use Rattle.contact.specs.Numbering.{namesOf}
 use Rattle.names.specs.Gather.{gathered}
 use Rattle.names.specs.declared.NamesAnswer.{NamesAnswer}
 use Rattle.names.specs.declared.NamesAnswer.the-variants as NamesAnswer
@@ -31,6 +30,7 @@ use Rattle.table.specs.declared.LoadAnswer.the-variants as LoadAnswer
 use Rattle.table.specs.Sheet.{Text, linesOf, blankLine, filled}
 use Rattle.table.specs.Calls.{formulasOf, namesIn, atomsIn, readAnswer, namesAnswer, ifAdded, firstRefusal, judgeNames, judgeAtoms, judgeRoom, judgeText, judgeAdd, addRules, judgeWithdraw, without, ifWithdrawn, withdrawRules, judgeLines, isNone, judgeLoad, ifLoaded, loadRules}
 use Rattle.table.specs.Rules.{CanStand}
+use Rattle.contact.proofs.Claims.{atoms-fewer}
 use Rattle.table.proofs.Fewer.{names-fewer}
 use Rattle.table.proofs.Rules.{AllRead, can-stand, can-read, can-names, can-atoms}
 
@@ -107,25 +107,14 @@ pub names-last : (rs : List Text) (s : Text) → namesIn (rs ++ s ∷ []) ≡ na
 unfolding namesIn
 names-last rs s = ap namesOf (map-append meaningOf rs (s ∷ []))
 
-pub atoms-append : (rs ss : List Text) → atomsIn (rs ++ ss) ≡ atomsIn rs + atomsIn ss
-unfolding atomsIn
-atoms-append rs ss =
-    ap (λ (fs : List (Formula Name)). length (allAtoms fs)) (map-append meaningOf rs ss)
-    ∙ ap length (collect-append atomsOf (formulasOf rs) (formulasOf ss))
-    ∙ length-append (allAtoms (formulasOf rs)) (allAtoms (formulasOf ss))
-
-pub atoms-one : (s : Text) → atomsIn (s ∷ []) ≡ length (atomsOf (meaningOf s))
-unfolding atomsIn
-atoms-one s = ap length (append-nil (atomsOf (meaningOf s)))
-
 -- ---- part of a list that can stand
 
-stand-part : (rs ss : List Text) → CanStand ss → ((s : Text) → In s rs → In s ss) → length rs ≤ length ss → atomsIn rs ≤ atomsIn ss → CanStand rs
-unfolding namesIn
-stand-part rs ss h among few atoms =
+stand-part : (rs ss : List Text) → CanStand ss → ((s : Text) → In s rs → In s ss) → length rs ≤ length ss → CanStand rs
+unfolding namesIn atomsIn
+stand-part rs ss h among few =
     can-stand rs (omega (arith, h .few)) (λ s i. can-read ss h s (among s i))
     (omega (arith, can-names ss h, names-fewer (formulasOf rs) (formulasOf ss) formulas))
-    (omega (arith, can-atoms ss h))
+    (omega (arith, can-atoms ss h, atoms-fewer (formulasOf rs) (formulasOf ss) formulas))
   where
     formulas : (f : Formula Name) → In f (formulasOf rs) → In f (formulasOf ss)
     formulas f i =
@@ -137,7 +126,7 @@ unfolding namesIn atomsIn
 stand-none = can-stand [] (omega arith) (λ s i. none-in i) (omega arith) (omega arith)
 
 pub stand-first : (rs ss : List Text) → CanStand (rs ++ ss) → CanStand rs
-stand-first rs ss h = stand-part rs (rs ++ ss) h (λ s i. in-left ss i) (omega (arith, length-append rs ss)) (omega (arith, atoms-append rs ss))
+stand-first rs ss h = stand-part rs (rs ++ ss) h (λ s i. in-left ss i) (omega (arith, length-append rs ss))
 
 stand-without : (rs : List Text) (i : ℕ) → CanStand rs → CanStand (without rs i)
 unfolding without
@@ -145,13 +134,6 @@ stand-without rs i h =
     stand-part (take i rs ++ drop (suc i) rs) rs h
     (λ s k. ⊎-elim (λ a. in-take i rs a) (λ b. in-drop (suc i) rs b) (in-either (take i rs) (drop (suc i) rs) k))
     (simp (length-append, length-take, length-drop) (omega arith))
-    (omega (arith, atoms-append (take i rs) (drop (suc i) rs), atoms-drop i rs, ap atomsIn (take-append-drop i rs), atoms-append (take i rs) (drop i rs)))
-  where
-    atoms-drop : (m : ℕ) (rs : List Text) → atomsIn (drop (suc m) rs) ≤ atomsIn (drop m rs)
-    atoms-drop zero [] = omega arith
-    atoms-drop zero (r ∷ rs) = omega (arith, atoms-append (r ∷ []) rs)
-    atoms-drop (suc m) [] = omega arith
-    atoms-drop (suc m) (r ∷ rs) = atoms-drop m rs
 
 -- ---- one text more
 

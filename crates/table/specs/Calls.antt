@@ -11,7 +11,7 @@ use Rattle.formula.specs.Formula.{Formula, Name}
 use Rattle.syntax.specs.Rule.{ruleOf, meaningOf}
 use Rattle.syntax.specs.declared.RuleAnswer.{RuleAnswer}
 use Rattle.syntax.specs.declared.RuleAnswer.the-variants as RuleAnswer
-use Rattle.contact.specs.Numbering.{allAtoms, namesOf}
+use Rattle.contact.specs.Numbering.{namesOf, differentAtoms}
 use Rattle.names.specs.Gather.{gathered}
 use Rattle.names.specs.declared.NamesAnswer.{NamesAnswer}
 use Rattle.names.specs.declared.NamesAnswer.the-variants as NamesAnswer
@@ -40,8 +40,9 @@ formulasOf rs = map meaningOf rs
 unfoldable pub namesIn : List Text → List Name
 namesIn rs = namesOf (formulasOf rs)
 
+-- "atoms that are the same count as one": document 02, T-03
 unfoldable pub atomsIn : List Text → ℕ
-atomsIn rs = length (allAtoms (formulasOf rs))
+atomsIn rs = length (differentAtoms (formulasOf rs))
 
 -- ---- add
 
@@ -81,7 +82,7 @@ firstRefusal a b = ifAdded a b a
 unfoldable pub judgeNames : List Text → Text → AddAnswer
 judgeNames rs s = namesAnswer (gathered s (namesIn rs) .answer)
 
--- refusal 8: "more than 16 atoms in all"
+-- refusal 8: "more than 16 atoms in all", now "at the seventeenth different atom, in its old place"
 unfoldable pub judgeAtoms : List Text → Text → AddAnswer
 judgeAtoms rs s = cond (ltb 16 (atomsIn (rs ++ s ∷ []))) AddAnswer.TooManyAtoms AddAnswer.Added
 

@@ -12,7 +12,7 @@ use Rattle.formula.specs.Names.{atomNames}
 use Rattle.syntax.specs.RuleText.{IsRule, Answers}
 use Rattle.syntax.specs.declared.RuleAnswer.the-variants as RuleAnswer
 use Rattle.lists.specs.Search.{collect}
-use Rattle.contact.specs.Numbering.{allAtoms, namesOf}
+use Rattle.contact.specs.Numbering.{allAtoms, namesOf, differentAtoms}
 use Rattle.contact.specs.Meaning.{Floor, meetsAll}
 use Rattle.plan.specs.Words.{Plan, IsPlan, wordsOf, Refusal}
 use Rattle.plan.specs.Floor.{namedFloor}
@@ -43,10 +43,11 @@ pub data AddRow (rs : List Text) (s : Text) : Outcome → Type 0 where
   -- 7: "a seventh name", at "that name's first byte", among the tokens that the text is cut into
   seventh : {f : Formula Name} {fs : List (Formula Name)} {p : ℕ} → (h : IsRule s f) → AreRules rs fs → length rs < 16
       → SeventhAt (collect atomNames (allAtoms fs)) (placesOf s (h .tokens-of)) p → AddRow rs s (Outcome.Refused 7 p)
-  -- 8: "more than 16 atoms in all"; "for 7 and 8, add's text is first put at its end"
-  many : {fs : List (Formula Name)} → AreRules (rs ++ s ∷ []) fs → length rs < 16 → length (namesOf fs) ≤ 6 → 16 < length (allAtoms fs) → AddRow rs s (Outcome.Refused 8 0)
+  -- 8: "more than 16 atoms in all"; "for 7 and 8, add's text is first put at its end"; document 02, T-03: "8 now comes at the seventeenth
+  -- different atom, in its old place"
+  many : {fs : List (Formula Name)} → AreRules (rs ++ s ∷ []) fs → length rs < 16 → length (namesOf fs) ≤ 6 → 16 < length (differentAtoms fs) → AddRow rs s (Outcome.Refused 8 0)
   -- "No refusal comes in another case."
-  stands : {fs : List (Formula Name)} → AreRules (rs ++ s ∷ []) fs → length rs < 16 → length (namesOf fs) ≤ 6 → length (allAtoms fs) ≤ 16 → AddRow rs s Outcome.Done
+  stands : {fs : List (Formula Name)} → AreRules (rs ++ s ∷ []) fs → length rs < 16 → length (namesOf fs) ≤ 6 → length (differentAtoms fs) ≤ 16 → AddRow rs s Outcome.Done
 
 -- withdraw k where the texts rs stand
 pub data WithdrawRow (rs : List Text) (k : ℕ) : Outcome → Type 0 where

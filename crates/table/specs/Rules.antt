@@ -4,7 +4,7 @@ use mathlib.Core.List.{List, [], _∷_}
 use lib.ListN.{length}
 use Rattle.formula.specs.Formula.{Formula, Name}
 use Rattle.syntax.specs.RuleText.{IsRule}
-use Rattle.contact.specs.Numbering.{allAtoms, namesOf}
+use Rattle.contact.specs.Numbering.{namesOf, differentAtoms}
 use Rattle.table.specs.Sheet.{Text}
 
 -- "Each entry is the rule's text as it came, and means the formula read from it.": text by text, the formula that the grammar derives
@@ -19,4 +19,5 @@ pub record CanStand (rs : List Text) : Type 0 where
   pub few : length rs ≤ 16
   -- "Rules, names and atoms are counted in this list"
   pub names : length (namesOf formulas) ≤ 6
-  pub atoms : length (allAtoms formulas) ≤ 16
+  -- and of the atoms those that are different: "atoms that are the same count as one"
+  pub atoms : length (differentAtoms formulas) ≤ 16

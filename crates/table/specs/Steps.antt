@@ -1,55 +1,60 @@
--- For proofs: what the private functions do: rules, names and atoms counted text by text, and the answers of the judge of plans as those
--- of judge. Assumes nothing.
-use Prim.Native.Nat.{ℕ, suc}
+-- For proofs: what the private functions do: what is known of standing texts, a text put to them, the rules of a table compiled, and the
+-- answers of the judge of plans as those of judge. Assumes nothing.
+use Prim.Native.Nat.{ℕ}
 use mathlib.Core.Path.{_≡_}
-use mathlib.Core.Bool.{cond}
-use mathlib.Core.List.{List, [], _∷_}
-use lib.ListN.{length}
-use Rattle.syntax.specs.Rule.{ruleOf}
-use Rattle.syntax.specs.declared.RuleAnswer.the-variants as RuleAnswer
-use Rattle.syntax.specs.declared.Rule.{Rule}
-use Rattle.compile.specs.Kinds.{atomKind}
-use Rattle.names.specs.Gather.{arraysOf}
+use mathlib.Core.List.{List, [], _∷_, _++_}
+use Rattle.ruleset.specs.declared.Known.{Known}
+use Rattle.ruleset.specs.declared.RoomAnswer.{RoomAnswer}
+use Rattle.ruleset.specs.declared.RoomAnswer.the-variants as RoomAnswer
+use Rattle.ruleset.specs.declared.Compiling.{Compiling}
+use Rattle.ruleset.specs.Texts.{KnownRules, CompiledTexts, FirstRowIs}
 use Rattle.judging.specs.declared.Judged.{Judged}
 use Rattle.judging.specs.declared.Judged.the-variants as Judged
 use Rattle.table.specs.declared.JudgeAnswer.{JudgeAnswer}
 use Rattle.table.specs.declared.JudgeAnswer.the-variants as JudgeAnswer
 use Rattle.table.specs.declared.Table.{Table}
+use Rattle.table.specs.declared.AddAnswer.{AddAnswer}
+use Rattle.table.specs.declared.AddAnswer.the-variants as AddAnswer
 use Rattle.table.specs.declared.LoadAnswer.{LoadAnswer}
 use Rattle.table.specs.declared.LoadResult.{LoadResult}
-use Rattle.table.specs.declared.Counts.{Counts}
-use Rattle.table.specs.declared.Counted.{Counted}
+use Rattle.table.specs.declared.Tried.{Tried}
+use Rattle.table.specs.declared.Searched.{Searched}
 use Rattle.table.specs.Sheet.{Text}
-use Rattle.table.specs.Calls.{namesIn, atomsIn, judgeAdd, addRules}
+use Rattle.table.specs.Calls.{formulasOf, judgeAdd}
 use Rattle.table.specs.Rules.{CanStand}
 
--- a rule that was read from a text
-pub record WasRead (rule : Rule) : Type 0 where
-  pub text : Text
-  pub read : rule ≡ ruleOf text
-  pub formula : ruleOf text .answer ≡ RuleAnswer.Formula
+-- "Rules, names and atoms are counted in this list": what is known of texts
+abbrev pub KnownTexts : List Text → Known → List ℕ → Type 0
+KnownTexts rs k kept = KnownRules (formulasOf rs) k kept
 
--- how many of a list of kinds are atoms
-unfoldable pub atomPlaces : List ℕ → ℕ
-atomPlaces [] = 0
-atomPlaces (k ∷ ks) = cond (atomKind k) (suc (atomPlaces ks)) (atomPlaces ks)
-
--- "Rules, names and atoms are counted in this list"
-unfoldable pub countsOf : List Text → Counts
-countsOf rs = record { rules = length rs; names = arraysOf (namesIn rs); atoms = atomsIn rs }
-
-unfoldable pub countedOf : List Text → Text → Counted
-countedOf rs s = record { counts = countsOf (addRules rs s); answer = judgeAdd rs s }
-
--- what is counted of rules that can stand
-pub record Counting (c : Counts) : Type 0 where
+-- it is known of texts that can stand
+pub record Knowing (k : Known) (kept : List ℕ) : Type 0 where
   pub rules : List Text
-  pub counted : c ≡ countsOf rules
   pub standing : CanStand rules
+  pub known : KnownTexts rules k kept
 
--- whatever rules were counted, the text is judged where they stand
-unfoldable pub CountsWith : Counts → Text → Counted → Type 0
-CountsWith c s r = (rs : List Text) → CanStand rs → c ≡ countsOf rs → r ≡ countedOf rs s
+-- the answer for the room as add's
+abbrev pub roomAdd : RoomAnswer → AddAnswer
+roomAdd RoomAnswer.Room = AddAnswer.Added
+roomAdd (RoomAnswer.SeventhName p) = AddAnswer.SeventhName p
+roomAdd RoomAnswer.ManyAtoms = AddAnswer.TooManyAtoms
+
+-- whatever texts are known, the text is judged where they stand, and known with them if it is added
+unfoldable pub Tries : Known → Text → List ℕ → Tried → List ℕ → Type 0
+Tries k s kept r keptOut =
+    (rs : List Text) → CanStand rs → KnownTexts rs k kept
+    → (r .answer ≡ judgeAdd rs s) × (r .answer ≡ AddAnswer.Added → KnownTexts (rs ++ s ∷ []) (r .known) keptOut)
+
+-- the texts are compiled, their symbols kept somewhere
+pub record TextsCompiled (texts : List Text) (c : Compiling) (code : List ℕ) : Type 0 where
+  pub kept : List ℕ
+  pub compiled : CompiledTexts texts c kept code
+
+-- and their first row is found
+pub record TextsSearched (texts : List Text) (r : Searched) : Type 0 where
+  pub code : List ℕ
+  pub compiled : TextsCompiled texts (r .compiled) code
+  pub first : FirstRowIs (r .compiled) code (r .found)
 
 abbrev pub loadResult : Table → LoadAnswer → LoadResult
 loadResult t a = record { table = t; answer = a }

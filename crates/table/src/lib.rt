@@ -6,36 +6,35 @@
 // is in proofs/Claims.antt.
 ghost use mathlib.Core.Path.{_≡_};
 ghost use mathlib.Core.List.{[], _∷_, _++_};
-ghost use Prim.Native.Nat.{_+_, _-_, _≤_, _<_};
+ghost use Prim.Native.Nat.{_+_, _-_, _*_, _≤_, _<_};
 ghost use lib.ListN.{length, take, drop};
-ghost use Rattle.syntax.specs.Rule.{ruleOf};
 ghost use Rattle.names.specs.Gather.{arraysOf};
-ghost use Rattle.ruleset.specs.Texts.{CompiledTexts};
 ghost use Rattle.table.specs.Store.{keptLine, tableOf, rulesOf};
-ghost use Rattle.table.specs.Calls.{namesIn, readAnswer, namesAnswer, judgeText, linesFrom, FromUs, Adds, Withdraws, Loads};
+ghost use Rattle.table.specs.Calls.{namesIn, readAnswer, linesFrom, FromUs, Adds, Withdraws, Loads};
 ghost use Rattle.table.specs.Sheet.{blankByte, blankLine, linesOf};
 ghost use Rattle.table.specs.Asking.{Asks, Judges};
 ghost use Rattle.table.specs.Printing.{Prints};
-ghost use Rattle.table.specs.Steps.{judgedAnswer, WasRead, atomPlaces, countsOf, Counting, CountsWith, loadResult};
+ghost use Rattle.table.specs.Steps.{KnownTexts, Knowing, roomAdd, Tries, TextsCompiled, TextsSearched, loadResult, judgedAnswer};
 ghost use Rattle.table.specs.Numbers.{addOutcome, withdrawOutcome, onLine, CanCome, loadOutcome, askOutcome, judgeOutcome, printOutcome};
-ghost use Rattle.table.specs.declared.AddAnswer.the-variants as AddAnswer;
 use judging::Judged;
 use lexer::Class;
 use names::Names;
-use names::NamesAnswer;
 use plan::PlanAnswer;
 use plan::Written;
 use printing::Printed;
 use ruleset::Compiling;
-use search::ATOMS;
+use ruleset::Known;
+use ruleset::RoomAnswer;
 use solver::RowAnswer;
-use syntax::Rule;
 use syntax::RuleAnswer;
 
 // How many rules there may be, and how many bytes a file may have.
 const RULES: usize = 16;
 
 const FILE: usize = 8192;
+
+// How many rules the smaller room for code takes.
+const HALF: usize = 8;
 
 // The byte at which a file is split.
 const LINE_END: u8 = 10;
@@ -155,17 +154,16 @@ pub enum Outcome {
     RefusedLine(usize, usize, usize),
 }
 
-// How many rules stand, their names, and how many atoms they have.
-struct Counts {
-    rules: usize,
-    names: Names,
-    atoms: usize,
+// What is known after a text was put to rules, and how the text was answered. Where it is refused, nothing is said of what is known.
+struct Tried {
+    known: Known,
+    answer: AddAnswer,
 }
 
-// What is counted after a text was put to rules, and how the text was answered.
-struct Counted {
-    counts: Counts,
-    answer: AddAnswer,
+// Rules compiled, and their first row.
+struct Searched {
+    compiled: Compiling,
+    found: RowAnswer,
 }
 
 // A line with nothing in it.
@@ -250,40 +248,15 @@ fn read_answer(a: RuleAnswer) -> AddAnswer
     }
 }
 
-// The answer for the names as add's.
-fn names_answer(a: NamesAnswer) -> AddAnswer
-    ensures { λ r. ⌜ r ≡ namesAnswer a ⌝ }
+// The answer for the room as add's.
+fn room_answer(a: RoomAnswer) -> AddAnswer
+    ensures { λ r. ⌜ r ≡ roomAdd a ⌝ }
 {
     match a {
-        NamesAnswer::Enough => AddAnswer::Added,
-        NamesAnswer::SeventhName(i) => AddAnswer::SeventhName(i),
+        RoomAnswer::Room => AddAnswer::Added,
+        RoomAnswer::SeventhName(i) => AddAnswer::SeventhName(i),
+        RoomAnswer::ManyAtoms => AddAnswer::TooManyAtoms,
     }
-}
-
-// How many of these kinds are atoms' signs.
-fn atom_places(kinds: &[u8]) -> usize
-    ensures { λ r. ⌜ r ≡ atomPlaces (now (kinds .entry)) ⌝ }
-{
-    let mut n: usize = 0;
-    let mut i: usize = 0;
-    while i < kinds.len() {
-        let a = compile::is_atom(kinds[i]);
-        if a {
-            n += 1;
-        }
-        i += 1;
-    }
-    n
-}
-
-// The number of atoms of a rule.
-fn atoms_of(rule: Rule) -> usize
-    requires { ⌜ WasRead rule ⌝ }
-    ensures { λ r. ⌜ (r ≡ atomPlaces (take (rule .len) (rule .order))) × (r ≤ 256) ⌝ }
-{
-    let order = rule.order;
-    let len = rule.len;
-    atom_places(&order[..len])
 }
 
 // A text put last.
@@ -299,71 +272,37 @@ fn put_last(table: Table, text: &[u8]) -> Table
     next
 }
 
-// What is counted where no rule stands.
-fn no_counts() -> Counts
-    ensures { λ r. ⌜ r ≡ countsOf [] ⌝ }
+// Room for the symbols of sixteen atoms.
+fn no_symbols() -> [u8; 2048]
+    ensures { λ r. ⌜ length r ≡ 2048 ⌝ }
 {
-    let names = names::no_names();
-    Counts {
-        rules: 0,
-        names,
-        atoms: 0,
-    }
+    [0u8; 2048]
 }
 
-// What is counted with a rule put last that was read from its text, or what was before and why there is no room.
-fn with_rule(c: Counts, text: &[u8], rule: Rule) -> Counted
-    requires { ⌜ Counting c × (rule ≡ ruleOf (now text)) × (judgeText (now text) ≡ AddAnswer.Added) ⌝ }
-    ensures { λ r. ⌜ CountsWith c (now (text .entry)) r ⌝ }
-{
-    let rules = c.rules;
-    if RULES <= rules {
-        let answer = AddAnswer::TableFull;
-        return Counted { counts: c, answer };
-    }
-    let known = c.names;
-    let g = names::gather(text, rule, known);
-    let enough = g.answer;
-    let named = names_answer(enough);
-    let AddAnswer::Added = named else {
-        return Counted {
-            counts: c,
-            answer: named,
-        };
-    };
-    let names = g.names;
-    let here = atoms_of(rule);
-    let atoms = c.atoms + here;
-    if ATOMS < atoms {
-        let answer = AddAnswer::TooManyAtoms;
-        return Counted { counts: c, answer };
-    }
-    let counts = Counts {
-        rules: rules + 1,
-        names,
-        atoms,
-    };
-    Counted {
-        counts,
-        answer: named,
-    }
-}
-
-// What is counted with a text put last, or what was before and why the text is refused.
-fn with_text(c: Counts, text: &[u8]) -> Counted
-    requires { ⌜ Counting c ⌝ }
-    ensures { λ r. ⌜ CountsWith c (now (text .entry)) r ⌝ }
+// What is known with a text put last, or why the text is refused. The code of a rule is made on the way and not kept.
+fn with_text(known: Known, text: &[u8], kept: &mut [u8; 2048]) -> Tried
+    requires { ⌜ Knowing known (now kept) ⌝ }
+    ensures { λ r. ⌜ Tries known (now (text .entry)) (now (kept .entry)) r (now (kept .exit)) ⌝ }
 {
     let rule = syntax::read_rule(text);
     let found = rule.answer;
     let read = read_answer(found);
     let AddAnswer::Added = read else {
-        return Counted {
-            counts: c,
+        return Tried {
+            known,
             answer: read,
         };
     };
-    with_rule(c, text, rule)
+    if RULES <= known.count {
+        let answer = AddAnswer::TableFull;
+        return Tried { known, answer };
+    }
+    let mut code = lexer::zeros();
+    let grown = ruleset::with_rule(text, rule, known, kept, &mut code, 0);
+    let room = grown.answer;
+    let answer = room_answer(room);
+    let known = grown.known;
+    Tried { known, answer }
 }
 
 // A table, with load's answer.
@@ -371,6 +310,13 @@ fn kept(table: Table, answer: LoadAnswer) -> LoadResult
     ensures { λ r. ⌜ r ≡ loadResult table answer ⌝ }
 {
     LoadResult { table, answer }
+}
+
+// Room for the code of eight rules, which most tables do not exceed: to clear more costs more than to compile a small sheet.
+fn half_code() -> [u8; 2048]
+    ensures { λ r. ⌜ length r ≡ 2048 ⌝ }
+{
+    [0u8; 2048]
 }
 
 // Room for the code of sixteen rules.
@@ -492,32 +438,23 @@ impl Table {
         Table { lines, count: 0 }
     }
 
-    // How many rules stand, their names and the number of their atoms, found from their texts.
-    fn counts(self) -> Counts
-        requires { ⌜ FromUs self ⌝ }
-        ensures { λ r. ⌜ r ≡ countsOf (rulesOf self) ⌝ }
+    // What is known of the standing rules, found from their texts.
+    fn known(self, kept: &mut [u8; 2048]) -> Known
+        requires { ⌜ FromUs self × (length (now kept) ≡ 2048) ⌝ }
+        ensures { λ r. ⌜ KnownTexts (rulesOf self) r (now (kept .exit)) ⌝ }
     {
         let rules = self.count;
-        let mut names = names::no_names();
-        let mut atoms: usize = 0;
+        let mut known = ruleset::nothing_known();
         let mut i: usize = 0;
         while i < rules {
             let line = self.lines[i];
             let len = line.len;
             let bytes = line.bytes;
-            let text = &bytes[..len];
-            let rule = syntax::read_rule(text);
-            let g = names::gather(text, rule, names);
-            names = g.names;
-            let here = atoms_of(rule);
-            atoms += here;
+            let tried = with_text(known, &bytes[..len], kept);
+            known = tried.known;
             i += 1;
         }
-        Counts {
-            rules,
-            names,
-            atoms,
-        }
+        known
     }
 
     // The names of the standing rules in the order of their numbers.
@@ -525,8 +462,20 @@ impl Table {
         requires { ⌜ FromUs self ⌝ }
         ensures { λ r. ⌜ r ≡ arraysOf (namesIn (rulesOf self)) ⌝ }
     {
-        let c = self.counts();
-        c.names
+        let rules = self.count;
+        let mut names = names::no_names();
+        let mut i: usize = 0;
+        while i < rules {
+            let line = self.lines[i];
+            let len = line.len;
+            let bytes = line.bytes;
+            let text = &bytes[..len];
+            let rule = syntax::read_rule(text);
+            let gathered = names::gather(text, rule, names);
+            names = gathered.names;
+            i += 1;
+        }
+        names
     }
 
     // The table with a rule put last, its text as it came. A refused text leaves the table as it was; the
@@ -535,9 +484,10 @@ impl Table {
         requires { ⌜ FromUs self ⌝ }
         ensures { λ r. ⌜ Adds self (now (text .entry)) r ⌝ }
     {
-        let c = self.counts();
-        let r = with_text(c, text);
-        let answer = r.answer;
+        let mut kept = no_symbols();
+        let known = self.known(&mut kept);
+        let judged = with_text(known, text, &mut kept);
+        let answer = judged.answer;
         let AddAnswer::Added = answer else {
             return AddResult {
                 table: self,
@@ -591,7 +541,8 @@ impl Table {
             return kept(self, LoadAnswer::FileTooLong);
         }
         let mut table = Table::empty();
-        let mut counts = no_counts();
+        let mut known = ruleset::nothing_known();
+        let mut symbols = no_symbols();
         let mut line: usize = 0;
         let mut from: usize = 0;
         while from <= file.len() {
@@ -599,15 +550,15 @@ impl Table {
             line += 1;
             let text = &file[from..end];
             if !blank_line(text) {
-                let result = with_text(counts, text);
-                let answer = result.answer;
+                let tried = with_text(known, text, &mut symbols);
+                let answer = tried.answer;
                 let AddAnswer::Added = answer else {
                     return LoadResult {
                         table: self,
                         answer: LoadAnswer::Line { line, answer },
                     };
                 };
-                counts = result.counts;
+                known = tried.known;
                 table = put_last(table, text);
             }
             from = end + 1;
@@ -622,20 +573,38 @@ impl Table {
     }
 
     // The first so many of the standing rules compiled, text by text.
-    fn compiled(self, rules: usize, code: &mut [u8; 4096]) -> Compiling
-        requires { ⌜ FromUs self × (rules ≤ self .count) × (length (now code) ≡ 4096) ⌝ }
-        ensures { λ r. ⌜ CompiledTexts (take rules (rulesOf self)) r (now (code .exit)) ⌝ }
+    fn compiled(self, rules: usize, code: &mut [u8]) -> Compiling
+        requires { ⌜ FromUs self × (rules ≤ self .count) × (256 * rules ≤ length (now code)) ⌝ }
+        ensures { λ r. ⌜ TextsCompiled (take rules (rulesOf self)) r (now (code .exit)) × (length (now (code .exit)) ≡ length (now (code .entry))) ⌝ }
     {
         let mut c = ruleset::nothing_compiled();
+        let mut kept = no_symbols();
         let mut i: usize = 0;
         while i < rules {
             let line = self.lines[i];
             let len = line.len;
             let bytes = line.bytes;
-            c = ruleset::with_text(&bytes[..len], c, code);
+            c = ruleset::with_text(&bytes[..len], c, &mut kept, code);
             i += 1;
         }
         c
+    }
+
+    // The first so many of the standing rules compiled, and their first row.
+    fn searched(self, rules: usize) -> Searched
+        requires { ⌜ FromUs self × (rules ≤ self .count) ⌝ }
+        ensures { λ r. ⌜ TextsSearched (take rules (rulesOf self)) r ⌝ }
+    {
+        if rules <= HALF {
+            let mut code = half_code();
+            let compiled = self.compiled(rules, &mut code);
+            let found = ruleset::row_of(compiled, &code);
+            return Searched { compiled, found };
+        }
+        let mut code = no_code();
+        let compiled = self.compiled(rules, &mut code);
+        let found = ruleset::row_of(compiled, &code);
+        Searched { compiled, found }
     }
 
     // The plan of the standing rules, its words written over the first ones of the buffer, or that no floor meets these rules. Where
@@ -652,9 +621,9 @@ impl Table {
                 answer: AskAnswer::NoRule,
             };
         }
-        let mut code = no_code();
-        let c = self.compiled(standing, &mut code);
-        let found = ruleset::row_of(c, &code);
+        let searched = self.searched(standing);
+        let c = searched.compiled;
+        let found = searched.found;
         let RowAnswer::At(row) = found else {
             return AskResult {
                 table: self,
@@ -699,7 +668,7 @@ impl Table {
         }
         let mut code = no_code();
         let c = self.compiled(count, &mut code);
-        let chart = c.chart;
+        let chart = c.known.atoms.chart;
         let plan = read.plan;
         let names = plan.names as usize;
         if names != chart.names {

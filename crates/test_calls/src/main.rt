@@ -11,7 +11,7 @@
 // In a text `/` is byte 10, a backslash and two hexadecimal digits are that byte, and `{N:PART}` is N times PART. A refusal has
 // document 01's number and what it carries. `same`: the table has as many rules as before the call, and gives the same plans, also
 // while they are withdrawn one by one. `kept`: the words lent to ask have their old values, those past the plan or, for
-// another answer, all. A plan of ask is judged at once. The file `stdout` has the lines that document 01 asks for.
+// another answer, all. A plan of ask is judged at once. The file `stdout` has the lines that documents 01 and 02 ask for.
 ghost use mathlib.Core.Path.{_≡_};
 ghost use Prim.Native.Nat.{_≤_, _<_};
 ghost use lib.ListN.{length};

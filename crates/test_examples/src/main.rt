@@ -1,6 +1,6 @@
 // The test program of the output: the text for each sheet of the folder examples, for a contact, for no plan, for each refusal that
 // a sheet can get, and for the longest sheets; then some sheets as they were read. The file `stdout` has the texts that document 01 asks
-// for, and T-02 of document 02, worked out by hand.
+// for, and T-02 and T-03 of document 02, worked out by hand.
 use test_kit::write_bytes;
 
 // The title of a sheet.
@@ -51,6 +51,10 @@ fn examples() {
 // A contact, no plan, and refusals.
 fn others() {
     show(b"contact", b"C(raw,cooked)");
+    show(
+        b"a contact, and exchanged",
+        b"C(raw,cooked)\nC(cooked,raw)\n~C(-cooked,-raw)\n",
+    );
     show(b"no floor at all", b"1=0");
     show(b"refusal 1, blank lines", b"\n \t\n");
     show(b"refusal 1, office line ends", b"\r\n\r\n");
@@ -61,7 +65,11 @@ fn others() {
     show(b"refusal 7", b"a=0&b=0&c=0&d=0&e=0&f=0\ng=0&T");
     show(
         b"refusal 8",
-        b"a=0&a=0&a=0&a=0&a=0&a=0&a=0&a=0\na=0&a=0&a=0&a=0&a=0&a=0&a=0&a=0\nT\na=0",
+        b"a=0&b=0&c=0&a*b=0&b*a=0&a*c=0&c*a=0&b*c=0\nC(a,b)|C(a,c)|C(b,c)|C(a,a)|<=(a,b)|<=(b,a)|--a=0|-a=0\nT\n-b=0",
+    );
+    show(
+        b"sixteen atoms, and two of them again",
+        b"a=0&b=0&c=0&a*b=0&b*a=0&a*c=0&c*a=0&b*c=0\nC(a,b)|C(a,c)|C(b,c)|C(a,a)|<=(a,b)|<=(b,a)|--a=0|-a=0\nT\na = 0|C(c,b)",
     );
     show(
         b"refusal 9",

@@ -5,8 +5,10 @@
 // ask must give a plan exactly if one of them meets the rules, and the plan's row must be the first of their rows. For three names
 // there are more floors: where one of these meets the rules ask must give a plan, and its row may not be later than theirs. Every plan
 // must meet the rules on the floor that its words have, and all its words must be those of document 01, 'The plan that is given',
-// for its row. A sheet that disagrees is written, and why. The file `stdout` has document 01's answers to P1 to P12 and the counts
-// that a separate computation gave.
+// for its row. Atoms that are the same count as one, as document 02, T-03, says: now and then a sheet repeats an atom, a contact also
+// with its terms exchanged, the form's atoms are compared here sign by sign, and a sheet is refused exactly if more than 16 of them
+// differ. A sheet that disagrees is written, and why. The file `stdout` has document 01's answers to P1 to P12 and the counts that a
+// separate computation gave.
 ghost use Prim.Native.Nat.{_<_};
 ghost use Rattle.table.specs.Calls.{FromUs};
 use table::AddAnswer;
@@ -70,10 +72,21 @@ const FORMULA: u64 = 0;
 
 const TERM: u64 = 1;
 
+// An atom that stands already, once more; the next sign of it; the complement of what follows; and what follows begins at the
+// atom's first term.
+const AGAIN: u8 = 200;
+
+const NEXT_SIGN: u8 = 201;
+
+const OUTSIDE: u8 = 202;
+
+const FIRST_TERM: u8 = 203;
+
 // What is being made: items still to be written, the next one on top; the seed that numbers are drawn from; the names so far, and how
-// many there may be; the style of spelling; the last sign; how far text and form have come; and whether there was room for all of it.
-// An item is a byte of text, a name (from 192 on), or a formula or a term with so many leaves in a place of some level (from 128 on).
-// Levels are document 01's, loosest first: 0 -> and <->, 1 | and +, 2 & and *, 3 ~ and -.
+// many there may be; the style of spelling; the last sign; how far text and form have come; where in the form the next sign of an
+// atom stands that is repeated, and its first term; and whether there was room for all of it.
+// An item is a byte of text, a formula or a term with so many leaves in a place of some level (from 128 on), a name (from 192 on), or
+// one of the four above. Levels are document 01's, loosest first: 0 -> and <->, 1 | and +, 2 & and *, 3 ~ and -.
 struct Maker {
     items: [u8; 64],
     height: usize,
@@ -84,6 +97,8 @@ struct Maker {
     sign: u8,
     text: usize,
     form: usize,
+    source: usize,
+    first: usize,
     whole: bool,
 }
 
@@ -105,6 +120,8 @@ fn sheet_maker(k: u64) -> Maker {
         sign: NO_SIGN,
         text: 0,
         form: 0,
+        source: 0,
+        first: 0,
         whole: true,
     }
 }
@@ -300,7 +317,7 @@ impl Maker {
 
     fn push_formula_leaf(self) -> Maker {
         let next = self.advanced();
-        let r = next.drawn(16);
+        let r = next.drawn(20);
         if r < 1 {
             return next.signed(TRUE).push(b'T');
         }
@@ -316,7 +333,10 @@ impl Maker {
         if r < 12 {
             return next.signed(SPACED_EMPTY).push_empty(true);
         }
-        next.signed(EMPTY).push_empty(false)
+        if r < 16 {
+            return next.signed(EMPTY).push_empty(false);
+        }
+        next.signed(NO_SIGN).push(AGAIN)
     }
 
     // A name that occurs already, or a new one: names are numbered as they come.
@@ -359,6 +379,54 @@ impl Maker {
             return next.push_formula_leaf();
         }
         next.push_term_leaf()
+    }
+
+    // The signs from a place of the form on are next to be repeated.
+    fn copying(self, source: usize) -> Maker {
+        let mut next = self;
+        next.source = source;
+        next
+    }
+
+    // The first term of a contact that is repeated with its terms exchanged.
+    fn with_first(self, first: usize) -> Maker {
+        let mut next = self;
+        next.first = first;
+        next
+    }
+
+    // What a sign that is repeated has in the text: parentheses that need not be there, and no blanks.
+    fn push_copy(self, sign: u8) -> Maker {
+        match sign {
+            NOTHING => self.push(b'0'),
+            ALL => self.push(b'1'),
+            REST => self.push(NEXT_SIGN).push(b'-'),
+            EMPTY => self.push(b'0').push(b'=').push(NEXT_SIGN),
+            SPACED_EMPTY => self.push(b'0').push(b' ').push(b'=').push(NEXT_SIGN),
+            COMMON | EITHER => self.push_both(sign),
+            CONTACT => self.push_terms().push(b'C'),
+            PART => self.push_terms().push(b'=').push(b'<'),
+            _ => self.push(192 + sign % 4),
+        }
+    }
+
+    // A sign between the next two terms.
+    fn push_both(self, sign: u8) -> Maker {
+        let second = self.push(b')').push(NEXT_SIGN);
+        second.push_sign(sign).push(NEXT_SIGN).push(b'(')
+    }
+
+    // The next two terms in parentheses.
+    fn push_terms(self) -> Maker {
+        let second = self.push(b')').push(NEXT_SIGN);
+        second.push(b',').push(NEXT_SIGN).push(b'(')
+    }
+
+    // A contact of the next term with the one that is the first of the contact that is repeated, or of their complements.
+    fn push_exchanged(self, outside: bool) -> Maker {
+        let first = self.push(b')').push(NEXT_SIGN).push(FIRST_TERM);
+        let second = first.push_if(outside, OUTSIDE).push(b',').push(NEXT_SIGN);
+        second.push_if(outside, OUTSIDE).push(b'(').push(b'C')
     }
 }
 
@@ -413,19 +481,90 @@ fn put_sign(m: Maker, form: &mut [u8; 512], sign: u8) -> Maker {
     m.broken()
 }
 
-// The item on top: a byte or a name is written, what is larger is grown.
+// The first sign of a formula or a term is written, what is in it is left as items.
+fn with_grown(m: Maker, form: &mut [u8; 512], item: u8) -> Maker {
+    let n = (item % 64) as u64;
+    let grown = m.grown(n / 32, n / 8 % 4, n % 8);
+    put_sign(grown, form, grown.sign)
+}
+
+// `=0` is repeated as `= 0`, and the other way round: they are one sign.
+fn repeated_sign(sign: u8) -> u8 {
+    match sign {
+        EMPTY => SPACED_EMPTY,
+        SPACED_EMPTY => EMPTY,
+        _ => sign,
+    }
+}
+
+// One sign more of the atom that is repeated.
+fn with_copy(m: Maker, form: &mut [u8; 512]) -> Maker {
+    let at = m.source;
+    if at < 511 {
+        let sign = repeated_sign(form[at]);
+        return put_sign(m.copying(at + 1).push_copy(sign), form, sign);
+    }
+    m.broken()
+}
+
+// The last atom that a form has before a place; 512 where there is none.
+fn last_atom(form: &[u8; 512], before: usize) -> usize {
+    let mut found: usize = 512;
+    let mut i: usize = 0;
+    while i < 512 {
+        if i < before {
+            if is_atom(form[i]) {
+                found = i;
+            }
+        }
+        i += 1;
+    }
+    found
+}
+
+// A contact with its terms exchanged, or with their complements.
+fn with_exchanged(m: Maker, form: &mut [u8; 512], contact: usize, outside: bool) -> Maker {
+    if contact < 511 {
+        let first = contact + 1;
+        let second = after_term(&form[..], first);
+        let next = m.with_first(first).copying(second);
+        return put_sign(next.push_exchanged(outside), form, CONTACT);
+    }
+    m.broken()
+}
+
+// An atom of the form once more, a contact half the time with its terms exchanged; where there is none yet, another formula.
+fn again(m: Maker, form: &mut [u8; 512]) -> Maker {
+    let chosen = m.advanced();
+    let turned = chosen.advanced();
+    let place = chosen.drawn((m.form % 512) as u64 + 1);
+    let atom = last_atom(form, place as usize);
+    if 512 <= atom {
+        return chosen.push(item(FORMULA, 3, 1));
+    }
+    if form[atom] == CONTACT {
+        if turned.drawn(2) == 0 {
+            return with_exchanged(turned, form, atom, false);
+        }
+    }
+    turned.copying(atom).push(NEXT_SIGN)
+}
+
+// The item on top: a byte or a name is written, what is larger is grown, an atom is repeated sign by sign.
 fn with_item(m: Maker, text: &mut [u8; 1100], form: &mut [u8; 512]) -> Maker {
     let item = m.top();
     let next = m.popped();
     if item < 128 {
         return put_byte(next, text, item);
     }
-    if 192 <= item {
-        return put_name(next, text, item);
+    match item {
+        AGAIN => again(next, form),
+        NEXT_SIGN => with_copy(next, form),
+        OUTSIDE => put_sign(next.push(b'-'), form, REST),
+        FIRST_TERM => next.copying(next.first),
+        192..=255 => put_name(next, text, item),
+        _ => with_grown(next, form, item),
     }
-    let n = (item % 64) as u64;
-    let grown = next.grown(n / 32, n / 8 % 4, n % 8);
-    put_sign(grown, form, grown.sign)
 }
 
 // All items, of which there are never so many that the turns run out.
@@ -442,24 +581,260 @@ fn with_items(m: Maker, text: &mut [u8; 1100], form: &mut [u8; 512]) -> Maker {
     next.broken()
 }
 
+// The end of a rule whose items are left.
+fn with_line(m: Maker, text: &mut [u8; 1100], form: &mut [u8; 512]) -> Maker {
+    let made = with_items(m, text, form);
+    put_byte(made, text, b'\n')
+}
+
 // A rule of one to four leaves: atoms, T or F.
 fn with_rule(m: Maker, text: &mut [u8; 1100], form: &mut [u8; 512]) -> Maker {
     let begun = put_sign(m, form, RULE).advanced();
     let leaves = begun.drawn(4) + 1;
-    let made = with_items(begun.push(item(FORMULA, 0, leaves)), text, form);
-    put_byte(made, text, b'\n')
+    with_line(begun.push(item(FORMULA, 0, leaves)), text, form)
 }
 
-// One to four rules.
-fn with_rules(m: Maker, text: &mut [u8; 1100], form: &mut [u8; 512]) -> Maker {
+// So many rules at least, and at most three more.
+fn with_rules(m: Maker, fewest: u64, text: &mut [u8; 1100], form: &mut [u8; 512]) -> Maker {
     let mut next = m.advanced();
-    let rules = next.drawn(4) + 1;
+    let rules = next.drawn(4) + fewest % 8;
     let mut i: u64 = 0;
     while i < rules {
         next = with_rule(next, text, form);
         i += 1;
     }
     next
+}
+
+// A contact, the same with its terms exchanged, and none between their complements, so that the plan tells which was written first.
+fn with_contact_rules(m: Maker, text: &mut [u8; 1100], form: &mut [u8; 512]) -> Maker {
+    let begun = put_sign(put_sign(m, form, RULE), form, CONTACT);
+    let first = with_line(begun.push_arguments().push(b'C'), text, form);
+    let exchanged = with_exchanged(put_sign(first, form, RULE), form, 1, false);
+    let second = with_line(exchanged, text, form);
+    let denied = put_sign(put_sign(second, form, RULE), form, NOT);
+    let parted = with_exchanged(denied, form, 1, true).push(b'~');
+    with_line(parted, text, form)
+}
+
+// Of seven sheets one is long, and one has the three rules of a contact first.
+fn with_sheet(m: Maker, k: u64, text: &mut [u8; 1100], form: &mut [u8; 512]) -> Maker {
+    match k % 7 {
+        3 => with_rules(with_contact_rules(m, text, form), 0, text, form),
+        6 => with_rules(m, 5, text, form),
+        _ => with_rules(m, 1, text, form),
+    }
+}
+
+// ---- the different atoms
+
+// "atoms that are the same count as one: the same sign and the same terms as read, and for C also with its terms exchanged." A form has
+// no parentheses and no blanks, so that terms are the same if their signs are, one by one.
+
+// The atoms of a form in their order: the number of each, how many there are, where those stand that are the first with their number,
+// how many numbers there are, and whether a contact stands with its terms exchanged.
+struct Numbers {
+    of: [u8; 32],
+    places: usize,
+    firsts: [usize; 32],
+    count: usize,
+    exchanged: bool,
+}
+
+// What an atom weighs in a row: atom 0 the most of the sixteen.
+fn weight(number: usize) -> u32 {
+    0x8000 >> (number % 16)
+}
+
+// How many operands a sign has.
+fn operands(sign: u8) -> usize {
+    if sign < REST {
+        return 0;
+    }
+    if sign < COMMON {
+        return 1;
+    }
+    if sign < NAME {
+        return 2;
+    }
+    0
+}
+
+// Whether a sign is an atom's.
+fn is_atom(sign: u8) -> bool {
+    match sign {
+        CONTACT | PART | EMPTY | SPACED_EMPTY => true,
+        _ => false,
+    }
+}
+
+// The sign so many places after a place; past the form's end that of a rule.
+fn sign_after(code: &[u8], p: usize, i: usize) -> u8 {
+    if p < code.len() {
+        if i < code.len() - p {
+            return code[p + i];
+        }
+    }
+    RULE
+}
+
+// How many terms are still to come after a sign of them.
+fn still_wanted(wanted: usize, sign: u8) -> usize {
+    match operands(sign) {
+        0 => {
+            if 0 < wanted {
+                return wanted - 1;
+            }
+            0
+        }
+        1 => wanted,
+        _ => wanted % 512 + 1,
+    }
+}
+
+// The place after the term at a place.
+fn after_term(code: &[u8], p: usize) -> usize {
+    let mut wanted: usize = 1;
+    let mut i = p;
+    while i < code.len() {
+        if wanted == 0 {
+            return i;
+        }
+        wanted = still_wanted(wanted, code[i]);
+        i += 1;
+    }
+    i
+}
+
+// Whether the terms at two places are the same.
+fn same_term(code: &[u8], p: usize, q: usize) -> bool {
+    let mut wanted: usize = 1;
+    let mut i: usize = 0;
+    while i < code.len() {
+        if wanted == 0 {
+            return true;
+        }
+        let sign = sign_after(code, p, i);
+        if sign != sign_after(code, q, i) {
+            return false;
+        }
+        wanted = still_wanted(wanted, sign);
+        i += 1;
+    }
+    false
+}
+
+// The sign of an atom: `= 0` is `=0`.
+fn atom_sign(code: &[u8], p: usize) -> u8 {
+    let sign = sign_after(code, p, 0);
+    if sign == SPACED_EMPTY { EMPTY } else { sign }
+}
+
+// The place after another.
+fn next_place(p: usize) -> usize {
+    if p < 512 { p + 1 } else { p }
+}
+
+// Whether two atoms with one sign have the same terms in the same order.
+fn alike(code: &[u8], p: usize, q: usize) -> bool {
+    let first = next_place(p);
+    let other = next_place(q);
+    if !same_term(code, first, other) {
+        return false;
+    }
+    if atom_sign(code, p) == EMPTY {
+        return true;
+    }
+    same_term(code, after_term(code, first), after_term(code, other))
+}
+
+// Whether two atoms with one sign are contacts whose terms are exchanged.
+fn exchanged(code: &[u8], p: usize, q: usize) -> bool {
+    let first = next_place(p);
+    let other = next_place(q);
+    atom_sign(code, p) == CONTACT
+        && same_term(code, first, after_term(code, other))
+        && same_term(code, after_term(code, first), other)
+}
+
+// Whether the atoms at two places are the same.
+fn same_atom(code: &[u8], p: usize, q: usize) -> bool {
+    if atom_sign(code, p) != atom_sign(code, q) {
+        return false;
+    }
+    alike(code, p, q) || exchanged(code, p, q)
+}
+
+// The number of the first atom that is the same as the one at a place; where there is none, how many there are.
+fn number_of(code: &[u8], numbers: Numbers, p: usize) -> usize {
+    let firsts = numbers.firsts;
+    let mut j: usize = 0;
+    while j < 32 {
+        if j < numbers.count {
+            if same_atom(code, firsts[j], p) {
+                return j;
+            }
+        }
+        j += 1;
+    }
+    numbers.count
+}
+
+// One number more, for the atom at a place.
+fn with_first_atom(numbers: Numbers, p: usize) -> Numbers {
+    let mut next = numbers;
+    let count = numbers.count;
+    if count < 32 {
+        next.firsts[count] = p;
+        next.count = count + 1;
+    }
+    next
+}
+
+// One atom more, with its number.
+fn with_place(numbers: Numbers, number: usize) -> Numbers {
+    let mut next = numbers;
+    let places = numbers.places;
+    if places < 32 {
+        next.of[places] = (number % 32) as u8;
+        next.places = places + 1;
+    }
+    next
+}
+
+// One atom more, that at a place.
+fn with_numbered(code: &[u8], numbers: Numbers, p: usize) -> Numbers {
+    let number = number_of(code, numbers, p);
+    let firsts = numbers.firsts;
+    let mut next = with_place(numbers, number);
+    if number == numbers.count {
+        return with_first_atom(next, p);
+    }
+    if !alike(code, firsts[number % 32], p) {
+        next.exchanged = true;
+    }
+    next
+}
+
+// The numbers of a form's atoms.
+fn numbers_of(code: &[u8]) -> Numbers {
+    let of = [0u8; 32];
+    let firsts = [0usize; 32];
+    let mut numbers = Numbers {
+        of,
+        places: 0,
+        firsts,
+        count: 0,
+        exchanged: false,
+    };
+    let mut p: usize = 0;
+    while p < code.len() {
+        if is_atom(code[p]) {
+            numbers = with_numbered(code, numbers, p);
+        }
+        p += 1;
+    }
+    numbers
 }
 
 // ---- floors, and what rules mean on them
@@ -474,13 +849,15 @@ struct Floor {
 }
 
 // What is known after some signs of a form, which are taken from the last to the first: the values that are still wanted, the
-// uppermost that of the first operand; the row so far, a number with atom 0 as its highest bit, so that of two rows the first is the
-// larger; whether every rule so far is met; and whether all of it was evaluated.
+// uppermost that of the first operand; the numbers of the form's atoms, and how many atoms are still to come; the row so far, a number
+// with atom 0 as its highest bit, so that of two rows the first is the larger; whether every rule so far is met; and whether all of it
+// was evaluated.
 struct Machine {
     values: [u8; 32],
     height: usize,
+    numbers: [u8; 32],
+    left: usize,
     row: u32,
-    weight: u32,
     met: bool,
     whole: bool,
 }
@@ -590,13 +967,15 @@ fn floors_on(points: u8) -> usize {
 }
 
 // Nothing evaluated yet.
-fn start() -> Machine {
+fn start(numbers: Numbers) -> Machine {
     let values = [0u8; 32];
+    let of = numbers.of;
     Machine {
         values,
         height: 0,
+        numbers: of,
+        left: numbers.places,
         row: 0,
-        weight: 1,
         met: true,
         whole: true,
     }
@@ -612,28 +991,6 @@ fn operand(m: Machine, depth: usize) -> u8 {
         }
     }
     0
-}
-
-// How many operands a sign has.
-fn operands(sign: u8) -> usize {
-    if sign < REST {
-        return 0;
-    }
-    if sign < COMMON {
-        return 1;
-    }
-    if sign < NAME {
-        return 2;
-    }
-    0
-}
-
-// Whether a sign is an atom's.
-fn is_atom(sign: u8) -> bool {
-    match sign {
-        CONTACT | PART | EMPTY | SPACED_EMPTY => true,
-        _ => false,
-    }
 }
 
 // "C(x,y) holds if a point of x is in contact with a point of y."
@@ -698,13 +1055,27 @@ fn value_of(sign: u8, a: u8, b: u8, floor: Floor) -> u8 {
     formula_value(sign, a, b, touch)
 }
 
+// The number of the atom that comes next.
+fn coming(m: Machine) -> usize {
+    let numbers = m.numbers;
+    let left = m.left;
+    if 0 < left {
+        if left <= 32 {
+            return numbers[left - 1] as usize;
+        }
+    }
+    0
+}
+
 // The row with an atom's value.
 fn with_atom_value(m: Machine, value: u8) -> Machine {
     let mut next = m;
     if value == 1 {
-        next.row = m.row | m.weight;
+        next.row = m.row | weight(coming(m));
     }
-    next.weight = m.weight % 0x1_0000 * 2;
+    if 0 < m.left {
+        next.left = m.left - 1;
+    }
     next
 }
 
@@ -753,8 +1124,8 @@ fn step(m: Machine, sign: u8, floor: Floor) -> Machine {
 }
 
 // The rules on a floor.
-fn on_floor(code: &[u8], floor: Floor) -> Machine {
-    let mut m = start();
+fn on_floor(code: &[u8], numbers: Numbers, floor: Floor) -> Machine {
+    let mut m = start(numbers);
     let mut i: usize = 0;
     while i < code.len() {
         m = step(m, code[code.len() - 1 - i], floor);
@@ -779,19 +1150,19 @@ fn with_floor(found: Found, m: Machine) -> Found {
 }
 
 // What is found, with the floors of these points.
-fn with_floors(found: Found, code: &[u8], points: u8) -> Found {
+fn with_floors(found: Found, code: &[u8], numbers: Numbers, points: u8) -> Found {
     let floors = floors_on(points);
     let mut next = found;
     let mut contacts: usize = 0;
     while contacts < floors {
-        next = with_floor(next, on_floor(code, floor_of(points, contacts)));
+        next = with_floor(next, on_floor(code, numbers, floor_of(points, contacts)));
         contacts += 1;
     }
     next
 }
 
 // The search over all floors of at most four points.
-fn search(code: &[u8], names: usize) -> Found {
+fn search(code: &[u8], numbers: Numbers, names: usize) -> Found {
     let all = evaluations(names);
     let mut found = Found {
         some: false,
@@ -801,7 +1172,7 @@ fn search(code: &[u8], names: usize) -> Found {
     let mut points: u8 = 0;
     while points < all {
         points += 1;
-        found = with_floors(found, code, points);
+        found = with_floors(found, code, numbers, points);
     }
     found
 }
@@ -831,7 +1202,6 @@ struct Atoms {
     kinds: [u8; 16],
     first: [u8; 16],
     second: [u8; 16],
-    count: usize,
     names: usize,
     vacant: u8,
 }
@@ -857,7 +1227,6 @@ fn no_atoms(names: usize) -> Atoms {
         kinds,
         first,
         second,
-        count: 0,
         names,
         vacant: 0,
     }
@@ -875,37 +1244,34 @@ fn first_term(sign: u8, x: u8, y: u8) -> u8 {
     if sign == PART { x & (255 - y) } else { x }
 }
 
-// One atom more.
-fn with_atom(atoms: Atoms, kind: u8, first: u8, second: u8) -> Atoms {
+// An atom with its number, in the place of one that has the number already.
+fn with_atom(atoms: Atoms, number: usize, kind: u8, first: u8, second: u8) -> Atoms {
     let mut next = atoms;
-    let i = atoms.count;
     if kind == TRUE_ZERO {
         next.vacant = atoms.vacant | first;
     }
-    if i < 16 {
-        next.kinds[i] = kind;
-        next.first[i] = first;
-        next.second[i] = second;
-        next.count = i + 1;
-    }
+    next.kinds[number % 16] = kind;
+    next.first[number % 16] = first;
+    next.second[number % 16] = second;
     next
 }
 
-// The atoms of a form, from the last to the first as the row's bits: terms are evaluated on the floor of all evaluations.
-fn atoms_of(code: &[u8], names: usize, row: u32) -> Atoms {
+// The different atoms of a form as the row's bits: terms are evaluated on the floor of all evaluations. Atoms are taken from the last
+// to the first, so that of those that are the same the first stays: "The witness of an exchanged contact is taken from its first
+// writing".
+fn atoms_of(code: &[u8], numbers: Numbers, names: usize, row: u32) -> Atoms {
     let floor = apart(evaluations(names));
     let mut atoms = no_atoms(names);
-    let mut values = row;
-    let mut m = start();
+    let mut m = start(numbers);
     let mut i: usize = 0;
     while i < code.len() {
         let sign = code[code.len() - 1 - i];
         if is_atom(sign) {
             let x = operand(m, 0);
             let y = operand(m, 1);
-            let kind = kind_of(sign, values % 2 == 1);
-            atoms = with_atom(atoms, kind, first_term(sign, x, y), y);
-            values = values / 2;
+            let number = coming(m);
+            let kind = kind_of(sign, row & weight(number) != 0);
+            atoms = with_atom(atoms, number, kind, first_term(sign, x, y), y);
         }
         m = step(m, sign, floor);
         i += 1;
@@ -1159,11 +1525,19 @@ fn same_words(words: &[u32; 530], expected: Words) -> bool {
 enum Answer {
     Plan(usize),
     NoPlan,
+    TooManyAtoms,
     Refused,
 }
 
-// A table with one rule more; `refused` is set where add refuses it.
-fn with_text(table: Table, text: &[u8], refused: &mut bool) -> Table
+// Whether add refused no rule, only rules with too many atoms, or another.
+const NONE_REFUSED: u8 = 0;
+
+const ATOMS_REFUSED: u8 = 1;
+
+const REFUSED: u8 = 2;
+
+// A table with one rule more; `refused` is brought up to date where add refuses it.
+fn with_text(table: Table, text: &[u8], refused: &mut u8) -> Table
     requires { ⌜ FromUs table ⌝ }
     ensures { λ r. ⌜ FromUs r ⌝ }
 {
@@ -1171,15 +1545,18 @@ fn with_text(table: Table, text: &[u8], refused: &mut bool) -> Table
     let answer = r.answer;
     match answer {
         AddAnswer::Added => {}
+        AddAnswer::TooManyAtoms => {
+            *refused = *refused | ATOMS_REFUSED;
+        }
         _ => {
-            *refused = true;
+            *refused = REFUSED;
         }
     }
     r.table
 }
 
 // A table with the rule in file[start..end].
-fn with_part(table: Table, file: &[u8], start: usize, end: usize, refused: &mut bool) -> Table
+fn with_part(table: Table, file: &[u8], start: usize, end: usize, refused: &mut u8) -> Table
     requires { ⌜ FromUs table ⌝ }
     ensures { λ r. ⌜ FromUs r ⌝ }
 {
@@ -1192,7 +1569,7 @@ fn with_part(table: Table, file: &[u8], start: usize, end: usize, refused: &mut 
 }
 
 // The table of a file's lines, each ended by byte 10, each put to add.
-fn table_of(file: &[u8], refused: &mut bool) -> Table
+fn table_of(file: &[u8], refused: &mut u8) -> Table
     ensures { λ r. ⌜ FromUs r ⌝ }
 {
     let mut table = Table::empty();
@@ -1231,10 +1608,16 @@ fn answer_of(answer: AskAnswer) -> Answer {
 
 // What ask answers for a file's lines, the k-th withdrawn before where k is not 0.
 fn asked(file: &[u8], k: usize, words: &mut [u32; 530]) -> Answer {
-    let mut refused = false;
+    let mut refused = NONE_REFUSED;
     let table = without(table_of(file, &mut refused), k);
-    if refused {
-        return Answer::Refused;
+    match refused {
+        NONE_REFUSED => {}
+        ATOMS_REFUSED => {
+            return Answer::TooManyAtoms;
+        }
+        _ => {
+            return Answer::Refused;
+        }
     }
     let r = table.ask(words);
     let answer = r.answer;
@@ -1247,6 +1630,7 @@ fn asked(file: &[u8], k: usize, words: &mut [u32; 530]) -> Answer {
 enum Finding {
     Plan(usize),
     NoPlan,
+    TooManyAtoms,
     Disagrees,
 }
 
@@ -1266,9 +1650,9 @@ fn is_late(names: usize, row: u32, first: u32) -> bool {
     row < first
 }
 
-// Whether the words are those that document 01 gives for the row.
-fn check_words(code: &[u8], names: usize, row: u32, n: usize, words: &[u32; 530]) -> Finding {
-    let expected = words_of(atoms_of(code, names, row));
+// Whether the words are those that document 01 gives for the atoms in their row.
+fn check_words(atoms: Atoms, n: usize, words: &[u32; 530]) -> Finding {
+    let expected = words_of(atoms);
     if expected.count == n {
         if same_words(words, expected) {
             return Finding::Plan(n);
@@ -1277,20 +1661,27 @@ fn check_words(code: &[u8], names: usize, row: u32, n: usize, words: &[u32; 530]
     disagree(b"the words are not the document's")
 }
 
-fn check_plan(code: &[u8], names: usize, found: Found, n: usize, words: &[u32; 530]) -> Finding {
+fn check_plan(
+    code: &[u8],
+    numbers: Numbers,
+    names: usize,
+    found: Found,
+    n: usize,
+    words: &[u32; 530],
+) -> Finding {
     if names < 3 {
         if !found.some {
             return disagree(b"a plan, but no floor is found");
         }
     }
-    let m = on_floor(code, floor_in(words, n));
+    let m = on_floor(code, numbers, floor_in(words, n));
     if !m.met {
         return disagree(b"the plan does not meet the rules");
     }
     if is_late(names, m.row, found.row) {
         return disagree(b"the plan's row is not the first");
     }
-    check_words(code, names, m.row, n, words)
+    check_words(atoms_of(code, numbers, names, m.row), n, words)
 }
 
 fn check_no_plan(found: Found, words: &[u32; 530]) -> Finding {
@@ -1304,41 +1695,78 @@ fn check_no_plan(found: Found, words: &[u32; 530]) -> Finding {
 }
 
 // Holds ask's answer to the search.
-fn check(code: &[u8], names: usize, answer: Answer, words: &[u32; 530]) -> Finding {
-    let found = search(code, names);
+fn check_answer(
+    code: &[u8],
+    numbers: Numbers,
+    names: usize,
+    answer: Answer,
+    words: &[u32; 530],
+) -> Finding {
+    let found = search(code, numbers, names);
     if !found.whole {
         return disagree(b"the form is not evaluated");
     }
     match answer {
-        Answer::Plan(n) => check_plan(code, names, found, n, words),
+        Answer::Plan(n) => check_plan(code, numbers, names, found, n, words),
         Answer::NoPlan => check_no_plan(found, words),
+        Answer::TooManyAtoms => disagree(b"refused 8, but no more than 16 atoms differ"),
         Answer::Refused => disagree(b"a rule or the question is refused"),
     }
+}
+
+// Whether a sheet of more than 16 different atoms is refused for them.
+fn check_refused(answer: Answer) -> Finding {
+    match answer {
+        Answer::TooManyAtoms => Finding::TooManyAtoms,
+        _ => disagree(b"more than 16 atoms differ"),
+    }
+}
+
+fn check(
+    code: &[u8],
+    numbers: Numbers,
+    names: usize,
+    answer: Answer,
+    words: &[u32; 530],
+) -> Finding {
+    if 16 < numbers.count {
+        return check_refused(answer);
+    }
+    check_answer(code, numbers, names, answer, words)
 }
 
 // ---- the checks: counts
 
 // What is counted, after the sheets: sheets of 0 to 3 names, answers, words, and sheets with a sign, by the signs' numbers, with
-// parentheses that group, with a comma. `<=m` has no count: a rule with it is refused.
+// parentheses that group, with a comma, with atoms that are the same, with a contact that is so by exchange, with more than 16 atoms as
+// places are counted. `<=m` has no count: a rule with it is refused.
 const NAMES: usize = 1;
 
 const PLANS: usize = 5;
 
 const NO_PLANS: usize = 6;
 
-const PLAN_WORDS: usize = 7;
+const TOO_MANY: usize = 7;
 
-const DISAGREEMENTS: usize = 8;
+const PLAN_WORDS: usize = 8;
 
-const SIGNS: usize = 9;
+const DISAGREEMENTS: usize = 9;
 
-const GROUPS: usize = 26;
+const SIGNS: usize = 10;
 
-const COMMAS: usize = 27;
+const GROUPS: usize = 27;
+
+const COMMAS: usize = 28;
+
+const REPEATED: usize = 29;
+
+const EXCHANGED: usize = 30;
+
+const MANY_PLACES: usize = 31;
 
 // Writes part i of labels of 14 bytes each.
 fn write_part(labels: &[u8], i: usize) {
-    let start = i % 28 * 14;
+    let start = i % 32 * 14;
     let end = start + 14;
     if end <= labels.len() {
         write_bytes(&labels[start..end]);
@@ -1354,6 +1782,7 @@ fn write_label(i: usize) {
         three names   \
         plans         \
         no plans      \
+        refused 8     \
         plan words    \
         disagreements \
         with 0        \
@@ -1374,13 +1803,16 @@ fn write_label(i: usize) {
         with <->      \
         with a name   \
         with ()       \
-        with ,        ";
+        with ,        \
+        same atoms    \
+        exchanged     \
+        many places   ";
     write_part(labels, i);
 }
 
-fn write_counts(counts: [usize; 28]) {
+fn write_counts(counts: [usize; 32]) {
     let mut i: usize = 0;
-    while i < 28 {
+    while i < 32 {
         write_label(i);
         write_number(counts[i]);
         write_bytes(b"\n");
@@ -1389,11 +1821,11 @@ fn write_counts(counts: [usize; 28]) {
 }
 
 // Raises count i by n; no count comes near the bound.
-fn raise(counts: &mut [usize; 28], i: usize, n: usize) {
-    counts[i % 28] = counts[i % 28] % 0x1_0000_0000 + n % 0x1_0000;
+fn raise(counts: &mut [usize; 32], i: usize, n: usize) {
+    counts[i % 32] = counts[i % 32] % 0x1_0000_0000 + n % 0x1_0000;
 }
 
-fn raise_if(counts: &mut [usize; 28], i: usize, b: bool) {
+fn raise_if(counts: &mut [usize; 32], i: usize, b: bool) {
     if b {
         raise(counts, i, 1);
     }
@@ -1435,7 +1867,7 @@ fn is_grouped(file: &[u8]) -> bool {
 }
 
 // One more for each sign that a sheet has; a sheet with a name has the first.
-fn count_signs(counts: &mut [usize; 28], code: &[u8]) {
+fn count_signs(counts: &mut [usize; 32], code: &[u8]) {
     let mut sign: usize = 0;
     while sign < 17 {
         raise_if(counts, SIGNS + sign, occurs(code, sign as u8));
@@ -1443,7 +1875,14 @@ fn count_signs(counts: &mut [usize; 28], code: &[u8]) {
     }
 }
 
-fn count_sheet(counts: &mut [usize; 28], file: &[u8], code: &[u8], names: usize) {
+// One more for each way in which a sheet's atoms are the same.
+fn count_atoms(counts: &mut [usize; 32], numbers: Numbers) {
+    raise_if(counts, REPEATED, numbers.count < numbers.places);
+    raise_if(counts, EXCHANGED, numbers.exchanged);
+    raise_if(counts, MANY_PLACES, 16 < numbers.places);
+}
+
+fn count_sheet(counts: &mut [usize; 32], file: &[u8], code: &[u8], names: usize) {
     raise(counts, 0, 1);
     raise(counts, NAMES + names % 4, 1);
     count_signs(counts, code);
@@ -1452,7 +1891,7 @@ fn count_sheet(counts: &mut [usize; 28], file: &[u8], code: &[u8], names: usize)
 }
 
 // A sheet that disagrees is written with its rules.
-fn count_finding(counts: &mut [usize; 28], f: Finding, file: &[u8]) {
+fn count_finding(counts: &mut [usize; 32], f: Finding, file: &[u8]) {
     match f {
         Finding::Plan(n) => {
             raise(counts, PLANS, 1);
@@ -1460,6 +1899,9 @@ fn count_finding(counts: &mut [usize; 28], f: Finding, file: &[u8]) {
         }
         Finding::NoPlan => {
             raise(counts, NO_PLANS, 1);
+        }
+        Finding::TooManyAtoms => {
+            raise(counts, TOO_MANY, 1);
         }
         Finding::Disagrees => {
             write_bytes(file);
@@ -1486,23 +1928,26 @@ fn write_answer(label: &[u8], f: Finding, words: &[u32; 530]) {
     match f {
         Finding::Plan(n) => write_first(words, n),
         Finding::NoPlan => write_bytes(b" no plan"),
+        Finding::TooManyAtoms => write_bytes(b" refused 8"),
         Finding::Disagrees => write_bytes(b" disagrees"),
     }
     write_bytes(b"\n");
 }
 
 // Tests a sheet: its lines, the number of the one that is withdrawn or 0, its form without that one, and how many names.
-fn test(counts: &mut [usize; 28], label: &[u8], file: &[u8], k: usize, code: &[u8], names: usize) {
+fn test(counts: &mut [usize; 32], label: &[u8], file: &[u8], k: usize, code: &[u8], names: usize) {
     let mut words = [UNWRITTEN; 530];
     let answer = asked(file, k, &mut words);
-    let f = check(code, names, answer, &words);
+    let numbers = numbers_of(code);
+    let f = check(code, numbers, names, answer, &words);
     write_answer(label, f, &words);
     count_sheet(counts, file, code, names);
+    count_atoms(counts, numbers);
     count_finding(counts, f, file);
 }
 
 // Document 01, 'Worked sheets': P1 and P2.
-fn first_sheets(counts: &mut [usize; 28]) {
+fn first_sheets(counts: &mut [usize; 32]) {
     test(counts, b"P1:", b"T\n", 0, &[RULE, TRUE], 0);
     test(
         counts,
@@ -1515,7 +1960,7 @@ fn first_sheets(counts: &mut [usize; 28]) {
 }
 
 // P3 to P5.
-fn withdrawn_sheets(counts: &mut [usize; 28]) {
+fn withdrawn_sheets(counts: &mut [usize; 32]) {
     let code = [
         RULE,
         NOT,
@@ -1543,7 +1988,7 @@ fn withdrawn_sheets(counts: &mut [usize; 28]) {
 }
 
 // P6 to P9.
-fn plain_sheets(counts: &mut [usize; 28]) {
+fn plain_sheets(counts: &mut [usize; 32]) {
     test(
         counts,
         b"P6:",
@@ -1572,7 +2017,7 @@ fn plain_sheets(counts: &mut [usize; 28]) {
 }
 
 // P10 to P12.
-fn grouped_sheets(counts: &mut [usize; 28]) {
+fn grouped_sheets(counts: &mut [usize; 32]) {
     let code = [
         RULE,
         NOT,
@@ -1604,7 +2049,7 @@ fn grouped_sheets(counts: &mut [usize; 28]) {
 }
 
 // Tests a sheet that was made: the first bytes of a text and of a form.
-fn test_made(counts: &mut [usize; 28], text: &[u8; 1100], form: &[u8; 512], m: Maker) {
+fn test_made(counts: &mut [usize; 32], text: &[u8; 1100], form: &[u8; 512], m: Maker) {
     let text = &text[..];
     let form = &form[..];
     let end = m.text;
@@ -1621,17 +2066,17 @@ fn test_made(counts: &mut [usize; 28], text: &[u8; 1100], form: &[u8; 512], m: M
     count_finding(counts, disagree(b"a sheet is not made"), b"");
 }
 
-fn test_generated(counts: &mut [usize; 28], k: u64) {
+fn test_generated(counts: &mut [usize; 32], k: u64) {
     let mut text = [0u8; 1100];
     let mut form = [0u8; 512];
-    let m = with_rules(sheet_maker(k), &mut text, &mut form);
+    let m = with_sheet(sheet_maker(k), k, &mut text, &mut form);
     test_made(counts, &text, &form, m);
 }
 
 // How many sheets are generated.
 const SHEETS: u64 = 3000;
 
-fn generated_sheets(counts: &mut [usize; 28]) {
+fn generated_sheets(counts: &mut [usize; 32]) {
     let mut k: u64 = 0;
     while k < SHEETS {
         test_generated(counts, k);
@@ -1640,7 +2085,7 @@ fn generated_sheets(counts: &mut [usize; 28]) {
 }
 
 fn main() {
-    let mut counts = [0usize; 28];
+    let mut counts = [0usize; 32];
     first_sheets(&mut counts);
     withdrawn_sheets(&mut counts);
     plain_sheets(&mut counts);

@@ -1,12 +1,14 @@
 -- Every worked sheet holds: the standing rules and the words of their plan are computed from the rule texts, one equation over the
 -- table of rows, and what ask gives follows for any buffer. Assumes nothing.
 use mathlib.Core.Path.{_≡_, refl, ap, _∙_, subst}
-use mathlib.Core.Bool.{Bool, true, false, cond}
+use mathlib.Core.Bool.{Bool, true, false, cond, decide}
 use mathlib.Core.List.{List, [], _∷_, map, nil≢cons, cons≢nil, head-eq-of-cons-eq}
 use Prim.Native.Nat.{ℕ}
 use lib.Dec.{leb}
 use lib.ListN.{length}
 use borrow.Author.Tests.{le-leb, lt-leb}
+use native.Mathlib.Decide.{ℕ-discrete}
+use Rattle.formula.specs.Same.{name-discrete, equalAtom, sameAtom}
 use Rattle.lexer.specs.Class.{classOf, isBlank, isAlphanumeric, isSign}
 use Rattle.lexer.specs.Spelling.{signs, starts, constantKind}
 use Rattle.lexer.specs.Cutter.{longest, signPiece, runLength, runPiece, pieceOf, cutFrom}
@@ -68,7 +70,7 @@ abbrev written : WorkedSheet → Computed
 written row = record { rules = row .rules; none = false; plans = plansIn (row .answer) }
 
 sheets-computed : map computed workedSheets ≡ map written workedSheets
-unfolding classOf isBlank isAlphanumeric isSign signs starts constantKind longest signPiece runLength runPiece pieceOf cutFrom lexed runMachine reading puts ruleOf meaningOf bit rulesTrue separated allowed fills partners leads check given pointsFor good firstRow placesOf ruleTokens withName namesAfter gatheredOf gathered pairOf rowTo linksTo before wordsOf givenPlan rowPlan plansOf namesIn atomsIn judgeNames judgeAtoms judgeRoom judgeText judgeAdd addRules judgeWithdraw without withdrawRules after standingFrom standing adds
+unfolding classOf isBlank isAlphanumeric isSign signs starts constantKind longest signPiece runLength runPiece pieceOf cutFrom lexed runMachine reading puts ruleOf meaningOf decide ℕ-discrete name-discrete equalAtom sameAtom bit rulesTrue separated allowed fills partners leads check given pointsFor good firstRow placesOf ruleTokens withName namesAfter gatheredOf gathered pairOf rowTo linksTo before wordsOf givenPlan rowPlan plansOf namesIn atomsIn judgeNames judgeAtoms judgeRoom judgeText judgeAdd addRules judgeWithdraw without withdrawRules after standingFrom standing adds
 sheets-computed = refl
 
 -- ---- asked

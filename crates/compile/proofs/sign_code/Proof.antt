@@ -1,17 +1,9 @@
--- `compile::sign_code` meets its contract: the kind picks the code; any other kind is an atom's, whose number is small. Assumes nothing.
-use native.Mathlib.Omega.{arith}
+-- `compile::sign_code` meets its contract: the kind picks the code, and any other kind is that of T. Assumes nothing.
 use mathlib.Core.Path.{sym}
-use borrow.Author.Needs.{needs}
 use borrow.Author.Tests.{ne-eqb}
 use Rattle.compile.specs.Kinds.{signBy}
 use Rattle.compile.proofs.sign_code.Statement.{statement}
 use Rattle.compile.proofs.sign_code.Tie as tie
-
-cast-result : tie.Need-cast-result
-cast-result c = search needs
-
-add-result : tie.Need-add-result
-add-result c = search needs
 
 returns : tie.Need-returns
 unfolding signBy
@@ -39,11 +31,7 @@ returns-6 c = rw (c .match .keys6)
 
 returns-7 : tie.Need-returns-7
 unfolding signBy
-returns-7 c = rw (c .match .keys7)
-
-returns-8 : tie.Need-returns-8
-unfolding signBy
-returns-8 c = sym (simp (ne-eqb _ 7 (c .match .rest .0 .0 .0 .0 .0 .0 .1), ne-eqb _ 3 (c .match .rest .0 .0 .0 .0 .0 .1), ne-eqb _ 2 (c .match .rest .0 .0 .0 .0 .1), ne-eqb _ 0 (c .match .rest .0 .0 .0 .1), ne-eqb _ 1 (c .match .rest .0 .0 .1), ne-eqb _ 13 (c .match .rest .0 .1), ne-eqb _ 12 (c .match .rest .1)) (omega arith))
+returns-7 c = sym (simp (ne-eqb _ 7 (c .match .rest .0 .0 .0 .0 .0 .1), ne-eqb _ 3 (c .match .rest .0 .0 .0 .0 .1), ne-eqb _ 2 (c .match .rest .0 .0 .0 .1), ne-eqb _ 0 (c .match .rest .0 .0 .1), ne-eqb _ 1 (c .match .rest .0 .1), ne-eqb _ 13 (c .match .rest .1)))
 
 pub sign-code-spec : {M : Type 1} → statement M
-sign-code-spec = tie.close (tie.spec cast-result add-result returns returns-2 returns-3 returns-4 returns-5 returns-6 returns-7 returns-8)
+sign-code-spec = tie.close (tie.spec returns returns-2 returns-3 returns-4 returns-5 returns-6 returns-7)

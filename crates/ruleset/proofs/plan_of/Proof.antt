@@ -14,7 +14,7 @@ cast-t7 c = search needs
 
 returns : tie.Need-returns
 unfolding RowPlanIs
-returns c = λ rules code h. answer-row-plan rules _ code h _ _ (c .before .before .before .planned .ensures)
+returns c = λ rules kept code h. answer-row-plan rules _ kept code h _ _ (c .before .before .before .planned .ensures)
 
 pub plan-of-spec : {M : Type 1} → statement M
 plan-of-spec = tie.close (tie.spec planned-requires cast-t7 returns)

@@ -6,10 +6,10 @@ use Rattle.test_small_floors.proofs.atoms_of.Statement.{statement}
 use Rattle.test_small_floors.proofs.atoms_of.Tie as tie
 
 abbrev Inv-loop : tie.InvT-loop
-Inv-loop code names row floor atoms₀ values₀ m₀ i₀ atoms values m i = Unit {0}
+Inv-loop code names row floor atoms₀ m₀ i₀ atoms m i = Unit {0}
 
 abbrev μ-loop : tie.MeasureT-loop
-μ-loop code names row floor atoms₀ values₀ m₀ i₀ atoms values m i = length code - i
+μ-loop code names row floor atoms₀ m₀ i₀ atoms m i = length code - i
 
 evaluations-requires : tie.Need-evaluations-requires Inv-loop μ-loop
 evaluations-requires c κs = search needs
@@ -43,6 +43,12 @@ operand-requires c κs = search needs
 
 operand-requires-2 : tie.Need-operand-requires-2 Inv-loop μ-loop
 operand-requires-2 c κs = search needs
+
+coming-requires : tie.Need-coming-requires Inv-loop μ-loop
+coming-requires c κs = search needs
+
+weight-requires : tie.Need-weight-requires Inv-loop μ-loop
+weight-requires c κs = search needs
 
 kind-of-requires : tie.Need-kind-of-requires Inv-loop μ-loop
 kind-of-requires c κs = search needs
@@ -85,6 +91,8 @@ atoms-of-spec =
     is-atom-requires
     operand-requires
     operand-requires-2
+    coming-requires
+    weight-requires
     kind-of-requires
     first-term-requires
     with-atom-requires

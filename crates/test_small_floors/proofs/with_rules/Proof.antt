@@ -1,14 +1,14 @@
--- `test_small_floors::with_rules` is safe and ends: at most four rules are drawn, and those left fall. Assumes nothing.
+-- `test_small_floors::with_rules` is safe and ends: at most ten rules are drawn, and those left fall. Assumes nothing.
 use borrow.Author.Needs.{needs}
 use Prim.Native.Nat.{_-_}
 use Rattle.test_small_floors.proofs.with_rules.Statement.{statement}
 use Rattle.test_small_floors.proofs.with_rules.Tie as tie
 
 abbrev Inv-loop : tie.InvT-loop
-Inv-loop text₀ form₀ next₀ rules i₀ text form next i = Unit {0}
+Inv-loop fewest text₀ form₀ next₀ rules i₀ text form next i = Unit {0}
 
 abbrev μ-loop : tie.MeasureT-loop
-μ-loop text₀ form₀ next₀ rules i₀ text form next i = rules - i
+μ-loop fewest text₀ form₀ next₀ rules i₀ text form next i = rules - i
 
 advanced-requires : tie.Need-advanced-requires Inv-loop μ-loop
 advanced-requires c κs = search needs

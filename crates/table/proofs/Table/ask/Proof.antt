@@ -17,21 +17,12 @@ use Rattle.table.proofs.Table.ask.Tie as tie
 returns : tie.Need-returns
 returns c = asks-none _ (c .before .before .pre) _ (c .if1 .taken)
 
-no-code-requires : tie.Need-no-code-requires
-no-code-requires c κs = search needs
-
-compiled-requires : tie.Need-compiled-requires
-compiled-requires c κs = search needs
+searched-requires : tie.Need-searched-requires
+searched-requires c κs = search needs
 
 -- every standing rule is compiled
-all-compiled : (c : tie.After-compiled) → CompiledRules (formulasOf (rulesOf (c .before .before .before .before .before .args .self))) (c .compiled .result) (c .compiled .last .1 .1 .0)
-all-compiled c = reached-all (c .before .before .before .before .before .args .self) (c .compiled .result) (c .compiled .last .1 .1 .0) (c .before .before .before .before .before .pre) (c .compiled .ensures)
-
-slice-aggregate-row-of : tie.Need-slice-aggregate-row-of
-slice-aggregate-row-of c = search needs
-
-row-of-requires : tie.Need-row-of-requires
-row-of-requires c κs = search needs
+all-compiled : (c : tie.After-searched) → CompiledRules (formulasOf (rulesOf (c .before .before .before .args .self))) (c .searched .result .compiled) (c .searched .ensures .compiled .kept) (c .searched .ensures .code)
+all-compiled c = reached-all (c .before .before .before .args .self) (c .searched .result .compiled) (c .searched .ensures .code) (c .before .before .before .pre) (c .searched .ensures .compiled)
 
 enum-known-found : tie.Need-enum-known-found
 enum-known-found c = search needs
@@ -41,9 +32,9 @@ enum-told c = search needs
 
 returns-2 : tie.Need-returns-2
 returns-2 c =
-    let t = c .before .before .before .before .before .before .before .before .before .args .self in
-    asks-some t (c .before .before .before .before .before .before .before .before .before .pre) _ (c .before .before .before .before .before .before .before .if1 .left) []
-    (none-given (formulasOf (rulesOf t)) _ _ (all-compiled (c .before .before .before .before)) _ (c .before .before .row-of .ensures) (c .enum-told .given .1)) _ _ refl refl
+    let t = c .before .before .before .before .before .before .args .self in
+    asks-some t (c .before .before .before .before .before .before .pre) _ (c .before .before .before .before .if1 .left) []
+    (none-given (formulasOf (rulesOf t)) _ _ _ (all-compiled (c .before .before .before)) _ (c .before .before .before .searched .ensures .first) (c .enum-told .given .1)) _ _ refl refl
 
 plan-of-requires : tie.Need-plan-of-requires
 plan-of-requires c κs = search needs
@@ -53,7 +44,7 @@ write-plan-requires c κs = search needs
 
 -- the answer is the writer's
 abbrev start : tie.After-slice-known2 → tie.Start
-start c = c .before .before .before .before .before .before .before .before .before .before .before .before .before .before .before
+start c = c .before .before .before .before .before .before .before .before .before .before .before .before
 
 wrote : (c : tie.After-slice-known2) (a : AskAnswer) → writtenAnswer (c .before .before .write-plan .result) ≡ a
     → Asks (start c .args .self) (start c .args .buffer .now) (askResult (start c .args .self) a) (c .before .before .write-plan .last .1 .0)
@@ -61,8 +52,8 @@ wrote c a e =
     let t = start c .args .self in
     let plan = c .before .before .before .before .plan-of .result in
     let out = wrote-plan plan (start c .args .buffer .now) (c .before .before .write-plan .result) (c .before .before .write-plan .last .1 .0) (c .before .before .write-plan .ensures) in
-    asks-some t (start c .pre) _ (c .before .before .before .before .before .before .before .before .before .before .before .before .before .if1 .left) (planBy plan ∷ [])
-    (plan-given (formulasOf (rulesOf t)) _ _ (all-compiled (c .before .before .before .before .before .before .before .before .before .before)) _ _ _ (c .before .before .before .before .before .before .before .before .row-of .ensures) (c .before .before .before .before .before .before .found .given .1) (c .before .before .before .before .plan-of .ensures)) _ _ (sym e ∙ out .0) (out .1)
+    asks-some t (start c .pre) _ (c .before .before .before .before .before .before .before .before .before .before .if1 .left) (planBy plan ∷ [])
+    (plan-given (formulasOf (rulesOf t)) _ _ _ (all-compiled (c .before .before .before .before .before .before .before .before .before)) _ _ _ (c .before .before .before .before .before .before .before .before .before .searched .ensures .first) (c .before .before .before .before .before .before .found .given .1) (c .before .before .before .before .plan-of .ensures)) _ _ (sym e ∙ out .0) (out .1)
 
 enum-known-written : tie.Need-enum-known-written
 enum-known-written c = search needs
@@ -87,10 +78,7 @@ ask-spec =
     tie.close
     (tie.spec
     returns
-    no-code-requires
-    compiled-requires
-    slice-aggregate-row-of
-    row-of-requires
+    searched-requires
     enum-known-found
     enum-told
     returns-2

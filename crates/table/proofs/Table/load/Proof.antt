@@ -1,12 +1,13 @@
 -- `table::Table::load` meets its contract: so far each line is judged and those that are not blank are held; a refused line ends the load, and the old table comes back. Assumes nothing.
 use borrow.Author.Needs.{needs}
-use Prim.Native.Nat.{_+_, _-_}
+use Prim.Native.Nat.{ℕ, _+_, _-_}
+use mathlib.Core.List.{List}
 use mathlib.Core.Path.{_≡_, sym, subst, _∙_}
 use mathlib.Core.Logic.{⊎-elim}
 use borrow.Author.Tests.{not-true, not-false}
 use lib.ListN.{length}
 use Rattle.table.specs.declared.Table.{Table}
-use Rattle.table.specs.declared.Counts.{Counts}
+use Rattle.ruleset.specs.declared.Known.{Known}
 use Rattle.table.specs.declared.LoadAnswer.the-variants as LoadAnswer
 use Rattle.table.specs.Calls.{Loads}
 use Rattle.table.specs.Steps.{loadResult}
@@ -18,10 +19,10 @@ use Rattle.table.proofs.Table.load.Statement.{statement}
 use Rattle.table.proofs.Table.load.Tie as tie
 
 abbrev Inv-loop : tie.InvT-loop
-Inv-loop self file table₀ counts₀ line₀ from₀ table counts line from = Progress file table counts line from
+Inv-loop self file table₀ known₀ symbols₀ line₀ from₀ table known symbols line from = Progress file table known symbols line from
 
 abbrev μ-loop : tie.MeasureT-loop
-μ-loop self file table₀ counts₀ line₀ from₀ table counts line from = length file + 1 - from
+μ-loop self file table₀ known₀ symbols₀ line₀ from₀ table known symbols line from = length file + 1 - from
 
 kept-requires : tie.Need-kept-requires Inv-loop μ-loop
 kept-requires c κs = search needs
@@ -34,11 +35,14 @@ returns c =
 empty-requires : tie.Need-empty-requires Inv-loop μ-loop
 empty-requires c κs = search needs
 
-no-counts-requires : tie.Need-no-counts-requires Inv-loop μ-loop
-no-counts-requires c κs = search needs
+nothing-known-requires : tie.Need-nothing-known-requires Inv-loop μ-loop
+nothing-known-requires c κs = search needs
+
+no-symbols-requires : tie.Need-no-symbols-requires Inv-loop μ-loop
+no-symbols-requires c κs = search needs
 
 loop-holds : tie.Need-loop-holds Inv-loop μ-loop
-loop-holds c = start _ _ _ (c .before .before .if1 .left) (c .before .empty .ensures .0) (c .no-counts .ensures)
+loop-holds c = start _ _ _ _ (c .before .before .before .if1 .left) (c .before .before .empty .ensures .0) (c .before .nothing-known .ensures) (c .no-symbols .ensures)
 
 line-end-requires : tie.Need-line-end-requires Inv-loop μ-loop
 line-end-requires c κs = c .loop-test .taken
@@ -59,25 +63,25 @@ blank-line-requires : tie.Need-blank-line-requires Inv-loop μ-loop
 blank-line-requires c κs = search needs
 
 with-text-requires : tie.Need-with-text-requires Inv-loop μ-loop
-with-text-requires c κs = let inv = c .before .before .before .before .before .loop .inv in record { rules = _; counted = inv .counted; standing = inv .from-us .standing }
+with-text-requires c κs = let inv = c .before .before .before .before .before .before .loop .inv in record { rules = _; standing = inv .from-us .standing; known = inv .known }
 
 enum-told : tie.Need-enum-told Inv-loop μ-loop
 enum-told c = search needs
 
 returns-2 : tie.Need-returns-2 Inv-loop μ-loop
 returns-2 c =
-    let old = c .before .before .before .before .before .before .before .before .before .before .before .before in
-    let at = c .before .before .before .before .before .before .before .loop in
-    let cut = c .before .before .before .before .before .line-end .ensures in
-    let filled = sym (c .before .before .before .blank-line .ensures) ∙ not-true _ (c .before .before .if2 .taken) in
+    let old = c .before .before .before .before .before .before .before .before .before .before .before .before .before .before in
+    let at = c .before .before .before .before .before .before .before .before .loop in
+    let cut = c .before .before .before .before .before .before .line-end .ensures in
+    let filled = sym (c .before .before .before .before .blank-line .ensures) ∙ not-true _ (c .before .before .before .if2 .taken) in
     loaded-by (old .args .self) _ _ _ (old .pre)
-    (line-refused _ _ _ _ _ _ (at .inv) (c .before .before .before .before .before .before .loop-test .taken) (cut .0) (cut .1) (cut .2) _ filled (c .before .with-text .ensures) (told-refused _ (c .match .keys2)))
+    (line-refused _ _ _ _ _ _ _ (at .inv) (c .before .before .before .before .before .before .before .loop-test .taken) (cut .0) (cut .1) (cut .2) _ filled _ (c .before .with-text .ensures) (told-refused _ (c .match .keys2)))
     (old .pre .same)
 
 put-last-requires : tie.Need-put-last-requires Inv-loop μ-loop
 put-last-requires c κs =
-    let inv = c .before .before .before .before .before .before .before .before .before .loop .inv in
-    may-put _ _ _ _ (inv .from-us) (inv .counted) (c .before .before .before .with-text .ensures) (c .before .enum-told .given .1)
+    let inv = c .before .before .before .before .before .before .before .before .before .before .loop .inv in
+    may-put _ _ _ _ _ _ (inv .from-us) (inv .known) (c .before .before .before .with-text .ensures) (c .before .enum-told .given .1)
 
 add-from : tie.Need-add-from Inv-loop μ-loop
 add-from c = omega (arith, c .before .before .before .line-end .ensures .1, c .before .before .before .before .before .loop .inv .short)
@@ -88,18 +92,20 @@ loop-less c = omega (arith, c .before .before .before .line-end .ensures .0, c .
 loop-again : tie.Need-loop-again Inv-loop μ-loop
 loop-again c =
     let at = c .before .before .before .before .before .loop in
-    let file = c .before .before .before .before .before .before .before .before .before .before .args .file .now in
+    let file = c .before .before .before .before .before .before .before .before .before .before .before .args .file .now in
     let line = at .line + 1 in
     let from = c .before .before .before .line-end .result + 1 in
     let cut = c .before .before .before .line-end .ensures in
     let h = c .before .before .before .before .loop-test .taken in
     ⊎-elim
-    (λ w. subst (λ (t : Table). Progress file t (c .if2 .counts) line from) (sym (w .6))
-    (subst (λ (x : Counts). Progress file (w .5 .result) x line from) (sym (w .7))
-    (after-added _ _ _ _ _ _ (at .inv) h (cut .0) (cut .1) (cut .2) _ (sym (c .before .blank-line .ensures) ∙ not-true _ (w .0 .taken)) (w .1 .ensures) (w .3 .given .1) _ (w .5 .ensures))))
-    (λ w. subst (λ (t : Table). Progress file t (c .if2 .counts) line from) (sym (w .1))
-    (subst (λ (x : Counts). Progress file (at .table) x line from) (sym (w .2))
-    (after-blank _ _ _ _ _ _ (at .inv) h (cut .0) (cut .1) (cut .2) (sym (c .before .blank-line .ensures) ∙ not-false _ (w .0 .left)))))
+    (λ w. subst (λ (t : Table). Progress file t (c .if2 .known) (c .if2 .symbols) line from) (sym (w .7))
+    (subst (λ (x : Known). Progress file (w .6 .result) x (c .if2 .symbols) line from) (sym (w .8))
+    (subst (λ (x : List ℕ). Progress file (w .6 .result) (w .2 .result .known) x line from) (sym (w .9))
+    (after-added _ _ _ _ _ _ _ (at .inv) h (cut .0) (cut .1) (cut .2) _ (sym (c .before .blank-line .ensures) ∙ not-true _ (w .0 .taken)) _ (w .2 .ensures) (w .4 .given .1) _ (w .6 .ensures)))))
+    (λ w. subst (λ (t : Table). Progress file t (c .if2 .known) (c .if2 .symbols) line from) (sym (w .1))
+    (subst (λ (x : Known). Progress file (at .table) x (c .if2 .symbols) line from) (sym (w .2))
+    (subst (λ (x : List ℕ). Progress file (at .table) (at .known) x line from) (sym (w .3))
+    (after-blank _ _ _ _ _ _ _ (at .inv) h (cut .0) (cut .1) (cut .2) (sym (c .before .blank-line .ensures) ∙ not-false _ (w .0 .left))))))
     (c .if2 .came)
 
 kept-requires-2 : tie.Need-kept-requires-2 Inv-loop μ-loop
@@ -107,16 +113,16 @@ kept-requires-2 c κs = search needs
 
 returns-3 : tie.Need-returns-3 Inv-loop μ-loop
 returns-3 c =
-    let old = c .before .before .before .before .before .before .before .before .before in
+    let old = c .before .before .before .before .before .before .before .before .before .before in
     let same : c .kept2 .result ≡ loadResult (old .args .self) LoadAnswer.AllBlank = c .kept2 .ensures in
     subst (Loads (old .args .self) (old .args .file .now)) (sym same)
-    (loaded-by (old .args .self) _ _ _ (old .pre) (nothing-kept _ _ _ _ _ (c .before .before .before .before .loop .inv) (c .before .before .before .loop-test .left) (c .before .if3 .taken)) (old .pre .same))
+    (loaded-by (old .args .self) _ _ _ (old .pre) (nothing-kept _ _ _ _ _ _ (c .before .before .before .before .loop .inv) (c .before .before .before .loop-test .left) (c .before .if3 .taken)) (old .pre .same))
 
 returns-4 : tie.Need-returns-4 Inv-loop μ-loop
 returns-4 c =
-    let old = c .before .before .before .before .before .before .before .before in
+    let old = c .before .before .before .before .before .before .before .before .before in
     let end = c .before .before .loop-test .left in
-    loaded-by (old .args .self) _ _ _ (old .pre) (something-kept _ _ _ _ _ (c .before .before .before .loop .inv) end (c .if3 .left)) (kept-table _ _ _ _ _ (c .before .before .before .loop .inv) end)
+    loaded-by (old .args .self) _ _ _ (old .pre) (something-kept _ _ _ _ _ _ (c .before .before .before .loop .inv) end (c .if3 .left)) (kept-table _ _ _ _ _ _ (c .before .before .before .loop .inv) end)
 
 pub load-spec : {M : Type 1} → statement M
 load-spec =
@@ -127,7 +133,8 @@ load-spec =
     kept-requires
     returns
     empty-requires
-    no-counts-requires
+    nothing-known-requires
+    no-symbols-requires
     loop-holds
     line-end-requires
     add-line
