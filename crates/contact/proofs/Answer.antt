@@ -1,6 +1,6 @@
--- The first row that makes the rules true and passes the check decides the rules: its plan gives exactly the row, so it makes
--- them true; and the row of any floor that does is one of those tried, so where no row is found no floor does. The
--- laws hold for any list of atoms and any rules over their numbers. Assumes nothing.
+-- The first row that makes the rules true and passes the check decides the rules: its plan counts and gives exactly the row, so it makes
+-- them true; and the row of any floor that counts and does is one of those tried, so where no row is found no such floor does. The
+-- laws hold for each question, any list of atoms and any rules over their numbers. Assumes nothing.
 use mathlib.Core.Bool.{Bool, true, false, Bool-set, and-eq-true-iff}
 use mathlib.Core.Path.{_≡_, refl, sym, ap, ap₂, _∙_, subst}
 use mathlib.Core.Logic.{⊎-elim, _↔_, ∥∥₁-elim}
@@ -15,11 +15,12 @@ use Rattle.lists.specs.Search.{In, here, any, first, orElse}
 use Rattle.lists.proofs.Search.{none-in, uncons, in-left, in-right, in-either, map-intro, map-elim, any-intro, none-elim, none-intro, first-some, first-none, first-found, first-append, first-map}
 use Rattle.lists.proofs.Truth.{clash, cases}
 use Rattle.contact.specs.Meaning.{Floor, atomOn}
+use Rattle.contact.specs.Question.{Question, Counts}
 use Rattle.contact.specs.Numbering.{differentAtoms, AtomsBelow}
 use Rattle.contact.specs.Row.{IsFirstRow, Row, Realises, Realisable, rulesTrue, Before}
 use Rattle.contact.specs.Plan.{rowMarks}
-use Rattle.contact.specs.Check.{check, rows, good, firstRow}
-use Rattle.contact.proofs.Realise.{marksFloor, plan-row, row-check}
+use Rattle.contact.specs.Check.{passes, rows, good, firstRow}
+use Rattle.contact.proofs.Floors.{marksFloor, plan-counts, plan-row, row-check}
 
 -- ---- the rows of n atoms are the lists of n Booleans, in the order of rows
 
@@ -90,88 +91,92 @@ neither-before (false ∷ r) (true ∷ o) l f g = absurd (g tt)
 neither-before (false ∷ r) (false ∷ o) l f g = ap (λ s. false ∷ s) (neither-before r o (omega arith) f g)
 
 -- a realisable row has a value for each atom
-realisable-length : {N : Type 0} (atoms : List (Atom N)) (row : Row) → Realisable atoms row → length row ≡ length atoms
-realisable-length atoms row real =
-    ∥∥₁-elim real (ℕ-set _ _) (λ f. ap length (sym (f .1)) ∙ length-map atoms (atomOn (f .0)))
+realisable-length : {N : Type 0} (q : Question) (atoms : List (Atom N)) (row : Row) → Realisable q atoms row → length row ≡ length atoms
+realisable-length q atoms row real =
+    ∥∥₁-elim real (ℕ-set _ _) (λ f. ap length (sym (f .2)) ∙ length-map atoms (atomOn (f .0)))
 
 -- so the first realisable row that makes the rules true is one
-pub first-row-once : (rules : List (Formula Name)) (row other : Row) → IsFirstRow rules row → IsFirstRow rules other → row ≡ other
-first-row-once rules row other r s =
+pub first-row-once : (q : Question) (rules : List (Formula Name)) (row other : Row) → IsFirstRow q rules row → IsFirstRow q rules other → row ≡ other
+first-row-once q rules row other r s =
     neither-before row other
-    (realisable-length (differentAtoms rules) row (r .realisable) ∙ sym (realisable-length (differentAtoms rules) other (s .realisable)))
+    (realisable-length q (differentAtoms rules) row (r .realisable) ∙ sym (realisable-length q (differentAtoms rules) other (s .realisable)))
     (s .earliest row (r .realisable) (r .makes)) (r .earliest other (s .realisable) (s .makes))
 
 -- ---- for any atoms and rules over their numbers
 
-module _ (n : ℕ) (atoms : List (Atom ℕ)) (nums : List (Form ℕ)) where
+module _ (q : Question) (n : ℕ) (atoms : List (Atom ℕ)) (nums : List (Form ℕ)) where
   -- what a found row is
   pub record Good (row : Row) : Type 0 where
     pub whole : length row ≡ length atoms
     pub makes : rulesTrue nums row ≡ true
-    pub checked : check n (rowMarks atoms row) ≡ true
+    pub checked : passes q n (rowMarks atoms row) ≡ true
 
-  good-elim : (row : Row) → In row (rows (length atoms)) → good n atoms nums row ≡ true → Good row
+  good-elim : (row : Row) → In row (rows (length atoms)) → good q n atoms nums row ≡ true → Good row
   unfolding good
   good-elim row i g =
-      let k = and-eq-true-iff (rulesTrue nums row) (check n (rowMarks atoms row)) .0 g in
+      let k = and-eq-true-iff (rulesTrue nums row) (passes q n (rowMarks atoms row)) .0 g in
       record { whole = rows-elim (length atoms) row i; makes = k .0; checked = k .1 }
 
-  pub first-good : (row : Row) → firstRow n atoms nums ≡ row ∷ [] → Good row
+  pub first-good : (row : Row) → firstRow q n atoms nums ≡ row ∷ [] → Good row
   unfolding firstRow
-  first-good row e = let r = first-found (good n atoms nums) (rows (length atoms)) e in good-elim row (r .0) (r .1)
+  first-good row e = let r = first-found (good q n atoms nums) (rows (length atoms)) e in good-elim row (r .0) (r .1)
 
   -- the floor makes the rules true
   abbrev pub Makes : Floor ℕ → Type 0
   Makes F = rulesTrue nums (map (atomOn F) atoms) ≡ true
 
-  good-makes : (row : Row) (g : Good row) → Makes (marksFloor n (rowMarks atoms row) (g .checked))
-  good-makes row g = ap (rulesTrue nums) (plan-row n atoms row (g .whole) (g .checked)) ∙ g .makes
+  good-makes : (row : Row) (g : Good row) → Makes (marksFloor q n (rowMarks atoms row) (g .checked))
+  good-makes row g = ap (rulesTrue nums) (plan-row q n atoms row (g .whole) (g .checked)) ∙ g .makes
 
-  module _ (row : Row) (e : firstRow n atoms nums ≡ row ∷ []) where
+  module _ (row : Row) (e : firstRow q n atoms nums ≡ row ∷ []) where
     -- the plan of the first row
     abbrev pub rowFloor : Floor ℕ
-    rowFloor = marksFloor n (rowMarks atoms row) (first-good row e .checked)
+    rowFloor = marksFloor q n (rowMarks atoms row) (first-good row e .checked)
 
-    -- gives exactly the row
+    -- counts
+    pub row-counts : Counts q rowFloor
+    row-counts = plan-counts q n (rowMarks atoms row) (first-good row e .checked)
+
+    -- and gives exactly the row
     pub plan-gives-row : Realises rowFloor atoms row
-    plan-gives-row = plan-row n atoms row (first-good row e .whole) (first-good row e .checked)
+    plan-gives-row = plan-row q n atoms row (first-good row e .whole) (first-good row e .checked)
 
   module _ (names : AtomsBelow n atoms) where
     -- a realisable row that makes the rules true is good
-    realised-good : (row : Row) (F : Floor ℕ) → Realises F atoms row → rulesTrue nums row ≡ true → good n atoms nums row ≡ true
+    realised-good : (row : Row) (F : Floor ℕ) → Counts q F → Realises F atoms row → rulesTrue nums row ≡ true → good q n atoms nums row ≡ true
     unfolding good
-    realised-good row F h k = and-intro k (row-check n atoms names row F h)
+    realised-good row F counts h k = and-intro k (row-check q n atoms names row F counts h)
 
     -- no realisable row before the first makes the rules true
-    pub first-earliest : (row other : Row) → firstRow n atoms nums ≡ row ∷ [] → Realisable atoms other → rulesTrue nums other ≡ true
+    pub first-earliest : (row other : Row) → firstRow q n atoms nums ≡ row ∷ [] → Realisable q atoms other → rulesTrue nums other ≡ true
         → Before other row → ⊥
     unfolding firstRow
     first-earliest row other e real k b =
         ∥∥₁-elim real (λ x y. absurd x)
-        (λ f. clash (realised-good other (f .0) (f .1) k)
-        (before-first (length atoms) (good n atoms nums) row other e (realisable-length atoms other real) b))
+        (λ f. clash (realised-good other (f .0) (f .1) (f .2) k)
+        (before-first (length atoms) (good q n atoms nums) row other e (realisable-length q atoms other real) b))
 
-    -- the row of a floor that makes the rules true is among those tried, and good
-    some-good : (F : Floor ℕ) → Makes F → any (good n atoms nums) (rows (length atoms)) ≡ true
-    some-good F h =
+    -- the row of a floor that counts and makes the rules true is among those tried, and good
+    some-good : (F : Floor ℕ) → Counts q F → Makes F → any (good q n atoms nums) (rows (length atoms)) ≡ true
+    some-good F counts h =
         let row : Row = map (atomOn F) atoms in
-        any-intro (good n atoms nums) (subst (λ k. In row (rows k)) (length-map atoms (atomOn F)) (rows-intro row)) (realised-good row F refl h)
+        any-intro (good q n atoms nums) (subst (λ k. In row (rows k)) (length-map atoms (atomOn F)) (rows-intro row)) (realised-good row F counts refl h)
 
     -- so a row is found where some realisable row makes the rules true
-    pub some-found : (row : Row) → Realisable atoms row → rulesTrue nums row ≡ true → (other : Row) × (firstRow n atoms nums ≡ other ∷ [])
+    pub some-found : (row : Row) → Realisable q atoms row → rulesTrue nums row ≡ true → (other : Row) × (firstRow q n atoms nums ≡ other ∷ [])
     unfolding firstRow
     some-found row real k =
-        let found : any (good n atoms nums) (rows (length atoms)) ≡ true =
-        ∥∥₁-elim real (Bool-set _ _) (λ f. some-good (f .0) (ap (rulesTrue nums) (f .1) ∙ k)) in
-        let r = first-some (good n atoms nums) (rows (length atoms)) found in
+        let found : any (good q n atoms nums) (rows (length atoms)) ≡ true =
+        ∥∥₁-elim real (Bool-set _ _) (λ f. some-good (f .0) (f .1) (ap (rulesTrue nums) (f .2) ∙ k)) in
+        let r = first-some (good q n atoms nums) (rows (length atoms)) found in
         (r .0, r .1)
 
-    -- and none exactly where no floor does
-    pub none-exactly : (firstRow n atoms nums ≡ []) ↔ ((F : Floor ℕ) → Makes F → ⊥)
+    -- and none exactly where no floor that counts does
+    pub none-exactly : (firstRow q n atoms nums ≡ []) ↔ ((F : Floor ℕ) → Counts q F → Makes F → ⊥)
     unfolding firstRow
     none-exactly = (
-      λ e F h. let r = first-some (good n atoms nums) (rows (length atoms)) (some-good F h) in nil≢cons (sym e ∙ r .1),
-      λ h. first-none (good n atoms nums) (rows (length atoms))
-          (none-intro (good n atoms nums) (rows (length atoms))
-          (λ row i g. let a = good-elim row i g in h (marksFloor n (rowMarks atoms row) (a .checked)) (good-makes row a))),
+      λ e F counts h. let r = first-some (good q n atoms nums) (rows (length atoms)) (some-good F counts h) in nil≢cons (sym e ∙ r .1),
+      λ h. first-none (good q n atoms nums) (rows (length atoms))
+          (none-intro (good q n atoms nums) (rows (length atoms))
+          (λ row i g. let a = good-elim row i g in h (marksFloor q n (rowMarks atoms row) (a .checked)) (plan-counts q n (rowMarks atoms row) (a .checked)) (good-makes row a))),
     )

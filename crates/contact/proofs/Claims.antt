@@ -1,6 +1,7 @@
 -- What the crate proves, in the order of document 01, each claim with the file that has its proof. Nothing is assumed: any
--- number of names, of atoms and of points. Floors and rules are those of specs/Meaning.antt.
-use mathlib.Core.Bool.{Bool, true, not}
+-- number of names, of atoms and of points. Floors and rules are those of specs/Meaning.antt; which floors count is a parameter, the question of
+-- specs/Question.antt.
+use mathlib.Core.Bool.{Bool, true, false, not}
 use mathlib.Core.Path.{_≡_}
 use mathlib.Core.Logic.{_↔_}
 use mathlib.Core.List.{List, [], _∷_, map}
@@ -8,19 +9,22 @@ use Prim.Native.Nat.{ℕ, _+_, _*_, _^_, _≤_, _<_, max}
 use lib.Dec.{eqb}
 use lib.ListN.{length, getD}
 use Rattle.formula.specs.Formula.{Atom, Form, Formula, Name}
-use Rattle.lists.specs.Search.{In, first, collect, below}
+use Rattle.lists.specs.Search.{In, first, collect, below, elem}
 use Rattle.evalset.specs.Bit.{bit}
 use Rattle.contact.specs.Meaning.{Floor, atomOn, meetsAll}
+use Rattle.contact.specs.Question.{Question, plain, building, HangsTogether, Counts, NoFloor}
 use Rattle.formula.specs.Names.{atomNames}
 use Rattle.formula.specs.Same.{name-discrete, sameAtom}
 use Rattle.contact.specs.Numbering.{allAtoms, distinct, sameName, namesOf, numberOf, nameOf, differentAtoms, atomNumber, numberedAtoms, rowAtoms, AtomBelow, AtomsBelow}
-use Rattle.contact.specs.Row.{IsFirstRow, Row, Realises, Realisable, PartialRow, RealisesPart, rulesTrue, Sound, Exact}
-use Rattle.contact.specs.Plan.{Mark, marksOf, rowMarks, separated, pointsFor, trueContacts, falseZeros}
-use Rattle.contact.specs.Check.{check, rows, good, firstRowOf}
+use Rattle.contact.specs.Row.{IsFirstRow, Row, Realises, Realisable, is, PartialRow, RealisesPart, rulesTrue, Sound, Exact}
+use Rattle.contact.specs.Plan.{Mark, marksOf, rowMarks, separated, allowed, Linked, IsPiece, ArePoints, trueContacts, falseZeros}
+use Rattle.contact.specs.Pieces.{wholePiece}
+use Rattle.contact.specs.Check.{check, passes, pointsFor, rows, good, firstRow, firstRowOf}
 use Rattle.contact.specs.Pairs.{pairCheck}
 use Rattle.contact.specs.Tableau.{refutes, closes, search}
 use Rattle.contact.proofs.Bits
-use Rattle.contact.proofs.Realise
+use Rattle.contact.proofs.Pieces
+use Rattle.contact.proofs.Floors
 use Rattle.contact.proofs.Pairs
 use Rattle.contact.proofs.Same
 use Rattle.contact.proofs.Numbered
@@ -74,90 +78,129 @@ pub atoms-fewer : (rules others : List (Formula Name)) → ((f : Formula Name) �
     → length (differentAtoms rules) ≤ length (differentAtoms others)
 atoms-fewer = Naming.atoms-fewer
 
--- ---- which rows are realisable (Realise)
+-- ---- which rows are realisable (Floors)
 
--- the check of a partial row passes exactly if some floor gives the decided atoms their values
-pub check-exactly : (n : ℕ) (atoms : List (Atom ℕ)) (part : PartialRow) → ((a : Atom ℕ) → In a atoms → AtomBelow n a)
-    → length part ≤ length atoms → (check n (marksOf atoms part) ≡ true) ↔ ∥ ((F : Floor ℕ) × RealisesPart F atoms part) ∥₁
-check-exactly = Realise.check-exactly
+-- the check of a partial row passes exactly if some floor that counts gives the decided atoms their values
+pub check-exactly : (q : Question) (n : ℕ) (atoms : List (Atom ℕ)) (part : PartialRow) → ((a : Atom ℕ) → In a atoms → AtomBelow n a)
+    → length part ≤ length atoms → (passes q n (marksOf atoms part) ≡ true) ↔ ∥ ((F : Floor ℕ) × Counts q F × RealisesPart F atoms part) ∥₁
+check-exactly = Floors.check-exactly
 
 -- the check of a row passes exactly if the row is realisable
-pub row-exactly : (n : ℕ) (atoms : List (Atom ℕ)) (row : Row) → ((a : Atom ℕ) → In a atoms → AtomBelow n a) → length row ≡ length atoms
-    → (check n (rowMarks atoms row) ≡ true) ↔ Realisable atoms row
-row-exactly = Realise.row-exactly
+pub row-exactly : (q : Question) (n : ℕ) (atoms : List (Atom ℕ)) (row : Row) → ((a : Atom ℕ) → In a atoms → AtomBelow n a)
+    → length row ≡ length atoms → (passes q n (rowMarks atoms row) ≡ true) ↔ Realisable q atoms row
+row-exactly = Floors.row-exactly
 
 -- ---- the check by pairs of evaluations (Pairs)
 
--- the check of a partial row passes exactly if some pair of evaluations serves no restricted atom, and every demanded atom is served by
+-- the plain check of a partial row passes exactly if some pair of evaluations serves no restricted atom, and every demanded atom is served by
 -- such a pair; the pair may be an evaluation with itself
 pub pairs-exactly : (n : ℕ) (atoms : List (Atom ℕ)) (part : PartialRow) → check n (marksOf atoms part) ≡ pairCheck n (marksOf atoms part)
 pairs-exactly n atoms part = Pairs.check-pairs n (marksOf atoms part)
 
--- ---- the plan that is given (Realise, Answer, Naming)
+-- ---- the plan that is given (Floors, Answer, Naming)
+
+-- the points that are found are those that are meant: the evaluations given, or for one building the whole piece that meets the marks, of
+-- several the one with the least evaluation
+pub points-exactly : (q : Question) (n : ℕ) (ms : List Mark) (points : List ℕ) → passes q n ms ≡ true
+    → (points ≡ pointsFor q n ms) ↔ ArePoints q n ms points
+points-exactly = Floors.points-exactly
 
 -- the plan's floor has as many points as the plan
-pub plan-points : (n : ℕ) (ms : List Mark) (h : check n ms ≡ true) → Realise.marksFloor n ms h .points ≡ length (pointsFor n ms)
-plan-points = Realise.plan-points
+pub plan-points : (q : Question) (n : ℕ) (ms : List Mark) (h : passes q n ms ≡ true)
+    → Floors.marksFloor q n ms h .points ≡ length (pointsFor q n ms)
+plan-points = Floors.plan-points
 
 -- those at two places are in contact if they are not separated
-pub plan-touch : (n : ℕ) (ms : List Mark) (h : check n ms ≡ true) (p q : ℕ)
-    → Realise.marksFloor n ms h .touch p q ≡ not (separated ms (getD (pointsFor n ms) p 0) (getD (pointsFor n ms) q 0))
-plan-touch = Realise.plan-touch
+pub plan-touch : (q : Question) (n : ℕ) (ms : List Mark) (h : passes q n ms ≡ true) (p r : ℕ)
+    → Floors.marksFloor q n ms h .touch p r ≡ not (separated ms (getD (pointsFor q n ms) p 0) (getD (pointsFor q n ms) r 0))
+plan-touch = Floors.plan-touch
 
 -- and bit i of a point says whether it lies in name i
-pub plan-lies : (n : ℕ) (ms : List Mark) (h : check n ms ≡ true) (i p : ℕ)
-    → Realise.marksFloor n ms h .lies i p ≡ bit (getD (pointsFor n ms) p 0) i
-plan-lies = Realise.plan-lies
+pub plan-lies : (q : Question) (n : ℕ) (ms : List Mark) (h : passes q n ms ≡ true) (i p : ℕ)
+    → Floors.marksFloor q n ms h .lies i p ≡ bit (getD (pointsFor q n ms) p 0) i
+plan-lies = Floors.plan-lies
+
+-- it counts: the plan of a building hangs together
+pub plan-counts : (q : Question) (n : ℕ) (ms : List Mark) (h : passes q n ms ≡ true) → Counts q (Floors.marksFloor q n ms h)
+plan-counts = Floors.plan-counts
 
 -- the plan of a row that passes the check gives every atom the row's value
-pub plan-row : (n : ℕ) (atoms : List (Atom ℕ)) (row : Row) → length row ≡ length atoms → (h : check n (rowMarks atoms row) ≡ true)
-    → Realises (Realise.marksFloor n (rowMarks atoms row) h) atoms row
-plan-row = Realise.plan-row
+pub plan-row : (q : Question) (n : ℕ) (atoms : List (Atom ℕ)) (row : Row) → length row ≡ length atoms
+    → (h : passes q n (rowMarks atoms row) ≡ true) → Realises (Floors.marksFloor q n (rowMarks atoms row) h) atoms row
+plan-row = Floors.plan-row
 
 -- there is only one first row
-pub first-row-once : (rules : List (Formula Name)) (row other : Row) → IsFirstRow rules row → IsFirstRow rules other → row ≡ other
-first-row-once rules row other r s = Answer.first-row-once rules row other r s
+pub first-row-once : (q : Question) (rules : List (Formula Name)) (row other : Row) → IsFirstRow q rules row → IsFirstRow q rules other
+    → row ≡ other
+first-row-once = Answer.first-row-once
 
 -- the row found is realisable, makes the rules true, and no realisable row before it does
-pub first-row-named : (rules : List (Formula Name)) (row : Row)
-    → firstRowOf rules ≡ row ∷ [] → IsFirstRow rules row
+pub first-row-named : (q : Question) (rules : List (Formula Name)) (row : Row) → firstRowOf q rules ≡ row ∷ [] → IsFirstRow q rules row
 first-row-named = Naming.first-row-named
 
 -- and the first realisable one that makes them true is found
-pub first-row-only-named : (rules : List (Formula Name)) (row : Row) → IsFirstRow rules row
-    → firstRowOf rules ≡ row ∷ []
+pub first-row-only-named : (q : Question) (rules : List (Formula Name)) (row : Row) → IsFirstRow q rules row → firstRowOf q rules ≡ row ∷ []
 first-row-only-named = Naming.first-row-only-named
 
--- the plan, each name at its number, gives their atoms this row
-pub plan-row-named : (rules : List (Formula Name)) (row : Row)
-    (e : firstRowOf rules ≡ row ∷ [])
-    → Realises (Naming.namedPlan rules row e) (differentAtoms rules) row
+-- the plan, each name at its number, counts
+pub plan-counts-named : (q : Question) (rules : List (Formula Name)) (row : Row) (e : firstRowOf q rules ≡ row ∷ [])
+    → Counts q (Naming.namedPlan q rules row e)
+plan-counts-named = Naming.plan-counts-named
+
+-- gives their atoms this row
+pub plan-row-named : (q : Question) (rules : List (Formula Name)) (row : Row) (e : firstRowOf q rules ≡ row ∷ [])
+    → Realises (Naming.namedPlan q rules row e) (differentAtoms rules) row
 plan-row-named = Naming.plan-row-named
 
 -- and meets all of them
-pub plan-meets-named : (rules : List (Formula Name)) (row : Row)
-    (e : firstRowOf rules ≡ row ∷ []) → meetsAll (Naming.namedPlan rules row e) rules ≡ true
+pub plan-meets-named : (q : Question) (rules : List (Formula Name)) (row : Row) (e : firstRowOf q rules ≡ row ∷ [])
+    → meetsAll (Naming.namedPlan q rules row e) rules ≡ true
 plan-meets-named = Naming.plan-meets-named
 
--- and no row is found exactly if no floor over names meets all of them
-pub no-plan-named : (rules : List (Formula Name))
-    → (firstRowOf rules ≡ []) ↔ ((F : Floor Name) → meetsAll F rules ≡ true → ⊥)
+-- and no row is found exactly if no floor over names that counts meets all of them
+pub no-plan-named : (q : Question) (rules : List (Formula Name)) → (firstRowOf q rules ≡ []) ↔ NoFloor q rules
 no-plan-named = Naming.no-plan-named
+
+-- for one building: exactly if no floor that hangs together does
+pub no-building-named : (rules : List (Formula Name))
+    → (firstRowOf building rules ≡ []) ↔ ((F : Floor Name) → HangsTogether F → meetsAll F rules ≡ true → ⊥)
+no-building-named rules = Naming.no-plan-named building rules
 
 -- floors with the same points, contacts and regions meet the same rules
 pub meets-same : {N : Type 0} (F G : Floor N) → SameFloor.SameFloor F G → (rules : List (Formula N)) → meetsAll F rules ≡ meetsAll G rules
 meets-same F G same rules = SameFloor.meets-same F G same rules
 
+-- and count for the same questions
+pub counts-same : {N : Type 0} (F G : Floor N) → SameFloor.SameFloor F G → (q : Question) → Counts q F → Counts q G
+counts-same F G same q c = SameFloor.counts-same F G same q c
+
+-- ---- pieces (Pieces)
+
+-- the piece of an allowed evaluation has exactly what is linked with it
+pub piece-exactly : (n : ℕ) (ms : List Mark) (e : ℕ) → allowed n ms e ≡ true → IsPiece n ms e (wholePiece n ms e)
+piece-exactly = Pieces.piece-is
+
+-- and a set that has the evaluation, has only what is linked with it, and is closed is its piece
+pub piece-unique : (n : ℕ) (ms : List Mark) (e : ℕ) → allowed n ms e ≡ true → (set : ℕ → Bool) → set e ≡ true
+    → ((f : ℕ) → set f ≡ true → Linked n ms e f)
+    → ((f g : ℕ) → set f ≡ true → allowed n ms g ≡ true → separated ms f g ≡ false → set g ≡ true)
+    → (f : ℕ) → set f ≡ elem f (wholePiece n ms e)
+piece-unique = Pieces.piece-unique
+
 -- ---- how many points (Count)
 
--- with c true contacts and z false zero atoms there are at most max(1, 2c + z) points
-pub point-bound : (n : ℕ) (ms : List Mark) → length (pointsFor n ms) ≤ max 1 (2 * trueContacts ms + falseZeros ms)
+-- for the plain question, with c true contacts and z false zero atoms there are at most max(1, 2c + z) points
+pub point-bound : (n : ℕ) (ms : List Mark) → length (pointsFor plain n ms) ≤ max 1 (2 * trueContacts ms + falseZeros ms)
 point-bound = Count.point-bound
 
 -- at most 32 points for at most 16 atoms
 pub points-at-most : (n : ℕ) (atoms : List (Atom ℕ)) (part : PartialRow) → length atoms ≤ 16
-    → length (pointsFor n (marksOf atoms part)) ≤ 32
+    → length (pointsFor plain n (marksOf atoms part)) ≤ 32
 points-at-most = Count.points-at-most
+
+-- for each question at most as many as there are evaluations
+pub points-room : (q : Question) (n : ℕ) (ms : List Mark) → length (pointsFor q n ms) ≤ 2 ^ n
+points-room = Count.points-room
 
 -- ---- the search (Searching)
 
@@ -171,16 +214,29 @@ pub refutes-sound : (nums : List (Form ℕ)) → Sound (rulesTrue nums) (refutes
 refutes-sound = Searching.refutes-sound
 
 -- with the check of the decided atoms it is sound for the rows that make the rules true and pass the check
-pub closes-sound : (n : ℕ) (atoms : List (Atom ℕ)) (nums : List (Form ℕ))
-    → Sound (good n atoms nums) (closes n atoms nums)
+pub closes-sound : (q : Question) (n : ℕ) (atoms : List (Atom ℕ)) (nums : List (Form ℕ))
+    → Sound (good q n atoms nums) (closes q n atoms nums)
 closes-sound = Searching.closes-sound
 
 -- and exact at the leaves, the rules' atoms being numbered below how many there are
-pub closes-exact : (n : ℕ) (atoms : List (Atom ℕ)) (nums : List (Form ℕ)) → ((i : ℕ) → In i (allAtoms nums) → i < length atoms)
-    → Exact (length atoms) (good n atoms nums) (closes n atoms nums)
+pub closes-exact : (q : Question) (n : ℕ) (atoms : List (Atom ℕ)) (nums : List (Form ℕ))
+    → ((i : ℕ) → In i (allAtoms nums) → i < length atoms) → Exact (length atoms) (good q n atoms nums) (closes q n atoms nums)
 closes-exact = Searching.closes-exact
 
 -- so the search that closes branches early finds the row that the answer uses
-pub search-answer : (rules : List (Formula Name))
-    → search (closes (length (namesOf rules)) (rowAtoms rules) (numberedAtoms rules)) (length (rowAtoms rules)) [] ≡ firstRowOf rules
+pub search-answer : (q : Question) (rules : List (Formula Name))
+    → search (closes q (length (namesOf rules)) (rowAtoms rules) (numberedAtoms rules)) (length (rowAtoms rules)) [] ≡ firstRowOf q rules
 search-answer = Searching.search-answer
+
+-- the plain check closes branches for every question
+pub plain-sound : (q : Question) (n : ℕ) (atoms : List (Atom ℕ)) (nums : List (Form ℕ))
+    → Sound (good q n atoms nums) (closes plain n atoms nums)
+plain-sound = Searching.plain-sound
+
+-- and any test that closes no more than the question's own, and as much at whole rows, finds the answer's row
+pub search-between : (q : Question) (n : ℕ) (atoms : List (Atom ℕ)) (nums : List (Form ℕ))
+    → ((i : ℕ) → In i (allAtoms nums) → i < length atoms) → (test : PartialRow → Bool)
+    → ((part : PartialRow) → test part ≡ true → closes q n atoms nums part ≡ true)
+    → ((row : Row) → length row ≡ length atoms → closes q n atoms nums (map is row) ≡ true → test (map is row) ≡ true)
+    → search test (length atoms) [] ≡ firstRow q n atoms nums
+search-between = Searching.search-between

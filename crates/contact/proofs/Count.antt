@@ -1,14 +1,18 @@
--- The plan has at most max(1, 2c + z) points: each true contact gives at most two evaluations, each false zero atom at most
--- one, and an evaluation stands once among the points (lists' `keep-elems`). Assumes nothing.
+-- The plain question's plan has at most max(1, 2c + z) points: each true contact gives at most two evaluations, each false zero atom at most
+-- one, and an evaluation stands once among the points (lists' `keep-elems`). For each question the points are some of the evaluations.
+-- Assumes nothing.
 use mathlib.Core.List.{List, [], _∷_}
 use Prim.Native.Nat.{ℕ, _+_, _*_, _≤_, max, _^_}
 use native.Mathlib.Omega.{arith}
 use lib.ListN.{length, length-append}
 use Rattle.formula.specs.Formula.{Term, Atom}
-use Rattle.lists.specs.Search.{first, collect}
+use Rattle.lists.specs.Search.{first, collect, elem}
 use Rattle.lists.proofs.Search.{first-short, or-else-length, collect-few, keep-elems}
+use Rattle.lists.proofs.Below.{keep-length}
+use Rattle.contact.specs.Question.{Question, plain}
 use Rattle.contact.specs.Row.{PartialRow, is, unknown}
-use Rattle.contact.specs.Plan.{Mark, touching, apart, vacant, inhabited, marksOf, allowed, fills, partners, leads, evaluations, withPartner, gives, given, pointsFor, trueContacts, falseZeros}
+use Rattle.contact.specs.Plan.{Mark, touching, apart, vacant, inhabited, marksOf, allowed, fills, partners, leads, evaluations, withPartner, gives, given, trueContacts, falseZeros}
+use Rattle.contact.specs.Check.{givenBy, pointsFor}
 
 module _ (n : ℕ) (all : List Mark) where
   pair-short : (y : Term ℕ) (p : ℕ) → length (withPartner n all y p) ≤ 2
@@ -31,7 +35,7 @@ module _ (n : ℕ) (all : List Mark) where
       (omega (arith, collect-gives ms, first-short (fills n all t) (evaluations n)))
 
 -- "With c true contacts and z false zero atoms there are at most max(1, 2 times c + z) points."
-pub point-bound : (n : ℕ) (ms : List Mark) → length (pointsFor n ms) ≤ max 1 (2 * trueContacts ms + falseZeros ms)
+pub point-bound : (n : ℕ) (ms : List Mark) → length (pointsFor plain n ms) ≤ max 1 (2 * trueContacts ms + falseZeros ms)
 unfolding pointsFor given
 point-bound n ms =
     omega (
@@ -55,11 +59,16 @@ marks-length (a ∷ atoms) (unknown ∷ part) = omega (arith, marks-length atoms
 
 -- at most two points for each atom, or one
 point-bound-atoms : (n : ℕ) (atoms : List (Atom ℕ)) (part : PartialRow)
-    → length (pointsFor n (marksOf atoms part)) ≤ max 1 (2 * length atoms)
+    → length (pointsFor plain n (marksOf atoms part)) ≤ max 1 (2 * length atoms)
 point-bound-atoms n atoms part =
     omega (arith, point-bound n (marksOf atoms part), marks-count (marksOf atoms part), marks-length atoms part)
 
 -- 16 atoms, 32 points
 pub points-at-most : (n : ℕ) (atoms : List (Atom ℕ)) (part : PartialRow) → length atoms ≤ 16
-    → length (pointsFor n (marksOf atoms part)) ≤ 32
+    → length (pointsFor plain n (marksOf atoms part)) ≤ 32
 points-at-most n atoms part h = omega (arith, point-bound-atoms n atoms part)
+
+-- for each question at most as many as there are evaluations
+pub points-room : (q : Question) (n : ℕ) (ms : List Mark) → length (pointsFor q n ms) ≤ 2 ^ n
+unfolding pointsFor
+points-room q n ms = keep-length (λ e. elem e (givenBy q n ms)) (2 ^ n)

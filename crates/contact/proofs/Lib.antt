@@ -1,7 +1,9 @@
 pub mod Bits
 pub mod Realise
+pub mod Pieces
 pub mod Pairs
 pub mod Fewer
+pub mod Floors
 pub mod Renaming
 pub mod Distinct
 pub mod Same
@@ -12,3 +14,4 @@ pub mod Searching
 pub mod Count
 pub mod SameFloor
 pub mod Claims
+pub mod Examples

@@ -1,6 +1,6 @@
 -- Numbers may stand for names: a floor over numbers is one over names, each name at its number, and gives the rules' atoms the row that
--- it gives these with numbers for names; the atoms with the names put back are as read, so the same holds the other way round.
--- Assumes nothing.
+-- it gives these with numbers for names; the atoms with the names put back are as read, so the same holds the other way round. Whether a
+-- floor counts does not depend on its names. Assumes nothing.
 use mathlib.Core.Bool.{Bool, true, not, _&&_, _||_, and-eq-true-iff}
 use mathlib.Core.Path.{_≡_, refl, sym, ap, ap₂, _∙_, subst, fun-ext}
 use mathlib.Core.Logic.{_↔_, ∥∥₁-map}
@@ -15,6 +15,7 @@ use Rattle.lists.specs.Search.{In, here, any, collect, below}
 use Rattle.lists.proofs.Lists.{map-agree}
 use Rattle.lists.proofs.Search.{in-left, in-right, map-elim, collect-intro, collect-elim}
 use Rattle.contact.specs.Meaning.{Floor, holds, within, partTerm, atomOn, meetsAll, renamed}
+use Rattle.contact.specs.Question.{Question, plain, building, Way, stay, step, Counts, NoFloor}
 use Rattle.formula.specs.Atoms.{atomsOf}
 use Rattle.formula.specs.Names.{termNames, atomNames}
 use Rattle.formula.specs.Same.{name-discrete, sameAtom}
@@ -25,7 +26,7 @@ use Rattle.contact.specs.Check.{firstRowOf}
 use Rattle.contact.proofs.Distinct.{Alike, Decides, decides-alike, from-distinct, position-in, position-same, in-distinct, distinct-fewer}
 use Rattle.contact.proofs.Same.{same-alike}
 use Rattle.contact.proofs.Numbered.{numbered-faithful}
-use Rattle.contact.proofs.Answer.{first-good, first-row-once, first-earliest, some-found, none-exactly, rowFloor, plan-gives-row}
+use Rattle.contact.proofs.Answer.{first-good, first-row-once, first-earliest, some-found, none-exactly, rowFloor, row-counts, plan-gives-row}
 
 -- ---- renaming
 
@@ -54,6 +55,16 @@ module _ {N M : Type 0} (g : N → M) where
 -- a floor gives renamed atoms the row that, renamed, it gives the atoms
 row-map : {N M : Type 0} (g : N → M) (F : Floor M) (atoms : List (Atom N)) → map (atomOn F) (map (mapAtom g) atoms) ≡ map (atomOn (renamed g F)) atoms
 row-map {N} g F atoms = map-map (atomOn F) (mapAtom g) atoms ∙ ap (λ (v : Atom N → Bool). map v atoms) (fun-ext (atom-map g F))
+
+-- a way stays one under other names
+way-renamed : {N M : Type 0} (g : N → M) (F : Floor M) {p r : ℕ} → Way F p r → Way (renamed g F) p r
+way-renamed g F stay = stay
+way-renamed g F (step l t w) = step l t (way-renamed g F w)
+
+-- so a floor that counts still does
+pub counts-renamed : {N M : Type 0} (g : N → M) (q : Question) (F : Floor M) → Counts q F → Counts q (renamed g F)
+counts-renamed g plain F h = tt
+counts-renamed g building F h = λ p r hp hr. way-renamed g F (h p r hp hr)
 
 -- ---- and back again
 
@@ -149,58 +160,73 @@ module _ (rules : List (Formula Name)) where
   names-row : (F : Floor Name) → map (atomOn (renamed (nameOf rules) F)) (rowAtoms rules) ≡ map (atomOn F) (differentAtoms rules)
   names-row F = sym (row-map (nameOf rules) F (rowAtoms rules)) ∙ ap (map (atomOn F)) names-back
 
-  -- so the realisable rows are the same
-  realisable-named : (row : Row) → Realisable (rowAtoms rules) row ↔ Realisable (differentAtoms rules) row
-  realisable-named row = (
-    λ r. ∥∥₁-map r (λ f. (renamed (numberOf rules) (f .0), numbers-row (f .0) ∙ f .1)),
-    λ r. ∥∥₁-map r (λ f. (renamed (nameOf rules) (f .0), names-row (f .0) ∙ f .1)),
-  )
-
-  -- what is found, of these atoms and rules
-  abbrev Found : Row → Type 0
-  Found row = firstRowOf rules ≡ row ∷ []
-
-  -- the row found is the first realisable one that makes the rules true
-  pub first-row-named : (row : Row) → Found row → IsFirstRow rules row
-  first-row-named row e =
-      let n = length (namesOf rules) in
-      record {
-        realisable = realisable-named row .0 ∣ (rowFloor n (rowAtoms rules) (numberedAtoms rules) row e, plan-gives-row n (rowAtoms rules) (numberedAtoms rules) row e) ∣₁;
-        makes = first-good n (rowAtoms rules) (numberedAtoms rules) row e .makes;
-        earliest = λ other real k b.
-            first-earliest n (rowAtoms rules) (numberedAtoms rules) numbered-below row other e (realisable-named other .1 real) k b;
-      }
-
-  -- and that row is found
-  pub first-row-only-named : (row : Row) → IsFirstRow rules row → Found row
-  first-row-only-named row r =
-      let f = some-found (length (namesOf rules)) (rowAtoms rules) (numberedAtoms rules) numbered-below row (realisable-named row .1 (r .realisable)) (r .makes) in
-      f .1 ∙ ap (λ (s : Row). s ∷ []) (first-row-once rules (f .0) row (first-row-named (f .0) (f .1)) r)
-
-  -- no row is found exactly where no floor meets the rules as read
-  pub no-plan-named : (firstRowOf rules ≡ []) ↔ ((F : Floor Name) → meetsAll F rules ≡ true → ⊥)
-  no-plan-named =
-      let w = none-exactly (length (namesOf rules)) (rowAtoms rules) (numberedAtoms rules) numbered-below in (
-        λ e F h. w .0 e (renamed (nameOf rules) F) (ap (rulesTrue (numberedAtoms rules)) (names-row F) ∙ numbered-faithful rules F ∙ h),
-        λ none. w .1 (λ F h. none (renamed (numberOf rules) F)
-            (sym (numbered-faithful rules (renamed (numberOf rules) F)) ∙ ap (rulesTrue (numberedAtoms rules)) (numbers-row F) ∙ h)),
-      )
-
-  -- the plan of the first row, over names, gives the row and meets the rules as read
-  abbrev pub namedPlan : (row : Row) → Found row → Floor Name
-  namedPlan row e = renamed (numberOf rules) (rowFloor (length (namesOf rules)) (rowAtoms rules) (numberedAtoms rules) row e)
-
-  pub plan-row-named : (row : Row) (e : Found row) → Realises (namedPlan row e) (differentAtoms rules) row
-  plan-row-named row e =
-      numbers-row (rowFloor (length (namesOf rules)) (rowAtoms rules) (numberedAtoms rules) row e)
-      ∙ plan-gives-row (length (namesOf rules)) (rowAtoms rules) (numberedAtoms rules) row e
-
   -- a floor that gives the different atoms a row that makes the rules true meets them
   pub row-meets : (F : Floor Name) (row : Row) → Realises F (differentAtoms rules) row → rulesTrue (numberedAtoms rules) row ≡ true → meetsAll F rules ≡ true
   row-meets F row real k = sym (numbered-faithful rules F) ∙ ap (rulesTrue (numberedAtoms rules)) real ∙ k
 
+-- ---- the answer, over names
+
+module _ (q : Question) (rules : List (Formula Name)) where
+  -- the realisable rows are the same
+  realisable-named : (row : Row) → Realisable q (rowAtoms rules) row ↔ Realisable q (differentAtoms rules) row
+  realisable-named row = (
+    λ r. ∥∥₁-map r (λ f. (renamed (numberOf rules) (f .0), counts-renamed (numberOf rules) q (f .0) (f .1), numbers-row rules (f .0) ∙ f .2)),
+    λ r. ∥∥₁-map r (λ f. (renamed (nameOf rules) (f .0), counts-renamed (nameOf rules) q (f .0) (f .1), names-row rules (f .0) ∙ f .2)),
+  )
+
+  -- what is found, of these atoms and rules
+  abbrev Found : Row → Type 0
+  Found row = firstRowOf q rules ≡ row ∷ []
+
+  -- the plan of the first row
+  abbrev foundFloor : (row : Row) → Found row → Floor ℕ
+  foundFloor row e = rowFloor q (length (namesOf rules)) (rowAtoms rules) (numberedAtoms rules) row e
+
+  found-counts : (row : Row) (e : Found row) → Counts q (foundFloor row e)
+  found-counts row e = row-counts q (length (namesOf rules)) (rowAtoms rules) (numberedAtoms rules) row e
+
+  found-row : (row : Row) (e : Found row) → Realises (foundFloor row e) (rowAtoms rules) row
+  found-row row e = plan-gives-row q (length (namesOf rules)) (rowAtoms rules) (numberedAtoms rules) row e
+
+  -- the row found is the first realisable one that makes the rules true
+  pub first-row-named : (row : Row) → Found row → IsFirstRow q rules row
+  first-row-named row e =
+      let n = length (namesOf rules) in
+      record {
+        realisable = realisable-named row .0 ∣ (foundFloor row e, found-counts row e, found-row row e) ∣₁;
+        makes = first-good q n (rowAtoms rules) (numberedAtoms rules) row e .makes;
+        earliest = λ other real k b.
+            first-earliest q n (rowAtoms rules) (numberedAtoms rules) (numbered-below rules) row other e (realisable-named other .1 real) k b;
+      }
+
+  -- and that row is found
+  pub first-row-only-named : (row : Row) → IsFirstRow q rules row → Found row
+  first-row-only-named row r =
+      let f = some-found q (length (namesOf rules)) (rowAtoms rules) (numberedAtoms rules) (numbered-below rules) row (realisable-named row .1 (r .realisable)) (r .makes) in
+      f .1 ∙ ap (λ (s : Row). s ∷ []) (first-row-once q rules (f .0) row (first-row-named (f .0) (f .1)) r)
+
+  -- no row is found exactly where no floor that counts meets the rules as read
+  pub no-plan-named : (firstRowOf q rules ≡ []) ↔ NoFloor q rules
+  no-plan-named =
+      let w = none-exactly q (length (namesOf rules)) (rowAtoms rules) (numberedAtoms rules) (numbered-below rules) in (
+        λ e F c h. w .0 e (renamed (nameOf rules) F) (counts-renamed (nameOf rules) q F c)
+            (ap (rulesTrue (numberedAtoms rules)) (names-row rules F) ∙ numbered-faithful rules F ∙ h),
+        λ none. w .1 (λ F c h. none (renamed (numberOf rules) F) (counts-renamed (numberOf rules) q F c)
+            (sym (numbered-faithful rules (renamed (numberOf rules) F)) ∙ ap (rulesTrue (numberedAtoms rules)) (numbers-row rules F) ∙ h)),
+      )
+
+  -- the plan of the first row, over names, counts, gives the row and meets the rules as read
+  abbrev pub namedPlan : (row : Row) → Found row → Floor Name
+  namedPlan row e = renamed (numberOf rules) (foundFloor row e)
+
+  pub plan-counts-named : (row : Row) (e : Found row) → Counts q (namedPlan row e)
+  plan-counts-named row e = counts-renamed (numberOf rules) q (foundFloor row e) (found-counts row e)
+
+  pub plan-row-named : (row : Row) (e : Found row) → Realises (namedPlan row e) (differentAtoms rules) row
+  plan-row-named row e = numbers-row rules (foundFloor row e) ∙ found-row row e
+
   pub plan-meets-named : (row : Row) (e : Found row) → meetsAll (namedPlan row e) rules ≡ true
-  plan-meets-named row e = row-meets (namedPlan row e) row (plan-row-named row e) (first-row-named row e .makes)
+  plan-meets-named row e = row-meets rules (namedPlan row e) row (plan-row-named row e) (first-row-named row e .makes)
 
 -- rules that are all among others have no more different atoms
 pub atoms-fewer : (rules others : List (Formula Name)) → ((f : Formula Name) → In f rules → In f others)

@@ -1,49 +1,49 @@
--- The check passes exactly where some floor gives the decided atoms their values. The evaluations of a floor's points are
--- allowed, those of points in contact are not separated, so every mark is witnessed; and where every mark is witnessed, the points
--- of the plan, all unseparated pairs in contact, are such a floor. For any number of names and of points. Assumes nothing.
-use mathlib.Core.Bool.{Bool, true, false, not, _&&_, or-comm, Bool-set, and-eq-true-iff}
+-- Allowed evaluations that meet every mark, all unseparated pairs in contact, are a floor that gives the decided atoms their values; where
+-- every mark is witnessed, what is given is so. The other way round the evaluations of a floor's points are allowed, those of points in contact
+-- are not separated, so every mark is witnessed. For any number of names and of points. Assumes nothing.
+use mathlib.Core.Bool.{Bool, true, false, not, _&&_, or-comm, and-eq-true-iff}
 use mathlib.Core.Path.{_≡_, refl, sym, ap, ap₂, _∙_, subst, fun-ext}
-use mathlib.Core.Logic.{⊎-elim, _↔_, ∥∥₁-elim}
+use mathlib.Core.Logic.{⊎-elim}
 use mathlib.Core.List.{List, [], _∷_, map}
 use mathlib.Mathlib.Data.Bool.Basic.{and-intro, eq-false-of-not-eq-true, or-inl, partialOrderLaws}
 use Prim.Native.Nat.{ℕ, _^_, _≤_, _<_}
 use native.Mathlib.Omega.{arith}
-use lib.ListN.{length, getD, length-map}
+use lib.ListN.{length, getD}
 use lib.Dec.{ltb}
 use borrow.Author.Tests.{not-true, not-false, ltb-true, lt-ltb}
 use Rattle.formula.specs.Formula.{Term, Atom}
-use Rattle.lists.specs.Search.{In, here, next, any, all, first, collect, below, elem}
+use Rattle.lists.specs.Search.{In, here, next, any, all, first, collect, below}
 use Rattle.evalset.specs.Bit.{bit}
-use Rattle.lists.proofs.Search.{any-intro, any-elim, none-elim, none-intro, all-elim, all-intro, first-some, first-in, keep-intro, keep-elim, uncons, none-in, place, placed, collect-intro, collect-elim, below-intro, below-elim, elem-intro, elem-elim, or-else-left, or-else-cases, or-else-some}
+use Rattle.lists.proofs.Search.{any-intro, any-elim, none-elim, none-intro, all-elim, all-intro, first-some, first-in, uncons, none-in, place, placed, collect-intro, collect-elim, below-intro, below-elim, or-else-left, or-else-cases, or-else-some}
 use Rattle.lists.proofs.Truth.{clash, or-cases}
 use Rattle.contact.specs.Meaning.{Floor, within, isEmpty, touches, atomOn}
 use Rattle.contact.specs.Numbering.{TermBelow, AtomBelow}
-use Rattle.contact.specs.Row.{Row, Realises, Realisable, is, unknown, PartialRow, Extends, RealisesPart}
-use Rattle.contact.specs.Plan.{at, evaluations, Mark, touching, apart, vacant, inhabited, mark, marksOf, rowMarks, parts, separated, empties, allowed, fills, partners, leads, withPartner, gives, given, pointsFor}
+use Rattle.contact.specs.Row.{Row, is, unknown, PartialRow, Extends, RealisesPart}
+use Rattle.contact.specs.Plan.{at, evaluations, Mark, touching, apart, vacant, inhabited, mark, marksOf, parts, separated, empties, allowed, fills, partners, leads, withPartner, gives, given, met, MeetsMarks}
 use Rattle.contact.specs.Check.{witnessed, check}
 use Rattle.contact.proofs.Bits.{encode, encode-lt, bit-encode, holds-same}
 
 -- ---- what marks say of a floor
 
 -- the value of the marked atom on a floor, and the value that the mark gives it
-abbrev markOn : Floor ℕ → Mark → Bool
+abbrev pub markOn : Floor ℕ → Mark → Bool
 markOn F (touching x y) = touches F x y
 markOn F (apart x y) = touches F x y
 markOn F (vacant t) = isEmpty F t
 markOn F (inhabited t) = isEmpty F t
 
-abbrev signOf : Mark → Bool
+abbrev pub signOf : Mark → Bool
 signOf (touching x y) = true
 signOf (apart x y) = false
 signOf (vacant t) = true
 signOf (inhabited t) = false
 
 -- the floor gives each marked atom its value
-abbrev RealisesMarks : Floor ℕ → List Mark → Type 0
+abbrev pub RealisesMarks : Floor ℕ → List Mark → Type 0
 RealisesMarks F ms = (m : Mark) → In m ms → markOn F m ≡ signOf m
 
 -- the names of the marked atom are numbered below n
-abbrev MarkBelow : ℕ → Mark → Type 0
+abbrev pub MarkBelow : ℕ → Mark → Type 0
 MarkBelow n (touching x y) = TermBelow n x × TermBelow n y
 MarkBelow n (apart x y) = TermBelow n x × TermBelow n y
 MarkBelow n (vacant t) = TermBelow n t
@@ -162,6 +162,37 @@ module _ (n : ℕ) (ms : List Mark) where
   unfolding check
   check-intro h k = and-intro h k
 
+-- ---- allowed points that meet every mark are a floor that realises the marks
+module _ (n : ℕ) (ms : List Mark) (pts : List ℕ) (ok : (e : ℕ) → In e pts → allowed n ms e ≡ true) where
+  abbrev unseparatedOf : Term ℕ → ℕ → ℕ → Bool
+  unseparatedOf y e f = at y f && not (separated ms e f)
+
+  abbrev meetsOn : Term ℕ → Term ℕ → ℕ → Bool
+  meetsOn x y e = at x e && any (unseparatedOf y e) pts
+
+  on-points : (m : Mark) → In m ms → met ms pts m ≡ true → onPoints ms pts m ≡ signOf m
+  unfolding separated
+  on-points (touching x y) i h = h
+  on-points (apart x y) i h =
+      none-intro (meetsOn x y) pts
+      (λ e j h.
+      let k = and-eq-true-iff (at x e) (any (unseparatedOf y e) pts) .0 h in
+      let r = any-elim (unseparatedOf y e) pts (k .1) in
+      let f : ℕ = r .0 in
+      let l = and-eq-true-iff (at y f) (not (separated ms e f)) .0 (r .2) in
+      clash
+      (any-intro (parts e f) i (or-inl (at x e && at y f) (at x f && at y e) (and-intro (k .0) (l .0))))
+      (not-true _ (l .1)))
+  on-points (vacant t) i h =
+      ap not (none-intro (at t) pts (λ e j h. clash h (none-elim (empties e) (allowed-elim n ms e (ok e j) .1) i)))
+  on-points (inhabited t) i h = ap not h
+
+  pub points-own : (e : ℕ) → In e pts → separated ms e e ≡ false
+  points-own e i = allowed-elim n ms e (ok e i) .2
+
+  pub points-realise : (some : 0 < length pts) → MeetsMarks ms pts → RealisesMarks (floorOf ms pts some points-own) ms
+  points-realise some meet m i = floor-mark ms pts some points-own m ∙ on-points m i (meet m i)
+
 -- ---- from the check to the plan
 
 module _ (n : ℕ) (ms : List Mark) where
@@ -181,64 +212,29 @@ module _ (n : ℕ) (ms : List Mark) where
   gives-ok (vacant t) i = none-in i
   gives-ok (inhabited t) {e} i = let r = first-in (fills n ms t) es i in (r .0, fills-elim n ms t e (r .1) .0)
 
-  given-ok : {e : ℕ} → In e (given n ms) → In e es × (allowed n ms e ≡ true)
+  pub given-ok : {e : ℕ} → In e (given n ms) → In e es × (allowed n ms e ≡ true)
   unfolding given
   given-ok i =
       ⊎-elim (λ j. let r = collect-elim (gives n ms) ms j in gives-ok (r .0) (r .2)) (λ j. first-in (allowed n ms) es j)
       (or-else-cases (collect (gives n ms) ms) (first (allowed n ms) es) i)
 
-  -- the plan's points are the evaluations given
-  pub point-allowed : {e : ℕ} → In e (pointsFor n ms) → allowed n ms e ≡ true
-  unfolding pointsFor
-  point-allowed {e} i = given-ok (elem-elim e (given n ms) (keep-elim (λ k. elem k (given n ms)) es i .1)) .1
-
-  given-point : {e : ℕ} → In e (given n ms) → In e (pointsFor n ms)
-  unfolding pointsFor
-  given-point {e} i = keep-intro (λ k. elem k (given n ms)) (given-ok i .0) (elem-intro e i)
-
-  gives-point : {m : Mark} {e : ℕ} → In m ms → In e (gives n ms m) → In e (pointsFor n ms)
+  gives-given : {m : Mark} {e : ℕ} → In m ms → In e (gives n ms m) → In e (given n ms)
   unfolding given
-  gives-point i j = given-point (or-else-left (first (allowed n ms) es) (collect-intro (gives n ms) i j))
+  gives-given i j = or-else-left (first (allowed n ms) es) (collect-intro (gives n ms) i j)
 
   module _ (checked : check n ms ≡ true) where
-    some-given : (e : ℕ) × In e (given n ms)
+    pub some-given : (e : ℕ) × In e (given n ms)
     unfolding given
     some-given =
         let r = first-some (allowed n ms) es (check-elim n ms checked .0) in
         or-else-some (collect (gives n ms) ms) (first (allowed n ms) es) (r .0, subst (In (r .0)) (sym (r .1)) here)
 
-    pub points-some : 0 < length (pointsFor n ms)
-    points-some = let r = place 0 (given-point (some-given .1)) in omega (arith, r .1)
-
-    -- the plan that is given, as a floor
-    unfoldable pub marksFloor : Floor ℕ
-    marksFloor = floorOf ms (pointsFor n ms) points-some (λ e i. allowed-elim n ms e (point-allowed i) .2)
-
-    -- its points are those of the plan in their order, unseparated ones are in contact, and bit i says which lie in name i
-    pub plan-points : marksFloor .points ≡ length (pointsFor n ms)
-    unfolding marksFloor floorOf
-    plan-points = refl
-
-    pub plan-touch : (p q : ℕ) → marksFloor .touch p q ≡ not (separated ms (getD (pointsFor n ms) p 0) (getD (pointsFor n ms) q 0))
-    unfolding marksFloor floorOf
-    plan-touch p q = refl
-
-    pub plan-lies : (i p : ℕ) → marksFloor .lies i p ≡ bit (getD (pointsFor n ms) p 0) i
-    unfolding marksFloor floorOf
-    plan-lies i p = refl
-
     all-witnessed : (m : Mark) → In m ms → witnessed n ms m ≡ true
     all-witnessed m i = all-elim (witnessed n ms) i (check-elim n ms checked .1)
 
-    abbrev reach : Term ℕ → ℕ → ℕ → Bool
-    reach y e f = at y f && not (separated ms e f)
-
-    abbrev meetsOn : Term ℕ → Term ℕ → ℕ → Bool
-    meetsOn x y e = at x e && any (reach y e) (pointsFor n ms)
-
-    on-plan : (m : Mark) → In m ms → onPoints ms (pointsFor n ms) m ≡ signOf m
-    unfolding separated
-    on-plan (touching x y) i =
+    -- what is given meets every mark
+    pub given-meet : MeetsMarks ms (given n ms)
+    given-meet (touching x y) i =
         let r = first-some (leads n ms x y) es (all-witnessed (touching x y) i) in
         let p : ℕ = r .0 in
         let hp = leads-elim n ms x y p (r .3) in
@@ -246,32 +242,17 @@ module _ (n : ℕ) (ms : List Mark) where
         let q : ℕ = s .0 in
         let hq = partners-elim n ms y p q (s .3) in
         let p-in = subst (In p) (sym (r .1)) here in
-        let pair : (e : ℕ) → In e (withPartner n ms y p) → In e (pointsFor n ms) =
-        λ e j. gives-point i (collect-intro (withPartner n ms y) p-in j) in
-        any-intro (meetsOn x y) (pair p here)
+        let pair : (e : ℕ) → In e (withPartner n ms y p) → In e (given n ms) =
+        λ e j. gives-given i (collect-intro (withPartner n ms y) p-in j) in
+        any-intro (λ e. at x e && any (λ f. at y f && not (separated ms e f)) (given n ms)) (pair p here)
         (and-intro (fills-elim n ms x p (hp .0) .1)
-        (any-intro (reach y p) (pair q (next (subst (In q) (sym (s .1)) here)))
+        (any-intro (λ f. at y f && not (separated ms p f)) (pair q (next (subst (In q) (sym (s .1)) here)))
         (and-intro (fills-elim n ms y q (hq .0) .1) (ap not (hq .1)))))
-    on-plan (apart x y) i =
-        none-intro (meetsOn x y) (pointsFor n ms)
-        (λ e j h.
-        let k = and-eq-true-iff (at x e) (any (reach y e) (pointsFor n ms)) .0 h in
-        let r = any-elim (reach y e) (pointsFor n ms) (k .1) in
-        let f : ℕ = r .0 in
-        let l = and-eq-true-iff (at y f) (not (separated ms e f)) .0 (r .2) in
-        clash
-        (any-intro (parts e f) i (or-inl (at x e && at y f) (at x f && at y e) (and-intro (k .0) (l .0))))
-        (not-true _ (l .1)))
-    on-plan (vacant t) i =
-        ap not
-        (none-intro (at t) (pointsFor n ms) (λ e j h. clash h (none-elim (empties e) (allowed-elim n ms e (point-allowed j) .1) i)))
-    on-plan (inhabited t) i =
+    given-meet (apart x y) i = refl
+    given-meet (vacant t) i = refl
+    given-meet (inhabited t) i =
         let r = first-some (fills n ms t) es (all-witnessed (inhabited t) i) in
-        ap not (any-intro (at t) (gives-point i (subst (In (r .0)) (sym (r .1)) here)) (fills-elim n ms t (r .0) (r .3) .1))
-
-    plan-realises : RealisesMarks marksFloor ms
-    unfolding marksFloor
-    plan-realises m i = floor-mark ms (pointsFor n ms) _ _ m ∙ on-plan m i
+        any-intro (at t) (gives-given i (subst (In (r .0)) (sym (r .1)) here)) (fills-elim n ms t (r .0) (r .3) .1)
 
 -- ---- from a floor to the check
 
@@ -308,15 +289,18 @@ touches-elim F x y h =
       meet = l .1;
     }
 
+-- the evaluation of a point
+abbrev pub evOf : ℕ → Floor ℕ → ℕ → ℕ
+evOf n F p = encode n (λ i. F .lies i p)
+
 module _ (n : ℕ) (ms : List Mark) (names : (m : Mark) → In m ms → MarkBelow n m) (F : Floor ℕ) (real : RealisesMarks F ms) where
-  -- the evaluation of a point
   abbrev ev : ℕ → ℕ
-  ev p = encode n (λ i. F .lies i p)
+  ev p = evOf n F p
 
   ev-in : (p : ℕ) → In (ev p) (evaluations n)
   ev-in p = below-intro (2 ^ n) (ev p) (encode-lt n (λ i. F .lies i p))
 
-  ev-at : (t : Term ℕ) (p : ℕ) → TermBelow n t → at t (ev p) ≡ within F t p
+  pub ev-at : (t : Term ℕ) (p : ℕ) → TermBelow n t → at t (ev p) ≡ within F t p
   ev-at t p o = holds-same n (λ i. bit (ev p) i) (λ i. F .lies i p) (bit-encode n (λ i. F .lies i p)) t o
 
   -- points in contact have unseparated evaluations
@@ -335,7 +319,7 @@ module _ (n : ℕ) (ms : List Mark) (names : (m : Mark) → In m ms → MarkBelo
   ev-parts p q hp hq h (vacant t) i k = clash k refl
   ev-parts p q hp hq h (inhabited t) i k = clash k refl
 
-  ev-separated : (p q : ℕ) → p < F .points → q < F .points → F .touch p q ≡ true → separated ms (ev p) (ev q) ≡ false
+  pub ev-separated : (p q : ℕ) → p < F .points → q < F .points → F .touch p q ≡ true → separated ms (ev p) (ev q) ≡ false
   unfolding separated
   ev-separated p q hp hq h = none-intro (parts (ev p) (ev q)) ms (ev-parts p q hp hq h)
 
@@ -347,7 +331,7 @@ module _ (n : ℕ) (ms : List Mark) (names : (m : Mark) → In m ms → MarkBelo
       (not-true _ (real (vacant t) i))
   ev-empties p hp (inhabited t) i k = clash k refl
 
-  ev-allowed : (p : ℕ) → p < F .points → allowed n ms (ev p) ≡ true
+  pub ev-allowed : (p : ℕ) → p < F .points → allowed n ms (ev p) ≡ true
   ev-allowed p hp =
       allowed-intro n ms (ev p)
       (encode-lt n (λ i. F .lies i p), none-intro (empties (ev p)) ms (ev-empties p hp), ev-separated p p hp hp (F .reflexive p hp))
@@ -370,7 +354,7 @@ module _ (n : ℕ) (ms : List Mark) (names : (m : Mark) → In m ms → MarkBelo
       let r = any-elim (within F t) (below (F .points)) (not-false _ (real (inhabited t) i)) in
       any-intro (fills n ms t) (ev-in (r .0)) (ev-fills t (r .0) (names (inhabited t) i) (below-elim (F .points) (r .0) (r .1)) (r .2))
 
-  floor-check : check n ms ≡ true
+  pub floor-check : check n ms ≡ true
   floor-check =
       check-intro n ms (any-intro (allowed n ms) (ev-in 0) (ev-allowed 0 (F .some))) (all-intro (witnessed n ms) ms ev-witnessed)
 
@@ -400,7 +384,7 @@ mark-below n (Atom.part x y) false o = o
 mark-below n (Atom.empty t) true o = o
 mark-below n (Atom.empty t) false o = o
 
-marks-below : (n : ℕ) (atoms : List (Atom ℕ)) (part : PartialRow) → ((a : Atom ℕ) → In a atoms → AtomBelow n a)
+pub marks-below : (n : ℕ) (atoms : List (Atom ℕ)) (part : PartialRow) → ((a : Atom ℕ) → In a atoms → AtomBelow n a)
     → (m : Mark) → In m (marksOf atoms part) → MarkBelow n m
 marks-below n [] part o m i = none-in i
 marks-below n (a ∷ atoms) [] o m i = none-in i
@@ -410,7 +394,7 @@ marks-below n (a ∷ atoms) (is b ∷ part) o m i =
 marks-below n (a ∷ atoms) (unknown ∷ part) o m i = marks-below n atoms part (λ c k. o c (next k)) m i
 
 -- a floor that gives the decided atoms their values realises the marks
-part-marks : (F : Floor ℕ) (atoms : List (Atom ℕ)) (part : PartialRow) → RealisesPart F atoms part → RealisesMarks F (marksOf atoms part)
+pub part-marks : (F : Floor ℕ) (atoms : List (Atom ℕ)) (part : PartialRow) → RealisesPart F atoms part → RealisesMarks F (marksOf atoms part)
 part-marks F [] part h m i = none-in i
 part-marks F (a ∷ atoms) [] h m i = none-in i
 part-marks F (a ∷ atoms) (is b ∷ part) h m i =
@@ -419,7 +403,7 @@ part-marks F (a ∷ atoms) (is b ∷ part) h m i =
 part-marks F (a ∷ atoms) (unknown ∷ part) h m i = part-marks F atoms part h m i
 
 -- and one that realises the marks gives them their values
-marks-part : (F : Floor ℕ) (atoms : List (Atom ℕ)) (part : PartialRow) → length part ≤ length atoms → RealisesMarks F (marksOf atoms part)
+pub marks-part : (F : Floor ℕ) (atoms : List (Atom ℕ)) (part : PartialRow) → length part ≤ length atoms → RealisesMarks F (marksOf atoms part)
     → RealisesPart F atoms part
 marks-part F atoms [] l h = tt
 marks-part F [] (t ∷ part) l h = absurd (omega arith)
@@ -428,52 +412,12 @@ marks-part F (a ∷ atoms) (is b ∷ part) l h =
 marks-part F (a ∷ atoms) (unknown ∷ part) l h = marks-part F atoms part (omega arith) h
 
 -- a row extends itself, and no other row of its length
-extends-self : (row : Row) → Extends row (map is row)
+pub extends-self : (row : Row) → Extends row (map is row)
 extends-self [] = tt
 extends-self (b ∷ row) = (refl, extends-self row)
 
-extends-whole : (s row : Row) → length row ≡ length s → Extends s (map is row) → s ≡ row
+pub extends-whole : (s row : Row) → length row ≡ length s → Extends s (map is row) → s ≡ row
 extends-whole [] [] l h = refl
 extends-whole [] (b ∷ row) l h = absurd (omega arith)
 extends-whole (c ∷ s) [] l h = absurd (omega arith)
 extends-whole (c ∷ s) (b ∷ row) l h = ap₂ _∷_ (h .0) (extends-whole s row (omega arith) (h .1))
-
--- ---- the claims
-
-module _ (n : ℕ) (atoms : List (Atom ℕ)) where
-  -- the plan gives the decided atoms their values
-  plan-part : (part : PartialRow) → length part ≤ length atoms → (checked : check n (marksOf atoms part) ≡ true)
-      → RealisesPart (marksFloor n (marksOf atoms part) checked) atoms part
-  plan-part part l checked =
-      marks-part (marksFloor n (marksOf atoms part) checked) atoms part l (plan-realises n (marksOf atoms part) checked)
-
-  -- and of a whole row it gives every atom the row's value
-  pub plan-row : (row : Row) → length row ≡ length atoms → (checked : check n (rowMarks atoms row) ≡ true)
-      → Realises (marksFloor n (rowMarks atoms row) checked) atoms row
-  plan-row row l checked =
-      let F : Floor ℕ = marksFloor n (rowMarks atoms row) checked in
-      let whole : length (map is row) ≤ length atoms = omega (arith, length-map row is) in
-      extends-whole (map (atomOn F) atoms) row (l ∙ sym (length-map atoms (atomOn F))) (plan-part (map is row) whole checked)
-
-  module _ (names : (a : Atom ℕ) → In a atoms → AtomBelow n a) where
-    part-check : (part : PartialRow) (F : Floor ℕ) → RealisesPart F atoms part → check n (marksOf atoms part) ≡ true
-    part-check part F h = floor-check n (marksOf atoms part) (marks-below n atoms part names) F (part-marks F atoms part h)
-
-    pub row-check : (row : Row) (F : Floor ℕ) → Realises F atoms row → check n (rowMarks atoms row) ≡ true
-    row-check row F h = part-check (map is row) F (subst (λ (r : Row). Extends r (map is row)) (sym h) (extends-self row))
-
--- the check of a partial row passes exactly if some floor gives the decided atoms their values
-pub check-exactly : (n : ℕ) (atoms : List (Atom ℕ)) (part : PartialRow) → ((a : Atom ℕ) → In a atoms → AtomBelow n a)
-    → length part ≤ length atoms → (check n (marksOf atoms part) ≡ true) ↔ ∥ ((F : Floor ℕ) × RealisesPart F atoms part) ∥₁
-check-exactly n atoms part names l = (
-  λ h. ∣ (marksFloor n (marksOf atoms part) h, plan-part n atoms part l h) ∣₁,
-  λ r. ∥∥₁-elim r (Bool-set _ _) (λ f. part-check n atoms names part (f .0) (f .1)),
-)
-
--- the check of a row passes exactly if the row is realisable
-pub row-exactly : (n : ℕ) (atoms : List (Atom ℕ)) (row : Row) → ((a : Atom ℕ) → In a atoms → AtomBelow n a) → length row ≡ length atoms
-    → (check n (rowMarks atoms row) ≡ true) ↔ Realisable atoms row
-row-exactly n atoms row names l = (
-  λ h. ∣ (marksFloor n (rowMarks atoms row) h, plan-row n atoms row l h) ∣₁,
-  λ r. ∥∥₁-elim r (Bool-set _ _) (λ f. row-check n atoms names row (f .0) (f .1)),
-)

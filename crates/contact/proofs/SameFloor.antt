@@ -1,19 +1,31 @@
--- What a floor meets depends on how many points it has, which of them are in contact and where they lie, and on nothing else:
--- every search in the meaning runs over the points alone. Assumes nothing.
+-- What a floor meets, and for which questions it counts, depends on how many points it has, which of them are in contact and where they lie,
+-- and on nothing else: every search in the meaning, and every way, runs over the points alone. Assumes nothing.
 use mathlib.Core.Bool.{Bool, not, _&&_}
-use mathlib.Core.Path.{_≡_, ap, ap₂, _∙_, fun-ext}
+use mathlib.Core.Path.{_≡_, sym, ap, ap₂, _∙_, fun-ext}
 use mathlib.Core.List.{List, map}
 use Prim.Native.Nat.{ℕ, _<_}
+use native.Mathlib.Omega.{arith}
 use Rattle.formula.specs.Formula.{Term, Atom, Formula}
 use Rattle.lists.specs.Search.{any, all, below}
 use Rattle.lists.proofs.Search.{any-same, below-elim}
 use Rattle.contact.specs.Meaning.{Floor, holds, within, isEmpty, touches, partTerm, atomOn, value, meetsAll}
+use Rattle.contact.specs.Question.{Question, plain, building, Way, stay, step, Counts}
 
 -- two floors with the same points, contacts and regions
 pub record SameFloor {N : Type 0} (F G : Floor N) : Type 0 where
   pub points : F .points ≡ G .points
   pub touch : (p q : ℕ) → p < F .points → q < F .points → F .touch p q ≡ G .touch p q
   pub lies : (x : N) (p : ℕ) → p < F .points → F .lies x p ≡ G .lies x p
+
+-- either way round
+pub same-back : {N : Type 0} (F G : Floor N) → SameFloor F G → SameFloor G F
+same-back F G same =
+    let e : F .points ≡ G .points = same .points in
+    record {
+      points = sym e;
+      touch = λ p q hp hq. sym (same .touch p q (omega arith) (omega arith));
+      lies = λ x p hp. sym (same .lies x p (omega arith));
+    }
 
 module _ {N : Type 0} (F G : Floor N) (same : SameFloor F G) where
   within-same : (t : Term N) (p : ℕ) → p < F .points → within F t p ≡ within G t p
@@ -46,3 +58,16 @@ module _ {N : Type 0} (F G : Floor N) (same : SameFloor F G) where
 
   pub meets-same : (rules : List (Formula N)) → meetsAll F rules ≡ meetsAll G rules
   meets-same rules = ap (λ (v : Atom N → Bool). all (value v) rules) (fun-ext atom-same)
+
+  way-same : {p q : ℕ} → Way F p q → p < F .points → Way G p q
+  way-same stay hp = stay
+  way-same (step {p} {q} {r} hq t w) hp =
+      let e : F .points ≡ G .points = same .points in
+      let hg : q < G .points = omega arith in
+      step hg (sym (same .touch p q hp hq) ∙ t) (way-same w hq)
+
+  pub counts-same : (q : Question) → Counts q F → Counts q G
+  counts-same plain h = tt
+  counts-same building h =
+      λ p r hp hr. let e : F .points ≡ G .points = same .points in
+      way-same (h p r (omega arith) (omega arith)) (omega arith)

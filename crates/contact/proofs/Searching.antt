@@ -6,7 +6,7 @@ use mathlib.Core.Bool.{Bool, true, false, not, _&&_, _||_, Bool·beq, and-eq-tru
 use mathlib.Core.Path.{_≡_, refl, sym, ap, ap₂, _∙_, subst, fun-ext}
 use mathlib.Core.Logic.{⊎-elim}
 use mathlib.Core.List.{List, [], _∷_, _++_, map, append-assoc, append-nil, map-map, map-id, map-append}
-use mathlib.Mathlib.Data.Bool.Basic.{eq-false-of-not-eq-true}
+use mathlib.Mathlib.Data.Bool.Basic.{and-intro, eq-false-of-not-eq-true}
 use Prim.Native.Nat.{ℕ, zero, suc, _+_}
 use native.Mathlib.Omega.{arith}
 use lib.ListN.{length, getD, length-append, length-map}
@@ -18,13 +18,14 @@ use Rattle.lists.proofs.Truth.{clash, cases, or-cases, beq-true, beq-false, or-
 use Rattle.lists.proofs.Lists.{map-at}
 use Rattle.contact.specs.Meaning.{value}
 use Rattle.formula.specs.Atoms.{atomsOf}
+use Rattle.contact.specs.Question.{Question, plain}
 use Rattle.contact.specs.Numbering.{allAtoms, namesOf, numberOf, mapAtom, differentAtoms, numberedAtoms, rowAtoms}
 use Rattle.contact.specs.Row.{Row, rulesTrue, Three, is, unknown, PartialRow, Extends, Sound, Exact}
 use Rattle.contact.specs.Plan.{Mark, mark, marksOf, rowMarks}
-use Rattle.contact.specs.Check.{check, rows, good, firstRow, firstRowOf}
+use Rattle.contact.specs.Check.{passes, rows, good, firstRow, firstRowOf}
 use Rattle.contact.specs.Tableau.{kleeneNot, kleeneAnd, kleeneOr, kleeneIff, kleeneValue, refuted, refutes, closes, under, search}
 use Rattle.contact.proofs.Numbered.{NumbersBelow, numbers-below}
-use Rattle.contact.proofs.Fewer.{check-fewer}
+use Rattle.contact.proofs.Fewer.{passes-fewer, passes-plain}
 
 -- ---- the search, for any test
 
@@ -223,43 +224,69 @@ marks-extend (c ∷ row) (is b ∷ part) (a ∷ atoms) h m i =
     ⊎-elim (λ q. at-head (q ∙ ap (mark a) (sym (h .0)))) (λ j. next (marks-extend row part atoms (h .1) m j)) (uncons i)
 
 -- a row that passes the check passes it without its last atoms
-pub check-prefix : (n : ℕ) (atoms : List (Atom ℕ)) (row ext : Row)
-    → check n (rowMarks atoms (row ++ ext)) ≡ true → check n (rowMarks atoms row) ≡ true
-check-prefix n atoms row ext h =
-    check-fewer n (rowMarks atoms (row ++ ext)) (rowMarks atoms row)
-    (marks-extend (row ++ ext) (map is row) atoms (extends-prefix row ext)) h
+pub check-prefix : (q : Question) (n : ℕ) (atoms : List (Atom ℕ)) (row ext : Row)
+    → passes q n (rowMarks atoms (row ++ ext)) ≡ true → passes q n (rowMarks atoms row) ≡ true
+check-prefix q n atoms row ext h =
+    passes-fewer n (rowMarks atoms (row ++ ext)) (rowMarks atoms row)
+    (marks-extend (row ++ ext) (map is row) atoms (extends-prefix row ext)) q h
 
-module _ (n : ℕ) (atoms : List (Atom ℕ)) (nums : List (Form ℕ)) where
+module _ (q : Question) (n : ℕ) (atoms : List (Atom ℕ)) (nums : List (Form ℕ)) where
   -- no row that makes the rules true and passes the check extends what is closed
-  pub closes-sound : Sound (good n atoms nums) (closes n atoms nums)
+  pub closes-sound : Sound (good q n atoms nums) (closes q n atoms nums)
   unfolding closes good
   closes-sound part h row ext =
       eq-false-of-not-eq-true
-      (λ g. let w = and-eq-true-iff (rulesTrue nums row) (check n (rowMarks atoms row)) .0 g in
-      ⊎-elim (λ q. clash (w .0) (refutes-sound nums part q row ext))
-      (λ q. clash
-      (check-fewer n (rowMarks atoms row) (marksOf atoms part) (marks-extend row part atoms ext) (w .1))
-      (not-true _ q))
-      (or-cases (refutes nums part) (not (check n (marksOf atoms part))) h))
+      (λ g. let w = and-eq-true-iff (rulesTrue nums row) (passes q n (rowMarks atoms row)) .0 g in
+      ⊎-elim (λ z. clash (w .0) (refutes-sound nums part z row ext))
+      (λ z. clash
+      (passes-fewer n (rowMarks atoms row) (marksOf atoms part) (marks-extend row part atoms ext) q (w .1))
+      (not-true _ z))
+      (or-cases (refutes nums part) (not (passes q n (marksOf atoms part))) h))
 
   -- a whole row that stays open is good
-  pub closes-exact : NumbersBelow (length atoms) nums → Exact (length atoms) (good n atoms nums) (closes n atoms nums)
+  pub closes-exact : NumbersBelow (length atoms) nums → Exact (length atoms) (good q n atoms nums) (closes q n atoms nums)
   unfolding closes good
   closes-exact numbers row l h =
       not-false _
-      (sym (ap (λ b. b || not (check n (rowMarks atoms row))) (refutes-known row nums (subst (λ k. NumbersBelow k nums) (sym l) numbers))
-      ∙ morgan (rulesTrue nums row) (check n (rowMarks atoms row))) ∙ h)
+      (sym (ap (λ b. b || not (passes q n (rowMarks atoms row))) (refutes-known row nums (subst (λ k. NumbersBelow k nums) (sym l) numbers))
+      ∙ morgan (rulesTrue nums row) (passes q n (rowMarks atoms row))) ∙ h)
 
   -- the search gives the answer's row
   search-firstRow : NumbersBelow (length atoms) nums
-      → search (closes n atoms nums) (length atoms) [] ≡ firstRow n atoms nums
+      → search (closes q n atoms nums) (length atoms) [] ≡ firstRow q n atoms nums
   unfolding firstRow
   search-firstRow numbers =
-      search-first (length atoms) (good n atoms nums) (closes n atoms nums) closes-sound (closes-exact numbers)
+      search-first (length atoms) (good q n atoms nums) (closes q n atoms nums) closes-sound (closes-exact numbers)
 
--- the same of rules as read
-pub search-answer : (rules : List (Formula Name))
-    → search (closes (length (namesOf rules)) (rowAtoms rules) (numberedAtoms rules)) (length (rowAtoms rules)) [] ≡ firstRowOf rules
-search-answer rules =
-    search-firstRow (length (namesOf rules)) (rowAtoms rules) (numberedAtoms rules)
+-- ---- the plain check closes branches for every question
+
+module _ (q : Question) (n : ℕ) (atoms : List (Atom ℕ)) (nums : List (Form ℕ)) where
+  -- a row that is good for a question is good for the plain one
+  pub good-plain : (row : Row) → good q n atoms nums row ≡ true → good plain n atoms nums row ≡ true
+  unfolding good
+  good-plain row g =
+      let w = and-eq-true-iff (rulesTrue nums row) (passes q n (rowMarks atoms row)) .0 g in
+      and-intro (w .0) (passes-plain n (rowMarks atoms row) q (w .1))
+
+  -- so what closes there closes here
+  pub plain-sound : Sound (good q n atoms nums) (closes plain n atoms nums)
+  plain-sound part h row ext =
+      eq-false-of-not-eq-true (λ g. clash (good-plain row g) (closes-sound plain n atoms nums part h row ext))
+
+  -- any test that closes no more than the question's own, and as much at whole rows, finds the answer's row
+  pub search-between : NumbersBelow (length atoms) nums → (test : PartialRow → Bool)
+      → ((part : PartialRow) → test part ≡ true → closes q n atoms nums part ≡ true)
+      → ((row : Row) → length row ≡ length atoms → closes q n atoms nums (map is row) ≡ true → test (map is row) ≡ true)
+      → search test (length atoms) [] ≡ firstRow q n atoms nums
+  unfolding firstRow
+  search-between numbers test no-more as-much =
+      search-first (length atoms) (good q n atoms nums) test
+      (λ part h row ext. closes-sound q n atoms nums part (no-more part h) row ext)
+      (λ row l h. closes-exact q n atoms nums numbers row l (eq-false-of-not-eq-true (λ k. clash (as-much row l k) h)))
+
+-- the search over the different atoms of rules as read
+pub search-answer : (q : Question) (rules : List (Formula Name))
+    → search (closes q (length (namesOf rules)) (rowAtoms rules) (numberedAtoms rules)) (length (rowAtoms rules)) [] ≡ firstRowOf q rules
+search-answer q rules =
+    search-firstRow q (length (namesOf rules)) (rowAtoms rules) (numberedAtoms rules)
     (λ i h. omega (arith, numbers-below rules i h, length-map (differentAtoms rules) (mapAtom (numberOf rules))))

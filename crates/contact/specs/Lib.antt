@@ -1,8 +1,10 @@
 pub mod Meaning
+pub mod Question
 pub mod Numbering
 pub mod Putting
 pub mod Row
 pub mod Plan
+pub mod Pieces
 pub mod Check
 pub mod Pairs
 pub mod Tableau

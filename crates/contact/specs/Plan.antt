@@ -1,14 +1,17 @@
 -- What is meant: document 01, 'The plan that is given': of the points that paper gives the rule itself, and `separated`, `allowed`, `gives` and
--- `pointsFor` are its sentences. Rules and atoms have numbers for names. Facts hold for any number of names. Assumes nothing.
+-- `given` are its sentences; and document 02's sentences on the points of one building, `Linked`, `IsPiece` and `IsThePiece`. `ArePoints` says
+-- for each question what the points are. Rules and atoms have numbers for names. Facts hold for any number of names. Assumes nothing.
 use mathlib.Core.Bool.{Bool, true, false, not, _&&_, _||_}
 use mathlib.Core.Path.{_≡_}
+use mathlib.Core.Logic.{_↔_}
 use mathlib.Core.List.{List, [], _∷_, map}
-use Prim.Native.Nat.{ℕ, suc, _^_, _<_}
+use Prim.Native.Nat.{ℕ, suc, _^_, _≤_, _<_}
 use lib.Dec.{ltb}
 use Rattle.formula.specs.Formula.{Term, Atom}
-use Rattle.lists.specs.Search.{any, first, keep, orElse, collect, below, elem}
+use Rattle.lists.specs.Search.{In, any, first, keep, orElse, collect, below, elem}
 use Rattle.evalset.specs.Bit.{bit}
 use Rattle.contact.specs.Meaning.{holds, partTerm}
+use Rattle.contact.specs.Question.{Question, plain, building}
 use Rattle.contact.specs.Row.{Row, is, unknown, PartialRow}
 
 -- "An evaluation is a number whose bit i is set if the point lies in name i." The term holds there.
@@ -100,13 +103,52 @@ gives names ms (apart x y) = []
 gives names ms (vacant t) = []
 gives names ms (inhabited t) = first (fills names ms t) (evaluations names)
 
--- what the marks give, or the least allowed evaluation where that is none
+-- "The points are these evaluations ..; if there are none, the least allowed evaluation."
 unfoldable pub given : ℕ → List Mark → List ℕ
 given names ms = orElse (collect (gives names ms) ms) (first (allowed names ms) (evaluations names))
 
--- "The points are these evaluations, ascending, each once; if there are none, the least allowed evaluation."
-unfoldable pub pointsFor : ℕ → List Mark → List ℕ
-pointsFor names ms = keep (λ e. elem e (given names ms)) (evaluations names)
+-- ---- one building
+
+-- "unseparated contact" leads from e to f: through allowed evaluations, each unseparated from the one before it
+pub data Linked (names : ℕ) (ms : List Mark) (e : ℕ) : ℕ → Type 0 where
+  start : Linked names ms e e
+  onward : {f g : ℕ} → Linked names ms e f → allowed names ms g ≡ true → separated ms f g ≡ false → Linked names ms e g
+
+-- one of "the pieces into which the allowed evaluations fall under unseparated contact": the one that the allowed evaluation e lies in
+pub record IsPiece (names : ℕ) (ms : List Mark) (e : ℕ) (piece : List ℕ) : Type 0 where
+  pub ok : allowed names ms e ≡ true
+  pub whole : (f : ℕ) → In f piece ↔ Linked names ms e f
+
+-- the set meets the mark: a true contact by two of it that are unseparated, a false zero atom by one in its term
+abbrev pub met : List Mark → List ℕ → Mark → Bool
+met ms set (touching x y) = any (λ e. at x e && any (λ f. at y f && not (separated ms e f)) set) set
+met ms set (apart x y) = true
+met ms set (vacant t) = true
+met ms set (inhabited t) = any (at t) set
+
+-- it "meets the row's true contacts and false zero atoms"
+abbrev pub MeetsMarks : List Mark → List ℕ → Type 0
+MeetsMarks ms set = (m : Mark) → In m ms → met ms set m ≡ true
+
+-- "the points are the whole piece that meets the row's true contacts and false zero atoms; of several, the one with the least evaluation":
+-- the piece of an evaluation that is at most every evaluation of every piece that meets them
+pub record IsThePiece (names : ℕ) (ms : List Mark) (points : List ℕ) : Type 0 where
+  pub least : ℕ
+  pub piece : IsPiece names ms least points
+  pub meets : MeetsMarks ms points
+  pub earliest : (d : ℕ) (others : List ℕ) → IsPiece names ms d others → MeetsMarks ms others → least ≤ d
+
+-- ---- the points, for each question
+
+-- they are the evaluations given, or the piece
+abbrev pub AreGiven : Question → ℕ → List Mark → List ℕ → Type 0
+AreGiven plain names ms points = (e : ℕ) → In e points ↔ In e (given names ms)
+AreGiven building names ms points = IsThePiece names ms points
+
+-- "The points are these evaluations, ascending, each once": the list is that of the evaluations, in their order, that are in it
+pub record ArePoints (q : Question) (names : ℕ) (ms : List Mark) (points : List ℕ) : Type 0 where
+  pub ascending : points ≡ keep (λ e. elem e points) (evaluations names)
+  pub given : AreGiven q names ms points
 
 -- "With c true contacts and z false zero atoms there are at most max(1, 2 times c + z) points."
 abbrev pub trueContacts : List Mark → ℕ

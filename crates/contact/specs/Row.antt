@@ -1,5 +1,5 @@
--- What is meant: rows of values for the atoms and which of them a floor realises (document 01, 'The plan that is given'); and for proofs,
--- partial rows and tests that close branches. Assumes nothing.
+-- What is meant: rows of values for the atoms and which of them a floor that counts realises (document 01, 'The plan that is given'); and for
+-- proofs, partial rows and tests that close branches. Assumes nothing.
 use mathlib.Core.Bool.{Bool, true, false}
 use mathlib.Core.Path.{_≡_}
 use mathlib.Core.List.{List, [], _∷_, map}
@@ -8,6 +8,7 @@ use lib.ListN.{length, getD}
 use Rattle.formula.specs.Formula.{Atom, Form, Formula, Name}
 use Rattle.lists.specs.Search.{all}
 use Rattle.contact.specs.Meaning.{Floor, atomOn, value}
+use Rattle.contact.specs.Question.{Question, Counts}
 use Rattle.contact.specs.Numbering.{differentAtoms, numberedAtoms}
 
 -- "A row gives each atom true or false."
@@ -18,9 +19,9 @@ Row = List Bool
 abbrev pub Realises : {N : Type 0} → Floor N → List (Atom N) → Row → Type 0
 Realises F atoms row = map (atomOn F) atoms ≡ row
 
--- some floor gives the atoms these values
-abbrev pub Realisable : {N : Type 0} → List (Atom N) → Row → Type 0
-Realisable {N} atoms row = ∥ ((F : Floor N) × Realises F atoms row) ∥₁
+-- some floor that counts gives the atoms these values
+abbrev pub Realisable : {N : Type 0} → Question → List (Atom N) → Row → Type 0
+Realisable {N} q atoms row = ∥ ((F : Floor N) × Counts q F × Realises F atoms row) ∥₁
 
 -- a row makes all rules true; they have numbers for atoms
 unfoldable pub rulesTrue : List (Form ℕ) → Row → Bool
@@ -35,11 +36,12 @@ Before (true ∷ r) (false ∷ s) = Unit {0}
 Before (false ∷ r) (true ∷ s) = ⊥
 Before (false ∷ r) (false ∷ s) = Before r s
 
--- "The answer uses the first realisable row that makes all rules true."; "Rows run over the different atoms, numbered by first place."
-pub record IsFirstRow (rules : List (Formula Name)) (row : Row) : Type 0 where
-  pub realisable : Realisable (differentAtoms rules) row
+-- "The answer uses the first realisable row that makes all rules true."; of one building, "Its row is the first that some such plan realises
+-- with all rules true."; "Rows run over the different atoms, numbered by first place."
+pub record IsFirstRow (q : Question) (rules : List (Formula Name)) (row : Row) : Type 0 where
+  pub realisable : Realisable q (differentAtoms rules) row
   pub makes : rulesTrue (numberedAtoms rules) row ≡ true
-  pub earliest : (other : Row) → Realisable (differentAtoms rules) other → rulesTrue (numberedAtoms rules) other ≡ true → Before other row
+  pub earliest : (other : Row) → Realisable q (differentAtoms rules) other → rulesTrue (numberedAtoms rules) other ≡ true → Before other row
       → ⊥
 
 -- ---- partial rows

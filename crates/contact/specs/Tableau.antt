@@ -1,15 +1,16 @@
 -- What is computed, and for proofs: the search over the atoms in order, true first, that closes a branch by a test, and the two tests: a
--- rule is false whatever the undecided atoms are, by Kleene's strong tables; no floor gives the decided atoms their values. The contracts
--- of the solver name the tests; no contract names `search`. Assumes nothing.
+-- rule is false whatever the undecided atoms are, by Kleene's strong tables; no floor that counts gives the decided atoms their values. The
+-- contracts of the solver name the tests; no contract names `search`. Assumes nothing.
 use mathlib.Core.Bool.{Bool, true, false, not, _||_, cond}
 use mathlib.Core.List.{List, [], _∷_, _++_, map}
 use Prim.Native.Nat.{ℕ, zero, suc}
 use lib.ListN.{getD}
 use Rattle.formula.specs.Formula.{Atom, Form}
 use Rattle.lists.specs.Search.{any, orElse}
+use Rattle.contact.specs.Question.{Question}
 use Rattle.contact.specs.Row.{Row, Three, is, unknown, PartialRow}
 use Rattle.contact.specs.Plan.{marksOf}
-use Rattle.contact.specs.Check.{check, rows}
+use Rattle.contact.specs.Check.{passes, rows}
 
 -- ---- Kleene's strong tables
 
@@ -52,9 +53,9 @@ refuted unknown = false
 unfoldable pub refutes : List (Form ℕ) → PartialRow → Bool
 refutes rules part = any (λ f. refuted (kleeneValue (λ i. getD part i unknown) f)) rules
 
--- some rule is false, or no floor gives the decided atoms their values
-unfoldable pub closes : ℕ → List (Atom ℕ) → List (Form ℕ) → PartialRow → Bool
-closes names atoms rules part = refutes rules part || not (check names (marksOf atoms part))
+-- some rule is false, or no floor that counts gives the decided atoms their values
+unfoldable pub closes : Question → ℕ → List (Atom ℕ) → List (Form ℕ) → PartialRow → Bool
+closes q names atoms rules part = refutes rules part || not (passes q names (marksOf atoms part))
 
 -- ---- the search
 

@@ -227,6 +227,40 @@ module _ {A : Type 0} where
       go true ih = ap (λ (zs : List A). x ∷ zs) ih
       go false ih = ih
 
+  -- where one test is narrower than another, no more pass it
+  keep-fewer : (p q : A → Bool) → ((x : A) → p x ≡ true → q x ≡ true) → (xs : List A) → length (keep p xs) ≤ length (keep q xs)
+  keep-fewer p q sub [] = omega arith
+  keep-fewer p q sub (x ∷ xs) = go (p x) (q x) (sub x) (keep-fewer p q sub xs)
+    where
+      go : (a b : Bool) → (a ≡ true → b ≡ true) → length (keep p xs) ≤ length (keep q xs)
+          → length (cond a (x ∷ keep p xs) (keep p xs)) ≤ length (cond b (x ∷ keep q xs) (keep q xs))
+      go true true f r = omega arith
+      go true false f r = clash (f refl) refl
+      go false true f r = omega arith
+      go false false f r = r
+
+  -- and fewer if one passes the wider test only
+  pub keep-less : (p q : A → Bool) → ((x : A) → p x ≡ true → q x ≡ true) → (xs : List A) {x : A} → In x xs → q x ≡ true → p x ≡ false
+      → length (keep p xs) < length (keep q xs)
+  keep-less p q sub [] i h k = none-in i
+  keep-less p q sub (y ∷ ys) {x} i h k =
+      ⊎-elim
+      (λ e. one (p y) (q y) (sym (ap p e) ∙ k) (sym (ap q e) ∙ h) (keep-fewer p q sub ys))
+      (λ j. go (p y) (q y) (sub y) (keep-less p q sub ys j h k)) (uncons i)
+    where
+      one : (a b : Bool) → a ≡ false → b ≡ true → length (keep p ys) ≤ length (keep q ys)
+          → length (cond a (y ∷ keep p ys) (keep p ys)) < length (cond b (y ∷ keep q ys) (keep q ys))
+      one true b u v r = clash refl u
+      one false true u v r = omega arith
+      one false false u v r = clash v refl
+
+      go : (a b : Bool) → (a ≡ true → b ≡ true) → length (keep p ys) < length (keep q ys)
+          → length (cond a (y ∷ keep p ys) (keep p ys)) < length (cond b (y ∷ keep q ys) (keep q ys))
+      go true true f r = omega arith
+      go true false f r = clash (f refl) refl
+      go false true f r = omega arith
+      go false false f r = r
+
   -- what passes one of two tests
   keep-or : (p q : A → Bool) (xs : List A) → length (keep (λ x. p x || q x) xs) ≤ length (keep p xs) + length (keep q xs)
   keep-or p q [] = omega arith

@@ -3,7 +3,7 @@
 -- its result here, under its name in specs/. Assumes nothing.
 use mathlib.Core.Bool.{Bool, true}
 use mathlib.Core.Path.{_≡_, sym, subst}
-use mathlib.Core.Logic.{_↔_}
+use mathlib.Core.Logic.{_↔_, ∥∥₁-map}
 use mathlib.Core.List.{List, map}
 use Prim.Native.Nat.{ℕ, _+_, _-_, _*_, _/_, _^_, _≤_, _<_}
 use native.Mathlib.Omega.{arith}
@@ -11,6 +11,7 @@ use lib.ListN.{length, take, length-map}
 use Rattle.formula.specs.Formula.{Atom}
 use Rattle.lists.specs.Search.{In}
 use Rattle.contact.specs.Meaning.{Floor}
+use Rattle.contact.specs.Question.{plain}
 use Rattle.contact.specs.Numbering.{AtomBelow}
 use Rattle.contact.specs.Row.{is, RealisesPart}
 use Rattle.contact.specs.Plan.{rowMarks}
@@ -50,6 +51,8 @@ module _ (names : ℕ) (atoms : List (Atom ℕ)) (ws : List ℕ) (contacts s d k
       → (rowTest table (lone s ws) (contacts / 2 ^ s) (2 ^ d - 1) (row * 2 ^ d + e) ≡ true)
       ↔ ∥ ((F : Floor ℕ) × RealisesPart F atoms (map is (rowBits (k + d) (row * 2 ^ d + e)))) ∥₁
   judged-exactly below e l =
+      let w =
+      contact.check-exactly plain names atoms (map is (rowBits (k + d) (row * 2 ^ d + e))) below
+      (omega (arith, length-map (rowBits (k + d) (row * 2 ^ d + e)) is, row-length (k + d) (row * 2 ^ d + e))) in
       subst (λ (b : Bool). (b ≡ true) ↔ ∥ ((F : Floor ℕ) × RealisesPart F atoms (map is (rowBits (k + d) (row * 2 ^ d + e)))) ∥₁) (sym (judged-is e l))
-      (contact.check-exactly names atoms (map is (rowBits (k + d) (row * 2 ^ d + e))) below
-      (omega (arith, length-map (rowBits (k + d) (row * 2 ^ d + e)) is, row-length (k + d) (row * 2 ^ d + e))))
+      (λ h. ∥∥₁-map (w .0 h) (λ f. (f .0, f .2)), λ r. w .1 (∥∥₁-map r (λ f. (f .0, tt, f .1))))

@@ -11,6 +11,7 @@ use Rattle.evalset.specs.declared.EvalSet.{EvalSet}
 use Rattle.evalset.specs.Sets.{mem, memAt}
 use Rattle.evalset.specs.Most.{most}
 use Rattle.contact.specs.Meaning.{Floor, atomOn, meetsAll}
+use Rattle.contact.specs.Question.{Question, plain, Counts, NoFloor}
 use Rattle.contact.specs.Numbering.{namesOf, differentAtoms}
 use Rattle.contact.specs.Row.{Row, Realises}
 use Rattle.contact.specs.Plan.{Means}
@@ -24,8 +25,8 @@ use Rattle.plan.specs.Judging.{yes, unmet, judge}
 use Rattle.plan.specs.Reader.{Reading, plan, refused, readOf, ReadingSays}
 use Rattle.plan.specs.Arrays.{answerOf, planIn, Reads, countOf, planBy, touchesOf, vacantOf}
 use Rattle.plan.specs.Stored.{Stored}
-use Rattle.plan.specs.Given.{rowPlan}
-use Rattle.plan.specs.Plans.{plansOf}
+use Rattle.plan.specs.Given.{IsRowPlan}
+use Rattle.plan.specs.Plans.{rowPlan, plansOf}
 use Rattle.plan.proofs.Exact.{exact, plan-read, refusal-read}
 use Rattle.plan.proofs.Contacts.{arrays-plan}
 use Rattle.plan.proofs.SamePlan.{plan-again, rows-kept}
@@ -98,40 +99,66 @@ pub judge-unmet : {N : Type 0} (F : Floor N) (rules : List (Formula N)) (k : ℕ
 judge-unmet F rules k = unmet-exactly F rules k
 
 -- the plan of the row that is found is a plan in words, for at most six names (Given)
-pub given-is-plan : (rules : List (Formula Name)) → length (namesOf rules) ≤ most → (row : Row)
-    → firstRowOf rules ≡ row ∷ [] → IsPlan (rowPlan rules row)
-given-is-plan rules few row found = Given.given-is-plan rules row found few
+pub given-is-plan : (q : Question) (rules : List (Formula Name)) → length (namesOf rules) ≤ most → (row : Row)
+    → firstRowOf q rules ≡ row ∷ [] → IsPlan (rowPlan q rules row)
+given-is-plan q rules few row found = Given.given-is-plan q rules row found few
 
--- its floor gives the rules' atoms this row (Given)
-pub given-row : (rules : List (Formula Name)) (row : Row)
-    → firstRowOf rules ≡ row ∷ [] → (h : IsPlan (rowPlan rules row))
-    → Realises (namedFloor rules (rowPlan rules row) h) (differentAtoms rules) row
+-- it is the one that is meant: its points are the question's, and all unseparated pairs of them are in contact (Given)
+pub row-plan-exactly : (q : Question) (rules : List (Formula Name)) (row : Row) → firstRowOf q rules ≡ row ∷ [] → (p : Plan)
+    → (p ≡ rowPlan q rules row) ↔ IsRowPlan q rules row p
+row-plan-exactly = Given.row-plan-exactly
+
+-- its floor counts: that of a building hangs together (Given)
+pub given-counts : (q : Question) (rules : List (Formula Name)) (row : Row)
+    → firstRowOf q rules ≡ row ∷ [] → (h : IsPlan (rowPlan q rules row))
+    → Counts q (namedFloor rules (rowPlan q rules row) h)
+given-counts = Given.given-counts
+
+-- gives the rules' atoms this row (Given)
+pub given-row : (q : Question) (rules : List (Formula Name)) (row : Row)
+    → firstRowOf q rules ≡ row ∷ [] → (h : IsPlan (rowPlan q rules row))
+    → Realises (namedFloor rules (rowPlan q rules row) h) (differentAtoms rules) row
 given-row = Given.given-row
 
 -- and meets every rule (Given)
-pub given-meets : (rules : List (Formula Name)) (row : Row)
-    → firstRowOf rules ≡ row ∷ [] → (h : IsPlan (rowPlan rules row))
-    → meetsAll (namedFloor rules (rowPlan rules row) h) rules ≡ true
+pub given-meets : (q : Question) (rules : List (Formula Name)) (row : Row)
+    → firstRowOf q rules ≡ row ∷ [] → (h : IsPlan (rowPlan q rules row))
+    → meetsAll (namedFloor rules (rowPlan q rules row) h) rules ≡ true
 given-meets = Given.given-meets
 
--- no plan is given exactly if no floor meets every rule (Given)
-pub no-plan-given : (rules : List (Formula Name)) → (plansOf rules ≡ []) ↔ ((F : Floor Name) → meetsAll F rules ≡ true → ⊥)
+-- no plan is given exactly if no floor that counts meets every rule (Given)
+pub no-plan-given : (q : Question) (rules : List (Formula Name)) → (plansOf q rules ≡ []) ↔ NoFloor q rules
 no-plan-given = Given.no-plan-given
 
 -- a plan is given exactly if it is that of the first realisable row that makes all rules true (Given)
-pub given-exactly : (rules : List (Formula Name)) (p : Plan) → (plansOf rules ≡ p ∷ []) ↔ IsGiven rules p
+pub given-exactly : (q : Question) (rules : List (Formula Name)) (p : Plan) → (plansOf q rules ≡ p ∷ []) ↔ IsGiven q rules p
 given-exactly = Given.given-exactly
 
+-- which is the row that is found (Given)
+pub given-found : (q : Question) (rules : List (Formula Name)) (p : Plan) → IsGiven q rules p
+    → (row : Row) × (firstRowOf q rules ≡ row ∷ []) × (p ≡ rowPlan q rules row)
+given-found = Given.given-found
+
 -- never more than one plan is given (Given)
-pub given-at-most-one : (rules : List (Formula Name)) → length (plansOf rules) ≤ 1
+pub given-at-most-one : (q : Question) (rules : List (Formula Name)) → length (plansOf q rules) ≤ 1
 given-at-most-one = Given.given-at-most-one
 
--- it has at most 32 points for at most 16 atoms (Given)
-pub given-points : (rules : List (Formula Name)) → length (differentAtoms rules) ≤ 16 → (p : Plan) → plansOf rules ≡ p ∷ []
+-- the plain question's plan has at most 32 points for at most 16 atoms (Given)
+pub given-points : (rules : List (Formula Name)) → length (differentAtoms rules) ≤ 16 → (p : Plan) → plansOf plain rules ≡ p ∷ []
     → length (p .points) ≤ 32
 given-points = Given.given-points
 
 -- so "an answered plan takes at most 530 words" (Given)
-pub given-words : (rules : List (Formula Name)) → length (differentAtoms rules) ≤ 16 → (p : Plan) → plansOf rules ≡ p ∷ []
+pub given-words : (rules : List (Formula Name)) → length (differentAtoms rules) ≤ 16 → (p : Plan) → plansOf plain rules ≡ p ∷ []
     → length (wordsOf p) ≤ 530
 given-words = Given.given-words
+
+-- any plan, also that of one building, has at most 64 points for at most six names (Given)
+pub room-points : (q : Question) (rules : List (Formula Name)) (p : Plan) → plansOf q rules ≡ p ∷ [] → length (namesOf rules) ≤ most
+    → length (p .points) ≤ 64
+room-points = Given.room-points
+
+-- so "Such a plan may have 64 points, and 2,082 words" (Given)
+pub room-words : (q : Question) (rules : List (Formula Name)) (p : Plan) → plansOf q rules ≡ p ∷ [] → length (namesOf rules) ≤ most
+    → length (wordsOf p) ≤ 2082
+room-words = Given.room-words

@@ -10,28 +10,29 @@ use native.Mathlib.Omega.{arith}
 use native.Mathlib.Nat.{mul-suc, suc-mul, mul-le-mul}
 use lib.ListN.{length, getD, length-append, length-map}
 use lib.Pow.{pow-mono}
-use Rattle.lists.proofs.Below.{keep-length, collect-small}
+use Rattle.lists.proofs.Below.{collect-small}
 use Rattle.lists.proofs.Search.{first-short}
 use Rattle.lists.proofs.Truth.{side}
 use Rattle.lists.proofs.Lists.{map-one}
 use Rattle.formula.specs.Formula.{Formula, Name}
 use Rattle.lists.specs.Search.{keep, collect, from, elem}
 use Rattle.contact.specs.Meaning.{Floor, meetsAll}
+use Rattle.contact.specs.Question.{Question, plain, Counts, NoFloor}
 use Rattle.contact.specs.Numbering.{namesOf, mapAtom, differentAtoms, numberedAtoms, rowAtoms, numberOf}
 use Rattle.contact.specs.Row.{Row, Realises, is}
-use Rattle.contact.specs.Plan.{Mark, rowMarks, separated, given, pointsFor}
-use Rattle.contact.specs.Check.{check, rows, good, firstRow, firstRowOf}
-use Rattle.contact.proofs.Realise.{marksFloor, points-some, plan-points, plan-touch, plan-lies}
-use Rattle.contact.proofs.Answer.{first-good, rowFloor, plan-gives-row}
-use Rattle.contact.proofs.Naming.{numbers-row, row-meets, first-row-named, first-row-only-named, no-plan-named}
-use Rattle.contact.proofs.Count.{points-at-most}
-use Rattle.contact.proofs.SameFloor.{SameFloor, row-same}
+use Rattle.contact.specs.Plan.{Mark, rowMarks, separated}
+use Rattle.contact.specs.Check.{passes, givenBy, pointsFor, rows, good, firstRow, firstRowOf}
+use Rattle.contact.proofs.Floors.{marksFloor, points-some, plan-points, plan-touch, plan-lies, points-exactly}
+use Rattle.contact.proofs.Answer.{first-good, rowFloor, row-counts, plan-gives-row}
+use Rattle.contact.proofs.Naming.{counts-renamed, numbers-row, row-meets, first-row-named, first-row-only-named, no-plan-named}
+use Rattle.contact.proofs.Count.{points-at-most, points-room}
+use Rattle.contact.proofs.SameFloor.{SameFloor, same-back, row-same, counts-same}
 use Rattle.plan.specs.Words.{Plan, Ascends, IsPlan, lastWord, before, wordsOf}
 use Rattle.evalset.specs.Most.{most}
 use Rattle.plan.specs.Floor.{liesIn, planFloor, namedFloor}
 use Rattle.plan.specs.Links.{pairOf, rowTo, linksTo}
-use Rattle.plan.specs.Given.{givenPlan, rowPlan}
-use Rattle.plan.specs.Plans.{plansOf}
+use Rattle.plan.specs.Given.{givenPlan, IsRowPlan}
+use Rattle.plan.specs.Plans.{rowPlan, plansOf}
 use Rattle.plan.proofs.Complete.{before-length}
 use Rattle.plan.proofs.Contacts.{pair-early, pair-small, links-rise}
 use Rattle.plan.proofs.Judged.{few-points}
@@ -49,111 +50,134 @@ keep-ascends p low k (suc n) high h l = go (p k) (λ least m. keep-ascends p lea
     go true f = (h, omega arith, f (suc k) (omega arith))
     go false f = f low (omega arith)
 
-module _ (n : ℕ) (ms : List Mark) where
-  points-room : length (pointsFor n ms) ≤ 2 ^ n
+module _ (q : Question) (n : ℕ) (ms : List Mark) where
+  points-ascend : Ascends 0 (2 ^ n) (pointsFor q n ms)
   unfolding pointsFor
-  points-room = keep-length (λ e. elem e (given n ms)) (2 ^ n)
+  points-ascend = keep-ascends (λ e. elem e (givenBy q n ms)) 0 0 (2 ^ n) (2 ^ n) (omega arith) (omega arith)
 
-  points-ascend : Ascends 0 (2 ^ n) (pointsFor n ms)
-  unfolding pointsFor
-  points-ascend = keep-ascends (λ e. elem e (given n ms)) 0 0 (2 ^ n) (2 ^ n) (omega arith) (omega arith)
-
-  module _ (checked : check n ms ≡ true) where
+  module _ (checked : passes q n ms ≡ true) where
     -- marks that pass the check have a plan in words
-    marks-plan : n ≤ most → IsPlan (givenPlan n ms)
+    marks-plan : n ≤ most → IsPlan (givenPlan n ms (pointsFor q n ms))
     unfolding givenPlan
     marks-plan few =
         record {
           few = few;
-          some = points-some n ms checked;
+          some = points-some q n ms checked;
           ascend = points-ascend;
-          rise = links-rise (length (pointsFor n ms)) (length (pointsFor n ms)) _ (omega (arith, points-room, pow-mono few));
+          rise = links-rise (length (pointsFor q n ms)) (length (pointsFor q n ms)) _ (omega (arith, points-room q n ms, pow-mono few));
         }
 
     abbrev floor : Floor ℕ
-    floor = marksFloor n ms checked
+    floor = marksFloor q n ms checked
 
     abbrev unseparated : ℕ → ℕ → Bool
-    unseparated a b = not (separated ms (getD (pointsFor n ms) a 0) (getD (pointsFor n ms) b 0))
+    unseparated a b = not (separated ms (getD (pointsFor q n ms) a 0) (getD (pointsFor q n ms) b 0))
 
-    unseparated-reflexive : (a : ℕ) → a < length (pointsFor n ms) → unseparated a a ≡ true
+    unseparated-reflexive : (a : ℕ) → a < length (pointsFor q n ms) → unseparated a a ≡ true
     unseparated-reflexive a l =
-        sym (plan-touch n ms checked a a) ∙ floor .reflexive a (omega (arith, plan-points n ms checked))
+        sym (plan-touch q n ms checked a a) ∙ floor .reflexive a (omega (arith, plan-points q n ms checked))
 
-    unseparated-symmetric : (a b : ℕ) → a < length (pointsFor n ms) → b < length (pointsFor n ms) → unseparated a b ≡ true
+    unseparated-symmetric : (a b : ℕ) → a < length (pointsFor q n ms) → b < length (pointsFor q n ms) → unseparated a b ≡ true
         → unseparated b a ≡ true
     unseparated-symmetric a b l m e =
-        sym (plan-touch n ms checked b a)
-        ∙ floor .symmetric a b (omega (arith, plan-points n ms checked)) (omega (arith, plan-points n ms checked))
-        (plan-touch n ms checked a b ∙ e)
+        sym (plan-touch q n ms checked b a)
+        ∙ floor .symmetric a b (omega (arith, plan-points q n ms checked)) (omega (arith, plan-points q n ms checked))
+        (plan-touch q n ms checked a b ∙ e)
 
     -- its floor is that of the marks
-    marks-same : (h : IsPlan (givenPlan n ms)) → SameFloor (planFloor (givenPlan n ms) h) floor
+    marks-same : (h : IsPlan (givenPlan n ms (pointsFor q n ms))) → SameFloor (planFloor (givenPlan n ms (pointsFor q n ms)) h) floor
     unfolding givenPlan planFloor liesIn
     marks-same h =
         record {
-          points = sym (plan-points n ms checked);
+          points = sym (plan-points q n ms checked);
           touch = λ a b l m.
-              links-kept (length (pointsFor n ms)) (omega (arith, few-points (givenPlan n ms) h)) unseparated unseparated-reflexive
-              unseparated-symmetric (givenPlan n ms) refl a b l m
-              ∙ sym (plan-touch n ms checked a b);
-          lies = λ i a l. sym (plan-lies n ms checked i a);
+              links-kept (length (pointsFor q n ms)) (omega (arith, few-points (givenPlan n ms (pointsFor q n ms)) h)) unseparated unseparated-reflexive
+              unseparated-symmetric (givenPlan n ms (pointsFor q n ms)) refl a b l m
+              ∙ sym (plan-touch q n ms checked a b);
+          lies = λ i a l. sym (plan-lies q n ms checked i a);
         }
 
 -- ---- the plan of the first row
-module _ (rules : List (Formula Name)) (row : Row) (found : firstRowOf rules ≡ row ∷ []) where
-  abbrev checked : check (length (namesOf rules)) (rowMarks (rowAtoms rules) row) ≡ true
-  checked = first-good (length (namesOf rules)) (rowAtoms rules) (numberedAtoms rules) row found .checked
+module _ (q : Question) (rules : List (Formula Name)) (row : Row) (found : firstRowOf q rules ≡ row ∷ []) where
+  abbrev marks : List Mark
+  marks = rowMarks (rowAtoms rules) row
 
-  -- is a plan
-  pub given-is-plan : length (namesOf rules) ≤ most → IsPlan (rowPlan rules row)
-  unfolding rowPlan
-  given-is-plan few = marks-plan (length (namesOf rules)) (rowMarks (rowAtoms rules) row) checked few
+  abbrev checked : passes q (length (namesOf rules)) marks ≡ true
+  checked = first-good q (length (namesOf rules)) (rowAtoms rules) (numberedAtoms rules) row found .checked
 
-  module _ (h : IsPlan (rowPlan rules row)) where
-    same : SameFloor (planFloor (rowPlan rules row) h) (rowFloor (length (namesOf rules)) (rowAtoms rules) (numberedAtoms rules) row found)
-    unfolding rowPlan
-    same = marks-same (length (namesOf rules)) (rowMarks (rowAtoms rules) row) checked h
-
-    -- gives the atoms the row
-    pub given-row : Realises (namedFloor rules (rowPlan rules row) h) (differentAtoms rules) row
-    given-row =
-        numbers-row rules (planFloor (rowPlan rules row) h)
-        ∙ row-same (planFloor (rowPlan rules row) h) (rowFloor (length (namesOf rules)) (rowAtoms rules) (numberedAtoms rules) row found) same
-        (rowAtoms rules)
-        ∙ plan-gives-row (length (namesOf rules)) (rowAtoms rules) (numberedAtoms rules) row found
-
-    -- and meets the rules
-    pub given-meets : meetsAll (namedFloor rules (rowPlan rules row) h) rules ≡ true
-    given-meets = row-meets rules (namedFloor rules (rowPlan rules row) h) row given-row (first-row-named rules row found .makes)
-
--- ---- the plans of rules are none or one
-module _ (rules : List (Formula Name)) where
-  -- none exactly if no floor meets the rules
-  pub no-plan-given : (plansOf rules ≡ []) ↔ ((F : Floor Name) → meetsAll F rules ≡ true → ⊥)
-  unfolding plansOf
-  no-plan-given = (
-    λ e. no-plan-named rules .0 (map-eq-nil-iff (rowPlan rules) .0 e),
-    λ none. ap (map (rowPlan rules)) (no-plan-named rules .1 none),
+  -- that is found is the one that is meant
+  pub row-plan-exactly : (p : Plan) → (p ≡ rowPlan q rules row) ↔ IsRowPlan q rules row p
+  unfolding rowPlan givenPlan
+  row-plan-exactly p = (
+    λ e. subst (IsRowPlan q rules row) (sym e)
+        (record { points = points-exactly q (length (namesOf rules)) marks _ checked .0 refl; is = refl }),
+    λ r. r .is ∙ ap (givenPlan (length (namesOf rules)) marks) (points-exactly q (length (namesOf rules)) marks (p .points) checked .1 (r .points)),
   )
 
+  -- is a plan
+  pub given-is-plan : length (namesOf rules) ≤ most → IsPlan (rowPlan q rules row)
+  unfolding rowPlan
+  given-is-plan few = marks-plan q (length (namesOf rules)) marks checked few
+
+  module _ (h : IsPlan (rowPlan q rules row)) where
+    abbrev floorFound : Floor ℕ
+    floorFound = rowFloor q (length (namesOf rules)) (rowAtoms rules) (numberedAtoms rules) row found
+
+    same : SameFloor (planFloor (rowPlan q rules row) h) floorFound
+    unfolding rowPlan
+    same = marks-same q (length (namesOf rules)) marks checked h
+
+    -- counts
+    pub given-counts : Counts q (namedFloor rules (rowPlan q rules row) h)
+    given-counts =
+        counts-renamed (numberOf rules) q (planFloor (rowPlan q rules row) h)
+        (counts-same floorFound (planFloor (rowPlan q rules row) h) (same-back (planFloor (rowPlan q rules row) h) floorFound same) q
+        (row-counts q (length (namesOf rules)) (rowAtoms rules) (numberedAtoms rules) row found))
+
+    -- gives the atoms the row
+    pub given-row : Realises (namedFloor rules (rowPlan q rules row) h) (differentAtoms rules) row
+    given-row =
+        numbers-row rules (planFloor (rowPlan q rules row) h)
+        ∙ row-same (planFloor (rowPlan q rules row) h) floorFound same (rowAtoms rules)
+        ∙ plan-gives-row q (length (namesOf rules)) (rowAtoms rules) (numberedAtoms rules) row found
+
+    -- and meets the rules
+    pub given-meets : meetsAll (namedFloor rules (rowPlan q rules row) h) rules ≡ true
+    given-meets = row-meets rules (namedFloor rules (rowPlan q rules row) h) row given-row (first-row-named q rules row found .makes)
+
+-- ---- the plans of rules are none or one
+module _ (q : Question) (rules : List (Formula Name)) where
+  -- none exactly if no floor that counts meets the rules
+  pub no-plan-given : (plansOf q rules ≡ []) ↔ NoFloor q rules
+  unfolding plansOf
+  no-plan-given = (
+    λ e. no-plan-named q rules .0 (map-eq-nil-iff (rowPlan q rules) .0 e),
+    λ none. ap (map (rowPlan q rules)) (no-plan-named q rules .1 none),
+  )
+
+  -- the plan that is meant is that of the row found
+  pub given-found : (p : Plan) → IsGiven q rules p → (row : Row) × (firstRowOf q rules ≡ row ∷ []) × (p ≡ rowPlan q rules row)
+  given-found p g =
+      let found = first-row-only-named q rules (g .row) (g .first) in
+      (g .row, found, row-plan-exactly q rules (g .row) found p .1 (g .is))
+
   -- one exactly if it is the plan of the first realisable row that makes the rules true
-  pub given-exactly : (p : Plan) → (plansOf rules ≡ p ∷ []) ↔ IsGiven rules p
+  pub given-exactly : (p : Plan) → (plansOf q rules ≡ p ∷ []) ↔ IsGiven q rules p
   unfolding plansOf
   given-exactly p = (
-    λ e. let r = map-one (rowPlan rules) _ p e in
-        record { row = r .0; first = first-row-named rules (r .0) (r .1); is = r .2 },
-    λ g. ap (map (rowPlan rules)) (first-row-only-named rules (g .row) (g .first)) ∙ ap (λ (q : Plan). q ∷ []) (sym (g .is)),
+    λ e. let r = map-one (rowPlan q rules) _ p e in
+        record { row = r .0; first = first-row-named q rules (r .0) (r .1); is = row-plan-exactly q rules (r .0) (r .1) p .0 (r .2) },
+    λ g. let r = given-found p g in ap (map (rowPlan q rules)) (r .1) ∙ ap (λ (r : Plan). r ∷ []) (sym (r .2)),
   )
 
   -- and no more
-  pub given-at-most-one : length (plansOf rules) ≤ 1
+  pub given-at-most-one : length (plansOf q rules) ≤ 1
   unfolding plansOf firstRow
   given-at-most-one =
       omega (
         arith,
-        length-map (firstRowOf rules) (rowPlan rules),
-        first-short (good (length (namesOf rules)) (rowAtoms rules) (numberedAtoms rules)) (rows (length (rowAtoms rules))),
+        length-map (firstRowOf q rules) (rowPlan q rules),
+        first-short (good q (length (namesOf rules)) (rowAtoms rules) (numberedAtoms rules)) (rows (length (rowAtoms rules))),
       )
 
 -- ---- how many points and words
@@ -199,31 +223,48 @@ words-at-most p h =
     let pairs : p * (p - 1) ≤ 32 * 31 = mul-le-mul h low in
     omega arith
 
-module _ (rules : List (Formula Name)) (few : length (differentAtoms rules) ≤ 16) (p : Plan) (e : plansOf rules ≡ p ∷ []) where
-  -- 16 atoms, 32 points
-  pub given-points : length (p .points) ≤ 32
-  unfolding rowPlan givenPlan
-  given-points =
-      let g = given-exactly rules p .0 e in
-      let atoms : length (rowAtoms rules) ≤ 16 = omega (arith, length-map (differentAtoms rules) (mapAtom (numberOf rules))) in
-      subst (λ (q : Plan). length (q .points) ≤ 32) (sym (g .is))
-      (points-at-most (length (namesOf rules)) (rowAtoms rules) (map is (g .row)) atoms)
+-- and 64 points, 2,082 words
+words-room : (p : ℕ) → p ≤ 64 → 1 + p + p * (p - 1) / 2 + 1 ≤ 2082
+words-room p h =
+    let low : p - 1 ≤ 63 = omega arith in
+    let pairs : p * (p - 1) ≤ 64 * 63 = mul-le-mul h low in
+    omega arith
+
+module _ (q : Question) (rules : List (Formula Name)) (p : Plan) (e : plansOf q rules ≡ p ∷ []) where
+  -- the plan is that of a row
+  of-row : (P : Plan → Type 0) → ((row : Row) → P (rowPlan q rules row)) → P p
+  unfolding plansOf
+  of-row P h = let r = map-one (rowPlan q rules) (firstRowOf q rules) p e in subst P (sym (r .2)) (h (r .0))
 
   given-contacts : 2 * length (p .contacts) ≤ length (p .points) * (length (p .points) - 1)
   unfolding rowPlan givenPlan linksTo
   given-contacts =
-      let g = given-exactly rules p .0 e in
-      subst (λ (q : Plan). 2 * length (q .contacts) ≤ length (q .points) * (length (q .points) - 1)) (sym (g .is))
-      (links-count _ _ 0 _ (omega arith))
+      of-row (λ r. 2 * length (r .contacts) ≤ length (r .points) * (length (r .points) - 1)) (λ row. links-count _ _ 0 _ (omega arith))
+
+  words-count : length (wordsOf p) ≤ 1 + length (p .points) + length (p .points) * (length (p .points) - 1) / 2 + 1
+  unfolding wordsOf
+  words-count = omega (arith, length-append (before p) (lastWord (length (before p)) ∷ []), before-length p, given-contacts)
+
+  -- six names, 64 points
+  pub room-points : length (namesOf rules) ≤ most → length (p .points) ≤ 64
+  unfolding rowPlan givenPlan
+  room-points few =
+      of-row (λ r. length (r .points) ≤ 64)
+      (λ row. omega (arith, points-room q (length (namesOf rules)) (rowMarks (rowAtoms rules) row), pow-mono few))
+
+  -- "Such a plan may have 64 points, and 2,082 words."
+  pub room-words : length (namesOf rules) ≤ most → length (wordsOf p) ≤ 2082
+  room-words few = omega (arith, words-count, words-room (length (p .points)) (room-points few))
+
+module _ (rules : List (Formula Name)) (few : length (differentAtoms rules) ≤ 16) (p : Plan) (e : plansOf plain rules ≡ p ∷ []) where
+  -- 16 atoms, 32 points
+  pub given-points : length (p .points) ≤ 32
+  unfolding rowPlan givenPlan
+  given-points =
+      let atoms : length (rowAtoms rules) ≤ 16 = omega (arith, length-map (differentAtoms rules) (mapAtom (numberOf rules))) in
+      of-row plain rules p e (λ r. length (r .points) ≤ 32)
+      (λ row. points-at-most (length (namesOf rules)) (rowAtoms rules) (map is row) atoms)
 
   -- "An answered plan takes at most 530 words."
   pub given-words : length (wordsOf p) ≤ 530
-  unfolding wordsOf
-  given-words =
-      omega (
-        arith,
-        length-append (before p) (lastWord (length (before p)) ∷ []),
-        before-length p,
-        given-contacts,
-        words-at-most (length (p .points)) given-points,
-      )
+  given-words = omega (arith, words-count plain rules p e, words-at-most (length (p .points)) given-points)

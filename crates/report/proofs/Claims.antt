@@ -2,13 +2,12 @@
 -- of asread, `asReadOf`, which `as_read` gives: for every list of bytes it is what is meant (specs/Printed.antt), and no other text is. Each
 -- claim cites the file that proves it. Assumes nothing.
 use mathlib.Core.Path.{_≡_, sym}
-use mathlib.Core.Bool.{true}
 use mathlib.Core.Logic.{_↔_}
 use mathlib.Core.List.{List}
 use Prim.Native.Nat.{ℕ}
 use Rattle.formula.specs.Formula.{Formula, Name}
 use Rattle.lexer.specs.Text.{bytes}
-use Rattle.contact.specs.Meaning.{Floor, meetsAll}
+use Rattle.contact.specs.Question.{plain, NoFloor}
 use Rattle.contact.specs.Numbering.{namesOf}
 use Rattle.plan.specs.Words.{Plan}
 use Rattle.plan.specs.Meant.{IsGiven}
@@ -38,11 +37,11 @@ as-read-only = Printing.as-read-only
 
 -- the line NO PLAN, exactly if the sheet is loaded and no finite floor, of any number of points, meets its rules
 pub no-plan-printed : (file : Text) → (outputOf file ≡ ended (bytes "NO PLAN"))
-    ↔ (LoadRow file Outcome.Done × (fs : List (Formula Name)) × AreRules (filled (linesOf file)) fs × ((F : Floor Name) → meetsAll F fs ≡ true → ⊥))
+    ↔ (LoadRow file Outcome.Done × (fs : List (Formula Name)) × AreRules (filled (linesOf file)) fs × NoFloor plain fs)
 no-plan-printed file = (Printing.no-floor file (outputOf file) (printed file), λ r. sym (printed-only file _ (no-plan-line (r .0) (r .2) (r .3))))
 
 -- where the sheet is loaded and a plan is given for its rules, that plan
-pub plan-printed : (file : Text) (fs : List (Formula Name)) (p : Plan) → LoadRow file Outcome.Done → AreRules (filled (linesOf file)) fs → IsGiven fs p
+pub plan-printed : (file : Text) (fs : List (Formula Name)) (p : Plan) → LoadRow file Outcome.Done → AreRules (filled (linesOf file)) fs → IsGiven plain fs p
     → outputOf file ≡ planText (namesOf fs) p
 plan-printed file fs p done are given = sym (printed-only file _ (plan-lines done are given))
 

@@ -16,14 +16,14 @@ use Rattle.syntax.specs.Postfix.{puts}
 use Rattle.syntax.specs.Rule.{ruleOf, meaningOf}
 use Rattle.evalset.specs.Bit.{bit}
 use Rattle.contact.specs.Row.{rulesTrue}
-use Rattle.contact.specs.Plan.{separated, allowed, fills, given, pointsFor}
-use Rattle.contact.specs.Check.{check, good, firstRow}
+use Rattle.contact.specs.Plan.{separated, allowed, fills, given}
+use Rattle.contact.specs.Check.{check, pointsFor, good, firstRow}
 use Rattle.names.specs.Gather.{ruleTokens, withName, namesAfter, gatheredOf, gathered}
 use Rattle.names.specs.Seventh.{placesOf}
 use Rattle.plan.specs.Private.{planOf}
 use Rattle.plan.specs.Links.{pairOf, rowTo, linksTo}
-use Rattle.plan.specs.Given.{givenPlan, rowPlan}
-use Rattle.plan.specs.Plans.{plansOf}
+use Rattle.plan.specs.Given.{givenPlan}
+use Rattle.plan.specs.Plans.{rowPlan, plansOf}
 use Rattle.plan.proofs.Examples.{P1, P2}
 use Rattle.table.specs.Sheet.{onFirst, linesOf, blankByte, blankLine, filled}
 use Rattle.table.specs.Calls.{namesIn, atomsIn, judgeNames, judgeAtoms, judgeRoom, judgeText, judgeAdd, judgeLines, judgeLoad}

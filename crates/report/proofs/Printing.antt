@@ -1,14 +1,13 @@
 -- The text that is computed for a sheet is meant, and no other is: the load's judgement has the outcome of the sheet's row, the formulas and
 -- the plan that are computed are those that are meant, and the first byte tells the three sorts of text apart. Assumes nothing.
 use mathlib.Core.Path.{_≡_, refl, sym, ap, subst, _∙_}
-use mathlib.Core.Bool.{true}
 use mathlib.Core.List.{List, [], _∷_, head-eq-of-cons-eq}
 use Prim.Native.Nat.{ℕ}
 use native.Mathlib.Omega.{arith}
 use lib.ListN.{length}
 use Rattle.formula.specs.Formula.{Formula, Name}
 use Rattle.lexer.specs.Text.{bytes}
-use Rattle.contact.specs.Meaning.{Floor, meetsAll}
+use Rattle.contact.specs.Question.{plain, NoFloor}
 use Rattle.contact.specs.Numbering.{namesOf}
 use Rattle.plan.specs.Words.{Plan}
 use Rattle.plan.specs.Plans.{plansOf}
@@ -70,8 +69,8 @@ module _ (file : Text) where
 
   pub printed-only : (out : List ℕ) → Printed file out → out ≡ outputOf file
   unfolding rulesText
-  printed-only out (plan-lines {fs} {p} done are given) = sym (ap (plansText (namesOf fs)) (given-exactly fs p .1 given)) ∙ loaded-output rulesText done are
-  printed-only out (no-plan-line {fs} done are never) = sym (ap (plansText (namesOf fs)) (no-plan-given fs .1 never)) ∙ loaded-output rulesText done are
+  printed-only out (plan-lines {fs} {p} done are given) = sym (ap (plansText (namesOf fs)) (given-exactly plain fs p .1 given)) ∙ loaded-output rulesText done are
+  printed-only out (no-plan-line {fs} done are never) = sym (ap (plansText (namesOf fs)) (no-plan-given plain fs .1 never)) ∙ loaded-output rulesText done are
   printed-only out (refused-line row) = refused-output rulesText row
 
   pub as-read-only : (out : List ℕ) → AsRead file out → out ≡ asReadOf file
@@ -82,12 +81,12 @@ module _ (file : Text) where
 
   rules-printed : {fs : List (Formula Name)} → LoadRow file Outcome.Done → AreRules (filled (linesOf file)) fs → Printed file (rulesText fs)
   unfolding rulesText
-  rules-printed {fs} done are = go (plansOf fs) refl
+  rules-printed {fs} done are = go (plansOf plain fs) refl
     where
-      go : (ps : List Plan) → plansOf fs ≡ ps → Printed file (plansText (namesOf fs) ps)
-      go [] e = no-plan-line done are (no-plan-given fs .0 e)
-      go (p ∷ []) e = plan-lines done are (given-exactly fs p .0 e)
-      go (p ∷ q ∷ ps) e = absurd (omega (arith, given-at-most-one fs, ap length e))
+      go : (ps : List Plan) → plansOf plain fs ≡ ps → Printed file (plansText (namesOf fs) ps)
+      go [] e = no-plan-line done are (no-plan-given plain fs .0 e)
+      go (p ∷ []) e = plan-lines done are (given-exactly plain fs p .0 e)
+      go (p ∷ q ∷ ps) e = absurd (omega (arith, given-at-most-one plain fs, ap length e))
 
   pub printed : Printed file (outputOf file)
   printed = by-row rulesText (Printed file) (λ number line place row. refused-line row) (λ fs done are. rules-printed done are)
@@ -99,7 +98,7 @@ module _ (file : Text) where
 
   -- no plan's text and no refusal's begins as it does
   pub no-floor : (out : List ℕ) → Printed file out → out ≡ ended (bytes "NO PLAN")
-      → LoadRow file Outcome.Done × (fs : List (Formula Name)) × AreRules (filled (linesOf file)) fs × ((F : Floor Name) → meetsAll F fs ≡ true → ⊥)
+      → LoadRow file Outcome.Done × (fs : List (Formula Name)) × AreRules (filled (linesOf file)) fs × NoFloor plain fs
   unfolding planText headLine refusedText
   no-floor out (plan-lines done are given) e = absurd (let z = head-eq-of-cons-eq e in omega arith)
   no-floor out (no-plan-line {fs} done are never) e = (done, fs, are, never)

@@ -9,8 +9,8 @@ use types.Run.{OneOf, miss}
 use denote.Enum.Declared.{tagOf}
 use Rattle.formula.specs.Formula.{Formula, Name}
 use Rattle.lexer.specs.Text.{bytes}
+use Rattle.contact.specs.Question.{plain}
 use Rattle.contact.specs.Numbering.{namesOf, differentAtoms}
-use Rattle.contact.proofs.Claims.{first-row-only-named}
 use Rattle.names.specs.Gather.{arraysOf, knownOf, Kept}
 use Rattle.names.specs.declared.Names.{Names}
 use Rattle.names.proofs.Arrays.{known-back, kept-names}
@@ -22,7 +22,7 @@ use Rattle.plan.specs.Stored.{Stored}
 use Rattle.plan.specs.Plans.{plansOf}
 use Rattle.plan.proofs.SamePlan.{plan-again}
 use Rattle.plan.proofs.Buffer.{written-over}
-use Rattle.plan.proofs.Claims.{no-plan-given, given-exactly, given-is-plan, given-words, given-points, written-read}
+use Rattle.plan.proofs.Claims.{no-plan-given, given-exactly, given-found, given-is-plan, given-words, given-points, written-read}
 use Rattle.table.specs.declared.Table.{Table}
 use Rattle.table.specs.declared.AskAnswer.{AskAnswer}
 use Rattle.table.specs.declared.AskAnswer.the-variants as AskAnswer
@@ -107,18 +107,18 @@ module _ {t : Table} {buffer : List ℕ} {r : AskResult} {exit : List ℕ} (h : 
   unfolding rulesText
   no-text other = go (askOutcome (r .answer)) row refl
     where
-      go : (o : Outcome) → AskRow (rulesOf t) (length buffer) o → askOutcome (r .answer) ≡ o → ended (bytes "NO PLAN") ≡ plansText (namesOf rules) (plansOf rules)
+      go : (o : Outcome) → AskRow (rulesOf t) (length buffer) o → askOutcome (r .answer) ≡ o → ended (bytes "NO PLAN") ≡ plansText (namesOf rules) (plansOf plain rules)
       go o (AskRow.none e) f = absurd (h .some e)
-      go o (AskRow.without {fs} z are never) f = sym (ap (plansText (namesOf rules)) (of-computed (rulesOf t) fs are (λ gs. plansOf gs ≡ []) (no-plan-given fs .1 never)))
+      go o (AskRow.without {fs} z are never) f = sym (ap (plansText (namesOf rules)) (of-computed (rulesOf t) fs are (λ gs. plansOf plain gs ≡ []) (no-plan-given plain fs .1 never)))
       go o (AskRow.short {fs} {p} z are g l) f =
-          absurd (omega (arith, h .room, given-words rules few-atoms p (given-exactly rules p .1 (of-computed (rulesOf t) fs are (λ gs. IsGiven gs p) g))))
+          absurd (omega (arith, h .room, given-words rules few-atoms p (given-exactly plain rules p .1 (of-computed (rulesOf t) fs are (λ gs. IsGiven plain gs p) g))))
       go o (AskRow.given {p = p} z are g l) f = absurd (other (length (wordsOf p)) (is-plan (r .answer) f))
 
   -- where it gives one
   pub record Wrote (n : ℕ) : Type 0 where
     pub plan : Plan
     pub is : IsPlan plan
-    pub only : plansOf rules ≡ plan ∷ []
+    pub only : plansOf plain rules ≡ plan ∷ []
     pub within : n ≤ length exit
     pub counted : n ≡ length (take n exit)
     pub words : take n exit ≡ wordsOf plan
@@ -132,15 +132,15 @@ module _ {t : Table} {buffer : List ℕ} {r : AskResult} {exit : List ℕ} (h : 
       go o (AskRow.without z are never) f = absurd (let z : _≡_ {A = ℕ} 0 1 = cc in omega arith)
       go o (AskRow.short z are g l) f = absurd (let z : _≡_ {A = ℕ} 0 1 = cc in omega arith)
       go o (AskRow.given {fs} {p} z are k l) f =
-          let g : IsGiven rules p = of-computed (rulesOf t) fs are (λ gs. IsGiven gs p) k in
+          let g : IsGiven plain rules p = of-computed (rulesOf t) fs are (λ gs. IsGiven plain gs p) k in
           let size : length (wordsOf p) ≡ n = cc in
           let wrote : exit ≡ over (wordsOf p) buffer = h .asks .words ∙ words-written (rulesOf t) buffer (h .some) p g l in
           let words : take n exit ≡ wordsOf p
           = ap (take n) (h .asks .words) ∙ ap (λ (k : ℕ). take k (askWords (rulesOf t) buffer)) (sym size) ∙ first-words (rulesOf t) buffer (h .some) p g l in
           record {
             plan = p;
-            is = subst IsPlan (sym (g .is)) (given-is-plan rules (can-names (rulesOf t) (h .from-us .standing)) (g .row) (first-row-only-named rules (g .row) (g .first)));
-            only = given-exactly rules p .1 g;
+            is = let w = given-found plain rules p g in subst IsPlan (sym (w .2)) (given-is-plan plain rules (can-names (rulesOf t) (h .from-us .standing)) (w .0) (w .1));
+            only = given-exactly plain rules p .1 g;
             within = omega (arith, size, ap length wrote, length-append (wordsOf p) (drop (length (wordsOf p)) buffer));
             counted = sym (ap length words ∙ size);
             words = words;

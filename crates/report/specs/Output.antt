@@ -3,6 +3,7 @@ use mathlib.Core.List.{List, [], _∷_}
 use Prim.Native.Nat.{ℕ}
 use Rattle.formula.specs.Formula.{Formula, Name}
 use Rattle.lexer.specs.Text.{bytes}
+use Rattle.contact.specs.Question.{plain}
 use Rattle.contact.specs.Numbering.{namesOf}
 use Rattle.plan.specs.Words.{Plan}
 use Rattle.plan.specs.Plans.{plansOf}
@@ -20,7 +21,7 @@ plansText names (p ∷ ps) = planText names p
 
 -- the text of the plan given for these rules, or of none
 unfoldable pub rulesText : List (Formula Name) → List ℕ
-rulesText rules = plansText (namesOf rules) (plansOf rules)
+rulesText rules = plansText (namesOf rules) (plansOf plain rules)
 
 -- a load that is refused has a line and a place
 abbrev pub outcomeText : Outcome → List ℕ

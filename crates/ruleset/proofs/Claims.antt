@@ -12,7 +12,8 @@ use Rattle.syntax.specs.RuleText.{IsRule}
 use Rattle.syntax.specs.Rule.{meaningOf}
 use Rattle.lists.proofs.Search.{in-either, uncons, none-in}
 use Rattle.contact.specs.Numbering.{namesOf, numberedAtoms, rowAtoms}
-use Rattle.contact.specs.Check.{firstRow, firstRowOf}
+use Rattle.contact.specs.Question.{plain}
+use Rattle.contact.specs.Check.{pointsFor, firstRow, firstRowOf}
 use Rattle.solver.specs.declared.RowAnswer.{RowAnswer}
 use Rattle.solver.specs.declared.RowAnswer.the-variants.{At, Nothing}
 use Rattle.solver.specs.Tree.{ComesFrom, Runnable, answerFor, FirstRowSays}
@@ -28,8 +29,8 @@ use Rattle.plan.specs.Words.{Plan, IsPlan}
 use Rattle.evalset.specs.Most.{most}
 use Rattle.plan.specs.Arrays.{planBy}
 use Rattle.plan.specs.Stored.{Stored}
-use Rattle.plan.specs.Given.{givenPlan, rowPlan}
-use Rattle.plan.specs.Plans.{plansOf}
+use Rattle.plan.specs.Given.{givenPlan}
+use Rattle.plan.specs.Plans.{rowPlan, plansOf}
 use Rattle.plan.proofs.SamePlan.{plan-again}
 use Rattle.plan.proofs.Claims.{given-is-plan}
 use Rattle.plan.specs.Judging.{judge}
@@ -98,17 +99,17 @@ module _ (rules : List (Formula Name)) (c : Compiling) (kept code : List ℕ) (h
 
   -- the answer of `first_row` is the number of the first row of the numbered rules
   pub answer-first-row : (r : RowAnswer) → FirstRowSays code ends chart r
-      → r ≡ answerFor (firstRowOf rules)
+      → r ≡ answerFor (firstRowOf plain rules)
   answer-first-row r says =
       answer-is code ends chart r says (rowAtoms rules) (numberedAtoms rules) comes-from
-      ∙ ap (λ (n : ℕ). answerFor (firstRow n (rowAtoms rules) (numberedAtoms rules))) (h .known .names-counted)
+      ∙ ap (λ (n : ℕ). answerFor (firstRow plain n (rowAtoms rules) (numberedAtoms rules))) (h .known .names-counted)
 
   -- where `row_of` finds none, no plan is given
-  pub none-given : (r : RowAnswer) → FirstRowIs c code r → r ≡ Nothing → plansOf rules ≡ []
+  pub none-given : (r : RowAnswer) → FirstRowIs c code r → r ≡ Nothing → plansOf plain rules ≡ []
   unfolding FirstRowIs plansOf
   none-given r says e =
-      ap (map (rowPlan rules))
-      (answer-none (length (namesOf rules)) (rowAtoms rules) (numberedAtoms rules) (sym (says rules kept h) ∙ e))
+      ap (map (rowPlan plain rules))
+      (answer-none plain (length (namesOf rules)) (rowAtoms rules) (numberedAtoms rules) (sym (says rules kept h) ∙ e))
 
   -- ---- for a caller of the plan of a row
 
@@ -118,24 +119,24 @@ module _ (rules : List (Formula Name)) (c : Compiling) (kept code : List ℕ) (h
 
   -- what `planned` answers is, beside the number of names, the plan of the row (Planning)
   pub answer-row-plan : (row : ℕ) (r : RowPlan) → PlanSays chart row r
-      → Stored (rowArrays (chart .names) r) (rowPlan rules (rowBits (chart .atoms) row))
+      → Stored (rowArrays (chart .names) r) (rowPlan plain rules (rowBits (chart .atoms) row))
   unfolding rowPlan
   answer-row-plan row r says =
       let atoms = rowAtoms rules in
       let few = planned-few chart atoms (comes-from .compiled) r row says (h .known .compiled .few) in
-      subst (λ (n : ℕ). Stored (rowArrays (chart .names) r) (givenPlan n (marksIn chart atoms row))) (h .known .names-counted)
-      (plan-stored (chart .names) (marksIn chart atoms row) r (planned-is chart atoms (comes-from .compiled) row says) (omega arith))
+      subst (λ (n : ℕ). Stored (rowArrays (chart .names) r) (givenPlan n (marksIn chart atoms row) (pointsFor plain n (marksIn chart atoms row)))) (h .known .names-counted)
+      (plan-stored plain (chart .names) (marksIn chart atoms row) r (planned-is chart atoms (comes-from .compiled) row says) (omega arith))
 
   -- where `row_of` finds a row, the arrays of `plan_of` hold the plan that is given, and no other
   pub plan-given : (r : RowAnswer) (row : ℕ) (arrays : PlanArrays) → FirstRowIs c code r → r ≡ At row → RowPlanIs c row arrays
-      → plansOf rules ≡ planBy arrays ∷ []
+      → plansOf plain rules ≡ planBy arrays ∷ []
   unfolding FirstRowIs RowPlanIs plansOf
   plan-given r row arrays says e holds =
       let names = length (namesOf rules) in
-      let found = answer-found names (rowAtoms rules) (numberedAtoms rules) (chart .atoms) row (h .known .compiled .counted)
+      let found = answer-found plain names (rowAtoms rules) (numberedAtoms rules) (chart .atoms) row (h .known .compiled .counted)
       (sym (says rules kept h) ∙ e) in
-      ap (map (rowPlan rules)) found
-      ∙ ap (λ (p : Plan). p ∷ []) (sym (plan-again arrays _ (given-is-plan rules (h .known .fits .names-fit) _ found) (holds rules kept code h)))
+      ap (map (rowPlan plain rules)) found
+      ∙ ap (λ (p : Plan). p ∷ []) (sym (plan-again arrays _ (given-is-plan plain rules (h .known .fits .names-fit) _ found) (holds rules kept code h)))
 
   -- ---- for a caller of the judgement
 

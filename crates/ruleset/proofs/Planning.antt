@@ -14,8 +14,11 @@ use Rattle.lists.proofs.Padded.{pad-at}
 use Rattle.lists.proofs.Search.{placed}
 use Rattle.lists.proofs.Truth.{clash}
 use Rattle.evalset.specs.Sets.{room, memAt}
-use Rattle.contact.specs.Plan.{Mark, separated, pointsFor}
-use Rattle.contact.proofs.Realise.{separated-symmetric, allowed-elim, point-allowed}
+use Rattle.contact.specs.Question.{Question}
+use Rattle.contact.specs.Plan.{Mark, separated}
+use Rattle.contact.specs.Check.{pointsFor}
+use Rattle.contact.proofs.Realise.{separated-symmetric, allowed-elim}
+use Rattle.contact.proofs.Floors.{point-allowed}
 use Rattle.search.specs.declared.RowPlan.{RowPlan}
 use Rattle.search.specs.Planned.{PlanOf}
 use Rattle.plan.specs.declared.PlanArrays.{PlanArrays}
@@ -32,24 +35,24 @@ tested : (test x y : Bool) → (test ≡ true → x ≡ y) → (test && x) ≡ (
 tested true x y h = h refl
 tested false x y h = refl
 
-module _ (names : ℕ) (ms : List Mark) where
+module _ (q : Question) (names : ℕ) (ms : List Mark) where
   abbrev points : List ℕ
-  points = pointsFor names ms
+  points = pointsFor q names ms
 
   abbrev unseparated : ℕ → ℕ → Bool
   unseparated a b = not (separated ms (getD points a 0) (getD points b 0))
 
   own : (a : ℕ) → a < length points → unseparated a a ≡ true
-  own a l = ap not (allowed-elim names ms _ (point-allowed names ms (placed 0 points a l)) .2)
+  own a l = ap not (allowed-elim names ms _ (point-allowed q names ms _ (placed 0 points a l)) .2)
 
   turned : (a b : ℕ) → a < length points → b < length points → unseparated a b ≡ true → unseparated b a ≡ true
   turned a b l m e = ap not (eq-false-of-not-eq-true (λ k. clash (separated-symmetric ms _ _ k) (not-true _ e)))
 
-  module _ (r : RowPlan) (p : PlanOf names ms r) (few : r .count ≤ 64) where
+  module _ (r : RowPlan) (p : PlanOf q names ms r) (few : r .count ≤ 64) where
     point-same : (a : ℕ) → a < length points → getD (r .points) a 0 ≡ getD points a 0
     point-same a l = ap (λ (xs : List ℕ). getD xs a 0) (p .listed) ∙ pad-at room points a l
 
-    square-same : (a b : ℕ) → memAt (r .rows) a b ≡ square (givenPlan names ms) a b
+    square-same : (a b : ℕ) → memAt (r .rows) a b ≡ square (givenPlan names ms points) a b
     unfolding square givenPlan
     square-same a b =
         p .contacts a b
@@ -59,9 +62,9 @@ module _ (names : ℕ) (ms : List Mark) where
         let l = ltb-true a (length points) (u .0) in
         let m = ltb-true b (length points) (u .1) in
         ap₂ (λ (x y : ℕ). not (separated ms x y)) (point-same a l) (point-same b m)
-        ∙ sym (links-kept (length points) (omega (arith, p .counted)) unseparated own turned (givenPlan names ms) refl a b l m))
+        ∙ sym (links-kept (length points) (omega (arith, p .counted)) unseparated own turned (givenPlan names ms points) refl a b l m))
 
-    pub plan-stored : Stored (rowArrays names r) (givenPlan names ms)
+    pub plan-stored : Stored (rowArrays names r) (givenPlan names ms points)
     unfolding room givenPlan
     plan-stored = record {
       names = refl;

@@ -16,6 +16,7 @@ use Rattle.contact.specs.Numbering.{mapForm, namesOf, differentAtoms, atomNumbe
 use Rattle.names.specs.Gather.{arraysOf, gathered}
 use Rattle.names.specs.declared.NamesAnswer.{NamesAnswer}
 use Rattle.names.specs.declared.NamesAnswer.the-variants as NamesAnswer
+use Rattle.contact.specs.Question.{plain}
 use Rattle.contact.specs.Check.{firstRowOf}
 use Rattle.kleene.specs.Code.{postfix}
 use Rattle.solver.specs.declared.RowAnswer.{RowAnswer}
@@ -25,7 +26,7 @@ use Rattle.search.specs.Rows.{rowBits}
 use Rattle.plan.specs.declared.PlanArrays.{PlanArrays}
 use Rattle.plan.specs.Words.{Plan, IsPlan}
 use Rattle.plan.specs.Stored.{Stored}
-use Rattle.plan.specs.Given.{rowPlan}
+use Rattle.plan.specs.Plans.{rowPlan}
 use Rattle.plan.specs.Judging.{judge}
 use Rattle.plan.specs.Floor.{namedFloor}
 use Rattle.judging.specs.declared.Judged.{Judged}
@@ -141,12 +142,12 @@ pub record Whole (c : Compiling) (code : List ℕ) : Type 0 where
 
 -- the answer is the number of the first row of the rules that are compiled
 unfoldable pub FirstRowIs : Compiling → List ℕ → RowAnswer → Type 0
-FirstRowIs c code r = (rules : List (Formula Name)) (kept : List ℕ) → CompiledRules rules c kept code → r ≡ answerFor (firstRowOf rules)
+FirstRowIs c code r = (rules : List (Formula Name)) (kept : List ℕ) → CompiledRules rules c kept code → r ≡ answerFor (firstRowOf plain rules)
 
 -- the arrays hold the plan of a row of the rules that are compiled
 unfoldable pub RowPlanIs : Compiling → ℕ → PlanArrays → Type 0
 RowPlanIs c row r =
-    (rules : List (Formula Name)) (kept code : List ℕ) → CompiledRules rules c kept code → Stored r (rowPlan rules (rowBits (c .known .atoms .chart .atoms) row))
+    (rules : List (Formula Name)) (kept code : List ℕ) → CompiledRules rules c kept code → Stored r (rowPlan plain rules (rowBits (c .known .atoms .chart .atoms) row))
 
 -- the answer is the judgement of the rules that are compiled on the floor of the plan that the arrays hold
 unfoldable pub JudgedIs : Compiling → List ℕ → PlanArrays → Judged → Type 0

@@ -1,9 +1,9 @@
--- The claims of this crate (Giving, Listing): the plan is the one that is given. A function's contract is what is assumed of its result
--- here, under its name in specs/. Assumes nothing.
+-- The claims of this crate (Giving, Listing, Finding): the plan is the one that is given, for each question, and the piece of a building is the
+-- first that meets the row. A function's contract is what is assumed of its result here, under its name in specs/. Assumes nothing.
 use mathlib.Core.Bool.{Bool, true, not, _&&_}
 use mathlib.Core.Path.{_≡_, sym, ap, ap₂, _∙_}
 use mathlib.Core.List.{List, map}
-use Prim.Native.Nat.{ℕ, _≤_, _<_}
+use Prim.Native.Nat.{ℕ, _^_, _≤_, _<_}
 use native.Mathlib.Omega.{arith}
 use lib.ListN.{length, getD}
 use borrow.Author.Tests.{lt-ltb}
@@ -11,19 +11,36 @@ use Rattle.lists.proofs.Padded.{pad-at}
 use Rattle.formula.specs.Formula.{Atom}
 use Rattle.evalset.specs.Sets.{memAt, room}
 use Rattle.contact.specs.Row.{is}
-use Rattle.contact.specs.Plan.{separated, pointsFor}
-use Rattle.contact.specs.Check.{check}
+use Rattle.contact.specs.Question.{Question, plain, building}
+use Rattle.contact.specs.Plan.{Mark, separated}
+use Rattle.contact.specs.Check.{check, passes, pointsFor}
+use Rattle.contact.specs.Pieces.{checkPieces}
 use Rattle.contact.proofs.Claims as contact
-use Rattle.contact.proofs.Realise.{marksFloor}
+use Rattle.contact.proofs.Floors.{marksFloor}
 use Rattle.search.specs.declared.Chart.{Chart}
 use Rattle.search.specs.declared.RowPlan.{RowPlan}
+use Rattle.search.specs.declared.FoundPiece.{FoundPiece}
 use Rattle.search.specs.Rows.{rowBits}
 use Rattle.search.specs.Compiled.{limit, Compiled}
 use Rattle.search.specs.Planned.{marksIn, PlanOf, PlanSays}
+use Rattle.search.specs.Building.{FirstPiece, BuildingSays, BuildingPlanSays}
+
+-- for each question, the contact rows of a plan whose marks pass the check are the contacts of the plan's floor
+plan-touch : (q : Question) (n : ℕ) (ms : List Mark) (r : RowPlan) → PlanOf q n ms r → (h : passes q n ms ≡ true) → (i j : ℕ) → i < r .count
+    → j < r .count → memAt (r .rows) i j ≡ marksFloor q n ms h .touch i j
+plan-touch q n ms r p h i j li lj =
+    let at : (k : ℕ) → k < r .count → getD (r .points) k 0 ≡ getD (pointsFor q n ms) k 0 =
+    λ k l. ap (λ (xs : List ℕ). getD xs k 0) (p .listed) ∙ pad-at room (pointsFor q n ms) k (omega (arith, p .counted)) in
+    p .contacts i j
+    ∙ ap₂ (λ (a b : Bool). (a && b) && not (separated ms (getD (r .points) i 0) (getD (r .points) j 0))) (lt-ltb i (r .count) li)
+    (lt-ltb j (r .count) lj)
+    ∙ ap₂ (λ (e f : ℕ). not (separated ms e f)) (at i li) (at j lj) ∙ sym (contact.plan-touch q n ms h i j)
 
 module _ (chart : Chart) (atoms : List (Atom ℕ)) (compiled : Compiled chart atoms) where
+  -- ---- the plain question
+
   -- planned is the plan of the row's marks: the points, zeros after them, their number, and the contacts
-  pub planned-is : {r : RowPlan} (row : ℕ) → PlanSays chart row r → PlanOf (chart .names) (marksIn chart atoms row) r
+  pub planned-is : {r : RowPlan} (row : ℕ) → PlanSays chart row r → PlanOf plain (chart .names) (marksIn chart atoms row) r
   unfolding PlanSays
   planned-is row says = says atoms compiled
 
@@ -35,14 +52,29 @@ module _ (chart : Chart) (atoms : List (Atom ℕ)) (compiled : Compiled chart at
   -- of a row that passes the check, the contact rows are the contacts of the plan's floor
   pub planned-touch : (r : RowPlan) (row : ℕ) → PlanSays chart row r → (h : check (chart .names) (marksIn chart atoms row) ≡ true)
       → (i j : ℕ) → i < r .count → j < r .count
-      → memAt (r .rows) i j ≡ marksFloor (chart .names) (marksIn chart atoms row) h .touch i j
-  planned-touch r row says h i j li lj =
-      let n = chart .names in
-      let ms = marksIn chart atoms row in
-      let p : PlanOf n ms r = planned-is row says in
-      let at : (k : ℕ) → k < r .count → getD (r .points) k 0 ≡ getD (pointsFor n ms) k 0 =
-      λ k l. ap (λ (xs : List ℕ). getD xs k 0) (p .listed) ∙ pad-at room (pointsFor n ms) k (omega (arith, p .counted)) in
-      p .contacts i j
-      ∙ ap₂ (λ (a b : Bool). (a && b) && not (separated ms (getD (r .points) i 0) (getD (r .points) j 0))) (lt-ltb i (r .count) li)
-      (lt-ltb j (r .count) lj)
-      ∙ ap₂ (λ (e f : ℕ). not (separated ms e f)) (at i li) (at j lj) ∙ sym (contact.plan-touch n ms h i j)
+      → memAt (r .rows) i j ≡ marksFloor plain (chart .names) (marksIn chart atoms row) h .touch i j
+  planned-touch r row says h = plan-touch plain (chart .names) (marksIn chart atoms row) r (planned-is row says) h
+
+  -- ---- one building
+
+  -- building finds a piece exactly if the row's marks pass the check, and its evaluations are those given
+  pub building-is : {r : FoundPiece} (row : ℕ) → BuildingSays chart row r → FirstPiece (chart .names) (marksIn chart atoms row) r
+  unfolding BuildingSays
+  building-is row says = says atoms compiled
+
+  -- planned_building is the plan of the row's marks for one building
+  pub planned-building-is : {r : RowPlan} (row : ℕ) → BuildingPlanSays chart row r
+      → PlanOf building (chart .names) (marksIn chart atoms row) r
+  unfolding BuildingPlanSays
+  planned-building-is row says = says atoms compiled
+
+  -- at most as many points as there are evaluations
+  pub planned-building-few : (r : RowPlan) (row : ℕ) → BuildingPlanSays chart row r → r .count ≤ 2 ^ chart .names
+  planned-building-few r row says =
+      omega (arith, planned-building-is row says .counted, contact.points-room building (chart .names) (marksIn chart atoms row))
+
+  -- of a row that passes the check, the contact rows are the contacts of the plan's floor
+  pub planned-building-touch : (r : RowPlan) (row : ℕ) → BuildingPlanSays chart row r
+      → (h : checkPieces (chart .names) (marksIn chart atoms row) ≡ true) → (i j : ℕ) → i < r .count → j < r .count
+      → memAt (r .rows) i j ≡ marksFloor building (chart .names) (marksIn chart atoms row) h .touch i j
+  planned-building-touch r row says h = plan-touch building (chart .names) (marksIn chart atoms row) r (planned-building-is row says) h

@@ -1,20 +1,19 @@
 -- The evaluations that the code gathers are those that the marks give: each search on the state's sets is the one on the marks
 -- (Fitting), and what is found is below 2 ^ names. Assumes nothing.
 use mathlib.Core.Bool.{Bool, true, false}
-use mathlib.Core.Path.{_≡_, refl, sym, ap, _∙_, subst}
-use mathlib.Core.Logic.{⊎-elim}
+use mathlib.Core.Path.{_≡_, refl, ap, _∙_}
 use mathlib.Core.List.{List, [], _∷_}
 use Prim.Native.Nat.{ℕ, _^_, _≤_, _<_}
 use Rattle.lists.proofs.Below.{any-at, any-none}
 use Rattle.formula.specs.Formula.{Term, Atom}
-use Rattle.lists.specs.Search.{In, here, any, first, orElse, collect, below, elem}
+use Rattle.lists.specs.Search.{here, any, first, orElse, collect, below, elem}
 use Rattle.evalset.specs.Sets.{room, meetOf}
 use Rattle.evalset.specs.Most.{most}
 use Rattle.evalset.proofs.Members.{first-names}
-use Rattle.lists.proofs.Search.{none-in, uncons, first-in, below-elim, elem-intro, elem-elim, collect-elim, or-else-cases, collect-same}
+use Rattle.lists.proofs.Search.{first-in, elem-intro, collect-same}
 use Rattle.lists.proofs.Truth.{clash}
 use Rattle.contact.specs.Meaning.{partTerm}
-use Rattle.contact.specs.Plan.{Means, evaluations, Mark, touching, apart, vacant, inhabited, zeroMark, mark, allowed, fills, partners, leads, withPartner, gives, given}
+use Rattle.contact.specs.Plan.{Means, evaluations, Mark, touching, zeroMark, mark, allowed, fills, partners, leads, withPartner, gives}
 use Rattle.search.specs.declared.State.{State}
 use Rattle.search.specs.Tests.{pairFrom, pairOf, givesOf}
 use Rattle.search.specs.Compiled.{AtomIs, Fit}
@@ -75,24 +74,3 @@ module _ (xs ys : List ℕ) (p : ℕ → Bool) (h : (e : ℕ) → p e ≡ elem e
       go : (zs : List ℕ) → ((e : ℕ) → p e ≡ elem e zs) → orElse zs ys ≡ zs
       go [] g = clash some (any-none p room (λ e l. g e))
       go (z ∷ zs) g = refl
-
--- ---- what is given is below 2 ^ n
-
-module _ (n : ℕ) (ms : List Mark) where
-  found-low : (p : ℕ → Bool) {e : ℕ} → In e (first p (evaluations n)) → e < 2 ^ n
-  found-low p {e} i = below-elim (2 ^ n) e (first-in p (evaluations n) i .0)
-
-  gives-low : (m : Mark) {e : ℕ} → In e (gives n ms m) → e < 2 ^ n
-  gives-low (touching x y) {e} i =
-      let r = collect-elim (withPartner n ms y) (first (leads n ms x y) (evaluations n)) i in
-      ⊎-elim (λ q. subst (λ (d : ℕ). d < 2 ^ n) (sym q) (found-low (leads n ms x y) (r .1)))
-      (λ j. found-low (partners n ms y (r .0)) j) (uncons (r .2))
-  gives-low (apart x y) i = none-in i
-  gives-low (vacant t) i = none-in i
-  gives-low (inhabited t) i = found-low (fills n ms t) i
-
-  pub given-low : (e : ℕ) → elem e (given n ms) ≡ true → e < 2 ^ n
-  unfolding given
-  given-low e h =
-      ⊎-elim (λ j. let r = collect-elim (gives n ms) ms j in gives-low (r .0) (r .2)) (λ j. found-low (allowed n ms) j)
-      (or-else-cases (collect (gives n ms) ms) (first (allowed n ms) (evaluations n)) (elem-elim e (given n ms) h))

@@ -3,4 +3,7 @@ pub mod Walks
 pub mod Fitting
 pub mod Giving
 pub mod Listing
+pub mod Growing
+pub mod Meeting
+pub mod Finding
 pub mod Claims

@@ -21,17 +21,18 @@ use Rattle.evalset.specs.Sets.{room, mem, memAt, noneOf, addOf}
 use Rattle.evalset.specs.Most.{most}
 use Rattle.evalset.proofs.Arrays.{positions-none, positions-more}
 use Rattle.evalset.proofs.Members.{keep-names}
-use Rattle.lists.proofs.Search.{placed, keep-elim, below-elim}
-use Rattle.contact.specs.Plan.{Mark, separated, given, pointsFor}
-use Rattle.contact.proofs.Realise.{point-allowed}
+use Rattle.lists.proofs.Search.{placed, keep-elim, below-elim, elem-elim}
+use Rattle.contact.specs.Question.{Question}
+use Rattle.contact.specs.Plan.{Mark, separated}
+use Rattle.contact.specs.Check.{givenBy, pointsFor}
+use Rattle.contact.proofs.Floors.{given-allowed, point-allowed}
 use Rattle.search.specs.declared.State.{State}
 use Rattle.search.specs.declared.RowPlan.{RowPlan}
-use Rattle.search.specs.Tests.{rowOf, rowsOf, Filled}
+use Rattle.search.specs.Tests.{rowOf, Filled}
 use Rattle.search.specs.Compiled.{Fit}
-use Rattle.search.specs.Planned.{Positions, PlanOf}
+use Rattle.search.specs.Planned.{Positions, PlanFrom, PlanOf}
 use Rattle.evalset.specs.Arrays.{positionsOf}
 use Rattle.search.proofs.Fitting.{allowed-low}
-use Rattle.search.proofs.Giving.{given-low}
 
 -- the members of a set in an array
 pub positions : (p : ℕ → Bool) (count : ℕ) (points : List ℕ) → count ≡ length (keep p (below room)) → points ≡ pad room (keep p (below room))
@@ -73,41 +74,40 @@ module _ (f : ℕ → ℕ → Bool) where
         past = λ i e l. congr-fun (other i (λ z. omega arith)) e ∙ h .past i e (omega arith);
       }
 
--- ---- the plan
+-- ---- the plan, by the set of what a question gives
 
-module _ (n : ℕ) (few : n ≤ most) (ms : List Mark) (g : EvalSet) (h : (e : ℕ) → mem g e ≡ elem e (given n ms)) where
-  points-are : keep (mem g) (below room) ≡ pointsFor n ms
+module _ (q : Question) (n : ℕ) (few : n ≤ most) (ms : List Mark) (g : EvalSet) (h : (e : ℕ) → mem g e ≡ elem e (givenBy q n ms)) where
+  points-are : keep (mem g) (below room) ≡ pointsFor q n ms
   unfolding pointsFor
   points-are =
-      ap (λ (p : ℕ → Bool). keep p (below room)) (fun-ext h) ∙ keep-names (λ e. elem e (given n ms)) n few (given-low n ms)
+      ap (λ (p : ℕ → Bool). keep p (below room)) (fun-ext h) ∙ keep-names (λ e. elem e (givenBy q n ms)) n few
+      (λ e i. allowed-low n ms e (given-allowed q n ms e (elem-elim e (givenBy q n ms) i)))
 
-  module _ (s : State) (f : Fit n s ms) (r : RowPlan) (counted : r .count ≡ length (keep (mem g) (below room)))
-      (listed : r .points ≡ pad room (keep (mem g) (below room)))
-      (filled : Filled (r .count) (rowsOf (r .count) (r .points) (memAt (s .rows))) (memAt (r .rows))) where
-    count-is : r .count ≡ length (pointsFor n ms)
-    count-is = counted ∙ ap length points-are
+  module _ (s : State) (f : Fit n s ms) (r : RowPlan) (of-set : PlanFrom (mem g) (memAt (s .rows)) r) where
+    count-is : r .count ≡ length (pointsFor q n ms)
+    count-is = of-set .counted ∙ ap length points-are
 
-    points-is : r .points ≡ pad room (pointsFor n ms)
-    points-is = listed ∙ ap (pad room) points-are
+    points-is : r .points ≡ pad room (pointsFor q n ms)
+    points-is = of-set .listed ∙ ap (pad room) points-are
 
     point-low : (i : ℕ) → i < r .count → getD (r .points) i 0 < 2 ^ n
     point-low i l =
         subst (λ (x : ℕ). x < 2 ^ n)
-        (sym (ap (λ (xs : List ℕ). getD xs i 0) points-is ∙ pad-at room (pointsFor n ms) i (omega (arith, count-is))))
-        (allowed-low n ms _ (point-allowed n ms (placed 0 (pointsFor n ms) i (omega (arith, count-is)))))
+        (sym (ap (λ (xs : List ℕ). getD xs i 0) points-is ∙ pad-at room (pointsFor q n ms) i (omega (arith, count-is))))
+        (allowed-low n ms _ (point-allowed q n ms _ (placed 0 (pointsFor q n ms) i (omega (arith, count-is)))))
 
     contact-is : (i j : ℕ) → memAt (r .rows) i j
         ≡ ((ltb i (r .count) && ltb j (r .count)) && not (separated ms (getD (r .points) i 0) (getD (r .points) j 0)))
     unfolding positionsOf
     contact-is i j =
         ⊎-elim
-        (λ l. congr-fun (filled .done i l) j
+        (λ l. congr-fun (of-set .filled .done i l) j
         ∙ guarded j (r .count) (ltb j (r .count)) _ _ (le-ltb j (r .count)) (λ m. ap not (f .rows-are _ _ (point-low i l) (point-low j m)))
         ∙ sym (ap beside (lt-ltb i (r .count) l)))
-        (λ l. filled .past i j l ∙ sym (ap beside (le-ltb i (r .count) l))) (side i (r .count))
+        (λ l. of-set .filled .past i j l ∙ sym (ap beside (le-ltb i (r .count) l))) (side i (r .count))
       where
         beside : Bool → Bool
         beside b = (b && ltb j (r .count)) && not (separated ms (getD (r .points) i 0) (getD (r .points) j 0))
 
-    pub plan-is : PlanOf n ms r
+    pub plan-is : PlanOf q n ms r
     plan-is = record { counted = count-is; listed = points-is; contacts = contact-is }

@@ -1,6 +1,6 @@
 -- For proofs: what the functions that make the plan of a row ensure, of every list of atoms that the chart is compiled from; `PlanSays` is
 -- the contract of `planned`, which only our own crates call. Assumes nothing.
-use mathlib.Core.Bool.{not, _&&_}
+use mathlib.Core.Bool.{Bool, not, _&&_}
 use mathlib.Core.Path.{_≡_}
 use mathlib.Core.List.{List}
 use Prim.Native.Nat.{ℕ, _≤_, _<_}
@@ -9,13 +9,16 @@ use lib.ListN.{length, getD}
 use Rattle.lists.specs.Padded.{pad}
 use Rattle.formula.specs.Formula.{Atom}
 use Rattle.evalset.specs.declared.EvalSet.{EvalSet}
-use Rattle.lists.specs.Search.{collect, elem}
+use Rattle.lists.specs.Search.{keep, collect, below, elem}
 use Rattle.evalset.specs.Sets.{room, mem, memAt}
-use Rattle.contact.specs.Plan.{Mark, rowMarks, separated, gives, given, pointsFor}
+use Rattle.contact.specs.Question.{Question, plain}
+use Rattle.contact.specs.Plan.{Mark, rowMarks, separated, gives, given}
+use Rattle.contact.specs.Check.{pointsFor}
 use Rattle.search.specs.declared.Chart.{Chart}
 use Rattle.search.specs.declared.State.{State}
 use Rattle.search.specs.declared.RowPlan.{RowPlan}
 use Rattle.search.specs.Rows.{rowBits}
+use Rattle.search.specs.Tests.{rowsOf, Filled}
 use Rattle.search.specs.Compiled.{Compiled, Fit}
 
 -- the marks of a whole row
@@ -43,13 +46,19 @@ pub record Positions (count : ℕ) (points : List ℕ) : Type 0 where
   pub fits : count ≤ room
   pub low : (i : ℕ) → i < count → getD points i 0 < room
 
--- the plan of a list of marks: its points, and row i has position j exactly if both are positions and the two are not separated
-pub record PlanOf (names : ℕ) (ms : List Mark) (r : RowPlan) : Type 0 where
-  pub counted : r .count ≡ length (pointsFor names ms)
-  pub listed : r .points ≡ pad room (pointsFor names ms)
+-- the plan of a set of points, by what is separated from each: the points ascend, and the contact rows are read off
+pub record PlanFrom (given : ℕ → Bool) (sep : ℕ → ℕ → Bool) (r : RowPlan) : Type 0 where
+  pub counted : r .count ≡ length (keep given (below room))
+  pub listed : r .points ≡ pad room (keep given (below room))
+  pub filled : Filled (r .count) (rowsOf (r .count) (r .points) sep) (memAt (r .rows))
+
+-- the plan of a list of marks for a question: its points, and row i has position j exactly if both are positions and the two are not separated
+pub record PlanOf (q : Question) (names : ℕ) (ms : List Mark) (r : RowPlan) : Type 0 where
+  pub counted : r .count ≡ length (pointsFor q names ms)
+  pub listed : r .points ≡ pad room (pointsFor q names ms)
   pub contacts : (i j : ℕ) → memAt (r .rows) i j
       ≡ ((ltb i (r .count) && ltb j (r .count)) && not (separated ms (getD (r .points) i 0) (getD (r .points) j 0)))
 
 -- the plan is that of the row
 unfoldable pub PlanSays : Chart → ℕ → RowPlan → Type 0
-PlanSays chart row r = (atoms : List (Atom ℕ)) → Compiled chart atoms → PlanOf (chart .names) (marksIn chart atoms row) r
+PlanSays chart row r = (atoms : List (Atom ℕ)) → Compiled chart atoms → PlanOf plain (chart .names) (marksIn chart atoms row) r

@@ -1,4 +1,4 @@
-// The plan of a row of the rules' chart (document 01, 'The plan that is given').
+// The plan of a row of the rules' chart (document 01, 'The plan that is given'), and for one building (document 02's T-04) its first piece.
 // A row is a number: of k atoms, atom i is true where bit k - 1 - i is clear. Its state is what the row allows, and what it separates
 // from each evaluation. Contracts speak of every list of atoms that the chart is compiled from (specs/Compiled.antt). A requires asks
 // only that indices are in range: our own crates alone call these functions, with at most 16 atoms. Assumes nothing.
@@ -14,7 +14,8 @@ ghost use Rattle.evalset.specs.Most.{most};
 ghost use Rattle.search.specs.Rows.{rowBits};
 ghost use Rattle.search.specs.Tests.{Separates, Parts, pairOf, givesOf, rowOf, rowsOf, Filled};
 ghost use Rattle.search.specs.Compiled.{limit, Fit, Follows, StepSays};
-ghost use Rattle.search.specs.Planned.{StateSays, GatheredSays, GivenSays, Positions, PlanSays};
+ghost use Rattle.search.specs.Planned.{StateSays, GatheredSays, GivenSays, Positions, PlanFrom, PlanSays};
+ghost use Rattle.search.specs.Building.{PieceSays, metOf, MetSays, FoundSays, BuildingSays, BuildingPlanSays};
 use evalset::EvalSet;
 use evalset::Found;
 use evalset::ROOM;
@@ -43,6 +44,12 @@ pub struct RowPlan {
     pub count: usize,
     pub points: [u8; ROOM],
     pub rows: [EvalSet; ROOM],
+}
+
+// The first piece of a row: whether one meets the row, and its evaluations, none where there is no such piece.
+pub struct FoundPiece {
+    pub found: bool,
+    pub piece: EvalSet,
 }
 
 // A set as a list.
@@ -293,14 +300,11 @@ fn contact_rows(points: [u8; ROOM], count: usize, apart: [EvalSet; ROOM]) -> [Ev
     out
 }
 
-// The plan of a row.
-pub fn planned(chart: Chart, row: usize) -> RowPlan
-    requires { ⌜ chart .atoms ≤ limit ⌝ }
-    ensures { λ r. ⌜ PlanSays chart row r ⌝ }
+// The plan of a set of points: they ascend, and "all unseparated pairs are in contact".
+fn plan_of(given: EvalSet, apart: [EvalSet; ROOM]) -> RowPlan
+    ensures { λ r. ⌜ PlanFrom (mem given) (memAt apart) r ⌝ }
 {
-    let s = state_of(chart, row);
-    let apart = s.rows;
-    let listed = ascending(given(chart, s, row));
+    let listed = ascending(given);
     let count = listed.count;
     let points = listed.points;
     let rows = contact_rows(points, count, apart);
@@ -309,4 +313,117 @@ pub fn planned(chart: Chart, row: usize) -> RowPlan
         points,
         rows,
     }
+}
+
+// The plan of a row.
+pub fn planned(chart: Chart, row: usize) -> RowPlan
+    requires { ⌜ chart .atoms ≤ limit ⌝ }
+    ensures { λ r. ⌜ PlanSays chart row r ⌝ }
+{
+    let s = state_of(chart, row);
+    let apart = s.rows;
+    plan_of(given(chart, s, row), apart)
+}
+
+// The piece that e lies in: what is allowed and unseparated from one of its own is joined to it, until each of them was looked at.
+fn piece(s: State, e: usize) -> EvalSet
+    ensures { λ r. ⌜ PieceSays s e r ⌝ }
+{
+    let mut looked = evalset::empty();
+    let mut piece = evalset::insert(looked, e);
+    loop {
+        let Found::At(p) = evalset::least(evalset::minus(piece, looked)) else {
+            return piece;
+        };
+        let r = s.rows[p];
+        piece = evalset::join(piece, evalset::minus(s.allowed, r));
+        looked = evalset::insert(looked, p);
+    }
+}
+
+// Whether a set meets an atom with its value: a true contact by two of it that are unseparated, a false zero atom by one in its term.
+fn met(
+    set: EvalSet,
+    rows: [EvalSet; ROOM],
+    contact: bool,
+    x: EvalSet,
+    y: EvalSet,
+    value: bool,
+) -> bool
+    ensures { λ r. ⌜ r ≡ metOf contact value (mem set) (memAt rows) (mem x) (mem y) ⌝ }
+{
+    let first = evalset::meet(set, x);
+    if contact {
+        if value {
+            let pair = pair_of(first, evalset::meet(set, y), rows);
+            !evalset::is_empty(pair)
+        } else {
+            true
+        }
+    } else if value {
+        true
+    } else {
+        !evalset::is_empty(first)
+    }
+}
+
+// Whether a piece meets the row's true contacts and false zero atoms.
+fn met_by(chart: Chart, rows: [EvalSet; ROOM], piece: EvalSet, row: usize) -> bool
+    requires { ⌜ chart .atoms ≤ limit ⌝ }
+    ensures { λ r. ⌜ MetSays chart rows piece row r ⌝ }
+{
+    let n = chart.atoms;
+    let mut i: usize = 0;
+    while i < n {
+        let contact = chart.contact[i];
+        let x = chart.xs[i];
+        let y = chart.ys[i];
+        if !met(piece, rows, contact, x, y, value_in(row, n, i)) {
+            return false;
+        }
+        i += 1;
+    }
+    true
+}
+
+// Of the pieces of a state, the one with the least evaluation that meets the row. A piece that does not is out of what is left.
+fn first_piece(chart: Chart, s: State, row: usize) -> FoundPiece
+    requires { ⌜ chart .atoms ≤ limit ⌝ }
+    ensures { λ r. ⌜ FoundSays chart s row r ⌝ }
+{
+    let rows = s.rows;
+    let mut left = s.allowed;
+    loop {
+        let Found::At(e) = evalset::least(left) else {
+            return FoundPiece {
+                found: false,
+                piece: evalset::empty(),
+            };
+        };
+        let piece = piece(s, e);
+        if met_by(chart, rows, piece, row) {
+            return FoundPiece { found: true, piece };
+        }
+        left = evalset::minus(left, piece);
+    }
+}
+
+// "The whole piece that meets the row's true contacts and false zero atoms; of several, the one with the least evaluation."
+pub fn building(chart: Chart, row: usize) -> FoundPiece
+    requires { ⌜ chart .atoms ≤ limit ⌝ }
+    ensures { λ r. ⌜ BuildingSays chart row r ⌝ }
+{
+    let s = state_of(chart, row);
+    first_piece(chart, s, row)
+}
+
+// The plan of a row for one building: the points are the piece that is found.
+pub fn planned_building(chart: Chart, row: usize) -> RowPlan
+    requires { ⌜ chart .atoms ≤ limit ⌝ }
+    ensures { λ r. ⌜ BuildingPlanSays chart row r ⌝ }
+{
+    let s = state_of(chart, row);
+    let apart = s.rows;
+    let first = first_piece(chart, s, row);
+    plan_of(first.piece, apart)
 }

@@ -15,6 +15,7 @@ use Rattle.evalset.specs.Bit.{bit}
 use Rattle.evalset.specs.Sets.{room, memAt}
 use Rattle.evalset.specs.Most.{most}
 use Rattle.evalset.proofs.Bits.{bit-none}
+use Rattle.contact.specs.Question.{plain}
 use Rattle.contact.specs.Check.{good}
 use Rattle.contact.specs.Tableau.{under}
 use Rattle.search.specs.declared.Chart.{Chart}
@@ -101,4 +102,4 @@ root-first code ends chart contacts list list' count cut r spelt words cuts find
       contacts-are = subst (Contacts atoms) (sym (cuts .contacts-is)) (contacts-compiled chart atoms contacts (h .compiled) spelt);
     } in
     finds given (subst (λ (x : ℕ). Serving (chart .names) atoms (take x list')) z (words .are atoms (h .compiled)))
-    ∙ ap (λ (m : ℕ). answerFor (first (good (chart .names) atoms rules) (under [] m))) all
+    ∙ ap (λ (m : ℕ). answerFor (first (good plain (chart .names) atoms rules) (under [] m))) all

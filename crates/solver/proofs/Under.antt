@@ -17,6 +17,7 @@ use Rattle.evalset.specs.declared.EvalSet.{EvalSet}
 use Rattle.evalset.specs.Sets.{room, mem, meetOf}
 use Rattle.evalset.specs.Most.{most}
 use Rattle.evalset.proofs.Members.{names-room}
+use Rattle.contact.specs.Question.{plain}
 use Rattle.contact.specs.Row.{Row, is}
 use Rattle.contact.specs.Plan.{rowMarks}
 use Rattle.contact.specs.Check.{check, rows}
@@ -43,19 +44,19 @@ nested a p e q x = omega arith
 module _ {code ends : List ℕ} {cut : Cut} (g : Given code ends cut) where
   -- ---- a row that closes, and one that does not
 
-  pub closed-none : (row : Row) (s : ℕ) → closes (g .names) (g .atoms) (g .rules) (map is row) ≡ true → first (goodFor g) (under row s) ≡ []
+  pub closed-none : (row : Row) (s : ℕ) → closes plain (g .names) (g .atoms) (g .rules) (map is row) ≡ true → first (goodFor g) (under row s) ≡ []
   closed-none row s h =
       first-none (goodFor g) (under row s)
       (none-intro (goodFor g) (under row s)
       (λ x i q. let w = map-elim (λ ext. row ++ ext) (rows s) i in
-      clash q (ap (goodFor g) (w .1) ∙ closes-sound (g .names) (g .atoms) (g .rules) (map is row) h (row ++ w .0) (extends-prefix row (w .0)))))
+      clash q (ap (goodFor g) (w .1) ∙ closes-sound plain (g .names) (g .atoms) (g .rules) (map is row) h (row ++ w .0) (extends-prefix row (w .0)))))
 
-  open-whole : (row : Row) → length row ≡ length (g .atoms) → closes (g .names) (g .atoms) (g .rules) (map is row) ≡ false
+  open-whole : (row : Row) → length row ≡ length (g .atoms) → closes plain (g .names) (g .atoms) (g .rules) (map is row) ≡ false
       → first (goodFor g) (under row 0) ≡ row ∷ []
   open-whole row l h =
       ap (λ (b : Bool). cond b ((row ++ []) ∷ []) [])
       (ap (goodFor g) (append-nil row)
-      ∙ closes-exact (g .names) (g .atoms) (g .rules) (coded-numbers (length (g .atoms)) code 0 ends (g .rules) (g .coded)) row l h)
+      ∙ closes-exact plain (g .names) (g .atoms) (g .rules) (coded-numbers (length (g .atoms)) code 0 ends (g .rules) (g .coded)) row l h)
       ∙ ap (λ (r : Row). r ∷ []) (append-nil row)
 
   -- ---- the test by a table
@@ -119,7 +120,7 @@ module _ {code ends : List ℕ} {cut : Cut} (g : Given code ends cut) where
 
       module _ (few : d ≤ most) (fits : row < 2 ^ k) (whole : length (g .atoms) ≡ k + d) (set left : EvalSet) (says : WholeSays code ends row k d set)
           (are : (e : ℕ) → mem left e ≡ (mem set e && rowTest table one contacts low (start + e))) where
-        exact : (e : ℕ) → e < 2 ^ d → mem left e ≡ not (closes (g .names) (g .atoms) (g .rules) (map is (rowBits (k + d) (row * 2 ^ d + e))))
+        exact : (e : ℕ) → e < 2 ^ d → mem left e ≡ not (closes plain (g .names) (g .atoms) (g .rules) (map is (rowBits (k + d) (row * 2 ^ d + e))))
         unfolding closes
         exact e l =
             are e

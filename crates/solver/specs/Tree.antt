@@ -11,6 +11,7 @@ use Rattle.lists.specs.Search.{first}
 use Rattle.evalset.specs.Bit.{bit}
 use Rattle.evalset.specs.Sets.{mem}
 use Rattle.evalset.specs.Most.{most}
+use Rattle.contact.specs.Question.{plain}
 use Rattle.contact.specs.Row.{Row, is, unknown, PartialRow}
 use Rattle.contact.specs.Plan.{rowMarks}
 use Rattle.contact.specs.Check.{check, good, firstRow}
@@ -144,10 +145,10 @@ module _ {code ends : List ℕ} {cut : Cut} (g : Given code ends cut) where
   abbrev pub Left : ℕ → ℕ → ℕ → EvalSet → Type 0
   Left k row d set =
       (e : ℕ) → e < 2 ^ d → mem set e ≡ false
-      → closes (g .names) (g .atoms) (g .rules) (map is (rowBits (k + d) (row * 2 ^ d + e))) ≡ true
+      → closes plain (g .names) (g .atoms) (g .rules) (map is (rowBits (k + d) (row * 2 ^ d + e))) ≡ true
 
   abbrev pub goodFor : Row → Bool
-  goodFor = good (g .names) (g .atoms) (g .rules)
+  goodFor = good plain (g .names) (g .atoms) (g .rules)
 
   -- the answer is the first good row under the row of k atoms, s atoms more
   abbrev pub Finds : ℕ → ℕ → ℕ → RowAnswer → Type 0
@@ -175,10 +176,10 @@ pub record Roomy (chart : Chart) (seen list : List ℕ) : Type 0 where
 unfoldable pub SearchSays : List ℕ → List ℕ → Chart → RowAnswer → Type 0
 SearchSays code ends chart r =
     (atoms : List (Atom ℕ)) (rules : List (Form ℕ)) → ComesFrom code ends chart atoms rules
-    → r ≡ answerFor (first (good (chart .names) atoms rules) (under [] (length atoms)))
+    → r ≡ answerFor (first (good plain (chart .names) atoms rules) (under [] (length atoms)))
 
 -- so the answer is the number of the first row, or that there is none
 unfoldable pub FirstRowSays : List ℕ → List ℕ → Chart → RowAnswer → Type 0
 FirstRowSays code ends chart r =
     (atoms : List (Atom ℕ)) (rules : List (Form ℕ)) → ComesFrom code ends chart atoms rules
-    → r ≡ answerFor (firstRow (chart .names) atoms rules)
+    → r ≡ answerFor (firstRow plain (chart .names) atoms rules)

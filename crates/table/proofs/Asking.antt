@@ -10,6 +10,7 @@ use lib.ListN.{length, take}
 use lib.Seq.{take-append-seam}
 use borrow.Author.Tests.{le-leb, lt-leb, eq-eqb, ne-eqb}
 use Rattle.formula.specs.Formula.{Formula, Name}
+use Rattle.contact.specs.Question.{plain}
 use Rattle.contact.specs.Numbering.{namesOf}
 use Rattle.plan.specs.declared.PlanArrays.{PlanArrays}
 use Rattle.plan.specs.declared.PlanAnswer.the-variants as PlanAnswer
@@ -47,12 +48,12 @@ use Rattle.plan.specs.Meant.{IsGiven}
 
 -- ---- where some rule stands
 
-pub asked-some : (rs : List Text) → SomeStand rs → (room : ℕ) → askAnswer rs room ≡ foundAnswer (plansOf (formulasOf rs)) room
+pub asked-some : (rs : List Text) → SomeStand rs → (room : ℕ) → askAnswer rs room ≡ foundAnswer (plansOf plain (formulasOf rs)) room
 unfolding askAnswer
 asked-some [] some room = absurd (some refl)
 asked-some (s ∷ rs) some room = refl
 
-words-some : (rs : List Text) → SomeStand rs → (buffer : List ℕ) → askWords rs buffer ≡ foundWords (plansOf (formulasOf rs)) buffer
+words-some : (rs : List Text) → SomeStand rs → (buffer : List ℕ) → askWords rs buffer ≡ foundWords (plansOf plain (formulasOf rs)) buffer
 unfolding askWords
 words-some [] some buffer = absurd (some refl)
 words-some (s ∷ rs) some buffer = refl
@@ -67,13 +68,13 @@ some-stand t v h e = omega (arith, count-is t v, ap length e)
 
 -- the buffer, where a plan is given, where it is too long, and where there is none
 module _ (rs : List Text) (buffer : List ℕ) (some : SomeStand rs) where
-  pub words-none : plansOf (formulasOf rs) ≡ [] → askWords rs buffer ≡ buffer
+  pub words-none : plansOf plain (formulasOf rs) ≡ [] → askWords rs buffer ≡ buffer
   words-none e = words-some rs some buffer ∙ ap (λ (ps : List Plan). foundWords ps buffer) e
 
-  module _ (p : Plan) (g : IsGiven (formulasOf rs) p) where
+  module _ (p : Plan) (g : IsGiven plain (formulasOf rs) p) where
     words-fit : (b : Bool) → leb (length (wordsOf p)) (length buffer) ≡ b → askWords rs buffer ≡ cond b (over (wordsOf p) buffer) buffer
     words-fit b e =
-        words-some rs some buffer ∙ ap (λ (ps : List Plan). foundWords ps buffer) (given-exactly (formulasOf rs) p .1 g) ∙ ap (λ (t : Bool). cond t (over (wordsOf p) buffer) buffer) e
+        words-some rs some buffer ∙ ap (λ (ps : List Plan). foundWords ps buffer) (given-exactly plain (formulasOf rs) p .1 g) ∙ ap (λ (t : Bool). cond t (over (wordsOf p) buffer) buffer) e
 
     pub words-written : length (wordsOf p) ≤ length buffer → askWords rs buffer ≡ over (wordsOf p) buffer
     words-written l = words-fit true (le-leb (length (wordsOf p)) (length buffer) l)
@@ -103,7 +104,7 @@ module _ (t : Table) (v : FromUs t) (buffer : List ℕ) where
       asks-of AskAnswer.NoRule buffer (sym (ap (λ (rs : List Text). askAnswer rs (length buffer)) e)) (sym (ap (λ (rs : List Text). askWords rs buffer) e))
 
   -- some rule stands, and these are its plans, none or one
-  pub asks-some : 0 < t .count → (plans : List Plan) → plansOf (formulasOf (rulesOf t)) ≡ plans
+  pub asks-some : 0 < t .count → (plans : List Plan) → plansOf plain (formulasOf (rulesOf t)) ≡ plans
       → (a : AskAnswer) (exit : List ℕ) → a ≡ foundAnswer plans (length buffer) → exit ≡ foundWords plans buffer → Asks t buffer (askResult t a) exit
   asks-some h plans e a exit f g =
       let some = some-stand t v h in

@@ -7,6 +7,7 @@ use mathlib.Core.List.{List, [], _∷_}
 use lib.Dec.{leb, eqb}
 use lib.ListN.{length}
 use Rattle.formula.specs.Formula.{Formula, Name}
+use Rattle.contact.specs.Question.{plain}
 use Rattle.contact.specs.Numbering.{namesOf}
 use Rattle.plan.specs.Words.{Plan, IsPlan, wordsOf, over}
 use Rattle.plan.specs.Reader.{Reading, plan, refused, readOf, ReadingSays}
@@ -39,7 +40,7 @@ foundAnswer (p ∷ ps) room = planAnswer (length (wordsOf p)) room
 -- refusal 11: "no rule stands"
 unfoldable pub askAnswer : List Text → ℕ → AskAnswer
 askAnswer [] room = AskAnswer.NoRule
-askAnswer (s ∷ rs) room = foundAnswer (plansOf (formulasOf (s ∷ rs))) room
+askAnswer (s ∷ rs) room = foundAnswer (plansOf plain (formulasOf (s ∷ rs))) room
 
 -- "words past the plan, and all words for no plan, keep their values", and so do all words for a refusal
 abbrev pub foundWords : List Plan → List ℕ → List ℕ
@@ -48,7 +49,7 @@ foundWords (p ∷ ps) buffer = cond (leb (length (wordsOf p)) (length buffer)) (
 
 unfoldable pub askWords : List Text → List ℕ → List ℕ
 askWords [] buffer = buffer
-askWords (s ∷ rs) buffer = foundWords (plansOf (formulasOf (s ∷ rs))) buffer
+askWords (s ∷ rs) buffer = foundWords (plansOf plain (formulasOf (s ∷ rs))) buffer
 
 unfoldable pub asked : List Text → List ℕ → AskResult
 asked rs buffer = record { table = tableOf rs; answer = askAnswer rs (length buffer) }

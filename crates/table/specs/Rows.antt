@@ -14,6 +14,7 @@ use Rattle.syntax.specs.declared.RuleAnswer.the-variants as RuleAnswer
 use Rattle.lists.specs.Search.{collect}
 use Rattle.contact.specs.Numbering.{allAtoms, namesOf, differentAtoms}
 use Rattle.contact.specs.Meaning.{Floor, meetsAll}
+use Rattle.contact.specs.Question.{plain, NoFloor}
 use Rattle.plan.specs.Words.{Plan, IsPlan, wordsOf, Refusal}
 use Rattle.plan.specs.Floor.{namedFloor}
 use Rattle.names.specs.Seventh.{SeventhAt, placesOf}
@@ -92,10 +93,10 @@ pub data AskRow (rs : List Text) (room : ℕ) : Outcome → Type 0 where
   -- 11: "no rule stands"
   none : rs ≡ [] → AskRow rs room (Outcome.Refused 11 0)
   -- no finite floor, of any number of points, meets all rules
-  without : {fs : List (Formula Name)} → SomeStand rs → AreRules rs fs → ((F : Floor Name) → meetsAll F fs ≡ true → ⊥) → AskRow rs room Outcome.NoPlan
+  without : {fs : List (Formula Name)} → SomeStand rs → AreRules rs fs → NoFloor plain fs → AskRow rs room Outcome.NoPlan
   -- 12: "the plan has more words than the buffer", with the "words needed"
-  short : {fs : List (Formula Name)} {p : Plan} → SomeStand rs → AreRules rs fs → IsGiven fs p → room < length (wordsOf p) → AskRow rs room (Outcome.Refused 12 (length (wordsOf p)))
-  given : {fs : List (Formula Name)} {p : Plan} → SomeStand rs → AreRules rs fs → IsGiven fs p → length (wordsOf p) ≤ room → AskRow rs room (Outcome.Plan (length (wordsOf p)))
+  short : {fs : List (Formula Name)} {p : Plan} → SomeStand rs → AreRules rs fs → IsGiven plain fs p → room < length (wordsOf p) → AskRow rs room (Outcome.Refused 12 (length (wordsOf p)))
+  given : {fs : List (Formula Name)} {p : Plan} → SomeStand rs → AreRules rs fs → IsGiven plain fs p → length (wordsOf p) ≤ room → AskRow rs room (Outcome.Plan (length (wordsOf p)))
 
 -- the words are those of this plan, and it has as many names as the rules fs
 pub record Decodes (fs : List (Formula Name)) (words : List ℕ) (p : Plan) : Type 0 where

@@ -11,14 +11,16 @@ use lib.ListN.{length, take}
 use Rattle.formula.specs.Formula.{Formula, Name}
 use Rattle.syntax.proofs.Claims.{text-means}
 use Rattle.contact.specs.Meaning.{Floor, meetsAll}
+use Rattle.contact.specs.Question.{plain, Counts, NoFloor}
 use Rattle.plan.specs.Words.{Plan, wordsOf}
 use Rattle.plan.specs.Reader.{plan}
-use Rattle.plan.specs.Given.{givenPlan, rowPlan}
-use Rattle.plan.specs.Plans.{plansOf}
-use Rattle.plan.proofs.Claims.{written-read, no-plan-given, given-exactly, given-at-most-one, given-is-plan, given-meets}
+use Rattle.plan.specs.Given.{givenPlan}
+use Rattle.plan.specs.Plans.{rowPlan, plansOf}
+use Rattle.plan.proofs.Claims.{written-read, no-plan-given, given-exactly, given-at-most-one, given-is-plan, given-meets, given-found, row-plan-exactly}
 use Rattle.contact.specs.Numbering.{namesOf}
-use Rattle.contact.specs.Row.{Row, IsFirstRow}
-use Rattle.contact.proofs.Claims.{first-row-only-named}
+use Rattle.contact.specs.Row.{Row}
+use Rattle.contact.specs.Check.{firstRowOf}
+use Rattle.contact.proofs.Claims.{first-row-named}
 use Rattle.table.specs.declared.Table.{Table}
 use Rattle.table.specs.declared.Outcome.{Outcome}
 use Rattle.table.specs.declared.Outcome.the-variants as Outcome
@@ -90,13 +92,13 @@ by-row Row outcome e w only = subst (λ o. Exactly Row o) (sym (ap outcome e)) (
 -- ---- the words of the buffer
 
 -- the plan that is given, of the formulas that are computed
-given-computed : (rs : List Text) {fs : List (Formula Name)} → AreRules rs fs → (p : Plan) → IsGiven fs p → IsGiven (formulasOf rs) p
-given-computed rs {fs} are p = of-computed rs fs are (λ gs. IsGiven gs p)
+given-computed : (rs : List Text) {fs : List (Formula Name)} → AreRules rs fs → (p : Plan) → IsGiven plain fs p → IsGiven plain (formulasOf rs) p
+given-computed rs {fs} are p = of-computed rs fs are (λ gs. IsGiven plain gs p)
 
 words-kept : (rs : List Text) (buffer : List ℕ) (o : Outcome) → AskRow rs (length buffer) o → ((n : ℕ) → o ≡ Outcome.Plan n → ⊥) → askWords rs buffer ≡ buffer
 unfolding askWords
 words-kept rs buffer o (AskRow.none e) n = ap (λ (l : List Text). askWords l buffer) e
-words-kept rs buffer o (AskRow.without {fs} some are never) n = words-none rs buffer some (of-computed rs fs are (λ gs. plansOf gs ≡ []) (no-plan-given fs .1 never))
+words-kept rs buffer o (AskRow.without {fs} some are never) n = words-none rs buffer some (of-computed rs fs are (λ gs. plansOf plain gs ≡ []) (no-plan-given plain fs .1 never))
 words-kept rs buffer o (AskRow.short {p = p} some are g l) n = words-short rs buffer some p (given-computed rs are p g) l
 words-kept rs buffer o (AskRow.given {p = p} some are g l) n = absurd (n (length (wordsOf p)) refl)
 
@@ -109,31 +111,30 @@ had-room rs room o (AskRow.given {p = p} some are g l) n f = let z : length (wor
 
 -- ---- plans
 
-without-plan : (rs : List Text) (room : ℕ) (o : Outcome) → AskRow rs room o → o ≡ Outcome.NoPlan → (F : Floor Name) → meetsAll F (formulasOf rs) ≡ true → ⊥
+without-plan : (rs : List Text) (room : ℕ) (o : Outcome) → AskRow rs room o → o ≡ Outcome.NoPlan → NoFloor plain (formulasOf rs)
 without-plan rs room o (AskRow.none z) f = absurd (let z : _≡_ {A = ℕ} 0 1 = cc in omega arith)
-without-plan rs room o (AskRow.without {fs} some are never) f = of-computed rs fs are (λ gs. (F : Floor Name) → meetsAll F gs ≡ true → ⊥) never
+without-plan rs room o (AskRow.without {fs} some are never) f = of-computed rs fs are (NoFloor plain) never
 without-plan rs room o (AskRow.short some are g l) f = absurd (let z : _≡_ {A = ℕ} 0 1 = cc in omega arith)
 without-plan rs room o (AskRow.given some are g l) f = absurd (let z : _≡_ {A = ℕ} 0 1 = cc in omega arith)
 
--- where some floor meets the rules there is a plan
-plan-found : (rules : List (Formula Name)) (F : Floor Name) → meetsAll F rules ≡ true → (p : Plan) × IsGiven rules p
-plan-found rules F m = go (plansOf rules) refl (given-at-most-one rules)
+-- where some floor that counts meets the rules there is a plan
+plan-found : (rules : List (Formula Name)) (F : Floor Name) → Counts plain F → meetsAll F rules ≡ true → (p : Plan) × IsGiven plain rules p
+plan-found rules F counts m = go (plansOf plain rules) refl (given-at-most-one plain rules)
   where
-    go : (ps : List Plan) → plansOf rules ≡ ps → length ps ≤ 1 → (p : Plan) × IsGiven rules p
-    go [] e l = absurd (no-plan-given rules .0 e F m)
-    go (p ∷ []) e l = (p, given-exactly rules p .0 e)
+    go : (ps : List Plan) → plansOf plain rules ≡ ps → length ps ≤ 1 → (p : Plan) × IsGiven plain rules p
+    go [] e l = absurd (no-plan-given plain rules .0 e F counts m)
+    go (p ∷ []) e l = (p, given-exactly plain rules p .0 e)
     go (p ∷ q ∷ ps) e l = absurd (omega arith)
 
 -- the words of the plan of the first row decode to it, and it meets the rules
-row-given : (rs : List Text) (fs : List (Formula Name)) → SomeStand rs → AreRules rs fs → length (namesOf fs) ≤ 6 → (row : Row) → IsFirstRow fs row → Given rs (wordsOf (rowPlan fs row))
+row-given : (rs : List Text) (fs : List (Formula Name)) → SomeStand rs → AreRules rs fs → length (namesOf fs) ≤ 6 → (row : Row) → firstRowOf plain fs ≡ row ∷ [] → Given rs (wordsOf (rowPlan plain fs row))
 unfolding rowPlan givenPlan
-row-given rs fs some are few row first =
-    let found = first-row-only-named fs row first in
-    let is = given-is-plan fs few row found in
+row-given rs fs some are few row found =
+    let is = given-is-plan plain fs few row found in
     record {
-      met = record { some = some; formulas = fs; rules = are; plan = rowPlan fs row; decodes = record { is = is; words-are = refl; named = refl }; meets = given-meets fs row found is };
-      is = record { row = row; first = first; is = refl };
-      back = written-read (rowPlan fs row) is;
+      met = record { some = some; formulas = fs; rules = are; plan = rowPlan plain fs row; decodes = record { is = is; words-are = refl; named = refl }; meets = given-meets plain fs row found is };
+      is = record { row = row; first = first-row-named plain fs row found; is = row-plan-exactly plain fs row found (rowPlan plain fs row) .0 refl };
+      back = written-read (rowPlan plain fs row) is;
     }
 
 -- ---- a list of calls
@@ -228,10 +229,11 @@ module _ (cs : List Call) where
   -- ---- demand 2
 
   -- the words of the plan that is given decode to it, and it meets the rules
-  plan-given : SomeStand (standing cs) → (p : Plan) → IsGiven fs p → Given (standing cs) (wordsOf p)
+  plan-given : SomeStand (standing cs) → (p : Plan) → IsGiven plain fs p → Given (standing cs) (wordsOf p)
   unfolding namesIn
   plan-given some p g =
-      subst (λ (q : Plan). Given (standing cs) (wordsOf q)) (sym (g .is)) (row-given (standing cs) fs some are (can-names (standing cs) stands) (g .row) (g .first))
+      let r = given-found plain fs p g in
+      subst (λ (q : Plan). Given (standing cs) (wordsOf q)) (sym (r .2)) (row-given (standing cs) fs some are (can-names (standing cs) stands) (r .0) (r .1))
 
   given : (buffer : List ℕ) (r : AskResult) (exit : List ℕ) → Asks (run cs) buffer r exit → (n : ℕ) → askOutcome (r .answer) ≡ Outcome.Plan n → Given (standing cs) (take n exit)
   given buffer r exit h n e = go (askOutcome (r .answer)) (ask-exactly buffer r exit h .row) e
@@ -242,7 +244,7 @@ module _ (cs : List Call) where
       go o (AskRow.short some rules g l) f = absurd (let z : _≡_ {A = ℕ} 0 1 = cc in omega arith)
       go o (AskRow.given {p = p} some rules k l) f =
           let z : length (wordsOf p) ≡ n = cc in
-          let g : IsGiven fs p = given-computed (standing cs) rules p k in
+          let g : IsGiven plain fs p = given-computed (standing cs) rules p k in
           let w : take n exit ≡ wordsOf p
           = ap (take n) (asked-by buffer r exit h .1) ∙ ap (λ (k : ℕ). take k (askWords (standing cs) buffer)) (sym z) ∙ first-words (standing cs) buffer some p g l in
           subst (Given (standing cs)) (sym w) (plan-given some p g)

@@ -21,14 +21,15 @@ use Rattle.evalset.specs.Bit.{bit}
 use Rattle.lists.proofs.Truth.{clash}
 use Rattle.lists.proofs.Lists.{map-same}
 use Rattle.contact.specs.Row.{rulesTrue}
-use Rattle.contact.specs.Plan.{separated, allowed, fills, partners, leads, given, pointsFor}
-use Rattle.contact.specs.Check.{check, good, firstRow}
+use Rattle.contact.specs.Question.{plain}
+use Rattle.contact.specs.Plan.{separated, allowed, fills, partners, leads, given}
+use Rattle.contact.specs.Check.{check, pointsFor, good, firstRow}
 use Rattle.names.specs.Gather.{ruleTokens, withName, namesAfter, gatheredOf, gathered}
 use Rattle.names.specs.Seventh.{placesOf}
 use Rattle.plan.specs.Words.{over, Plan, before, wordsOf}
 use Rattle.plan.specs.Links.{pairOf, rowTo, linksTo}
-use Rattle.plan.specs.Given.{givenPlan, rowPlan}
-use Rattle.plan.specs.Plans.{plansOf}
+use Rattle.plan.specs.Given.{givenPlan}
+use Rattle.plan.specs.Plans.{rowPlan, plansOf}
 use Rattle.table.specs.declared.Table.{Table}
 use Rattle.table.specs.declared.Outcome.{Outcome}
 use Rattle.table.specs.declared.AskAnswer.{AskAnswer}
@@ -58,7 +59,7 @@ computed row =
     record {
       rules = standing (row .calls);
       none = isNone (standing (row .calls));
-      plans = map wordsOf (plansOf (formulasOf (standing (row .calls))));
+      plans = map wordsOf (plansOf plain (formulasOf (standing (row .calls))));
     }
 
 -- what is written in it
@@ -82,7 +83,7 @@ record Asked (rs : List Text) (buffer : List ℕ) (o : Outcome) (exit : List ℕ
 
 module _ (buffer : List ℕ) (s : Text) (rs : List Text) where
   -- ask, by the plans of the rules
-  asked-for : (a : Answer) (plans : List Plan) → plansOf (formulasOf (s ∷ rs)) ≡ plans → map wordsOf plans ≡ plansIn a → AskedFor a buffer (Asked (s ∷ rs) buffer)
+  asked-for : (a : Answer) (plans : List Plan) → plansOf plain (formulasOf (s ∷ rs)) ≡ plans → map wordsOf plans ≡ plansIn a → AskedFor a buffer (Asked (s ∷ rs) buffer)
   unfolding askAnswer askWords
   asked-for noPlan [] e f =
       record { answer = ap (λ (ps : List Plan). askOutcome (foundAnswer ps (length buffer))) e; words = ap (λ (ps : List Plan). foundWords ps buffer) e }
@@ -102,9 +103,9 @@ module _ (buffer : List ℕ) (s : Text) (rs : List Text) where
           }
 
 -- the same where some rule stands
-asked : (buffer : List ℕ) (a : Answer) (rs : List Text) → isNone rs ≡ false → map wordsOf (plansOf (formulasOf rs)) ≡ plansIn a → AskedFor a buffer (Asked rs buffer)
+asked : (buffer : List ℕ) (a : Answer) (rs : List Text) → isNone rs ≡ false → map wordsOf (plansOf plain (formulasOf rs)) ≡ plansIn a → AskedFor a buffer (Asked rs buffer)
 asked buffer a [] h e = clash refl h
-asked buffer a (s ∷ rs) h e = asked-for buffer s rs a (plansOf (formulasOf (s ∷ rs))) refl e
+asked buffer a (s ∷ rs) h e = asked-for buffer s rs a (plansOf plain (formulasOf (s ∷ rs))) refl e
 
 -- what is computed is what ask gives on the table that the calls leave
 gives : (cs : List Call) (t : Table) → Leaves cs t → (buffer : List ℕ) (o : Outcome) (ws : List ℕ) → Asked (standing cs) buffer o ws → Gives t buffer o ws

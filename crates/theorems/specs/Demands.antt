@@ -12,6 +12,7 @@ use lib.ListN.{length, take}
 use Rattle.formula.specs.Formula.{Formula, Name}
 use Rattle.syntax.specs.RuleText.{IsRule}
 use Rattle.contact.specs.Meaning.{Floor, meetsAll}
+use Rattle.contact.specs.Question.{plain, Counts, NoFloor}
 use Rattle.plan.specs.declared.PlanAnswer.the-variants as PlanAnswer
 use Rattle.plan.specs.declared.PlanRead.{PlanRead}
 use Rattle.plan.specs.Words.{Plan, wordsOf, over}
@@ -75,7 +76,7 @@ pub record Answered (rs : List Text) (t : Table) : Type 0 where
   pub ask : (buffer : List ℕ) (r : AskResult) (exit : List ℕ) → Asks t buffer r exit → Exactly (AskRow rs (length buffer)) (askOutcome (r .answer))
   pub ask-same : (buffer : List ℕ) (r : AskResult) (exit : List ℕ) → Asks t buffer r exit → r .table ≡ t
   -- "words past the plan, and all words for no plan, keep their values"; a refusal too writes nothing
-  pub ask-written : (buffer : List ℕ) (r : AskResult) (exit : List ℕ) → Asks t buffer r exit → (fs : List (Formula Name)) → AreRules rs fs → (p : Plan) → IsGiven fs p
+  pub ask-written : (buffer : List ℕ) (r : AskResult) (exit : List ℕ) → Asks t buffer r exit → (fs : List (Formula Name)) → AreRules rs fs → (p : Plan) → IsGiven plain fs p
       → askOutcome (r .answer) ≡ Outcome.Plan (length (wordsOf p)) → exit ≡ over (wordsOf p) buffer
   pub ask-kept : (buffer : List ℕ) (r : AskResult) (exit : List ℕ) → Asks t buffer r exit → ((n : ℕ) → askOutcome (r .answer) ≡ Outcome.Plan n → ⊥) → exit ≡ buffer
   pub judge : (words : List ℕ) (r : JudgeResult) → Judges t words r → Exactly (JudgeRow rs words) (judgeOutcome (r .answer))
@@ -113,7 +114,7 @@ pub record NotMet (rs : List Text) (words : List ℕ) (k : ℕ) : Type 0 where
 -- the words of the plan that document 01 defines; it meets the rules, and what is read from the words is the plan
 pub record Given (rs : List Text) (words : List ℕ) : Type 0 where
   pub met : Met rs words
-  pub is : IsGiven (met .formulas) (met .plan)
+  pub is : IsGiven plain (met .formulas) (met .plan)
   pub back : (q : PlanRead) → Reads words q → (q .answer ≡ PlanAnswer.Plan) × Stored (q .plan) (met .plan)
 
 pub record Meant (rs : List Text) (t : Table) : Type 0 where
@@ -136,13 +137,13 @@ pub record Same (rs : List Text) (t : Table) (buffer : List ℕ) (r : AskResult)
   -- "after the list, ask gives refusal 11 where no rule stands"
   pub none : rs ≡ [] → askOutcome (r .answer) ≡ Outcome.Refused 11 0
   -- "Where any stands, it says "no plan" exactly when no finite floor with any number of points, one or more, meets all the standing rules"
-  pub no-plan : SomeStand rs → (askOutcome (r .answer) ≡ Outcome.NoPlan) ↔ ((F : Floor Name) → meetsAll F formulas ≡ true → ⊥)
+  pub no-plan : SomeStand rs → (askOutcome (r .answer) ≡ Outcome.NoPlan) ↔ NoFloor plain formulas
   -- "and otherwise gives the plan that document 01 defines, or refusal 12 where the buffer is too short for it"
-  pub plan : SomeStand rs → (p : Plan) → IsGiven formulas p → length (wordsOf p) ≤ length buffer
+  pub plan : SomeStand rs → (p : Plan) → IsGiven plain formulas p → length (wordsOf p) ≤ length buffer
       → (askOutcome (r .answer) ≡ Outcome.Plan (length (wordsOf p))) × (exit ≡ over (wordsOf p) buffer)
-  pub short : SomeStand rs → (p : Plan) → IsGiven formulas p → length buffer < length (wordsOf p)
+  pub short : SomeStand rs → (p : Plan) → IsGiven plain formulas p → length buffer < length (wordsOf p)
       → (askOutcome (r .answer) ≡ Outcome.Refused 12 (length (wordsOf p))) × (exit ≡ buffer)
-  pub otherwise : (F : Floor Name) → meetsAll F formulas ≡ true → (p : Plan) × IsGiven formulas p
+  pub otherwise : (F : Floor Name) → Counts plain F → meetsAll F formulas ≡ true → (p : Plan) × IsGiven plain formulas p
   -- "the table after the list .. equal to what comes from an empty table to which only the standing rules are added, in their order":
   -- "none of these adds is refused"
   pub table : (u : Table) → Leaves (adds rs) u → t ≡ u

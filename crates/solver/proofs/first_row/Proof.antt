@@ -8,6 +8,7 @@ use lib.ListN.{length}
 use lib.Pow.{pow-mono}
 use borrow.Author.Needs.{needs}
 use Rattle.lists.specs.Search.{first}
+use Rattle.contact.specs.Question.{plain}
 use Rattle.contact.specs.Row.{Row}
 use Rattle.contact.specs.Check.{rows, good, firstRow}
 use Rattle.search.specs.declared.Chart.{Chart}
@@ -21,7 +22,7 @@ use Rattle.solver.proofs.first_row.Tie as tie
 all-rows : (code ends : List ℕ) (chart : Chart) (r : RowAnswer) → SearchSays code ends chart r → FirstRowSays code ends chart r
 unfolding SearchSays FirstRowSays firstRow
 all-rows code ends chart r says = λ atoms rules h.
-    says atoms rules h ∙ ap (λ (rs : List Row). answerFor (first (good (chart .names) atoms rules) rs)) (map-id (rows (length atoms)))
+    says atoms rules h ∙ ap (λ (rs : List Row). answerFor (first (good plain (chart .names) atoms rules) rs)) (map-id (rows (length atoms)))
 
 slice-aggregate-listed : tie.Need-slice-aggregate-listed
 slice-aggregate-listed c = search needs

@@ -1,0 +1,74 @@
+-- The rows and the points of a few sheets, by computing, for both questions. Assumes nothing.
+use mathlib.Core.Bool.{decide, true, false}
+use mathlib.Core.Path.{_≡_, refl}
+use mathlib.Core.List.{List, [], _∷_, map}
+use Prim.Native.Nat.{ℕ}
+use native.Mathlib.Decide.{ℕ-discrete}
+use lib.ListN.{length}
+use Rattle.formula.specs.Formula.{Term, Atom, Form, Formula, Name}
+use Rattle.formula.specs.Same.{name-discrete, equalAtom, sameAtom}
+use Rattle.evalset.specs.Bit.{bit}
+use Rattle.contact.specs.Question.{Question, plain, building}
+use Rattle.contact.specs.Numbering.{namesOf, rowAtoms}
+use Rattle.contact.specs.Row.{Row, rulesTrue}
+use Rattle.contact.specs.Plan.{separated, allowed, fills, partners, leads, given, rowMarks}
+use Rattle.contact.specs.Pieces.{allowedOnes, grown, grownBy, wholePiece, pieceMeets, checkPieces, pieceGiven}
+use Rattle.contact.specs.Check.{check, pointsFor, good, firstRow, firstRowOf}
+
+-- the row and the points; the empty list is 'no plan'
+abbrev Answer : Type 0
+Answer = List (Row × List ℕ)
+
+abbrev answer : Question → List (Formula Name) → Answer
+answer q rules = map (λ row. (row, pointsFor q (length (namesOf rules)) (rowMarks (rowAtoms rules) row))) (firstRowOf q rules)
+
+abbrev raw : Term Name
+raw = Term.name (114 ∷ [])
+
+abbrev cooked : Term Name
+cooked = Term.name (99 ∷ [])
+
+abbrev touch : Formula Name
+touch = Form.atom (Atom.contact raw cooked)
+
+abbrev isEmpty : Term Name → Formula Name
+isEmpty t = Form.atom (Atom.empty t)
+
+-- C(raw,cooked), as P2
+abbrev touching : List (Formula Name)
+touching = touch ∷ []
+
+-- ~C(raw,cooked) / ~raw=0 / ~cooked=0, as P3
+abbrev apart : List (Formula Name)
+apart = Form.negation touch ∷ Form.negation (isEmpty raw) ∷ Form.negation (isEmpty cooked) ∷ []
+
+-- the same, and -(raw+cooked)=0: no floor outside the two regions
+abbrev full : List (Formula Name)
+full =
+    Form.negation touch ∷ Form.negation (isEmpty raw) ∷ Form.negation (isEmpty cooked)
+    ∷ isEmpty (Term.complement (Term.union raw cooked)) ∷ []
+
+-- raw=0 | ~raw=0, as P9
+abbrev either : List (Formula Name)
+either = Form.disjunction (isEmpty raw) (Form.negation (isEmpty raw)) ∷ []
+
+-- a question, rules, and the answer
+abbrev sheets : List ((Question × List (Formula Name)) × Answer)
+sheets =
+    ((plain, touching), ((true ∷ []), 1 ∷ 2 ∷ []) ∷ [])
+    -- all four evaluations are one piece
+    ∷ ((building, touching), ((true ∷ []), 0 ∷ 1 ∷ 2 ∷ 3 ∷ []) ∷ [])
+    ∷ ((plain, apart), ((false ∷ false ∷ false ∷ []), 1 ∷ 2 ∷ []) ∷ [])
+    -- the two regions hang together through floor that belongs to neither
+    ∷ ((building, apart), ((false ∷ false ∷ false ∷ []), 0 ∷ 1 ∷ 2 ∷ []) ∷ [])
+    ∷ ((plain, full), ((false ∷ false ∷ false ∷ true ∷ []), 1 ∷ 2 ∷ []) ∷ [])
+    -- and not without
+    ∷ ((building, full), [])
+    ∷ ((plain, either), ((true ∷ []), 0 ∷ []) ∷ [])
+    ∷ ((building, either), ((true ∷ []), 0 ∷ []) ∷ [])
+    ∷ []
+
+-- all of them, computed
+pub sheets-answered : map (λ s. answer (s .0 .0) (s .0 .1)) sheets ≡ map (λ s. s .1) sheets
+unfolding decide ℕ-discrete name-discrete equalAtom sameAtom bit separated allowed fills partners leads check given allowedOnes grown grownBy wholePiece pieceMeets checkPieces pieceGiven pointsFor rulesTrue good firstRow
+sheets-answered = refl
