@@ -46,8 +46,8 @@ pub texts-computed : map (λ t. t .0) texts ≡ map (λ t. bytes (t .1)) texts
 unfolding digits decimal headLine pointNames namesOrNone pointLine pointLines contactLine planText refusedText bit
 texts-computed = refl
 
--- P3, from its rule texts, by each question; of one building the points are the allowed evaluations 0, 1 and 2 (no floor is both raw and cooked, of
--- which there is a contact otherwise), and all pairs of them are in contact but raw with cooked
+-- P3, from its rule texts, by each question. For one building: raw and cooked are separated, so evaluation 3, in both, is not allowed; 0, 1 and 2
+-- are, and 0 touches the other two
 abbrev threeLines : List ℕ
 threeLines = bytes "~C(raw,cooked)\n~raw=0\n~cooked=0\n"
 
