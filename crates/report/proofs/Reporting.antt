@@ -148,7 +148,7 @@ module _ {q : Question} {t : Table} {buffer : List ℕ} {r : AskResult} {exit : 
     pub words : take n exit ≡ wordsOf plan
 
   pub plan-written : (n : ℕ) → r .answer ≡ AskAnswer.Plan n → Wrote n
-  unfolding over namesIn
+  unfolding over
   plan-written n e = go (askOutcome (r .answer)) row (ap askOutcome e)
     where
       go : (o : Outcome) → AskRow q (rulesOf t) (length buffer) o → o ≡ Outcome.Plan n → Wrote n
