@@ -1,14 +1,13 @@
 -- Of rows that pass the check, the first that some piece meets: the rows of the set below the next one are tried, and none of them is met, so
 -- the first that is met is the first of all. Assumes nothing.
-use mathlib.Core.Bool.{Bool, true, false, _&&_, and-false}
+use mathlib.Core.Bool.{Bool, true, false, _&&_}
 use mathlib.Core.Logic.{⊎-elim}
 use mathlib.Core.Path.{_≡_, sym, ap, ap₂, _∙_}
 use mathlib.Core.List.{List}
 use Prim.Native.Nat.{ℕ, _+_, _≤_, _<_}
 use native.Mathlib.Omega.{arith}
-use borrow.Author.Tests.{not-true}
 use Rattle.lists.specs.Search.{first, below}
-use Rattle.lists.proofs.Below.{Least, first-at, first-none-below}
+use Rattle.lists.proofs.Below.{first-at, first-none-below}
 use Rattle.lists.proofs.Truth.{side}
 use Rattle.formula.specs.Formula.{Atom}
 use Rattle.evalset.specs.declared.EvalSet.{EvalSet}

@@ -20,7 +20,7 @@ use Rattle.formula.specs.Formula.{Atom, Form}
 use Rattle.contact.specs.Question.{Question, plain, building}
 use Rattle.contact.specs.Row.{Row, is, rulesTrue, Extends}
 use Rattle.contact.specs.Plan.{rowMarks}
-use Rattle.contact.specs.Check.{check, passes, rows, good}
+use Rattle.contact.specs.Check.{check, rows, good}
 use Rattle.contact.specs.Pieces.{checkPieces}
 use Rattle.contact.specs.Tableau.{refutes, closes, under}
 use Rattle.contact.proofs.Searching.{closes-sound, closes-exact, plain-sound, extends-prefix}
