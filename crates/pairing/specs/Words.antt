@@ -1,7 +1,7 @@
 -- What is computed, and for proofs what the test of rows ensures: atoms as the bits of a word. Of n atoms, atom i is bit n - 1 - i, as in
 -- the number of a row. The word of a pair of evaluations has the atoms that the pair serves; a row's word has the atoms that it demands.
 -- `Judges` is the contract of `judged`, which only our own crates call. Assumes nothing.
-use mathlib.Core.Bool.{Bool, true, false, not, _&&_, _||_}
+use mathlib.Core.Bool.{Bool, true, not, _&&_, _||_}
 use mathlib.Core.Path.{_≡_}
 use mathlib.Core.List.{List}
 use Prim.Native.Nat.{ℕ, _+_, _-_, _*_, _/_, _^_, _≤_, _<_}

@@ -7,7 +7,7 @@ use Prim.Native.Nat.{ℕ, suc, _+_}
 use native.Mathlib.Omega.{arith}
 use lib.ListN.{length}
 use Rattle.formula.specs.Formula.{Formula}
-use Rattle.contact.specs.Meaning.{Floor, meets, meetsAll, renamed}
+use Rattle.contact.specs.Meaning.{Floor, meets, meetsAll}
 use Rattle.plan.specs.Judging.{Judgement, yes, unmet, judgeFrom, judge}
 use Rattle.plan.specs.Meant.{FirstUnmet}
 

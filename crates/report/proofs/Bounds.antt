@@ -3,7 +3,7 @@
 use mathlib.Core.Path.{ap}
 use mathlib.Core.Bool.{Bool, true, false, cond}
 use mathlib.Core.List.{List, [], _∷_}
-use Prim.Native.Nat.{ℕ, _*_, _/_, _%_, _^_, _≤_, _<_}
+use Prim.Native.Nat.{ℕ, _+_, _*_, _/_, _%_, _^_, _≤_, _<_}
 use native.Mathlib.Omega.{arith}
 use lib.ListN.{length, getD, length-append}
 use Rattle.lists.proofs.Below.{collect-small}
@@ -21,7 +21,7 @@ use Rattle.report.proofs.Parts.{names-parts}
 
 -- ---- a plan
 
-head-few : (names points : ℕ) → names ≤ 6 → points ≤ 32 → length (headLine names points) ≤ 23
+head-few : (names points : ℕ) → names ≤ 6 → points ≤ 64 → length (headLine names points) ≤ 23
 unfolding headLine
 head-few names points h k =
     simp length-append (omega (arith, decimal-few 0 names (omega arith), decimal-few 1 points (omega arith)))
@@ -44,11 +44,11 @@ module _ (names : List Name) (few : length names ≤ 6) (short : (i : ℕ) → l
       go [] h = omega arith
       go (w ∷ ws) h = h
 
-  point-few : (i e : ℕ) → i < 32 → length (pointLine names i e) ≤ 112
+  point-few : (i e : ℕ) → i < 64 → length (pointLine names i e) ≤ 112
   unfolding pointLine
   point-few i e h = simp length-append (omega (arith, decimal-few 1 i (omega arith), names-few e))
 
-  points-few : (points : List ℕ) → length points ≤ 32 → length (pointLines names points) ≤ length points * 112
+  points-few : (points : List ℕ) → length points ≤ 64 → length (pointLines names points) ≤ length points * 112
   unfolding pointLines
   points-few points h =
       let f : ℕ → List ℕ = λ i. pointLine names i (getD points i 0) in
@@ -58,25 +58,26 @@ module _ (names : List Name) (few : length names ≤ 6) (short : (i : ℕ) → l
         collect-few f 112 (below (length points)) (λ i at. point-few i (getD points i 0) (omega (arith, below-elim (length points) i at))),
       )
 
-contact-few : (k n : ℕ) → n ≤ 32 → k / 256 < k % 256 → k % 256 < n → length (contactLine k) ≤ 14
+contact-few : (k n : ℕ) → n ≤ 64 → k / 256 < k % 256 → k % 256 < n → length (contactLine k) ≤ 14
 unfolding contactLine
 contact-few k n h a b =
     simp length-append (omega (arith, decimal-few 1 (k / 256) (omega arith), decimal-few 1 (k % 256) (omega arith)))
 
-contacts-few : (low n : ℕ) (ks : List ℕ) → n ≤ 32 → Rises low n ks → length (collect contactLine ks) ≤ length ks * 14
+contacts-few : (low n : ℕ) (ks : List ℕ) → n ≤ 64 → Rises low n ks → length (collect contactLine ks) ≤ length ks * 14
 contacts-few low n ks h r = collect-few contactLine 14 ks (λ k i. let w = in-rises k low n ks r i in contact-few k n h (w .1) (w .2))
 
--- a plan of at most 32 points and 530 words
+-- a plan of at most n points and so many contacts
 pub plan-few : (names : List Name) → length names ≤ 6 → ((i : ℕ) → length (getD names i []) ≤ 16) → (p : Plan) → IsPlan p
-    → length (p .points) ≤ 32 → length (wordsOf p) ≤ 530 → length (planText names p) ≤ 10551
+    → (n contacts : ℕ) → n ≤ 64 → length (p .points) ≤ n → length (wordsOf p) ≤ 2 + n + contacts → length (planText names p) ≤ 23 + n * 112 + contacts * 14
 unfolding planText wordsOf
-plan-few names few short p is points words =
+plan-few names few short p is n contacts room points words =
+    let small : length (p .points) ≤ 64 = omega arith in
     simp length-append
     (omega (
       arith,
-      head-few (p .names) (length (p .points)) (is .few) points,
-      points-few names few short (p .points) points,
-      contacts-few 0 (length (p .points)) (p .contacts) points (is .rise),
+      head-few (p .names) (length (p .points)) (is .few) small,
+      points-few names few short (p .points) small,
+      contacts-few 0 (length (p .points)) (p .contacts) small (is .rise),
       before-length p,
       length-append (before p) (lastWord (length (before p)) ∷ []),
     ))

@@ -1,13 +1,14 @@
--- What is proved of the text that the program floorplan prints for a sheet, `outputOf`, which `report` gives by its contract, and of that
--- of asread, `asReadOf`, which `as_read` gives: for every list of bytes it is what is meant (specs/Printed.antt), and no other text is. Each
--- claim cites the file that proves it. Assumes nothing.
+-- What is proved of the text that the program floorplan prints for a sheet, `outputOf` of the plain question, which `report` gives by its
+-- contract, of that of building, by the question of one building, which `report_building` gives, and of that of asread, `asReadOf`, which
+-- `as_read` gives: for every list of bytes it is what is meant (specs/Printed.antt), and no other text is. Each claim cites the file that
+-- proves it. Assumes nothing.
 use mathlib.Core.Path.{_≡_, sym}
 use mathlib.Core.Logic.{_↔_}
 use mathlib.Core.List.{List}
 use Prim.Native.Nat.{ℕ}
 use Rattle.formula.specs.Formula.{Formula, Name}
 use Rattle.lexer.specs.Text.{bytes}
-use Rattle.contact.specs.Question.{plain, NoFloor}
+use Rattle.contact.specs.Question.{Question, plain, building, NoFloor}
 use Rattle.contact.specs.Numbering.{namesOf}
 use Rattle.plan.specs.Words.{Plan}
 use Rattle.plan.specs.Meant.{IsGiven}
@@ -21,12 +22,12 @@ use Rattle.report.specs.Printed.{Printed, plan-lines, no-plan-line, AsRe
 use Rattle.report.proofs.Printing as Printing
 use Rattle.report.proofs.Examples as Examples
 
--- a plan, NO PLAN or a refusal, as it is meant, and one text only is meant
-pub printed : (file : Text) → Printed file (outputOf file)
-printed = Printing.printed
+-- for each question, a plan, NO PLAN or a refusal, as it is meant, and one text only is meant
+pub printed : (q : Question) (file : Text) → Printed q file (outputOf q file)
+printed q file = Printing.printed file q
 
-pub printed-only : (file : Text) (out : List ℕ) → Printed file out → out ≡ outputOf file
-printed-only = Printing.printed-only
+pub printed-only : (q : Question) (file : Text) (out : List ℕ) → Printed q file out → out ≡ outputOf q file
+printed-only q file = Printing.printed-only file q
 
 -- the rules as T-02 writes them, or the refusal, as it is meant, and one text only is meant
 pub as-read : (file : Text) → AsRead file (asReadOf file)
@@ -35,16 +36,22 @@ as-read = Printing.as-read
 pub as-read-only : (file : Text) (out : List ℕ) → AsRead file out → out ≡ asReadOf file
 as-read-only = Printing.as-read-only
 
--- the line NO PLAN, exactly if the sheet is loaded and no finite floor, of any number of points, meets its rules
-pub no-plan-printed : (file : Text) → (outputOf file ≡ ended (bytes "NO PLAN"))
-    ↔ (LoadRow file Outcome.Done × (fs : List (Formula Name)) × AreRules (filled (linesOf file)) fs × NoFloor plain fs)
-no-plan-printed file = (Printing.no-floor file (outputOf file) (printed file), λ r. sym (printed-only file _ (no-plan-line (r .0) (r .2) (r .3))))
+-- the line NO PLAN, exactly if the sheet is loaded and no finite floor that counts, of any number of points, meets its rules
+pub no-plan-printed : (q : Question) (file : Text) → (outputOf q file ≡ ended (bytes "NO PLAN"))
+    ↔ (LoadRow file Outcome.Done × (fs : List (Formula Name)) × AreRules (filled (linesOf file)) fs × NoFloor q fs)
+no-plan-printed q file =
+    (Printing.no-floor file q (outputOf q file) (printed q file), λ r. sym (printed-only q file _ (no-plan-line (r .0) (r .2) (r .3))))
 
 -- where the sheet is loaded and a plan is given for its rules, that plan
-pub plan-printed : (file : Text) (fs : List (Formula Name)) (p : Plan) → LoadRow file Outcome.Done → AreRules (filled (linesOf file)) fs → IsGiven plain fs p
-    → outputOf file ≡ planText (namesOf fs) p
-plan-printed file fs p done are given = sym (printed-only file _ (plan-lines done are given))
+pub plan-printed : (q : Question) (file : Text) (fs : List (Formula Name)) (p : Plan) → LoadRow file Outcome.Done → AreRules (filled (linesOf file)) fs
+    → IsGiven q fs p → outputOf q file ≡ planText (namesOf fs) p
+plan-printed q file fs p done are given = sym (printed-only q file _ (plan-lines done are given))
 
 -- "The three lines of P3 give exactly ..", from the bytes of the sheet
-pub three-lines : outputOf (bytes "~C(raw,cooked)\n~raw=0\n~cooked=0\n") ≡ bytes "PLAN names=2 points=2\npoint 0: raw\npoint 1: cooked\n"
-three-lines = Examples.three-lines
+pub three-lines : outputOf plain (bytes "~C(raw,cooked)\n~raw=0\n~cooked=0\n") ≡ bytes "PLAN names=2 points=2\npoint 0: raw\npoint 1: cooked\n"
+three-lines = Examples.three-lines .0
+
+-- and for one building
+pub three-lines-building : outputOf building (bytes "~C(raw,cooked)\n~raw=0\n~cooked=0\n")
+    ≡ bytes "PLAN names=2 points=3\npoint 0: -\npoint 1: raw\npoint 2: cooked\ncontact 0 1\ncontact 0 2\n"
+three-lines-building = Examples.three-lines .1

@@ -7,7 +7,7 @@ use native.Mathlib.Omega.{arith}
 use lib.ListN.{length}
 use Rattle.formula.specs.Formula.{Formula, Name}
 use Rattle.lexer.specs.Text.{bytes}
-use Rattle.contact.specs.Question.{plain, NoFloor}
+use Rattle.contact.specs.Question.{Question, NoFloor}
 use Rattle.contact.specs.Numbering.{namesOf}
 use Rattle.plan.specs.Words.{Plan}
 use Rattle.plan.specs.Plans.{plansOf}
@@ -65,41 +65,40 @@ module _ (file : Text) where
         go o (LoadRow.loads h some can) =
             let done = LoadRow.loads h some can in subst P (loaded-output done (can .rules)) (loaded (can .formulas) done (can .rules))
 
-  -- ---- no other text is meant
-
-  pub printed-only : (out : List ℕ) → Printed file out → out ≡ outputOf file
-  unfolding rulesText
-  printed-only out (plan-lines {fs} {p} done are given) = sym (ap (plansText (namesOf fs)) (given-exactly plain fs p .1 given)) ∙ loaded-output rulesText done are
-  printed-only out (no-plan-line {fs} done are never) = sym (ap (plansText (namesOf fs)) (no-plan-given plain fs .1 never)) ∙ loaded-output rulesText done are
-  printed-only out (refused-line row) = refused-output rulesText row
+  -- ---- rules as they were read: no other text is meant, and it is meant
 
   pub as-read-only : (out : List ℕ) → AsRead file out → out ≡ asReadOf file
   as-read-only out (AsRead.lines done are) = loaded-output ruleLines done are
   as-read-only out (AsRead.refused row) = refused-output ruleLines row
 
-  -- ---- it is meant
-
-  rules-printed : {fs : List (Formula Name)} → LoadRow file Outcome.Done → AreRules (filled (linesOf file)) fs → Printed file (rulesText fs)
-  unfolding rulesText
-  rules-printed {fs} done are = go (plansOf plain fs) refl
-    where
-      go : (ps : List Plan) → plansOf plain fs ≡ ps → Printed file (plansText (namesOf fs) ps)
-      go [] e = no-plan-line done are (no-plan-given plain fs .0 e)
-      go (p ∷ []) e = plan-lines done are (given-exactly plain fs p .0 e)
-      go (p ∷ q ∷ ps) e = absurd (omega (arith, given-at-most-one plain fs, ap length e))
-
-  pub printed : Printed file (outputOf file)
-  printed = by-row rulesText (Printed file) (λ number line place row. refused-line row) (λ fs done are. rules-printed done are)
-
   pub as-read : AsRead file (asReadOf file)
   as-read = by-row ruleLines (AsRead file) (λ number line place row. AsRead.refused row) (λ fs done are. AsRead.lines done are)
 
-  -- ---- the line NO PLAN
+  -- ---- the plan by a question: likewise
 
-  -- no plan's text and no refusal's begins as it does
-  pub no-floor : (out : List ℕ) → Printed file out → out ≡ ended (bytes "NO PLAN")
-      → LoadRow file Outcome.Done × (fs : List (Formula Name)) × AreRules (filled (linesOf file)) fs × NoFloor plain fs
-  unfolding planText headLine refusedText
-  no-floor out (plan-lines done are given) e = absurd (let z = head-eq-of-cons-eq e in omega arith)
-  no-floor out (no-plan-line {fs} done are never) e = (done, fs, are, never)
-  no-floor out (refused-line row) e = absurd (let z = head-eq-of-cons-eq e in omega arith)
+  module _ (q : Question) where
+    pub printed-only : (out : List ℕ) → Printed q file out → out ≡ outputOf q file
+    unfolding rulesText
+    printed-only out (plan-lines {fs} {p} done are given) = sym (ap (plansText (namesOf fs)) (given-exactly q fs p .1 given)) ∙ loaded-output (rulesText q) done are
+    printed-only out (no-plan-line {fs} done are never) = sym (ap (plansText (namesOf fs)) (no-plan-given q fs .1 never)) ∙ loaded-output (rulesText q) done are
+    printed-only out (refused-line row) = refused-output (rulesText q) row
+
+    rules-printed : {fs : List (Formula Name)} → LoadRow file Outcome.Done → AreRules (filled (linesOf file)) fs → Printed q file (rulesText q fs)
+    unfolding rulesText
+    rules-printed {fs} done are = go (plansOf q fs) refl
+      where
+        go : (ps : List Plan) → plansOf q fs ≡ ps → Printed q file (plansText (namesOf fs) ps)
+        go [] e = no-plan-line done are (no-plan-given q fs .0 e)
+        go (p ∷ []) e = plan-lines done are (given-exactly q fs p .0 e)
+        go (p ∷ another ∷ ps) e = absurd (omega (arith, given-at-most-one q fs, ap length e))
+
+    pub printed : Printed q file (outputOf q file)
+    printed = by-row (rulesText q) (Printed q file) (λ number line place row. refused-line row) (λ fs done are. rules-printed done are)
+
+    -- the line NO PLAN: no plan's text and no refusal's begins as it does
+    pub no-floor : (out : List ℕ) → Printed q file out → out ≡ ended (bytes "NO PLAN")
+        → LoadRow file Outcome.Done × (fs : List (Formula Name)) × AreRules (filled (linesOf file)) fs × NoFloor q fs
+    unfolding planText headLine refusedText
+    no-floor out (plan-lines done are given) e = absurd (let z = head-eq-of-cons-eq e in omega arith)
+    no-floor out (no-plan-line {fs} done are never) e = (done, fs, are, never)
+    no-floor out (refused-line row) e = absurd (let z = head-eq-of-cons-eq e in omega arith)

@@ -1,6 +1,6 @@
 -- What ask wrote is the plan that is given, so that what is read from its words is put out as that plan; where it wrote none there is none,
--- because a rule stands and 530 words are enough. Assumes nothing.
-use Prim.Native.Nat.{ℕ, _≤_}
+-- because a rule stands and the words are enough. Assumes nothing.
+use Prim.Native.Nat.{ℕ, _+_, _*_, _≤_}
 use mathlib.Core.Path.{_≡_, refl, sym, ap, ap₂, subst, _∙_}
 use mathlib.Core.List.{List, [], _∷_}
 use native.Mathlib.Omega.{arith}
@@ -9,8 +9,9 @@ use types.Run.{OneOf, miss}
 use denote.Enum.Declared.{tagOf}
 use Rattle.formula.specs.Formula.{Formula, Name}
 use Rattle.lexer.specs.Text.{bytes}
-use Rattle.contact.specs.Question.{plain}
+use Rattle.contact.specs.Question.{Question, plain, building}
 use Rattle.contact.specs.Numbering.{namesOf, differentAtoms}
+use Rattle.evalset.specs.Most.{most}
 use Rattle.names.specs.Gather.{arraysOf, knownOf, Kept}
 use Rattle.names.specs.declared.Names.{Names}
 use Rattle.names.proofs.Arrays.{known-back, kept-names}
@@ -22,7 +23,7 @@ use Rattle.plan.specs.Stored.{Stored}
 use Rattle.plan.specs.Plans.{plansOf}
 use Rattle.plan.proofs.SamePlan.{plan-again}
 use Rattle.plan.proofs.Buffer.{written-over}
-use Rattle.plan.proofs.Claims.{no-plan-given, given-exactly, given-found, given-is-plan, given-words, given-points, written-read}
+use Rattle.plan.proofs.Claims.{no-plan-given, given-exactly, given-found, given-is-plan, given-words, given-points, room-words, room-points, written-read}
 use Rattle.table.specs.declared.Table.{Table}
 use Rattle.table.specs.declared.AskAnswer.{AskAnswer}
 use Rattle.table.specs.declared.AskAnswer.the-variants as AskAnswer
@@ -48,7 +49,7 @@ use Rattle.table.proofs.Standing.{not-loaded}
 use Rattle.table.proofs.Asking.{words-written, first-words}
 use Rattle.report.specs.Output.{plansText, rulesText, outcomeText, sheetText}
 use Rattle.report.specs.Lines.{planText, ended}
-use Rattle.report.specs.Putting.{Puts}
+use Rattle.report.specs.Putting.{wordRoom, textRoom, Puts}
 use Rattle.report.proofs.Short.{names-short}
 use Rattle.report.proofs.Bounds.{plan-few}
 
@@ -75,20 +76,20 @@ is-plan AskAnswer.NoRule e = absurd (let z : _≡_ {A = ℕ} 0 1 = cc in omega a
 is-plan (AskAnswer.ShortBuffer k) e = absurd (let z : _≡_ {A = ℕ} 0 1 = cc in omega arith)
 
 -- names and a plan that can be put out, and the text is that of these rules
-pub record Puttable (names : Names) (plan : PlanArrays) (rules : List (Formula Name)) : Type 0 where
+pub record Puttable (q : Question) (names : Names) (plan : PlanArrays) (rules : List (Formula Name)) : Type 0 where
   pub kept : Kept names
   pub count : plan .count ≤ 64
-  pub fits : length (planText (knownOf names) (planBy plan)) ≤ 10551
-  pub text : planText (knownOf names) (planBy plan) ≡ rulesText rules
+  pub fits : length (planText (knownOf names) (planBy plan)) ≤ textRoom q
+  pub text : planText (knownOf names) (planBy plan) ≡ rulesText q rules
 
--- ask was called where some rule stands, with room for every plan
-pub record Asking (t : Table) (buffer : List ℕ) (r : AskResult) (exit : List ℕ) : Type 0 where
+-- a question was put where some rule stands, with room for every plan
+pub record Asking (q : Question) (t : Table) (buffer : List ℕ) (r : AskResult) (exit : List ℕ) : Type 0 where
   pub from-us : FromUs t
   pub some : SomeStand (rulesOf t)
-  pub room : length buffer ≡ 530
-  pub asks : Asks t buffer r exit
+  pub room : wordRoom q ≤ length buffer
+  pub asks : Asks q t buffer r exit
 
-module _ {t : Table} {buffer : List ℕ} {r : AskResult} {exit : List ℕ} (h : Asking t buffer r exit) where
+module _ {q : Question} {t : Table} {buffer : List ℕ} {r : AskResult} {exit : List ℕ} (h : Asking q t buffer r exit) where
   abbrev rules : List (Formula Name)
   rules = formulasOf (rulesOf t)
 
@@ -96,81 +97,105 @@ module _ {t : Table} {buffer : List ℕ} {r : AskResult} {exit : List ℕ} (h : 
   unfolding atomsIn
   few-atoms = can-atoms (rulesOf t) (h .from-us .standing)
 
-  row : AskRow (rulesOf t) (length buffer) (askOutcome (r .answer))
+  few-names : length (namesOf rules) ≤ most
+  unfolding namesIn
+  few-names = can-names (rulesOf t) (h .from-us .standing)
+
+  -- the plan has room, and so has its text
+  words-room : (p : Plan) → plansOf q rules ≡ p ∷ [] → length (wordsOf p) ≤ wordRoom q
+  words-room p only = go q only
+    where
+      go : (k : Question) → plansOf k rules ≡ p ∷ [] → length (wordsOf p) ≤ wordRoom k
+      go plain e = given-words rules few-atoms p e
+      go building e = room-words building rules p e few-names
+
+  text-room : (p : Plan) → IsPlan p → plansOf q rules ≡ p ∷ [] → length (planText (namesOf rules) p) ≤ textRoom q
+  unfolding namesIn
+  text-room p is only = go q only
+    where
+      few : (n contacts : ℕ) → n ≤ 64 → length (p .points) ≤ n → length (wordsOf p) ≤ 2 + n + contacts → length (planText (namesOf rules) p) ≤ 23 + n * 112 + contacts * 14
+      few = plan-few (namesOf rules) few-names (names-short (rulesOf t) (can-read (rulesOf t) (h .from-us .standing))) p is
+
+      go : (k : Question) → plansOf k rules ≡ p ∷ [] → length (planText (namesOf rules) p) ≤ textRoom k
+      go plain e = few 32 496 (omega arith) (given-points rules few-atoms p e) (given-words rules few-atoms p e)
+      go building e = few 64 2016 (omega arith) (room-points building rules p e few-names) (room-words building rules p e few-names)
+
+  row : AskRow q (rulesOf t) (length buffer) (askOutcome (r .answer))
   unfolding asked
   row =
-      subst (λ (a : AskAnswer). AskRow (rulesOf t) (length buffer) (askOutcome a)) (sym (ap (λ (x : AskResult). x .answer) (h .asks .result)))
-      (ask-answered (length buffer) (rulesOf t) (h .from-us .standing .formulas) (h .from-us .standing .rules))
+      subst (λ (a : AskAnswer). AskRow q (rulesOf t) (length buffer) (askOutcome a)) (sym (ap (λ (x : AskResult). x .answer) (h .asks .result)))
+      (ask-answered q (length buffer) (rulesOf t) (h .from-us .standing .formulas) (h .from-us .standing .rules))
 
   -- where ask gives no plan
-  pub no-text : ((n : ℕ) → r .answer ≡ AskAnswer.Plan n → ⊥) → ended (bytes "NO PLAN") ≡ rulesText rules
+  pub no-text : ((n : ℕ) → r .answer ≡ AskAnswer.Plan n → ⊥) → ended (bytes "NO PLAN") ≡ rulesText q rules
   unfolding rulesText
   no-text other = go (askOutcome (r .answer)) row refl
     where
-      go : (o : Outcome) → AskRow (rulesOf t) (length buffer) o → askOutcome (r .answer) ≡ o → ended (bytes "NO PLAN") ≡ plansText (namesOf rules) (plansOf plain rules)
+      go : (o : Outcome) → AskRow q (rulesOf t) (length buffer) o → askOutcome (r .answer) ≡ o → ended (bytes "NO PLAN") ≡ plansText (namesOf rules) (plansOf q rules)
       go o (AskRow.none e) f = absurd (h .some e)
-      go o (AskRow.without {fs} z are never) f = sym (ap (plansText (namesOf rules)) (of-computed (rulesOf t) fs are (λ gs. plansOf plain gs ≡ []) (no-plan-given plain fs .1 never)))
+      go o (AskRow.without {fs} z are never) f = sym (ap (plansText (namesOf rules)) (of-computed (rulesOf t) fs are (λ gs. plansOf q gs ≡ []) (no-plan-given q fs .1 never)))
       go o (AskRow.short {fs} {p} z are g l) f =
-          absurd (omega (arith, h .room, given-words rules few-atoms p (given-exactly plain rules p .1 (of-computed (rulesOf t) fs are (λ gs. IsGiven plain gs p) g))))
+          absurd (omega (arith, h .room, words-room p (given-exactly q rules p .1 (of-computed (rulesOf t) fs are (λ gs. IsGiven q gs p) g))))
       go o (AskRow.given {p = p} z are g l) f = absurd (other (length (wordsOf p)) (is-plan (r .answer) f))
 
   -- where it gives one
   pub record Wrote (n : ℕ) : Type 0 where
     pub plan : Plan
     pub is : IsPlan plan
-    pub only : plansOf plain rules ≡ plan ∷ []
+    pub only : plansOf q rules ≡ plan ∷ []
     pub within : n ≤ length exit
     pub counted : n ≡ length (take n exit)
     pub words : take n exit ≡ wordsOf plan
 
   pub plan-written : (n : ℕ) → r .answer ≡ AskAnswer.Plan n → Wrote n
-  unfolding over namesIn
+  unfolding over
   plan-written n e = go (askOutcome (r .answer)) row (ap askOutcome e)
     where
-      go : (o : Outcome) → AskRow (rulesOf t) (length buffer) o → o ≡ Outcome.Plan n → Wrote n
+      go : (o : Outcome) → AskRow q (rulesOf t) (length buffer) o → o ≡ Outcome.Plan n → Wrote n
       go o (AskRow.none z) f = absurd (h .some z)
       go o (AskRow.without z are never) f = absurd (let z : _≡_ {A = ℕ} 0 1 = cc in omega arith)
       go o (AskRow.short z are g l) f = absurd (let z : _≡_ {A = ℕ} 0 1 = cc in omega arith)
       go o (AskRow.given {fs} {p} z are k l) f =
-          let g : IsGiven plain rules p = of-computed (rulesOf t) fs are (λ gs. IsGiven plain gs p) k in
+          let g : IsGiven q rules p = of-computed (rulesOf t) fs are (λ gs. IsGiven q gs p) k in
           let size : length (wordsOf p) ≡ n = cc in
-          let wrote : exit ≡ over (wordsOf p) buffer = h .asks .words ∙ words-written (rulesOf t) buffer (h .some) p g l in
+          let wrote : exit ≡ over (wordsOf p) buffer = h .asks .words ∙ words-written q (rulesOf t) buffer (h .some) p g l in
           let words : take n exit ≡ wordsOf p
-          = ap (take n) (h .asks .words) ∙ ap (λ (k : ℕ). take k (askWords (rulesOf t) buffer)) (sym size) ∙ first-words (rulesOf t) buffer (h .some) p g l in
+          = ap (take n) (h .asks .words) ∙ ap (λ (k : ℕ). take k (askWords q (rulesOf t) buffer)) (sym size) ∙ first-words q (rulesOf t) buffer (h .some) p g l in
           record {
             plan = p;
-            is = let w = given-found plain rules p g in subst IsPlan (sym (w .2)) (given-is-plan plain rules (can-names (rulesOf t) (h .from-us .standing)) (w .0) (w .1));
-            only = given-exactly plain rules p .1 g;
+            is = let w = given-found q rules p g in subst IsPlan (sym (w .2)) (given-is-plan q rules few-names (w .0) (w .1));
+            only = given-exactly q rules p .1 g;
             within = omega (arith, size, ap length wrote, length-append (wordsOf p) (drop (length (wordsOf p)) buffer));
             counted = sym (ap length words ∙ size);
             words = words;
           }
 
-  module _ (n : ℕ) (e : r .answer ≡ AskAnswer.Plan n) (q : PlanRead) (reads : Reads (take n exit) q) (names : Names) (are : names ≡ arraysOf (namesIn (rulesOf t))) where
+  module _ (n : ℕ) (e : r .answer ≡ AskAnswer.Plan n) (found : PlanRead) (reads : Reads (take n exit) found) (names : Names) (are : names ≡ arraysOf (namesIn (rulesOf t))) where
     abbrev it : Wrote n
     it = plan-written n e
 
-    stored : Stored (q .plan) (it .plan)
-    stored = written-read (it .plan) (it .is) q (subst (λ (ws : List ℕ). Reads ws q) (it .words) reads) .1
+    stored : Stored (found .plan) (it .plan)
+    stored = written-read (it .plan) (it .is) found (subst (λ (ws : List ℕ). Reads ws found) (it .words) reads) .1
 
-    said : planText (knownOf names) (planBy (q .plan)) ≡ planText (namesIn (rulesOf t)) (it .plan)
-    said = ap₂ planText (ap knownOf are ∙ known-back (namesIn (rulesOf t))) (plan-again (q .plan) (it .plan) (it .is) stored)
+    said : planText (knownOf names) (planBy (found .plan)) ≡ planText (namesIn (rulesOf t)) (it .plan)
+    said = ap₂ planText (ap knownOf are ∙ known-back (namesIn (rulesOf t))) (plan-again (found .plan) (it .plan) (it .is) stored)
 
-    points : length (it .plan .points) ≤ 32
-    points = given-points rules few-atoms (it .plan) (it .only)
-
-    pub plan-puttable : Puttable names (q .plan) (formulasOf (rulesOf t))
+    pub plan-puttable : Puttable q names (found .plan) (formulasOf (rulesOf t))
     unfolding rulesText namesIn
     plan-puttable =
         record {
-          kept = subst Kept (sym are) (kept-names (namesIn (rulesOf t)) (can-names (rulesOf t) (h .from-us .standing)));
-          count = omega (arith, stored .count, points);
-          fits = subst (λ (l : List ℕ). length l ≤ 10551) (sym said)
-              (plan-few (namesIn (rulesOf t)) (can-names (rulesOf t) (h .from-us .standing)) (names-short (rulesOf t) (can-read (rulesOf t) (h .from-us .standing))) (it .plan) (it .is) points (given-words rules few-atoms (it .plan) (it .only)));
+          kept = subst Kept (sym are) (kept-names (namesIn (rulesOf t)) few-names);
+          count = omega (arith, stored .count, room-points q rules (it .plan) (it .only) few-names);
+          fits = subst (λ (l : List ℕ). length l ≤ textRoom q) (sym said) (text-room (it .plan) (it .is) (it .only));
           text = said ∙ sym (ap (plansText (namesOf rules)) (it .only));
         }
 
 -- ---- a sheet
+
+-- the line of a refusal has room too
+pub refusal-room : (q : Question) → 79 ≤ textRoom q
+refusal-room plain = omega arith
+refusal-room building = omega arith
 
 pub told-not-loaded : (a : LoadAnswer) → OneOf (1 ∷ 2 ∷ 3 ∷ []) (tagOf load-type a) → a ≡ LoadAnswer.Loaded → ⊥
 told-not-loaded a h e = miss (1 ∷ 2 ∷ 3 ∷ []) 0 tt (subst (λ (x : LoadAnswer). OneOf (1 ∷ 2 ∷ 3 ∷ []) (tagOf load-type x)) e h)

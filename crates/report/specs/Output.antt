@@ -3,7 +3,7 @@ use mathlib.Core.List.{List, [], _∷_}
 use Prim.Native.Nat.{ℕ}
 use Rattle.formula.specs.Formula.{Formula, Name}
 use Rattle.lexer.specs.Text.{bytes}
-use Rattle.contact.specs.Question.{plain}
+use Rattle.contact.specs.Question.{Question}
 use Rattle.contact.specs.Numbering.{namesOf}
 use Rattle.plan.specs.Words.{Plan}
 use Rattle.plan.specs.Plans.{plansOf}
@@ -19,9 +19,9 @@ abbrev pub plansText : List Name → List Plan → List ℕ
 plansText names [] = ended (bytes "NO PLAN")
 plansText names (p ∷ ps) = planText names p
 
--- the text of the plan given for these rules, or of none
-unfoldable pub rulesText : List (Formula Name) → List ℕ
-rulesText rules = plansText (namesOf rules) (plansOf plain rules)
+-- the text of the plan that is given for these rules by the question, or of none
+unfoldable pub rulesText : Question → List (Formula Name) → List ℕ
+rulesText q rules = plansText (namesOf rules) (plansOf q rules)
 
 -- a load that is refused has a line and a place
 abbrev pub outcomeText : Outcome → List ℕ
@@ -43,9 +43,9 @@ sheetText given file =
     let text = given (formulasOf (filled (linesOf file))) in
     ifLoaded answer text (outcomeText (loadOutcome answer))
 
--- "The program floorplan reads one sheet": the text for its bytes
-abbrev pub outputOf : Text → List ℕ
-outputOf file = sheetText rulesText file
+-- "The program floorplan reads one sheet": the text for its bytes, by the plain question, and that of the program building, by the other
+abbrev pub outputOf : Question → Text → List ℕ
+outputOf q file = sheetText (rulesText q) file
 
 -- the text of the program asread for them
 abbrev pub asReadOf : Text → List ℕ

@@ -1,11 +1,22 @@
--- For proofs: what the private functions do: each puts a text into the buffer, from a place on, and answers the place after it; and the
--- contract of `report` and `as_read` (`Reports`). Assumes nothing.
+-- For proofs: what the private functions do: each puts a text into the buffer, from a place on, and answers the place after it; the rooms
+-- that they are lent; and the contract of `report`, `report_building` and `as_read` (`Reports`). Assumes nothing.
 use mathlib.Core.Path.{_≡_}
 use mathlib.Core.List.{List}
 use Prim.Native.Nat.{ℕ, _+_, _≤_}
 use lib.ListN.{length}
+use Rattle.contact.specs.Question.{Question, plain, building}
 use Rattle.plan.specs.Private.{written}
 use Rattle.plan.specs.Words.{over}
+
+-- "an answered plan takes at most 530 words"; T-04: "Such a plan may have 64 points, and 2,082 words."
+abbrev pub wordRoom : Question → ℕ
+wordRoom plain = 530
+wordRoom building = 2082
+
+-- the text of the plan: a first line of 23 bytes, then 32 points of 112 and 496 contacts of 14, and for one building 64 and 2,016 of them
+abbrev pub textRoom : Question → ℕ
+textRoom plain = 10551
+textRoom building = 35415
 
 -- there was room for the text, and it was put there; the other bytes keep their values
 pub record Puts (at : ℕ) (text buffer exit : List ℕ) (end : ℕ) : Type 0 where

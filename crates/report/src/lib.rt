@@ -1,27 +1,33 @@
-// The text that the program floorplan writes for a sheet (document 01, 'Worked sheets'), and the one of asread (document 02, T-02). What is
-// meant is in specs/Printed.antt, what is computed in specs/Output.antt: a function from the sheet's bytes to the text's. Here the text is put into a buffer piece by piece: each
-// private function puts one piece at a place, and answers the place after it. The buffer has room for the text of every sheet. Assumes nothing.
+// The text that the program floorplan writes for a sheet (document 01, 'Worked sheets'), the one of building (document 02, T-04), and that of
+// asread (T-02). What is meant is in specs/Printed.antt, what is computed in specs/Output.antt: a function from the sheet's bytes to the
+// text's. Here the text is put into a buffer piece by piece: each private function puts one piece at a place, and answers the place after
+// it. The buffer has room for the text of every sheet. Assumes nothing.
 ghost use mathlib.Core.Path.{_≡_};
 ghost use Prim.Native.Nat.{_+_, _*_, _≤_, _<_};
 ghost use lib.ListN.{length, replicate, take, drop};
+ghost use Rattle.contact.specs.Question.{plain, building};
 ghost use Rattle.evalset.specs.Bit.{bit};
 ghost use Rattle.lists.specs.Search.{collect};
 ghost use Rattle.evalset.specs.Sets.{mem, memAt};
 ghost use Rattle.names.specs.Gather.{bytesIn, knownOf, Kept};
 ghost use Rattle.plan.specs.Arrays.{planBy};
 ghost use Rattle.plan.specs.Links.{pairOf, rowTo, linksTo};
+ghost use Rattle.search.specs.Asked.{questionOf};
 ghost use Rattle.table.specs.Store.{rulesOf};
 ghost use Rattle.table.specs.Calls.{formulasOf, FromUs};
+ghost use Rattle.table.specs.Asking.{Asks};
 ghost use Rattle.table.specs.Rows.{SomeStand};
 ghost use Rattle.table.specs.Numbers.{CanCome, loadOutcome};
 ghost use Rattle.report.specs.Output.{outcomeText, rulesText, outputOf, asReadOf};
 ghost use Rattle.report.specs.Lines.{decimal, labelled, headLine, nameIf, pointNames, namesOrNone, blanked, pointLine, pointLines, contactLine, planText, ruleLines, refusedText};
-ghost use Rattle.report.specs.Putting.{Puts, Reports};
+ghost use Rattle.report.specs.Putting.{wordRoom, textRoom, Puts, Reports};
 use evalset::EvalSet;
 use names::KeptName;
 use names::Names;
 use plan::PlanArrays;
+use search::Asked;
 use table::AskAnswer;
+use table::AskResult;
 use table::LoadAnswer;
 use table::Outcome;
 use table::PrintAnswer;
@@ -29,6 +35,9 @@ use table::Table;
 
 // The bytes of the buffer: the text of a plan has 10,551 at most.
 pub const ROOM: usize = 16384;
+
+// The bytes of that for one building: the text of its plan has 35,415 at most.
+pub const BUILDING_ROOM: usize = 36864;
 
 // Some bytes.
 fn put_text(text: &[u8], out: &mut [u8], at: usize) -> usize
@@ -253,22 +262,25 @@ fn put_refusal(answer: LoadAnswer, out: &mut [u8], at: usize) -> usize
     put_refused(number, line, place, out, at)
 }
 
-// Room for the words of a plan.
-fn no_words() -> [u32; 530]
-    ensures { λ r. ⌜ length r ≡ 530 ⌝ }
+// What the table answers to a question.
+fn ask(table: Table, asked: Asked, words: &mut [u32]) -> AskResult
+    requires { ⌜ FromUs table ⌝ }
+    ensures { λ r. ⌜ Asks (questionOf asked) table (now (words .entry)) r (now (words .exit)) ⌝ }
 {
-    [0u32; 530]
+    match asked {
+        Asked::Plain => table.ask(words),
+        Asked::Building => table.ask_building(words),
+    }
 }
 
-// The text for the rules that stand.
-fn put_rules(table: Table, out: &mut [u8]) -> usize
-    requires { ⌜ FromUs table × SomeStand (rulesOf table) × (16384 ≤ length (now out)) ⌝ }
-    ensures { λ r. ⌜ Puts 0 (rulesText (formulasOf (rulesOf table))) (now (out .entry)) (now (out .exit)) r ⌝ }
+// The text for the rules that stand, by a question: its plan is put into the words first.
+fn put_rules(table: Table, asked: Asked, words: &mut [u32], out: &mut [u8]) -> usize
+    requires { ⌜ FromUs table × SomeStand (rulesOf table) × (wordRoom (questionOf asked) ≤ length (now words)) × (textRoom (questionOf asked) ≤ length (now out)) ⌝ }
+    ensures { λ r. ⌜ Puts 0 (rulesText (questionOf asked) (formulasOf (rulesOf table))) (now (out .entry)) (now (out .exit)) r ⌝ }
 {
     let names = table.names();
-    let mut words = no_words();
-    let asked = table.ask(&mut words);
-    let answer = asked.answer;
+    let given = ask(table, asked, words);
+    let answer = given.answer;
     let AskAnswer::Plan(n) = answer else {
         return put_text(b"NO PLAN\n", out, 0);
     };
@@ -277,10 +289,10 @@ fn put_rules(table: Table, out: &mut [u8]) -> usize
     put_plan(plan, names, out, 0)
 }
 
-// The text for a sheet.
-fn put_report(file: &[u8], out: &mut [u8]) -> usize
-    requires { ⌜ 16384 ≤ length (now out) ⌝ }
-    ensures { λ r. ⌜ Puts 0 (outputOf (now (file .entry))) (now (out .entry)) (now (out .exit)) r ⌝ }
+// The text for a sheet, by a question.
+fn put_report(file: &[u8], asked: Asked, words: &mut [u32], out: &mut [u8]) -> usize
+    requires { ⌜ (wordRoom (questionOf asked) ≤ length (now words)) × (textRoom (questionOf asked) ≤ length (now out)) ⌝ }
+    ensures { λ r. ⌜ Puts 0 (outputOf (questionOf asked) (now (file .entry))) (now (out .entry)) (now (out .exit)) r ⌝ }
 {
     let t = Table::empty();
     let loaded = t.load(file);
@@ -289,7 +301,7 @@ fn put_report(file: &[u8], out: &mut [u8]) -> usize
         return put_refusal(answer, out, 0);
     };
     let table = loaded.table;
-    put_rules(table, out)
+    put_rules(table, asked, words, out)
 }
 
 // Room for the text.
@@ -300,11 +312,41 @@ pub fn no_text() -> [u8; ROOM]
     [0u8; ROOM]
 }
 
+// Room for the words of a plan.
+fn no_words() -> [u32; 530]
+    ensures { λ r. ⌜ length r ≡ 530 ⌝ }
+{
+    [0u32; 530]
+}
+
 // The text for a sheet of any bytes, over the first bytes of the buffer, and its length. The other bytes keep their values.
 pub fn report(file: &[u8], out: &mut [u8; ROOM]) -> usize
-    ensures { λ r. ⌜ Reports (outputOf (now (file .entry))) (now (out .entry)) r (now (out .exit)) ⌝ }
+    ensures { λ r. ⌜ Reports (outputOf plain (now (file .entry))) (now (out .entry)) r (now (out .exit)) ⌝ }
 {
-    put_report(file, out)
+    let mut words = no_words();
+    put_report(file, Asked::Plain, &mut words, out)
+}
+
+// The two rooms for one building.
+pub fn no_building_text() -> [u8; BUILDING_ROOM]
+    ensures { λ r. ⌜ length r ≡ 36864 ⌝ }
+    ensures { λ r. ⌜ r ≡ replicate 36864 0 ⌝ }
+{
+    [0u8; BUILDING_ROOM]
+}
+
+fn no_building_words() -> [u32; 2082]
+    ensures { λ r. ⌜ length r ≡ 2082 ⌝ }
+{
+    [0u32; 2082]
+}
+
+// The text by the question of one building, in the same form.
+pub fn report_building(file: &[u8], out: &mut [u8; BUILDING_ROOM]) -> usize
+    ensures { λ r. ⌜ Reports (outputOf building (now (file .entry))) (now (out .entry)) r (now (out .exit)) ⌝ }
+{
+    let mut words = no_building_words();
+    put_report(file, Asked::Building, &mut words, out)
 }
 
 // The line of the rule at place i, from 0, as it was read, if one stands there.

@@ -7,12 +7,13 @@ use mathlib.Core.List.{List, [], _∷_, _++_, map, map-append}
 use Prim.Native.Nat.{ℕ, _*_, _≤_}
 use native.Mathlib.Omega.{arith}
 use lib.ListN.{length, take, length-map}
+use lib.Pow.{pow-mono}
 use Rattle.formula.specs.Formula.{Formula, Name}
 use Rattle.syntax.specs.RuleText.{IsRule}
 use Rattle.syntax.specs.Rule.{meaningOf}
 use Rattle.lists.proofs.Search.{in-either, uncons, none-in}
 use Rattle.contact.specs.Numbering.{namesOf, numberedAtoms, rowAtoms}
-use Rattle.contact.specs.Question.{plain}
+use Rattle.contact.specs.Question.{Question}
 use Rattle.contact.specs.Check.{pointsFor, firstRow, firstRowOf}
 use Rattle.solver.specs.declared.RowAnswer.{RowAnswer}
 use Rattle.solver.specs.declared.RowAnswer.the-variants.{At, Nothing}
@@ -23,7 +24,7 @@ use Rattle.search.specs.declared.RowPlan.{RowPlan}
 use Rattle.search.specs.Rows.{rowBits}
 use Rattle.search.specs.Compiled.{limit}
 use Rattle.search.specs.Planned.{marksIn, PlanSays}
-use Rattle.search.proofs.Claims.{planned-is, planned-few}
+use Rattle.search.proofs.Claims.{planned-is, planned-room}
 use Rattle.plan.specs.declared.PlanArrays.{PlanArrays}
 use Rattle.plan.specs.Words.{Plan, IsPlan}
 use Rattle.evalset.specs.Most.{most}
@@ -98,18 +99,18 @@ module _ (rules : List (Formula Name)) (c : Compiling) (kept code : List ℕ) (h
   ends-fit long = omega (arith, h .known .counted, h .known .fits .rules-fit)
 
   -- the answer of `first_row` is the number of the first row of the numbered rules
-  pub answer-first-row : (r : RowAnswer) → FirstRowSays code ends chart r
-      → r ≡ answerFor (firstRowOf plain rules)
-  answer-first-row r says =
-      answer-is code ends chart r says (rowAtoms rules) (numberedAtoms rules) comes-from
-      ∙ ap (λ (n : ℕ). answerFor (firstRow plain n (rowAtoms rules) (numberedAtoms rules))) (h .known .names-counted)
+  pub answer-first-row : (q : Question) (r : RowAnswer) → FirstRowSays q code ends chart r
+      → r ≡ answerFor (firstRowOf q rules)
+  answer-first-row q r says =
+      answer-is q code ends chart r says (rowAtoms rules) (numberedAtoms rules) comes-from
+      ∙ ap (λ (n : ℕ). answerFor (firstRow q n (rowAtoms rules) (numberedAtoms rules))) (h .known .names-counted)
 
   -- where `row_of` finds none, no plan is given
-  pub none-given : (r : RowAnswer) → FirstRowIs c code r → r ≡ Nothing → plansOf plain rules ≡ []
+  pub none-given : (q : Question) (r : RowAnswer) → FirstRowIs q c code r → r ≡ Nothing → plansOf q rules ≡ []
   unfolding FirstRowIs plansOf
-  none-given r says e =
-      ap (map (rowPlan plain rules))
-      (answer-none plain (length (namesOf rules)) (rowAtoms rules) (numberedAtoms rules) (sym (says rules kept h) ∙ e))
+  none-given q r says e =
+      ap (map (rowPlan q rules))
+      (answer-none q (length (namesOf rules)) (rowAtoms rules) (numberedAtoms rules) (sym (says rules kept h) ∙ e))
 
   -- ---- for a caller of the plan of a row
 
@@ -118,25 +119,25 @@ module _ (rules : List (Formula Name)) (c : Compiling) (kept code : List ℕ) (h
   may-plan = (omega (arith, h .known .names-counted, h .known .fits .names-fit), omega (arith, h .known .compiled .counted, h .known .compiled .few))
 
   -- what `planned` answers is, beside the number of names, the plan of the row (Planning)
-  pub answer-row-plan : (row : ℕ) (r : RowPlan) → PlanSays chart row r
-      → Stored (rowArrays (chart .names) r) (rowPlan plain rules (rowBits (chart .atoms) row))
+  pub answer-row-plan : (q : Question) (row : ℕ) (r : RowPlan) → PlanSays q chart row r
+      → Stored (rowArrays (chart .names) r) (rowPlan q rules (rowBits (chart .atoms) row))
   unfolding rowPlan
-  answer-row-plan row r says =
+  answer-row-plan q row r says =
       let atoms = rowAtoms rules in
-      let few = planned-few chart atoms (comes-from .compiled) r row says (h .known .compiled .few) in
-      subst (λ (n : ℕ). Stored (rowArrays (chart .names) r) (givenPlan n (marksIn chart atoms row) (pointsFor plain n (marksIn chart atoms row)))) (h .known .names-counted)
-      (plan-stored plain (chart .names) (marksIn chart atoms row) r (planned-is chart atoms (comes-from .compiled) row says) (omega arith))
+      let few = planned-room chart atoms (comes-from .compiled) q r row says in
+      subst (λ (n : ℕ). Stored (rowArrays (chart .names) r) (givenPlan n (marksIn chart atoms row) (pointsFor q n (marksIn chart atoms row)))) (h .known .names-counted)
+      (plan-stored q (chart .names) (marksIn chart atoms row) r (planned-is chart atoms (comes-from .compiled) q r row says) (omega (arith, few, pow-mono {i = chart .names} {j = 6} (may-plan .0))))
 
   -- where `row_of` finds a row, the arrays of `plan_of` hold the plan that is given, and no other
-  pub plan-given : (r : RowAnswer) (row : ℕ) (arrays : PlanArrays) → FirstRowIs c code r → r ≡ At row → RowPlanIs c row arrays
-      → plansOf plain rules ≡ planBy arrays ∷ []
+  pub plan-given : (q : Question) (r : RowAnswer) (row : ℕ) (arrays : PlanArrays) → FirstRowIs q c code r → r ≡ At row → RowPlanIs q c row arrays
+      → plansOf q rules ≡ planBy arrays ∷ []
   unfolding FirstRowIs RowPlanIs plansOf
-  plan-given r row arrays says e holds =
+  plan-given q r row arrays says e holds =
       let names = length (namesOf rules) in
-      let found = answer-found plain names (rowAtoms rules) (numberedAtoms rules) (chart .atoms) row (h .known .compiled .counted)
+      let found = answer-found q names (rowAtoms rules) (numberedAtoms rules) (chart .atoms) row (h .known .compiled .counted)
       (sym (says rules kept h) ∙ e) in
-      ap (map (rowPlan plain rules)) found
-      ∙ ap (λ (p : Plan). p ∷ []) (sym (plan-again arrays _ (given-is-plan plain rules (h .known .fits .names-fit) _ found) (holds rules kept code h)))
+      ap (map (rowPlan q rules)) found
+      ∙ ap (λ (p : Plan). p ∷ []) (sym (plan-again arrays _ (given-is-plan q rules (h .known .fits .names-fit) _ found) (holds rules kept code h)))
 
   -- ---- for a caller of the judgement
 

@@ -16,7 +16,7 @@ use Rattle.contact.specs.Numbering.{mapForm, namesOf, differentAtoms, atomNumbe
 use Rattle.names.specs.Gather.{arraysOf, gathered}
 use Rattle.names.specs.declared.NamesAnswer.{NamesAnswer}
 use Rattle.names.specs.declared.NamesAnswer.the-variants as NamesAnswer
-use Rattle.contact.specs.Question.{plain}
+use Rattle.contact.specs.Question.{Question}
 use Rattle.contact.specs.Check.{firstRowOf}
 use Rattle.kleene.specs.Code.{postfix}
 use Rattle.solver.specs.declared.RowAnswer.{RowAnswer}
@@ -140,14 +140,14 @@ pub record Whole (c : Compiling) (code : List ℕ) : Type 0 where
 
 -- ---- what the compiled rules answer
 
--- the answer is the number of the first row of the rules that are compiled
-unfoldable pub FirstRowIs : Compiling → List ℕ → RowAnswer → Type 0
-FirstRowIs c code r = (rules : List (Formula Name)) (kept : List ℕ) → CompiledRules rules c kept code → r ≡ answerFor (firstRowOf plain rules)
+-- the answer is the number of the first row of the rules that are compiled, for the question
+unfoldable pub FirstRowIs : Question → Compiling → List ℕ → RowAnswer → Type 0
+FirstRowIs q c code r = (rules : List (Formula Name)) (kept : List ℕ) → CompiledRules rules c kept code → r ≡ answerFor (firstRowOf q rules)
 
 -- the arrays hold the plan of a row of the rules that are compiled
-unfoldable pub RowPlanIs : Compiling → ℕ → PlanArrays → Type 0
-RowPlanIs c row r =
-    (rules : List (Formula Name)) (kept code : List ℕ) → CompiledRules rules c kept code → Stored r (rowPlan plain rules (rowBits (c .known .atoms .chart .atoms) row))
+unfoldable pub RowPlanIs : Question → Compiling → ℕ → PlanArrays → Type 0
+RowPlanIs q c row r =
+    (rules : List (Formula Name)) (kept code : List ℕ) → CompiledRules rules c kept code → Stored r (rowPlan q rules (rowBits (c .known .atoms .chart .atoms) row))
 
 -- the answer is the judgement of the rules that are compiled on the floor of the plan that the arrays hold
 unfoldable pub JudgedIs : Compiling → List ℕ → PlanArrays → Judged → Type 0

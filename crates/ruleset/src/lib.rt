@@ -7,6 +7,7 @@
 ghost use mathlib.Core.Path.{_≡_};
 ghost use Prim.Native.Nat.{_≤_};
 ghost use lib.ListN.{length, take};
+ghost use Rattle.search.specs.Asked.{questionOf};
 ghost use Rattle.search.specs.Compiled.{limit};
 ghost use Rattle.evalset.specs.Most.{most};
 ghost use Rattle.ruleset.specs.Ends.{lastEnd};
@@ -17,6 +18,7 @@ use judging::Judged;
 use names::Names;
 use names::NamesAnswer;
 use plan::PlanArrays;
+use search::Asked;
 use solver::RowAnswer;
 use syntax::Rule;
 
@@ -168,24 +170,24 @@ pub fn with_text(text: &[u8], c: Compiling, kept: &mut [u8; 2048], code: &mut [u
     Compiling { known, ends }
 }
 
-// The first realisable row that makes the compiled rules true.
-pub fn row_of(c: Compiling, code: &[u8]) -> RowAnswer
+// The first realisable row that makes the compiled rules true, for what is asked.
+pub fn row_of(c: Compiling, code: &[u8], asked: Asked) -> RowAnswer
     requires { ⌜ Whole c (now code) ⌝ }
-    ensures { λ r. ⌜ FirstRowIs c (now (code .entry)) r ⌝ }
+    ensures { λ r. ⌜ FirstRowIs (questionOf asked) c (now (code .entry)) r ⌝ }
 {
     let ends = c.ends;
     let count = c.known.count;
     let chart = c.known.atoms.chart;
-    solver::first_row(code, &ends[..count], chart)
+    solver::first_row(code, &ends[..count], chart, asked)
 }
 
-// The plan of a row of the compiled rules. Its arrays have the number of names in a byte.
-pub fn plan_of(c: Compiling, row: usize) -> PlanArrays
+// The plan of a row of the compiled rules, for what is asked. Its arrays have the number of names in a byte.
+pub fn plan_of(c: Compiling, row: usize, asked: Asked) -> PlanArrays
     requires { ⌜ (c .known .atoms .chart .names ≤ most) × (c .known .atoms .chart .atoms ≤ limit) ⌝ }
-    ensures { λ r. ⌜ RowPlanIs c row r ⌝ }
+    ensures { λ r. ⌜ RowPlanIs (questionOf asked) c row r ⌝ }
 {
     let chart = c.known.atoms.chart;
-    let planned = search::planned(chart, row);
+    let planned = search::planned(chart, row, asked);
     let points = planned.points;
     let rows = planned.rows;
     PlanArrays {

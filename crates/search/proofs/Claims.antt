@@ -13,17 +13,15 @@ use Rattle.evalset.specs.Sets.{memAt, room}
 use Rattle.contact.specs.Row.{is}
 use Rattle.contact.specs.Question.{Question, plain, building}
 use Rattle.contact.specs.Plan.{Mark, separated}
-use Rattle.contact.specs.Check.{check, passes, pointsFor}
-use Rattle.contact.specs.Pieces.{checkPieces}
+use Rattle.contact.specs.Check.{passes, pointsFor}
 use Rattle.contact.proofs.Claims as contact
 use Rattle.contact.proofs.Floors.{marksFloor}
 use Rattle.search.specs.declared.Chart.{Chart}
 use Rattle.search.specs.declared.RowPlan.{RowPlan}
-use Rattle.search.specs.declared.FoundPiece.{FoundPiece}
 use Rattle.search.specs.Rows.{rowBits}
 use Rattle.search.specs.Compiled.{limit, Compiled}
 use Rattle.search.specs.Planned.{marksIn, PlanOf, PlanSays}
-use Rattle.search.specs.Building.{FirstPiece, BuildingSays, BuildingPlanSays}
+use Rattle.search.specs.Building.{BuildingSays}
 
 -- for each question, the contact rows of a plan whose marks pass the check are the contacts of the plan's floor
 plan-touch : (q : Question) (n : ℕ) (ms : List Mark) (r : RowPlan) → PlanOf q n ms r → (h : passes q n ms ≡ true) → (i j : ℕ) → i < r .count
@@ -37,44 +35,31 @@ plan-touch q n ms r p h i j li lj =
     ∙ ap₂ (λ (e f : ℕ). not (separated ms e f)) (at i li) (at j lj) ∙ sym (contact.plan-touch q n ms h i j)
 
 module _ (chart : Chart) (atoms : List (Atom ℕ)) (compiled : Compiled chart atoms) where
-  -- ---- the plain question
+  -- ---- a plan
 
-  -- planned is the plan of the row's marks: the points, zeros after them, their number, and the contacts
-  pub planned-is : {r : RowPlan} (row : ℕ) → PlanSays chart row r → PlanOf plain (chart .names) (marksIn chart atoms row) r
-  unfolding PlanSays
-  planned-is row says = says atoms compiled
+  module _ (q : Question) (r : RowPlan) (row : ℕ) (says : PlanSays q chart row r) where
+    -- planned is the plan of the row's marks: the points, zeros after them, their number, and the contacts
+    pub planned-is : PlanOf q (chart .names) (marksIn chart atoms row) r
+    unfolding PlanSays
+    planned-is = says atoms compiled
 
-  -- at most 32 points for as many atoms as a chart may have
-  pub planned-few : (r : RowPlan) (row : ℕ) → PlanSays chart row r → length atoms ≤ limit → r .count ≤ 32
+    -- at most as many points as there are evaluations
+    pub planned-room : r .count ≤ 2 ^ chart .names
+    planned-room = omega (arith, planned-is .counted, contact.points-room q (chart .names) (marksIn chart atoms row))
+
+    -- of a row that passes the check, the contact rows are the contacts of the plan's floor
+    pub planned-touch : (h : passes q (chart .names) (marksIn chart atoms row) ≡ true) → (i j : ℕ) → i < r .count → j < r .count
+        → memAt (r .rows) i j ≡ marksFloor q (chart .names) (marksIn chart atoms row) h .touch i j
+    planned-touch h = plan-touch q (chart .names) (marksIn chart atoms row) r planned-is h
+
+  -- at most 32 points of the plain question for as many atoms as a chart may have
+  pub planned-few : (r : RowPlan) (row : ℕ) → PlanSays plain chart row r → length atoms ≤ limit → r .count ≤ 32
   planned-few r row says l =
-      omega (arith, planned-is row says .counted, contact.points-at-most (chart .names) atoms (map is (rowBits (chart .atoms) row)) l)
-
-  -- of a row that passes the check, the contact rows are the contacts of the plan's floor
-  pub planned-touch : (r : RowPlan) (row : ℕ) → PlanSays chart row r → (h : check (chart .names) (marksIn chart atoms row) ≡ true)
-      → (i j : ℕ) → i < r .count → j < r .count
-      → memAt (r .rows) i j ≡ marksFloor plain (chart .names) (marksIn chart atoms row) h .touch i j
-  planned-touch r row says h = plan-touch plain (chart .names) (marksIn chart atoms row) r (planned-is row says) h
+      omega (arith, planned-is plain r row says .counted, contact.points-at-most (chart .names) atoms (map is (rowBits (chart .atoms) row)) l)
 
   -- ---- one building
 
-  -- building finds a piece exactly if the row's marks pass the check, and its evaluations are those given
-  pub building-is : {r : FoundPiece} (row : ℕ) → BuildingSays chart row r → FirstPiece (chart .names) (marksIn chart atoms row) r
+  -- a piece is found exactly if the row's marks pass the check
+  pub building-is : (r : Bool) (row : ℕ) → BuildingSays chart row r → r ≡ passes building (chart .names) (marksIn chart atoms row)
   unfolding BuildingSays
-  building-is row says = says atoms compiled
-
-  -- planned_building is the plan of the row's marks for one building
-  pub planned-building-is : {r : RowPlan} (row : ℕ) → BuildingPlanSays chart row r
-      → PlanOf building (chart .names) (marksIn chart atoms row) r
-  unfolding BuildingPlanSays
-  planned-building-is row says = says atoms compiled
-
-  -- at most as many points as there are evaluations
-  pub planned-building-few : (r : RowPlan) (row : ℕ) → BuildingPlanSays chart row r → r .count ≤ 2 ^ chart .names
-  planned-building-few r row says =
-      omega (arith, planned-building-is row says .counted, contact.points-room building (chart .names) (marksIn chart atoms row))
-
-  -- of a row that passes the check, the contact rows are the contacts of the plan's floor
-  pub planned-building-touch : (r : RowPlan) (row : ℕ) → BuildingPlanSays chart row r
-      → (h : checkPieces (chart .names) (marksIn chart atoms row) ≡ true) → (i j : ℕ) → i < r .count → j < r .count
-      → memAt (r .rows) i j ≡ marksFloor building (chart .names) (marksIn chart atoms row) h .touch i j
-  planned-building-touch r row says h = plan-touch building (chart .names) (marksIn chart atoms row) r (planned-building-is row says) h
+  building-is r row says = says atoms compiled

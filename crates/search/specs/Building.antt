@@ -9,16 +9,14 @@ use Rattle.evalset.specs.declared.EvalSet.{EvalSet}
 use Rattle.lists.specs.Search.{In, any, all, below, elem}
 use Rattle.evalset.specs.Sets.{room, mem, memAt, meetOf}
 use Rattle.evalset.specs.Most.{most}
-use Rattle.contact.specs.Question.{building}
 use Rattle.contact.specs.Plan.{Mark, separated, allowed, met}
 use Rattle.contact.specs.Pieces.{wholePiece, checkPieces, pieceGiven}
 use Rattle.search.specs.declared.Chart.{Chart}
 use Rattle.search.specs.declared.State.{State}
-use Rattle.search.specs.declared.RowPlan.{RowPlan}
 use Rattle.search.specs.declared.FoundPiece.{FoundPiece}
 use Rattle.search.specs.Tests.{startsOf}
 use Rattle.search.specs.Compiled.{Compiled, Fit}
-use Rattle.search.specs.Planned.{marksIn, PlanOf}
+use Rattle.search.specs.Planned.{marksIn}
 
 -- the set has e, and is its piece where e is allowed
 pub record PieceSays (s : State) (e : ℕ) (r : EvalSet) : Type 0 where
@@ -55,10 +53,6 @@ FoundSays chart s row r =
     (atoms : List (Atom ℕ)) → Compiled chart atoms → Fit (chart .names) s (marksIn chart atoms row)
     → FirstPiece (chart .names) (marksIn chart atoms row) r
 
--- it is that of the row
-unfoldable pub BuildingSays : Chart → ℕ → FoundPiece → Type 0
-BuildingSays chart row r = (atoms : List (Atom ℕ)) → Compiled chart atoms → FirstPiece (chart .names) (marksIn chart atoms row) r
-
--- the plan is the row's, for one building
-unfoldable pub BuildingPlanSays : Chart → ℕ → RowPlan → Type 0
-BuildingPlanSays chart row r = (atoms : List (Atom ℕ)) → Compiled chart atoms → PlanOf building (chart .names) (marksIn chart atoms row) r
+-- whether some piece meets the row's marks
+unfoldable pub BuildingSays : Chart → ℕ → Bool → Type 0
+BuildingSays chart row r = (atoms : List (Atom ℕ)) → Compiled chart atoms → r ≡ checkPieces (chart .names) (marksIn chart atoms row)

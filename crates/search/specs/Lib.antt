@@ -1,3 +1,4 @@
+pub mod Asked
 pub mod Rows
 pub mod Tests
 pub mod Compiled

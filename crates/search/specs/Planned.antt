@@ -11,9 +11,9 @@ use Rattle.formula.specs.Formula.{Atom}
 use Rattle.evalset.specs.declared.EvalSet.{EvalSet}
 use Rattle.lists.specs.Search.{keep, collect, below, elem}
 use Rattle.evalset.specs.Sets.{room, mem, memAt}
-use Rattle.contact.specs.Question.{Question, plain}
+use Rattle.contact.specs.Question.{Question}
 use Rattle.contact.specs.Plan.{Mark, rowMarks, separated, gives, given}
-use Rattle.contact.specs.Check.{pointsFor}
+use Rattle.contact.specs.Check.{givenBy, pointsFor}
 use Rattle.search.specs.declared.Chart.{Chart}
 use Rattle.search.specs.declared.State.{State}
 use Rattle.search.specs.declared.RowPlan.{RowPlan}
@@ -41,6 +41,12 @@ GivenSays chart s row r =
     (atoms : List (Atom ℕ)) → Compiled chart atoms → Fit (chart .names) s (marksIn chart atoms row)
     → (e : ℕ) → mem r e ≡ elem e (given (chart .names) (marksIn chart atoms row))
 
+-- the points, for a question
+unfoldable pub PointsSay : Question → Chart → State → ℕ → EvalSet → Type 0
+PointsSay q chart s row r =
+    (atoms : List (Atom ℕ)) → Compiled chart atoms → Fit (chart .names) s (marksIn chart atoms row)
+    → (e : ℕ) → mem r e ≡ elem e (givenBy q (chart .names) (marksIn chart atoms row))
+
 -- the first `count` points are evaluations
 pub record Positions (count : ℕ) (points : List ℕ) : Type 0 where
   pub fits : count ≤ room
@@ -59,6 +65,6 @@ pub record PlanOf (q : Question) (names : ℕ) (ms : List Mark) (r : RowPlan) : 
   pub contacts : (i j : ℕ) → memAt (r .rows) i j
       ≡ ((ltb i (r .count) && ltb j (r .count)) && not (separated ms (getD (r .points) i 0) (getD (r .points) j 0)))
 
--- the plan is that of the row
-unfoldable pub PlanSays : Chart → ℕ → RowPlan → Type 0
-PlanSays chart row r = (atoms : List (Atom ℕ)) → Compiled chart atoms → PlanOf plain (chart .names) (marksIn chart atoms row) r
+-- the plan is that of the row, for a question
+unfoldable pub PlanSays : Question → Chart → ℕ → RowPlan → Type 0
+PlanSays q chart row r = (atoms : List (Atom ℕ)) → Compiled chart atoms → PlanOf q (chart .names) (marksIn chart atoms row) r

@@ -14,11 +14,18 @@ ghost use Rattle.evalset.specs.Most.{most};
 ghost use Rattle.search.specs.Rows.{rowBits};
 ghost use Rattle.search.specs.Tests.{Separates, Parts, pairOf, givesOf, rowOf, rowsOf, Filled};
 ghost use Rattle.search.specs.Compiled.{limit, Fit, Follows, StepSays};
-ghost use Rattle.search.specs.Planned.{StateSays, GatheredSays, GivenSays, Positions, PlanFrom, PlanSays};
-ghost use Rattle.search.specs.Building.{PieceSays, metOf, MetSays, FoundSays, BuildingSays, BuildingPlanSays};
+ghost use Rattle.search.specs.Asked.{questionOf};
+ghost use Rattle.search.specs.Planned.{StateSays, GatheredSays, GivenSays, PointsSay, Positions, PlanFrom, PlanSays};
+ghost use Rattle.search.specs.Building.{PieceSays, metOf, MetSays, FoundSays, BuildingSays};
 use evalset::EvalSet;
 use evalset::Found;
 use evalset::ROOM;
+
+// What is asked: document 01's question, or document 02's of one building.
+pub enum Asked {
+    Plain,
+    Building,
+}
 
 // The most atoms.
 pub const ATOMS: usize = 16;
@@ -47,9 +54,9 @@ pub struct RowPlan {
 }
 
 // The first piece of a row: whether one meets the row, and its evaluations, none where there is no such piece.
-pub struct FoundPiece {
-    pub found: bool,
-    pub piece: EvalSet,
+struct FoundPiece {
+    found: bool,
+    piece: EvalSet,
 }
 
 // A set as a list.
@@ -315,16 +322,6 @@ fn plan_of(given: EvalSet, apart: [EvalSet; ROOM]) -> RowPlan
     }
 }
 
-// The plan of a row.
-pub fn planned(chart: Chart, row: usize) -> RowPlan
-    requires { ⌜ chart .atoms ≤ limit ⌝ }
-    ensures { λ r. ⌜ PlanSays chart row r ⌝ }
-{
-    let s = state_of(chart, row);
-    let apart = s.rows;
-    plan_of(given(chart, s, row), apart)
-}
-
 // The piece that e lies in: what is allowed and unseparated from one of its own is joined to it, until each of them was looked at.
 fn piece(s: State, e: usize) -> EvalSet
     ensures { λ r. ⌜ PieceSays s e r ⌝ }
@@ -408,22 +405,37 @@ fn first_piece(chart: Chart, s: State, row: usize) -> FoundPiece
     }
 }
 
-// "The whole piece that meets the row's true contacts and false zero atoms; of several, the one with the least evaluation."
-pub fn building(chart: Chart, row: usize) -> FoundPiece
+// Whether some piece meets the row: whether some floor that hangs together gives the atoms its values.
+pub fn building(chart: Chart, row: usize) -> bool
     requires { ⌜ chart .atoms ≤ limit ⌝ }
     ensures { λ r. ⌜ BuildingSays chart row r ⌝ }
 {
     let s = state_of(chart, row);
-    first_piece(chart, s, row)
+    let first = first_piece(chart, s, row);
+    first.found
 }
 
-// The plan of a row for one building: the points are the piece that is found.
-pub fn planned_building(chart: Chart, row: usize) -> RowPlan
+// The points of a row, by its state: those given, or "the whole piece that meets the row's true contacts and false zero atoms; of several,
+// the one with the least evaluation".
+fn points(chart: Chart, s: State, row: usize, asked: Asked) -> EvalSet
     requires { ⌜ chart .atoms ≤ limit ⌝ }
-    ensures { λ r. ⌜ BuildingPlanSays chart row r ⌝ }
+    ensures { λ r. ⌜ PointsSay (questionOf asked) chart s row r ⌝ }
+{
+    match asked {
+        Asked::Plain => given(chart, s, row),
+        Asked::Building => {
+            let first = first_piece(chart, s, row);
+            first.piece
+        }
+    }
+}
+
+// The plan of a row.
+pub fn planned(chart: Chart, row: usize, asked: Asked) -> RowPlan
+    requires { ⌜ chart .atoms ≤ limit ⌝ }
+    ensures { λ r. ⌜ PlanSays (questionOf asked) chart row r ⌝ }
 {
     let s = state_of(chart, row);
     let apart = s.rows;
-    let first = first_piece(chart, s, row);
-    plan_of(first.piece, apart)
+    plan_of(points(chart, s, row, asked), apart)
 }

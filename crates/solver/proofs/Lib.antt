@@ -1,4 +1,5 @@
 pub mod Codes
+pub mod Choosing
 pub mod Blocks
 pub mod Whole
 pub mod Walks

@@ -1,7 +1,7 @@
 -- The search from the root: arrays of zeros have room for what is seen and for the words of all pairs, and what is found is the first good row
 -- under the row of no atoms. Assumes nothing.
 use mathlib.Core.Bool.{Bool, false}
-use mathlib.Core.Path.{_≡_, sym, ap, _∙_, subst}
+use mathlib.Core.Path.{_≡_, sym, ap, ap₂, _∙_, subst}
 use mathlib.Core.List.{List, []}
 use Prim.Native.Nat.{ℕ, zero, suc, _+_, _-_, _*_, _/_, _%_, _^_, _≤_, min}
 use native.Mathlib.Omega.{arith}
@@ -15,10 +15,11 @@ use Rattle.evalset.specs.Bit.{bit}
 use Rattle.evalset.specs.Sets.{room, memAt}
 use Rattle.evalset.specs.Most.{most}
 use Rattle.evalset.proofs.Bits.{bit-none}
-use Rattle.contact.specs.Question.{plain}
 use Rattle.contact.specs.Check.{good}
 use Rattle.contact.specs.Tableau.{under}
+use Rattle.search.specs.declared.Asked.{Asked}
 use Rattle.search.specs.declared.Chart.{Chart}
+use Rattle.search.specs.Asked.{questionOf}
 use Rattle.search.specs.Rows.{rowBits}
 use Rattle.search.specs.Compiled.{limit, AtomIs, atomAt, contactAt, Compiled}
 use Rattle.pairing.specs.Words.{Spelt, Contacts, Serving}
@@ -84,22 +85,22 @@ contacts-compiled chart atoms contacts h s =
 
 -- ---- the answer
 
-pub root-first : (code ends : List ℕ) (chart : Chart) (contacts : ℕ) (list list' : List ℕ) (count : ℕ) (cut : Cut) (r : RowAnswer)
-    → Spelt (chart .atoms) (contactAt chart) contacts → ListSays chart list list' count → CutOf (part list' 0 count) contacts (chart .atoms) cut
-    → ((g : Given code ends cut) → Serving (g .names) (g .atoms) (part list' 0 count) → Finds g 0 0 (cut .k + (cut .w + cut .r)) r)
-    → SearchSays code ends chart r
+pub root-first : (code ends : List ℕ) (chart : Chart) (asked : Asked) (contacts : ℕ) (list list' : List ℕ) (count : ℕ) (cut : Cut) (r : RowAnswer)
+    → Spelt (chart .atoms) (contactAt chart) contacts → ListSays chart list list' count → CutOf (part list' 0 count) contacts (chart .atoms) asked cut
+    → ((g : Given code ends chart cut) → Serving (chart .names) (g .atoms) (part list' 0 count) → Finds g 0 0 (cut .k + (cut .w + cut .r)) r)
+    → SearchSays (questionOf asked) code ends chart r
 unfolding SearchSays rowBits
-root-first code ends chart contacts list list' count cut r spelt words cuts finds = λ atoms rules h.
+root-first code ends chart asked contacts list list' count cut r spelt words cuts finds = λ atoms rules h.
     let same : chart .atoms ≡ length atoms = h .compiled .counted in
     let z : count ≡ count - 0 = omega arith in
     let all : cut .k + (cut .w + cut .r) ≡ length atoms = omega (arith, cuts .all) in
-    let given : Given code ends cut = record {
-      names = chart .names;
+    let given : Given code ends chart cut = record {
       atoms = atoms;
       rules = rules;
+      compiled = h .compiled;
       counted = sym same ∙ cuts .all;
       coded = subst (λ (n : ℕ). Coded n code ends rules) same (h .coded);
       contacts-are = subst (Contacts atoms) (sym (cuts .contacts-is)) (contacts-compiled chart atoms contacts (h .compiled) spelt);
     } in
     finds given (subst (λ (x : ℕ). Serving (chart .names) atoms (take x list')) z (words .are atoms (h .compiled)))
-    ∙ ap (λ (m : ℕ). answerFor (first (good plain (chart .names) atoms rules) (under [] m))) all
+    ∙ ap₂ (λ (x : Asked) (m : ℕ). answerFor (first (good (questionOf x) (chart .names) atoms rules) (under [] m))) (cuts .asked-is) all

@@ -1,25 +1,28 @@
 -- What is computed, and for proofs what the private functions ensure: sets of rows under a row, how a search cuts the atoms, what it leaves
 -- out and what it finds. `FirstRowSays` is the contract of `first_row`, which only our own crates call. Assumes nothing.
-use mathlib.Core.Bool.{Bool, true, false, not}
+use mathlib.Core.Bool.{Bool, true, false, not, _&&_}
 use mathlib.Core.Path.{_≡_}
 use mathlib.Core.List.{List, [], _∷_, _++_, map}
 use Prim.Native.Nat.{ℕ, _+_, _-_, _*_, _/_, _^_, _≤_, _<_, min}
 use lib.ListN.{length, getD}
 use Rattle.formula.specs.Formula.{Atom, Form}
 use Rattle.evalset.specs.declared.EvalSet.{EvalSet}
-use Rattle.lists.specs.Search.{first}
+use Rattle.lists.specs.Search.{first, below}
 use Rattle.evalset.specs.Bit.{bit}
-use Rattle.evalset.specs.Sets.{mem}
+use Rattle.evalset.specs.Sets.{room, mem}
 use Rattle.evalset.specs.Most.{most}
-use Rattle.contact.specs.Question.{plain}
+use Rattle.contact.specs.Question.{Question, plain, building}
 use Rattle.contact.specs.Row.{Row, is, unknown, PartialRow}
-use Rattle.contact.specs.Plan.{rowMarks}
-use Rattle.contact.specs.Check.{check, good, firstRow}
+use Rattle.contact.specs.Plan.{Mark, rowMarks}
+use Rattle.contact.specs.Check.{check, passes, good, firstRow}
 use Rattle.contact.specs.Tableau.{refutes, closes, under}
 use Rattle.kleene.specs.Rails.{Duo, duoOf, wordRows}
+use Rattle.search.specs.declared.Asked.{Asked}
 use Rattle.search.specs.declared.Chart.{Chart}
+use Rattle.search.specs.Asked.{questionOf}
 use Rattle.search.specs.Rows.{rowBits, rowNumber}
 use Rattle.search.specs.Compiled.{limit, Compiled}
+use Rattle.search.specs.Planned.{marksIn}
 use Rattle.pairing.specs.Words.{Contacts, lone, rowTest}
 use Rattle.pairing.specs.Listed.{seenAt, pairCount}
 use Rattle.solver.specs.declared.Cut.{Cut}
@@ -107,9 +110,10 @@ pub record CutFor (ws : List ℕ) (cut : Cut) : Type 0 where
   pub lone-is : cut .lone ≡ lone 0 ws
   pub above-is : cut .above ≡ lone (cut .r) ws
 
--- n atoms are cut
-pub record CutOf (ws : List ℕ) (contacts n : ℕ) (cut : Cut) : Type 0 where
+-- n atoms are cut, for what is asked
+pub record CutOf (ws : List ℕ) (contacts n : ℕ) (asked : Asked) (cut : Cut) : Type 0 where
   pub for-list : CutFor ws cut
+  pub asked-is : cut .asked ≡ asked
   pub all : n ≡ cut .k + cut .w + cut .r
   pub contacts-is : cut .contacts ≡ contacts
 
@@ -117,21 +121,21 @@ pub record CutOf (ws : List ℕ) (contacts n : ℕ) (cut : Cut) : Type 0 where
 abbrev pub Lent : Cut → List ℕ → List ℕ → Type 0
 Lent cut leaves stack = WordLeaves (cut .k + cut .w) (cut .r) leaves × (length stack ≡ 128)
 
--- names, atoms and rules over the atoms' numbers, of which the search has the code and the cut
-pub record Given (code ends : List ℕ) (cut : Cut) : Type 0 where
-  pub names : ℕ
+-- atoms, and rules over their numbers, of which the search has the code, the chart and the cut
+pub record Given (code ends : List ℕ) (chart : Chart) (cut : Cut) : Type 0 where
   pub atoms : List (Atom ℕ)
   pub rules : List (Form ℕ)
+  pub compiled : Compiled chart atoms
   pub counted : length atoms ≡ cut .k + cut .w + cut .r
   pub coded : Coded (length atoms) code ends rules
   pub contacts-are : Contacts atoms (cut .contacts)
 
-module _ {code ends : List ℕ} {cut : Cut} (g : Given code ends cut) where
+module _ {code ends : List ℕ} {chart : Chart} {cut : Cut} (g : Given code ends chart cut) where
   -- the test of the 2 ^ d rows under the row of k atoms by the table is their check
   abbrev pub Tested : List ℕ → Bool → ℕ → ℕ → ℕ → ℕ → ℕ → Type 0
   Tested table one contacts low k row d =
       (e : ℕ) → e < 2 ^ d
-      → rowTest table one contacts low (row * 2 ^ d + e) ≡ check (g .names) (rowMarks (g .atoms) (rowBits (k + d) (row * 2 ^ d + e)))
+      → rowTest table one contacts low (row * 2 ^ d + e) ≡ check (chart .names) (rowMarks (g .atoms) (rowBits (k + d) (row * 2 ^ d + e)))
 
   -- so for the rows of a block, by its table
   abbrev pub RowsTested : List ℕ → ℕ → Type 0
@@ -145,14 +149,31 @@ module _ {code ends : List ℕ} {cut : Cut} (g : Given code ends cut) where
   abbrev pub Left : ℕ → ℕ → ℕ → EvalSet → Type 0
   Left k row d set =
       (e : ℕ) → e < 2 ^ d → mem set e ≡ false
-      → closes plain (g .names) (g .atoms) (g .rules) (map is (rowBits (k + d) (row * 2 ^ d + e))) ≡ true
+      → closes plain (chart .names) (g .atoms) (g .rules) (map is (rowBits (k + d) (row * 2 ^ d + e))) ≡ true
 
+  -- the row is good for what is asked
   abbrev pub goodFor : Row → Bool
-  goodFor = good plain (g .names) (g .atoms) (g .rules)
+  goodFor = good (questionOf (cut .asked)) (chart .names) (g .atoms) (g .rules)
 
   -- the answer is the first good row under the row of k atoms, s atoms more
   abbrev pub Finds : ℕ → ℕ → ℕ → RowAnswer → Type 0
   Finds k row s r = r ≡ answerFor (first goodFor (under (rowBits k row) s))
+
+-- ---- of rows that pass the plain check, those that count
+
+-- marks that pass the plain check pass that of the question too: of the plain question nothing more is asked
+abbrev pub counts : Question → ℕ → List Mark → Bool
+counts plain names ms = true
+counts building names ms = passes building names ms
+
+-- the first of a set of rows, counted from `start`, that counts
+unfoldable pub ChosenSays : Question → Chart → (ℕ → Bool) → ℕ → RowAnswer → Type 0
+ChosenSays q chart set start r =
+    (atoms : List (Atom ℕ)) → Compiled chart atoms → r ≡ answerOf start (first (λ e. set e && counts q (chart .names) (marksIn chart atoms (start + e))) (below room))
+
+-- for one building
+abbrev pub BuildingsSay : Chart → (ℕ → Bool) → ℕ → RowAnswer → Type 0
+BuildingsSay = ChosenSays building
 
 -- ---- the memory that is lent for the list
 
@@ -173,13 +194,13 @@ pub record Roomy (chart : Chart) (seen list : List ℕ) : Type 0 where
 -- ---- the answer
 
 -- what is found is the first good row under the row of no atoms, for all atoms and rules that the code and the chart come from
-unfoldable pub SearchSays : List ℕ → List ℕ → Chart → RowAnswer → Type 0
-SearchSays code ends chart r =
+unfoldable pub SearchSays : Question → List ℕ → List ℕ → Chart → RowAnswer → Type 0
+SearchSays q code ends chart r =
     (atoms : List (Atom ℕ)) (rules : List (Form ℕ)) → ComesFrom code ends chart atoms rules
-    → r ≡ answerFor (first (good plain (chart .names) atoms rules) (under [] (length atoms)))
+    → r ≡ answerFor (first (good q (chart .names) atoms rules) (under [] (length atoms)))
 
--- so the answer is the number of the first row, or that there is none
-unfoldable pub FirstRowSays : List ℕ → List ℕ → Chart → RowAnswer → Type 0
-FirstRowSays code ends chart r =
+-- so the answer is the number of the first row for the question, or that there is none
+unfoldable pub FirstRowSays : Question → List ℕ → List ℕ → Chart → RowAnswer → Type 0
+FirstRowSays q code ends chart r =
     (atoms : List (Atom ℕ)) (rules : List (Form ℕ)) → ComesFrom code ends chart atoms rules
-    → r ≡ answerFor (firstRow plain (chart .names) atoms rules)
+    → r ≡ answerFor (firstRow q (chart .names) atoms rules)

@@ -1,7 +1,8 @@
 // The search for the first row (document 01, 'The plan that is given'): rows in their order, true before false. The first atoms number the
 // blocks of rows, the next the words of a block, the last the rows of a word. A block or a word is left out where a rule is false whatever the
 // undecided atoms are, a word also where no floor gives the decided atoms their values (crate `pairing`). In a word that is left all rows are
-// taken at once; the first that makes the rules true and passes the check is the answer.
+// taken at once; the first that makes the rules true and passes the check is the answer. For one building (document 02's T-04) it is the first
+// of these that some piece meets: a row that fails the check has no piece that meets it.
 // Rules come as postfix codes one after another: rule i is code[ends[i - 1]..ends[i]], the first from 0 on. Contracts speak of
 // all atoms and rules that chart and code come from (specs/Tree.antt). A requires asks only that the code can be run and that
 // indices are in range. Assumes nothing.
@@ -14,11 +15,13 @@ ghost use Rattle.evalset.specs.Bit.{bit};
 ghost use Rattle.evalset.specs.Sets.{room, mem};
 ghost use Rattle.evalset.specs.Most.{most};
 ghost use Rattle.kleene.specs.Rails.{duoAt, twoAt, wordRows};
+ghost use Rattle.search.specs.Asked.{questionOf};
+ghost use Rattle.search.specs.declared.Chart.{Chart};
 ghost use Rattle.search.specs.Compiled.{limit};
 ghost use Rattle.search.specs.Rows.{rowBits};
 ghost use Rattle.pairing.specs.Words.{Serving};
 ghost use Rattle.solver.specs.Coded.{part, PartSafe, SafeFrom, RuleRefuted, RefutedSays, TrueSays};
-ghost use Rattle.solver.specs.Tree.{decidedAt, Low, wordLevels, RowLeaves, WordLeaves, WholeSays, UnrefutedSays, answerOf, Fits, CutFor, Lent, Given, RowsTested, WordsTested, Left, Finds, CutOf, evaluationCount, Unseen, Roomy, Runnable, SearchSays, FirstRowSays};
+ghost use Rattle.solver.specs.Tree.{decidedAt, Low, wordLevels, RowLeaves, WordLeaves, WholeSays, UnrefutedSays, answerOf, Fits, CutFor, Lent, Given, RowsTested, WordsTested, Left, Finds, BuildingsSay, ChosenSays, CutOf, evaluationCount, Unseen, Roomy, Runnable, SearchSays, FirstRowSays};
 use evalset::EvalSet;
 use evalset::Found;
 use evalset::NAMES;
@@ -26,6 +29,7 @@ use evalset::ROOM;
 use kleene::Two;
 use pairing::PLACES;
 use search::ATOMS;
+use search::Asked;
 use search::Chart;
 
 // What the search answers: a row by its number, or none.
@@ -35,8 +39,9 @@ pub enum RowAnswer {
 }
 
 // How a search cuts the atoms: the first k number the blocks, the next w the words of a block, the last r the rows of a word. With
-// the contacts, and whether some pair serves no atom (`lone`), or none above the last r (`above`).
+// the contacts, and whether some pair serves no atom (`lone`), or none above the last r (`above`); and what is asked.
 struct Cut {
+    asked: Asked,
     k: usize,
     w: usize,
     r: usize,
@@ -211,34 +216,66 @@ fn answer(set: EvalSet, start: usize) -> RowAnswer
     RowAnswer::At(start + e)
 }
 
-// In word e of a block, the first row that the rules leave and that passes the check, by the block's table.
+// The first of a set of rows, counted from `start`, that some piece meets.
+fn first_building(chart: Chart, set: EvalSet, start: usize) -> RowAnswer
+    requires { ⌜ (start < 4294967232) × (chart .atoms ≤ limit) ⌝ }
+    ensures { λ r. ⌜ BuildingsSay chart (mem set) start r ⌝ }
+{
+    let mut rest = set;
+    let mut at: usize = 0;
+    while at < ROOM {
+        let Found::At(e) = evalset::least(rest) else {
+            return RowAnswer::Nothing;
+        };
+        let row = start + e;
+        if search::building(chart, row) {
+            return RowAnswer::At(row);
+        }
+        rest = evalset::without(rest, e);
+        at = e + 1;
+    }
+    RowAnswer::Nothing
+}
+
+// Of a set of rows that pass the check, the first that counts for what is asked.
+fn chosen(chart: Chart, asked: Asked, set: EvalSet, start: usize) -> RowAnswer
+    requires { ⌜ (start < 4294967232) × (chart .atoms ≤ limit) ⌝ }
+    ensures { λ r. ⌜ ChosenSays (questionOf asked) chart (mem set) start r ⌝ }
+{
+    match asked {
+        Asked::Plain => answer(set, start),
+        Asked::Building => first_building(chart, set, start),
+    }
+}
+
+// In word e of a block, the first row that the rules leave and that passes the check, by the block's table, and counts for what is asked.
 fn word(
     code: &[u8],
     ends: &[usize],
     leaves: &mut [u64; ATOMS],
     stack: &mut [u64; 128],
     table: &[u16; PLACES],
+    chart: Chart,
     cut: Cut,
     row: usize,
     e: usize,
 ) -> RowAnswer
-    requires { ⌜ SafeFrom (now code) 0 (now ends) × Fits cut × (row < 2 ^ (cut .k)) × (e < 2 ^ (cut .w)) × Lent cut (now leaves) (now stack) ⌝ }
-    ensures { λ x. ⌜ Lent cut (now (leaves .exit)) (now (stack .exit)) × ((g : Given (now (code .entry)) (now (ends .entry)) cut) → RowsTested g (now (table .entry)) row → Finds g (cut .k + cut .w) (row * 2 ^ (cut .w) + e) (cut .r) x) ⌝ }
+    requires { ⌜ SafeFrom (now code) 0 (now ends) × Fits cut × (row < 2 ^ (cut .k)) × (e < 2 ^ (cut .w)) × Lent cut (now leaves) (now stack) × (chart .atoms ≤ limit) ⌝ }
+    ensures { λ x. ⌜ Lent cut (now (leaves .exit)) (now (stack .exit)) × ((g : Given (now (code .entry)) (now (ends .entry)) chart cut) → RowsTested g (now (table .entry)) row → Finds g (cut .k + cut .w) (row * 2 ^ (cut .w) + e) (cut .r) x) ⌝ }
 {
     let next = (row << cut.w) + e;
     let start = next << cut.r;
     let set = whole_candidates(code, ends, next, cut.k + cut.w, cut.r, leaves, stack);
     let low = pairing::low_bits(cut.w + cut.r);
-    answer(
-        pairing::tested(table, cut.lone, cut.contacts, low, start, set),
-        start,
-    )
+    let passing = pairing::tested(table, cut.lone, cut.contacts, low, start, set);
+    let asked = cut.asked;
+    chosen(chart, asked, passing, start)
 }
 
 // The words of a block that are left: their rows pass the check, by the table of the first atoms, and no rule refutes them.
 fn words_left(code: &[u8], ends: &[usize], upper: &[u16; PLACES], cut: Cut, row: usize) -> EvalSet
     requires { ⌜ SafeFrom (now code) 0 (now ends) × Fits cut × (row < 2 ^ (cut .k)) ⌝ }
-    ensures { λ r. ⌜ Low (cut .w) r × ((g : Given (now (code .entry)) (now (ends .entry)) cut) → WordsTested g (now (upper .entry)) row → Left g (cut .k) row (cut .w) r) ⌝ }
+    ensures { λ r. ⌜ Low (cut .w) r × ((chart : Chart) (g : Given (now (code .entry)) (now (ends .entry)) chart cut) → WordsTested g (now (upper .entry)) row → Left g (cut .k) row (cut .w) r) ⌝ }
 {
     let contacts = cut.contacts >> cut.r;
     let low = pairing::low_bits(cut.k + cut.w);
@@ -257,12 +294,13 @@ fn in_words(
     leaves: &mut [u64; ATOMS],
     stack: &mut [u64; 128],
     table: &[u16; PLACES],
+    chart: Chart,
     cut: Cut,
     row: usize,
     words: EvalSet,
 ) -> RowAnswer
-    requires { ⌜ SafeFrom (now code) 0 (now ends) × Fits cut × (row < 2 ^ (cut .k)) × Low (cut .w) words × Lent cut (now leaves) (now stack) ⌝ }
-    ensures { λ x. ⌜ Lent cut (now (leaves .exit)) (now (stack .exit)) × ((g : Given (now (code .entry)) (now (ends .entry)) cut) → RowsTested g (now (table .entry)) row × Left g (cut .k) row (cut .w) words → Finds g (cut .k) row (cut .w + cut .r) x) ⌝ }
+    requires { ⌜ SafeFrom (now code) 0 (now ends) × Fits cut × (row < 2 ^ (cut .k)) × Low (cut .w) words × Lent cut (now leaves) (now stack) × (chart .atoms ≤ limit) ⌝ }
+    ensures { λ x. ⌜ Lent cut (now (leaves .exit)) (now (stack .exit)) × ((g : Given (now (code .entry)) (now (ends .entry)) chart cut) → RowsTested g (now (table .entry)) row × Left g (cut .k) row (cut .w) words → Finds g (cut .k) row (cut .w + cut .r) x) ⌝ }
 {
     let mut rest = words;
     let mut at: usize = 0;
@@ -270,7 +308,7 @@ fn in_words(
         let Found::At(e) = evalset::least(rest) else {
             return RowAnswer::Nothing;
         };
-        let found = word(code, ends, leaves, stack, table, cut, row, e);
+        let found = word(code, ends, leaves, stack, table, chart, cut, row, e);
         let RowAnswer::Nothing = found else {
             return found;
         };
@@ -288,24 +326,25 @@ fn block(
     stack: &mut [u64; 128],
     list: &[u16],
     upper: &[u16; PLACES],
+    chart: Chart,
     cut: Cut,
     row: usize,
 ) -> RowAnswer
-    requires { ⌜ SafeFrom (now code) 0 (now ends) × CutFor (now list) cut × (row < 2 ^ (cut .k)) × Lent cut (now leaves) (now stack) ⌝ }
-    ensures { λ x. ⌜ Lent cut (now (leaves .exit)) (now (stack .exit)) × ((g : Given (now (code .entry)) (now (ends .entry)) cut) → Serving (g .names) (g .atoms) (now (list .entry)) → WordsTested g (now (upper .entry)) row → Finds g (cut .k) row (cut .w + cut .r) x) ⌝ }
+    requires { ⌜ SafeFrom (now code) 0 (now ends) × CutFor (now list) cut × (row < 2 ^ (cut .k)) × Lent cut (now leaves) (now stack) × (chart .atoms ≤ limit) ⌝ }
+    ensures { λ x. ⌜ Lent cut (now (leaves .exit)) (now (stack .exit)) × ((g : Given (now (code .entry)) (now (ends .entry)) chart cut) → Serving (chart .names) (g .atoms) (now (list .entry)) → WordsTested g (now (upper .entry)) row → Finds g (cut .k) row (cut .w + cut .r) x) ⌝ }
 {
     let words = words_left(code, ends, upper, cut, row);
     if evalset::is_empty(words) {
         return RowAnswer::Nothing;
     }
     let table = pairing::judged(list, cut.contacts, 0, cut.w + cut.r, row);
-    in_words(code, ends, leaves, stack, &table, cut, row, words)
+    in_words(code, ends, leaves, stack, &table, chart, cut, row, words)
 }
 
 // The first row in the blocks, one block after the other. The table of the first atoms serves all their words.
-fn in_blocks(code: &[u8], ends: &[usize], list: &[u16], cut: Cut) -> RowAnswer
-    requires { ⌜ SafeFrom (now code) 0 (now ends) × CutFor (now list) cut ⌝ }
-    ensures { λ x. ⌜ ((g : Given (now (code .entry)) (now (ends .entry)) cut) → Serving (g .names) (g .atoms) (now (list .entry)) → Finds g 0 0 (cut .k + (cut .w + cut .r)) x) ⌝ }
+fn in_blocks(code: &[u8], ends: &[usize], list: &[u16], chart: Chart, cut: Cut) -> RowAnswer
+    requires { ⌜ SafeFrom (now code) 0 (now ends) × CutFor (now list) cut × (chart .atoms ≤ limit) ⌝ }
+    ensures { λ x. ⌜ ((g : Given (now (code .entry)) (now (ends .entry)) chart cut) → Serving (chart .names) (g .atoms) (now (list .entry)) → Finds g 0 0 (cut .k + (cut .w + cut .r)) x) ⌝ }
 {
     let mut stack = [0u64; 128];
     let mut leaves = word_leaves(cut.k + cut.w, cut.r);
@@ -316,7 +355,17 @@ fn in_blocks(code: &[u8], ends: &[usize], list: &[u16], cut: Cut) -> RowAnswer
         let Found::At(e) = evalset::least(rest) else {
             return RowAnswer::Nothing;
         };
-        let found = block(code, ends, &mut leaves, &mut stack, list, &upper, cut, e);
+        let found = block(
+            code,
+            ends,
+            &mut leaves,
+            &mut stack,
+            list,
+            &upper,
+            chart,
+            cut,
+            e,
+        );
         let RowAnswer::Nothing = found else {
             return found;
         };
@@ -327,14 +376,24 @@ fn in_blocks(code: &[u8], ends: &[usize], list: &[u16], cut: Cut) -> RowAnswer
 }
 
 // The first row where one word has all rows: no table of the first atoms is made.
-fn in_word(code: &[u8], ends: &[usize], list: &[u16], cut: Cut) -> RowAnswer
-    requires { ⌜ SafeFrom (now code) 0 (now ends) × CutFor (now list) cut × (cut .k + cut .w ≡ 0) ⌝ }
-    ensures { λ x. ⌜ ((g : Given (now (code .entry)) (now (ends .entry)) cut) → Serving (g .names) (g .atoms) (now (list .entry)) → Finds g 0 0 (cut .k + (cut .w + cut .r)) x) ⌝ }
+fn in_word(code: &[u8], ends: &[usize], list: &[u16], chart: Chart, cut: Cut) -> RowAnswer
+    requires { ⌜ SafeFrom (now code) 0 (now ends) × CutFor (now list) cut × (cut .k + cut .w ≡ 0) × (chart .atoms ≤ limit) ⌝ }
+    ensures { λ x. ⌜ ((g : Given (now (code .entry)) (now (ends .entry)) chart cut) → Serving (chart .names) (g .atoms) (now (list .entry)) → Finds g 0 0 (cut .k + (cut .w + cut .r)) x) ⌝ }
 {
     let mut stack = [0u64; 128];
     let mut leaves = word_leaves(cut.k + cut.w, cut.r);
     let table = pairing::judged(list, cut.contacts, 0, cut.w + cut.r, 0);
-    word(code, ends, &mut leaves, &mut stack, &table, cut, 0, 0)
+    word(
+        code,
+        ends,
+        &mut leaves,
+        &mut stack,
+        &table,
+        chart,
+        cut,
+        0,
+        0,
+    )
 }
 
 // The lesser of two numbers.
@@ -345,13 +404,14 @@ fn least_of(a: usize, b: usize) -> usize
 }
 
 // The cut of n atoms: up to six for the rows of a word, up to four for the words of a block, and the others for the blocks.
-fn cut_of(list: &[u16], contacts: u32, n: usize) -> Cut
+fn cut_of(list: &[u16], contacts: u32, n: usize, asked: Asked) -> Cut
     requires { ⌜ (n ≤ limit) × (contacts < 65536) ⌝ }
-    ensures { λ r. ⌜ CutOf (now (list .entry)) contacts n r ⌝ }
+    ensures { λ r. ⌜ CutOf (now (list .entry)) contacts n asked r ⌝ }
 {
     let r = least_of(n, 6);
     let w = least_of(n - r, 4);
     Cut {
+        asked,
         k: n - r - w,
         w,
         r,
@@ -374,45 +434,46 @@ fn searched(
     code: &[u8],
     ends: &[usize],
     chart: Chart,
+    asked: Asked,
     seen: &mut [u64],
     list: &mut [u16],
 ) -> RowAnswer
     requires { ⌜ Runnable (now code) (now ends) chart × Roomy chart (now seen) (now list) ⌝ }
-    ensures { λ r. ⌜ SearchSays (now (code .entry)) (now (ends .entry)) chart r ⌝ }
+    ensures { λ r. ⌜ SearchSays (questionOf asked) (now (code .entry)) (now (ends .entry)) chart r ⌝ }
 {
     let contacts = pairing::contacts_of(chart);
     let top = all_evaluations(chart.names);
     let count = pairing::words_of(chart, contacts, top, seen, list);
-    let cut = cut_of(&list[0..count], contacts, chart.atoms);
+    let cut = cut_of(&list[0..count], contacts, chart.atoms, asked);
     if cut.k + cut.w == 0 {
-        return in_word(code, ends, &list[0..count], cut);
+        return in_word(code, ends, &list[0..count], chart, cut);
     }
-    in_blocks(code, ends, &list[0..count], cut)
+    in_blocks(code, ends, &list[0..count], chart, cut)
 }
 
 // The same with room for the list of words by the number of names: sheets of few names do not clear more than they need.
-fn listed(code: &[u8], ends: &[usize], chart: Chart, seen: &mut [u64]) -> RowAnswer
+fn listed(code: &[u8], ends: &[usize], chart: Chart, asked: Asked, seen: &mut [u64]) -> RowAnswer
     requires { ⌜ Runnable (now code) (now ends) chart × Unseen chart (now seen) ⌝ }
-    ensures { λ r. ⌜ SearchSays (now (code .entry)) (now (ends .entry)) chart r ⌝ }
+    ensures { λ r. ⌜ SearchSays (questionOf asked) (now (code .entry)) (now (ends .entry)) chart r ⌝ }
 {
     if chart.names <= 4 {
         let mut few = [0u16; 136];
-        return searched(code, ends, chart, seen, &mut few);
+        return searched(code, ends, chart, asked, seen, &mut few);
     }
     let mut list = [0u16; 2080];
-    searched(code, ends, chart, seen, &mut list)
+    searched(code, ends, chart, asked, seen, &mut list)
 }
 
-// "The first realisable row that makes all rules true." Our own crates alone call it, with code and chart that they made from
+// "The first realisable row that makes all rules true"; for one building "the first that some such plan realises with all rules true". Our own crates alone call it, with code and chart that they made from
 // rules: `runnable` of proofs/Claims.antt meets the requires for these.
-pub fn first_row(code: &[u8], ends: &[usize], chart: Chart) -> RowAnswer
+pub fn first_row(code: &[u8], ends: &[usize], chart: Chart, asked: Asked) -> RowAnswer
     requires { ⌜ Runnable (now code) (now ends) chart ⌝ }
-    ensures { λ r. ⌜ FirstRowSays (now (code .entry)) (now (ends .entry)) chart r ⌝ }
+    ensures { λ r. ⌜ FirstRowSays (questionOf asked) (now (code .entry)) (now (ends .entry)) chart r ⌝ }
 {
     if chart.atoms <= 10 {
         let mut few = [0u64; 16];
-        return listed(code, ends, chart, &mut few);
+        return listed(code, ends, chart, asked, &mut few);
     }
     let mut seen = [0u64; 1024];
-    listed(code, ends, chart, &mut seen)
+    listed(code, ends, chart, asked, &mut seen)
 }

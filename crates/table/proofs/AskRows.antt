@@ -13,7 +13,7 @@ use lib.ListN.{length}
 use borrow.Author.Tests.{leb-true, leb-false, le-leb, lt-leb, eq-eqb, ne-eqb}
 use Rattle.formula.specs.Formula.{Formula, Name}
 use Rattle.contact.specs.Meaning.{Floor, renamed}
-use Rattle.contact.specs.Question.{plain}
+use Rattle.contact.specs.Question.{Question}
 use Rattle.contact.specs.Numbering.{namesOf, numberOf}
 use Rattle.plan.specs.Words.{Plan, IsPlan, wordsOf, Refusal}
 use Rattle.plan.specs.Reader.{Reading, plan, refused, readOf, ReadingSays}
@@ -42,38 +42,38 @@ use Rattle.plan.specs.Meant.{IsGiven}
 
 -- ---- ask
 
-module _ (room : ℕ) where
+module _ (q : Question) (room : ℕ) where
   -- where a rule stands, the plans decide
-  found-row : (rs : List Text) (fs : List (Formula Name)) → SomeStand rs → AreRules rs fs → (ps : List Plan) → plansOf plain fs ≡ ps → length ps ≤ 1 → AskRow rs room (askOutcome (foundAnswer ps room))
-  found-row rs fs some are [] e l = AskRow.without some are (no-plan-given plain fs .0 e)
+  found-row : (rs : List Text) (fs : List (Formula Name)) → SomeStand rs → AreRules rs fs → (ps : List Plan) → plansOf q fs ≡ ps → length ps ≤ 1 → AskRow q rs room (askOutcome (foundAnswer ps room))
+  found-row rs fs some are [] e l = AskRow.without some are (no-plan-given q fs .0 e)
   found-row rs fs some are (p ∷ []) e l = go (leb (length (wordsOf p)) room) refl
     where
-      go : (b : Bool) → leb (length (wordsOf p)) room ≡ b → AskRow rs room (askOutcome (cond b (AskAnswer.Plan (length (wordsOf p))) (AskAnswer.ShortBuffer (length (wordsOf p)))))
-      go true t = AskRow.given some are (given-exactly plain fs p .0 e) (leb-true (length (wordsOf p)) room t)
-      go false t = AskRow.short some are (given-exactly plain fs p .0 e) (leb-false (length (wordsOf p)) room t)
-  found-row rs fs some are (p ∷ q ∷ ps) e l = absurd (omega arith)
+      go : (b : Bool) → leb (length (wordsOf p)) room ≡ b → AskRow q rs room (askOutcome (cond b (AskAnswer.Plan (length (wordsOf p))) (AskAnswer.ShortBuffer (length (wordsOf p)))))
+      go true t = AskRow.given some are (given-exactly q fs p .0 e) (leb-true (length (wordsOf p)) room t)
+      go false t = AskRow.short some are (given-exactly q fs p .0 e) (leb-false (length (wordsOf p)) room t)
+  found-row rs fs some are (p ∷ r ∷ ps) e l = absurd (omega arith)
 
-  pub ask-row : (rs : List Text) → AllRead rs → AskRow rs room (askOutcome (askAnswer rs room))
+  pub ask-row : (rs : List Text) → AllRead rs → AskRow q rs room (askOutcome (askAnswer q rs room))
   unfolding askAnswer
   ask-row [] read = AskRow.none refl
   ask-row (s ∷ rs) read =
-      found-row (s ∷ rs) (formulasOf (s ∷ rs)) cons≢nil (formulas-are (s ∷ rs) read) (plansOf plain (formulasOf (s ∷ rs))) refl (given-at-most-one plain (formulasOf (s ∷ rs)))
+      found-row (s ∷ rs) (formulasOf (s ∷ rs)) cons≢nil (formulas-are (s ∷ rs) read) (plansOf q (formulasOf (s ∷ rs))) refl (given-at-most-one q (formulasOf (s ∷ rs)))
 
   -- the answer, where these are the plans of the rules
-  asked-plans : (rs : List Text) (fs : List (Formula Name)) → SomeStand rs → AreRules rs fs → (ps : List Plan) → plansOf plain fs ≡ ps → askAnswer rs room ≡ foundAnswer ps room
+  asked-plans : (rs : List Text) (fs : List (Formula Name)) → SomeStand rs → AreRules rs fs → (ps : List Plan) → plansOf q fs ≡ ps → askAnswer q rs room ≡ foundAnswer ps room
   asked-plans rs fs some are ps e =
-      asked-some rs some room ∙ ap (λ (qs : List Plan). foundAnswer qs room) (ap (plansOf plain) (sym (are-formulas rs fs are)) ∙ e)
+      asked-some q rs some room ∙ ap (λ (qs : List Plan). foundAnswer qs room) (ap (plansOf q) (sym (are-formulas rs fs are)) ∙ e)
 
-  asked-given : (rs : List Text) (fs : List (Formula Name)) → SomeStand rs → AreRules rs fs → (p : Plan) → IsGiven plain fs p → askAnswer rs room ≡ planAnswer (length (wordsOf p)) room
-  asked-given rs fs some are p g = asked-plans rs fs some are (p ∷ []) (given-exactly plain fs p .1 g)
+  asked-given : (rs : List Text) (fs : List (Formula Name)) → SomeStand rs → AreRules rs fs → (p : Plan) → IsGiven q fs p → askAnswer q rs room ≡ planAnswer (length (wordsOf p)) room
+  asked-given rs fs some are p g = asked-plans rs fs some are (p ∷ []) (given-exactly q fs p .1 g)
 
   by-room : (n : ℕ) (b : Bool) → leb n room ≡ b → cond b (AskAnswer.Plan n) (AskAnswer.ShortBuffer n) ≡ planAnswer n room
   by-room n b e = ap (λ (t : Bool). cond t (AskAnswer.Plan n) (AskAnswer.ShortBuffer n)) (sym e)
 
-  pub ask-row-only : (rs : List Text) (o : Outcome) → AskRow rs room o → o ≡ askOutcome (askAnswer rs room)
+  pub ask-row-only : (rs : List Text) (o : Outcome) → AskRow q rs room o → o ≡ askOutcome (askAnswer q rs room)
   unfolding askAnswer
-  ask-row-only rs o (AskRow.none e) = sym (ap (λ (l : List Text). askOutcome (askAnswer l room)) e)
-  ask-row-only rs o (AskRow.without {fs} some are never) = sym (ap askOutcome (asked-plans rs fs some are [] (no-plan-given plain fs .1 never)))
+  ask-row-only rs o (AskRow.none e) = sym (ap (λ (l : List Text). askOutcome (askAnswer q l room)) e)
+  ask-row-only rs o (AskRow.without {fs} some are never) = sym (ap askOutcome (asked-plans rs fs some are [] (no-plan-given q fs .1 never)))
   ask-row-only rs o (AskRow.short {fs} {p} some are g l) =
       ap askOutcome (by-room (length (wordsOf p)) false (lt-leb (length (wordsOf p)) room l) ∙ sym (asked-given rs fs some are p g))
   ask-row-only rs o (AskRow.given {fs} {p} some are g l) =

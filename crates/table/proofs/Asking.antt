@@ -10,7 +10,7 @@ use lib.ListN.{length, take}
 use lib.Seq.{take-append-seam}
 use borrow.Author.Tests.{le-leb, lt-leb, eq-eqb, ne-eqb}
 use Rattle.formula.specs.Formula.{Formula, Name}
-use Rattle.contact.specs.Question.{plain}
+use Rattle.contact.specs.Question.{Question}
 use Rattle.contact.specs.Numbering.{namesOf}
 use Rattle.plan.specs.declared.PlanArrays.{PlanArrays}
 use Rattle.plan.specs.declared.PlanAnswer.the-variants as PlanAnswer
@@ -48,15 +48,15 @@ use Rattle.plan.specs.Meant.{IsGiven}
 
 -- ---- where some rule stands
 
-pub asked-some : (rs : List Text) → SomeStand rs → (room : ℕ) → askAnswer rs room ≡ foundAnswer (plansOf plain (formulasOf rs)) room
+pub asked-some : (q : Question) (rs : List Text) → SomeStand rs → (room : ℕ) → askAnswer q rs room ≡ foundAnswer (plansOf q (formulasOf rs)) room
 unfolding askAnswer
-asked-some [] some room = absurd (some refl)
-asked-some (s ∷ rs) some room = refl
+asked-some q [] some room = absurd (some refl)
+asked-some q (s ∷ rs) some room = refl
 
-words-some : (rs : List Text) → SomeStand rs → (buffer : List ℕ) → askWords rs buffer ≡ foundWords (plansOf plain (formulasOf rs)) buffer
+words-some : (q : Question) (rs : List Text) → SomeStand rs → (buffer : List ℕ) → askWords q rs buffer ≡ foundWords (plansOf q (formulasOf rs)) buffer
 unfolding askWords
-words-some [] some buffer = absurd (some refl)
-words-some (s ∷ rs) some buffer = refl
+words-some q [] some buffer = absurd (some refl)
+words-some q (s ∷ rs) some buffer = refl
 
 pub judged-some : (rs : List Text) → SomeStand rs → (words : List ℕ) → judgeAnswer rs words ≡ judgeReading (formulasOf rs) words (readOf words) (exact words)
 unfolding judgeAnswer
@@ -67,22 +67,22 @@ some-stand : (t : Table) → FromUs t → 0 < t .count → SomeStand (rulesOf t)
 some-stand t v h e = omega (arith, count-is t v, ap length e)
 
 -- the buffer, where a plan is given, where it is too long, and where there is none
-module _ (rs : List Text) (buffer : List ℕ) (some : SomeStand rs) where
-  pub words-none : plansOf plain (formulasOf rs) ≡ [] → askWords rs buffer ≡ buffer
-  words-none e = words-some rs some buffer ∙ ap (λ (ps : List Plan). foundWords ps buffer) e
+module _ (q : Question) (rs : List Text) (buffer : List ℕ) (some : SomeStand rs) where
+  pub words-none : plansOf q (formulasOf rs) ≡ [] → askWords q rs buffer ≡ buffer
+  words-none e = words-some q rs some buffer ∙ ap (λ (ps : List Plan). foundWords ps buffer) e
 
-  module _ (p : Plan) (g : IsGiven plain (formulasOf rs) p) where
-    words-fit : (b : Bool) → leb (length (wordsOf p)) (length buffer) ≡ b → askWords rs buffer ≡ cond b (over (wordsOf p) buffer) buffer
+  module _ (p : Plan) (g : IsGiven q (formulasOf rs) p) where
+    words-fit : (b : Bool) → leb (length (wordsOf p)) (length buffer) ≡ b → askWords q rs buffer ≡ cond b (over (wordsOf p) buffer) buffer
     words-fit b e =
-        words-some rs some buffer ∙ ap (λ (ps : List Plan). foundWords ps buffer) (given-exactly plain (formulasOf rs) p .1 g) ∙ ap (λ (t : Bool). cond t (over (wordsOf p) buffer) buffer) e
+        words-some q rs some buffer ∙ ap (λ (ps : List Plan). foundWords ps buffer) (given-exactly q (formulasOf rs) p .1 g) ∙ ap (λ (t : Bool). cond t (over (wordsOf p) buffer) buffer) e
 
-    pub words-written : length (wordsOf p) ≤ length buffer → askWords rs buffer ≡ over (wordsOf p) buffer
+    pub words-written : length (wordsOf p) ≤ length buffer → askWords q rs buffer ≡ over (wordsOf p) buffer
     words-written l = words-fit true (le-leb (length (wordsOf p)) (length buffer) l)
 
-    pub words-short : length buffer < length (wordsOf p) → askWords rs buffer ≡ buffer
+    pub words-short : length buffer < length (wordsOf p) → askWords q rs buffer ≡ buffer
     words-short l = words-fit false (lt-leb (length (wordsOf p)) (length buffer) l)
 
-    pub first-words : length (wordsOf p) ≤ length buffer → take (length (wordsOf p)) (askWords rs buffer) ≡ wordsOf p
+    pub first-words : length (wordsOf p) ≤ length buffer → take (length (wordsOf p)) (askWords q rs buffer) ≡ wordsOf p
     unfolding over
     first-words l = ap (take (length (wordsOf p))) (words-written l) ∙ take-append-seam (wordsOf p) _
 
@@ -91,25 +91,25 @@ module _ (rs : List Text) (buffer : List ℕ) (some : SomeStand rs) where
 abbrev pub askResult : Table → AskAnswer → AskResult
 askResult t a = record { table = t; answer = a }
 
-module _ (t : Table) (v : FromUs t) (buffer : List ℕ) where
-  pub asks-of : (a : AskAnswer) (exit : List ℕ) → a ≡ askAnswer (rulesOf t) (length buffer) → exit ≡ askWords (rulesOf t) buffer
-      → Asks t buffer (askResult t a) exit
+module _ (q : Question) (t : Table) (v : FromUs t) (buffer : List ℕ) where
+  pub asks-of : (a : AskAnswer) (exit : List ℕ) → a ≡ askAnswer q (rulesOf t) (length buffer) → exit ≡ askWords q (rulesOf t) buffer
+      → Asks q t buffer (askResult t a) exit
   unfolding asked
   asks-of a exit e f = record { result = ap₂ askResult (v .same) e; words = f; same = refl; from-us = v }
 
-  pub asks-none : t .count ≤ 0 → Asks t buffer (askResult t AskAnswer.NoRule) buffer
+  pub asks-none : t .count ≤ 0 → Asks q t buffer (askResult t AskAnswer.NoRule) buffer
   unfolding askAnswer askWords
   asks-none h =
       let e = none-stand t v h in
-      asks-of AskAnswer.NoRule buffer (sym (ap (λ (rs : List Text). askAnswer rs (length buffer)) e)) (sym (ap (λ (rs : List Text). askWords rs buffer) e))
+      asks-of AskAnswer.NoRule buffer (sym (ap (λ (rs : List Text). askAnswer q rs (length buffer)) e)) (sym (ap (λ (rs : List Text). askWords q rs buffer) e))
 
   -- some rule stands, and these are its plans, none or one
-  pub asks-some : 0 < t .count → (plans : List Plan) → plansOf plain (formulasOf (rulesOf t)) ≡ plans
-      → (a : AskAnswer) (exit : List ℕ) → a ≡ foundAnswer plans (length buffer) → exit ≡ foundWords plans buffer → Asks t buffer (askResult t a) exit
+  pub asks-some : 0 < t .count → (plans : List Plan) → plansOf q (formulasOf (rulesOf t)) ≡ plans
+      → (a : AskAnswer) (exit : List ℕ) → a ≡ foundAnswer plans (length buffer) → exit ≡ foundWords plans buffer → Asks q t buffer (askResult t a) exit
   asks-some h plans e a exit f g =
       let some = some-stand t v h in
-      asks-of a exit (f ∙ ap (λ (ps : List Plan). foundAnswer ps (length buffer)) (sym e) ∙ sym (asked-some (rulesOf t) some (length buffer)))
-      (g ∙ ap (λ (ps : List Plan). foundWords ps buffer) (sym e) ∙ sym (words-some (rulesOf t) some buffer))
+      asks-of a exit (f ∙ ap (λ (ps : List Plan). foundAnswer ps (length buffer)) (sym e) ∙ sym (asked-some q (rulesOf t) some (length buffer)))
+      (g ∙ ap (λ (ps : List Plan). foundWords ps buffer) (sym e) ∙ sym (words-some q (rulesOf t) some buffer))
 
 -- the plan writer's answers, as ask's
 abbrev pub writtenAnswer : Written → AskAnswer

@@ -19,6 +19,7 @@ use Rattle.table.specs.Store.{tableOf, rulesOf}
 use Rattle.table.specs.Sheet.{Text}
 use Rattle.table.specs.Calls.{formulasOf, judgeAdd, judgeWithdraw, judgeLoad, FromUs, Adds, Withdraws, Loads}
 use Rattle.table.specs.Rules.{AreRules, CanStand}
+use Rattle.contact.specs.Question.{Question}
 use Rattle.table.specs.Asking.{askAnswer, Asks, judgeAnswer, Judges}
 use Rattle.formula.specs.Formula.{Formula, Name}
 use Rattle.syntax.specs.Rule.{ruleOf}
@@ -80,7 +81,7 @@ withdraw-steps = Running.by-withdraw
 pub load-steps : (t : Table) (f : Text) (r : LoadResult) → Loads t f r → r .table ≡ step t (load f)
 load-steps = Running.by-load
 
-pub ask-steps : (t : Table) (buffer : List ℕ) (r : AskResult) (exit : List ℕ) → Asks t buffer r exit → r .table ≡ step t (ask buffer)
+pub ask-steps : (q : Question) (t : Table) (buffer : List ℕ) (r : AskResult) (exit : List ℕ) → Asks q t buffer r exit → r .table ≡ step t (ask q buffer)
 ask-steps = Running.by-ask
 
 pub judge-steps : (t : Table) (words : List ℕ) (r : JudgeResult) → Judges t words r → r .table ≡ step t (judge words)
@@ -155,10 +156,10 @@ load-answered-only = LoadRows.load-row-only
 pub load-can-come : (f : Text) → CanCome (judgeLoad f)
 load-can-come = LoadRows.load-can-come
 
-pub ask-answered : (room : ℕ) (rs : List Text) (fs : List (Formula Name)) → AreRules rs fs → AskRow rs room (askOutcome (askAnswer rs room))
-ask-answered room rs fs are = AskRows.ask-row room rs (Rules.are-read rs fs are)
+pub ask-answered : (q : Question) (room : ℕ) (rs : List Text) (fs : List (Formula Name)) → AreRules rs fs → AskRow q rs room (askOutcome (askAnswer q rs room))
+ask-answered q room rs fs are = AskRows.ask-row q room rs (Rules.are-read rs fs are)
 
-pub ask-answered-only : (room : ℕ) (rs : List Text) (o : Outcome) → AskRow rs room o → o ≡ askOutcome (askAnswer rs room)
+pub ask-answered-only : (q : Question) (room : ℕ) (rs : List Text) (o : Outcome) → AskRow q rs room o → o ≡ askOutcome (askAnswer q rs room)
 ask-answered-only = AskRows.ask-row-only
 
 pub judge-answered : (words : List ℕ) (rs : List Text) (fs : List (Formula Name)) → AreRules rs fs → JudgeRow rs words (judgeOutcome (judgeAnswer rs words))

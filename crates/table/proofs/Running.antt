@@ -17,6 +17,7 @@ use Rattle.table.specs.Store.{tableOf, rulesOf}
 use Rattle.table.specs.Sheet.{Text}
 use Rattle.table.specs.Calls.{FromUs, Adds, Withdraws, Loads, judgeAdd, added, withdrawn, loaded}
 use Rattle.table.specs.Rules.{CanStand}
+use Rattle.contact.specs.Question.{Question}
 use Rattle.table.specs.Asking.{Asks, Judges}
 use Rattle.table.specs.Printing.{Prints}
 use Rattle.table.specs.Stands.{Call, add, withdraw, load, ask, judge, print, adds}
@@ -37,9 +38,9 @@ pub by-load : (t : Table) (f : Text) (r : LoadResult) → Loads t f r → r .tab
 unfolding step
 by-load t f r h = ap (λ (x : LoadResult). x .table) (h .result)
 
-pub by-ask : (t : Table) (buffer : List ℕ) (r : AskResult) (exit : List ℕ) → Asks t buffer r exit → r .table ≡ step t (ask buffer)
+pub by-ask : (q : Question) (t : Table) (buffer : List ℕ) (r : AskResult) (exit : List ℕ) → Asks q t buffer r exit → r .table ≡ step t (ask q buffer)
 unfolding step
-by-ask t buffer r exit h = h .same
+by-ask q t buffer r exit h = h .same
 
 pub by-judge : (t : Table) (words : List ℕ) (r : JudgeResult) → Judges t words r → r .table ≡ step t (judge words)
 unfolding step
@@ -55,7 +56,7 @@ unfolding step after added withdrawn loaded
 step-table rs (add s) = rw rules-table
 step-table rs (withdraw k) = rw rules-table
 step-table rs (load f) = rw rules-table
-step-table rs (ask buffer) = refl
+step-table rs (ask q buffer) = refl
 step-table rs (judge words) = refl
 step-table rs (print k buffer) = refl
 
@@ -64,7 +65,7 @@ unfolding after
 stand-after rs (add s) h = stand-add rs s h
 stand-after rs (withdraw k) h = stand-withdraw rs k h
 stand-after rs (load f) h = stand-load rs f h
-stand-after rs (ask buffer) h = h
+stand-after rs (ask q buffer) h = h
 stand-after rs (judge words) h = h
 stand-after rs (print k buffer) h = h
 

@@ -159,7 +159,7 @@ unfolding after
 after-stands rs (add s) h = add-stands rs s h
 after-stands rs (withdraw k) h = withdraw-stands rs k
 after-stands rs (load f) h = load-stands rs f
-after-stands rs (ask buffer) h = StandsAfter.asked
+after-stands rs (ask q buffer) h = StandsAfter.asked
 after-stands rs (judge words) h = StandsAfter.judged
 after-stands rs (print k buffer) h = StandsAfter.printed
 

@@ -7,7 +7,7 @@ use mathlib.Core.List.{List, [], _∷_}
 use lib.Dec.{leb, eqb}
 use lib.ListN.{length}
 use Rattle.formula.specs.Formula.{Formula, Name}
-use Rattle.contact.specs.Question.{plain}
+use Rattle.contact.specs.Question.{Question}
 use Rattle.contact.specs.Numbering.{namesOf}
 use Rattle.plan.specs.Words.{Plan, IsPlan, wordsOf, over}
 use Rattle.plan.specs.Reader.{Reading, plan, refused, readOf, ReadingSays}
@@ -37,27 +37,27 @@ abbrev pub foundAnswer : List Plan → ℕ → AskAnswer
 foundAnswer [] room = AskAnswer.NoPlan
 foundAnswer (p ∷ ps) room = planAnswer (length (wordsOf p)) room
 
--- refusal 11: "no rule stands"
-unfoldable pub askAnswer : List Text → ℕ → AskAnswer
-askAnswer [] room = AskAnswer.NoRule
-askAnswer (s ∷ rs) room = foundAnswer (plansOf plain (formulasOf (s ∷ rs))) room
+-- refusal 11: "no rule stands"; the plan is the question's
+unfoldable pub askAnswer : Question → List Text → ℕ → AskAnswer
+askAnswer q [] room = AskAnswer.NoRule
+askAnswer q (s ∷ rs) room = foundAnswer (plansOf q (formulasOf (s ∷ rs))) room
 
 -- "words past the plan, and all words for no plan, keep their values", and so do all words for a refusal
 abbrev pub foundWords : List Plan → List ℕ → List ℕ
 foundWords [] buffer = buffer
 foundWords (p ∷ ps) buffer = cond (leb (length (wordsOf p)) (length buffer)) (over (wordsOf p) buffer) buffer
 
-unfoldable pub askWords : List Text → List ℕ → List ℕ
-askWords [] buffer = buffer
-askWords (s ∷ rs) buffer = foundWords (plansOf plain (formulasOf (s ∷ rs))) buffer
+unfoldable pub askWords : Question → List Text → List ℕ → List ℕ
+askWords q [] buffer = buffer
+askWords q (s ∷ rs) buffer = foundWords (plansOf q (formulasOf (s ∷ rs))) buffer
 
-unfoldable pub asked : List Text → List ℕ → AskResult
-asked rs buffer = record { table = tableOf rs; answer = askAnswer rs (length buffer) }
+unfoldable pub asked : Question → List Text → List ℕ → AskResult
+asked q rs buffer = record { table = tableOf rs; answer = askAnswer q rs (length buffer) }
 
 -- the result, and each word of the buffer
-pub record Asks (t : Table) (buffer : List ℕ) (r : AskResult) (exit : List ℕ) : Type 0 where
-  pub result : r ≡ asked (rulesOf t) buffer
-  pub words : exit ≡ askWords (rulesOf t) buffer
+pub record Asks (q : Question) (t : Table) (buffer : List ℕ) (r : AskResult) (exit : List ℕ) : Type 0 where
+  pub result : r ≡ asked q (rulesOf t) buffer
+  pub words : exit ≡ askWords q (rulesOf t) buffer
   pub same : r .table ≡ t
   pub from-us : FromUs (r .table)
 

@@ -14,7 +14,7 @@ use Rattle.syntax.specs.declared.RuleAnswer.the-variants as RuleAnswer
 use Rattle.lists.specs.Search.{collect}
 use Rattle.contact.specs.Numbering.{allAtoms, namesOf, differentAtoms}
 use Rattle.contact.specs.Meaning.{Floor, meetsAll}
-use Rattle.contact.specs.Question.{plain, NoFloor}
+use Rattle.contact.specs.Question.{Question, NoFloor}
 use Rattle.plan.specs.Words.{Plan, IsPlan, wordsOf, Refusal}
 use Rattle.plan.specs.Floor.{namedFloor}
 use Rattle.names.specs.Seventh.{SeventhAt, placesOf}
@@ -88,15 +88,15 @@ pub record IsKth (rs : List Text) (k : ℕ) (s : Text) : Type 0 where
 abbrev pub SomeStand : List Text → Type 0
 SomeStand rs = rs ≡ [] → ⊥
 
--- ask, with a buffer of so many words
-pub data AskRow (rs : List Text) (room : ℕ) : Outcome → Type 0 where
+-- ask, for a question, with a buffer of so many words; of one building (document 02, T-04): "Refused: 11 and 12, as for the old question."
+pub data AskRow (q : Question) (rs : List Text) (room : ℕ) : Outcome → Type 0 where
   -- 11: "no rule stands"
-  none : rs ≡ [] → AskRow rs room (Outcome.Refused 11 0)
-  -- no finite floor, of any number of points, meets all rules
-  without : {fs : List (Formula Name)} → SomeStand rs → AreRules rs fs → NoFloor plain fs → AskRow rs room Outcome.NoPlan
+  none : rs ≡ [] → AskRow q rs room (Outcome.Refused 11 0)
+  -- no finite floor that counts, of any number of points, meets all rules
+  without : {fs : List (Formula Name)} → SomeStand rs → AreRules rs fs → NoFloor q fs → AskRow q rs room Outcome.NoPlan
   -- 12: "the plan has more words than the buffer", with the "words needed"
-  short : {fs : List (Formula Name)} {p : Plan} → SomeStand rs → AreRules rs fs → IsGiven plain fs p → room < length (wordsOf p) → AskRow rs room (Outcome.Refused 12 (length (wordsOf p)))
-  given : {fs : List (Formula Name)} {p : Plan} → SomeStand rs → AreRules rs fs → IsGiven plain fs p → length (wordsOf p) ≤ room → AskRow rs room (Outcome.Plan (length (wordsOf p)))
+  short : {fs : List (Formula Name)} {p : Plan} → SomeStand rs → AreRules rs fs → IsGiven q fs p → room < length (wordsOf p) → AskRow q rs room (Outcome.Refused 12 (length (wordsOf p)))
+  given : {fs : List (Formula Name)} {p : Plan} → SomeStand rs → AreRules rs fs → IsGiven q fs p → length (wordsOf p) ≤ room → AskRow q rs room (Outcome.Plan (length (wordsOf p)))
 
 -- the words are those of this plan, and it has as many names as the rules fs
 pub record Decodes (fs : List (Formula Name)) (words : List ℕ) (p : Plan) : Type 0 where

@@ -13,7 +13,7 @@ unfoldable pub step : Table → Call → Table
 step t (add s) = added (rulesOf t) s .table
 step t (withdraw k) = withdrawn (rulesOf t) k .table
 step t (load f) = loaded (rulesOf t) f .table
-step t (ask buffer) = t
+step t (ask q buffer) = t
 step t (judge words) = t
 step t (print k buffer) = t
 
@@ -30,7 +30,7 @@ unfoldable pub after : List Text → Call → List Text
 after rs (add s) = addRules rs s
 after rs (withdraw k) = withdrawRules rs k
 after rs (load f) = loadRules rs f
-after rs (ask buffer) = rs
+after rs (ask q buffer) = rs
 after rs (judge words) = rs
 after rs (print k buffer) = rs
 

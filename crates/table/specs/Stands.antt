@@ -3,17 +3,18 @@
 use Prim.Native.Nat.{ℕ, _+_}
 use mathlib.Core.Path.{_≡_}
 use mathlib.Core.List.{List, [], _∷_, _++_, map}
+use Rattle.contact.specs.Question.{Question}
 use Rattle.table.specs.Sheet.{Text, linesOf, filled}
 use Rattle.table.specs.declared.Outcome.{Outcome}
 use Rattle.table.specs.declared.Outcome.the-variants as Outcome
 use Rattle.table.specs.Rows.{AddRow, WithdrawRow, LoadRow, IsKth}
 
--- a call, with any text, number, buffer or plan words
+-- a call, with any text, number, buffer or plan words; ask for any question: `ask` of the code is that of the plain one, `ask_building` of the other
 pub data Call : Type 0 where
   add : Text → Call
   withdraw : ℕ → Call
   load : Text → Call
-  ask : List ℕ → Call
+  ask : Question → List ℕ → Call
   judge : List ℕ → Call
   print : ℕ → List ℕ → Call
 
@@ -45,7 +46,7 @@ pub data StandsAfter (rs : List Text) : Call → List Text → Type 0 where
   loaded : {f : Text} → LoadRow f Outcome.Done → StandsAfter rs (load f) (filled (linesOf f))
   -- "and the old table is kept"
   not-loaded : {f : Text} → IsRefused (LoadRow f) → StandsAfter rs (load f) rs
-  asked : {buffer : List ℕ} → StandsAfter rs (ask buffer) rs
+  asked : {q : Question} {buffer : List ℕ} → StandsAfter rs (ask q buffer) rs
   judged : {words : List ℕ} → StandsAfter rs (judge words) rs
   printed : {k : ℕ} {buffer : List ℕ} → StandsAfter rs (print k buffer) rs
 

@@ -3,6 +3,7 @@
 use Prim.Native.Nat.{ℕ}
 use mathlib.Core.Path.{_≡_}
 use mathlib.Core.List.{List, [], _∷_, _++_}
+use Rattle.contact.specs.Question.{Question}
 use Rattle.ruleset.specs.declared.Known.{Known}
 use Rattle.ruleset.specs.declared.RoomAnswer.{RoomAnswer}
 use Rattle.ruleset.specs.declared.RoomAnswer.the-variants as RoomAnswer
@@ -50,11 +51,11 @@ pub record TextsCompiled (texts : List Text) (c : Compiling) (code : List ℕ) :
   pub kept : List ℕ
   pub compiled : CompiledTexts texts c kept code
 
--- and their first row is found
-pub record TextsSearched (texts : List Text) (r : Searched) : Type 0 where
+-- and their first row is found, for the question
+pub record TextsSearched (q : Question) (texts : List Text) (r : Searched) : Type 0 where
   pub code : List ℕ
   pub compiled : TextsCompiled texts (r .compiled) code
-  pub first : FirstRowIs (r .compiled) code (r .found)
+  pub first : FirstRowIs q (r .compiled) code (r .found)
 
 abbrev pub loadResult : Table → LoadAnswer → LoadResult
 loadResult t a = record { table = t; answer = a }

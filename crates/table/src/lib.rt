@@ -8,7 +8,9 @@ ghost use mathlib.Core.Path.{_≡_};
 ghost use mathlib.Core.List.{[], _∷_, _++_};
 ghost use Prim.Native.Nat.{_+_, _-_, _*_, _≤_, _<_};
 ghost use lib.ListN.{length, take, drop};
+ghost use Rattle.contact.specs.Question.{plain, building};
 ghost use Rattle.names.specs.Gather.{arraysOf};
+ghost use Rattle.search.specs.Asked.{questionOf};
 ghost use Rattle.table.specs.Store.{keptLine, tableOf, rulesOf};
 ghost use Rattle.table.specs.Calls.{namesIn, readAnswer, linesFrom, FromUs, Adds, Withdraws, Loads};
 ghost use Rattle.table.specs.Sheet.{blankByte, blankLine, linesOf};
@@ -25,6 +27,7 @@ use printing::Printed;
 use ruleset::Compiling;
 use ruleset::Known;
 use ruleset::RoomAnswer;
+use search::Asked;
 use solver::RowAnswer;
 use syntax::RuleAnswer;
 
@@ -590,29 +593,29 @@ impl Table {
         c
     }
 
-    // The first so many of the standing rules compiled, and their first row.
-    fn searched(self, rules: usize) -> Searched
+    // The first so many of the standing rules compiled, and their first row, for what is asked.
+    fn searched(self, rules: usize, asked: Asked) -> Searched
         requires { ⌜ FromUs self × (rules ≤ self .count) ⌝ }
-        ensures { λ r. ⌜ TextsSearched (take rules (rulesOf self)) r ⌝ }
+        ensures { λ r. ⌜ TextsSearched (questionOf asked) (take rules (rulesOf self)) r ⌝ }
     {
         if rules <= HALF {
             let mut code = half_code();
             let compiled = self.compiled(rules, &mut code);
-            let found = ruleset::row_of(compiled, &code);
+            let found = ruleset::row_of(compiled, &code, asked);
             return Searched { compiled, found };
         }
         let mut code = no_code();
         let compiled = self.compiled(rules, &mut code);
-        let found = ruleset::row_of(compiled, &code);
+        let found = ruleset::row_of(compiled, &code, asked);
         Searched { compiled, found }
     }
 
-    // The plan of the standing rules, its words written over the first ones of the buffer, or that no floor meets these rules. Where
-    // no rule stands, or the buffer is shorter than the plan, the answer says so. The words past the plan, and all words of another
-    // answer, keep their values; the table comes back as it was.
-    pub fn ask(self, buffer: &mut [u32]) -> AskResult
+    // The plan of the standing rules for what is asked, its words written over the first ones of the buffer, or that no floor that counts
+    // meets these rules. Where no rule stands, or the buffer is shorter than the plan, the answer says so. The words past the plan, and
+    // all words of another answer, keep their values; the table comes back as it was.
+    fn answered(self, asked: Asked, buffer: &mut [u32]) -> AskResult
         requires { ⌜ FromUs self ⌝ }
-        ensures { λ r. ⌜ Asks self (now (buffer .entry)) r (now (buffer .exit)) ⌝ }
+        ensures { λ r. ⌜ Asks (questionOf asked) self (now (buffer .entry)) r (now (buffer .exit)) ⌝ }
     {
         let standing = self.count;
         if standing <= 0 {
@@ -621,7 +624,7 @@ impl Table {
                 answer: AskAnswer::NoRule,
             };
         }
-        let searched = self.searched(standing);
+        let searched = self.searched(standing, asked);
         let c = searched.compiled;
         let found = searched.found;
         let RowAnswer::At(row) = found else {
@@ -630,7 +633,7 @@ impl Table {
                 answer: AskAnswer::NoPlan,
             };
         };
-        let plan = ruleset::plan_of(c, row);
+        let plan = ruleset::plan_of(c, row, asked);
         let written = plan::write_plan(plan, buffer);
         match written {
             Written::Words(n) => AskResult {
@@ -642,6 +645,23 @@ impl Table {
                 answer: AskAnswer::ShortBuffer(n),
             },
         }
+    }
+
+    // The plan of the standing rules, or that no finite floor meets them (`answered`).
+    pub fn ask(self, buffer: &mut [u32]) -> AskResult
+        requires { ⌜ FromUs self ⌝ }
+        ensures { λ r. ⌜ Asks plain self (now (buffer .entry)) r (now (buffer .exit)) ⌝ }
+    {
+        self.answered(Asked::Plain, buffer)
+    }
+
+    // The same for one building: a plan in which every point can be reached from every other through contacts, of up to 2,082 words, or
+    // that no finite floor that hangs together meets the rules.
+    pub fn ask_building(self, buffer: &mut [u32]) -> AskResult
+        requires { ⌜ FromUs self ⌝ }
+        ensures { λ r. ⌜ Asks building self (now (buffer .entry)) r (now (buffer .exit)) ⌝ }
+    {
+        self.answered(Asked::Building, buffer)
     }
 
     // The judgement of a plan that is read from words, by the standing rules: yes, or the lowest rule that it does not meet. Where no

@@ -5,18 +5,20 @@
 // Every other line that is not empty is one call, and is written again with ` => ` and its answer:
 //
 //     add TEXT     withdraw K     load TEXT     ask N, with N words lent     judge WORDS
+//     building N, which asks for one building (document 02, T-04) with N words lent
 //     print K N, which prints rule K into N bytes that are lent
 //     every N, which judges the plan over N names that has every point and every contact
 //
 // In a text `/` is byte 10, a backslash and two hexadecimal digits are that byte, and `{N:PART}` is N times PART. A refusal has
 // document 01's number and what it carries. `same`: the table has as many rules as before the call, and gives the same plans, also
-// while they are withdrawn one by one. `kept`: the words lent to ask have their old values, those past the plan or, for
-// another answer, all. A plan of ask is judged at once. The file `stdout` has the lines that documents 01 and 02 ask for.
+// while they are withdrawn one by one. `kept`: the words lent to a question have their old values, those past the plan or, for
+// another answer, all. A plan that is given is judged at once. The file `stdout` has the lines that documents 01 and 02 ask for.
 ghost use mathlib.Core.Path.{_≡_};
 ghost use Prim.Native.Nat.{_≤_, _<_};
 ghost use lib.ListN.{length};
 ghost use Rattle.table.specs.Calls.{FromUs};
 use table::AskAnswer;
+use table::AskResult;
 use table::Outcome;
 use table::PrintAnswer;
 use table::Table;
@@ -40,6 +42,7 @@ enum Command {
     Withdraw,
     Load,
     Ask,
+    Building,
     Judge,
     Print,
     Every,
@@ -129,6 +132,7 @@ fn command_of(line: &[u8]) -> Command {
         },
         b'w' => Command::Withdraw,
         b'l' => Command::Load,
+        b'b' => Command::Building,
         b'j' => Command::Judge,
         b'p' => Command::Print,
         b'e' => Command::Every,
@@ -493,7 +497,7 @@ fn judge_every(t: Table, rest: &[u8]) -> Table
     judge(t, &words[0..n])
 }
 
-// Writes what ask answered, with its words and whether the others are kept, and how its own plan is judged.
+// Writes what a question answered, with its words and whether the others are kept, and how its own plan is judged.
 fn write_asked(a: AskAnswer, t: Table, words: [u32; 2083])
     requires { ⌜ FromUs t ⌝ }
 {
@@ -512,14 +516,25 @@ fn write_asked(a: AskAnswer, t: Table, words: [u32; 2083])
     }
 }
 
+// Either question: for one building, or the plain one.
+fn asked(t: Table, building: bool, words: &mut [u32]) -> AskResult
+    requires { ⌜ FromUs t ⌝ }
+    ensures { λ r. ⌜ FromUs (r .table) ⌝ }
+{
+    if building {
+        return t.ask_building(words);
+    }
+    t.ask(words)
+}
+
 // Asks with the first n words of a buffer, at most 2083.
-fn ask_plan(t: Table, rest: &[u8]) -> Table
+fn ask_plan(t: Table, building: bool, rest: &[u8]) -> Table
     requires { ⌜ FromUs t ⌝ }
     ensures { λ r. ⌜ FromUs r ⌝ }
 {
     let n = at_most(number_of(rest), 2083);
     let mut words = marked();
-    let r = t.ask(&mut words[0..n]);
+    let r = asked(t, building, &mut words[0..n]);
     let next = r.table;
     let answer = r.answer;
     write_asked(answer, next, words);
@@ -581,7 +596,8 @@ fn call(t: Table, c: Command, rest: &[u8]) -> Table
         Command::Add => add_rule(t, rest),
         Command::Withdraw => withdraw_rule(t, rest),
         Command::Load => load_sheet(t, rest),
-        Command::Ask => ask_plan(t, rest),
+        Command::Ask => ask_plan(t, false, rest),
+        Command::Building => ask_plan(t, true, rest),
         Command::Judge => judge_words(t, rest),
         Command::Print => print_rule(t, rest),
         Command::Every => judge_every(t, rest),
@@ -646,6 +662,24 @@ fn fourth_withdrawn() -> Table
     w.table
 }
 
+// The largest building, held to the plan over six names that has every point and every contact, also in the word past it.
+fn write_largest() {
+    let t = Table::empty();
+    let a = t.add(b"<=(a+b+c+d+e+f,1)");
+    let t = a.table;
+    let mut words = marked();
+    let r = t.ask_building(&mut words);
+    let answer = r.answer;
+    write_outcome(b"", table::ask_outcome(answer));
+    let mut every = marked();
+    put_every(&mut every, 6, 64);
+    if same_words(&words, &every) {
+        write_bytes(b"; every point and every contact\n");
+    } else {
+        write_bytes(b"; other words\n");
+    }
+}
+
 fn main() {
     let mut scripts = io::large_buffer();
     let n = io::read_full(libc::STDIN_FILENO, &mut scripts);
@@ -653,4 +687,6 @@ fn main() {
     write_bytes(b"\n# P5 by calls in the code\n");
     let t = fourth_withdrawn();
     run_line(t, b"ask 530");
+    write_bytes(b"\n# One building of 64 points, by calls in the code\n");
+    write_largest();
 }

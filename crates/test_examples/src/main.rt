@@ -1,7 +1,10 @@
 // The test program of the output: the text for each sheet of the folder examples, for a contact, for no plan, for each refusal that
-// a sheet can get, and for the longest sheets; then some sheets as they were read. The file `stdout` has the texts that document 01 asks
-// for, and T-02 and T-03 of document 02, worked out by hand.
+// a sheet can get, and for the longest sheets; then some sheets as they were read, and some for one building. The file `stdout` has the
+// texts that document 01 asks for, and T-02, T-03 and T-04 of document 02, worked out by hand.
+use test_kit::put_byte;
+use test_kit::put_bytes;
 use test_kit::write_bytes;
+use test_kit::write_labelled;
 
 // The title of a sheet.
 fn show_title(title: &[u8]) {
@@ -23,6 +26,14 @@ fn show_read(title: &[u8], sheet: &[u8]) {
     show_title(title);
     let mut text = report::no_text();
     let len = report::as_read(sheet, &mut text);
+    write_bytes(&text[0..len]);
+}
+
+// It, and the sheet's text for one building.
+fn show_building(title: &[u8], sheet: &[u8]) {
+    show_title(title);
+    let mut text = report::no_building_text();
+    let len = report::report_building(sheet, &mut text);
     write_bytes(&text[0..len]);
 }
 
@@ -107,10 +118,140 @@ fn read_back() {
     show_read(b"unfinished, as read", b"C(raw,cooked)\nC(raw,\n");
 }
 
+// ---- one building
+
+// Sheets of the folder examples. In the two halls' plan, the sheet P3, raw and cooked are separated, so no point is in both, and the floor
+// in neither is what they hang together by: it touches both. The lock's plan has such a floor too, though it would not need it: the
+// points are the whole piece. Where there is no such floor, since all is raw or cooked, each hall is a piece by itself, and none has both.
+fn buildings() {
+    show_building(
+        b"halls, one building",
+        b"~C(raw,cooked)\n~raw=0\n~cooked=0\n",
+    );
+    show_building(
+        b"air lock, one building",
+        b"~C(raw,cooked)\nC(raw,lock)\nC(lock,cooked)\nlock*raw=0\nlock*cooked=0\n",
+    );
+    let halls_only = b"~C(raw,cooked)\n~raw=0\n~cooked=0\n-(raw+cooked)=0\n";
+    show(b"halls only", halls_only);
+    show_building(b"halls only, one building", halls_only);
+    show_building(b"unfinished, one building", b"C(raw,cooked)\nC(raw,\n");
+}
+
+// A number below 100.
+fn put_number(text: &mut [u8], at: usize, n: usize) -> usize {
+    let digits = b"0123456789";
+    if n < 10 {
+        return put_byte(text, at, digits[n]);
+    }
+    let end = put_byte(text, at, digits[n / 10 % 10]);
+    put_byte(text, end, digits[n % 10])
+}
+
+// A text and such a number behind it.
+fn put_labelled(text: &mut [u8], at: usize, label: &[u8], n: usize) -> usize {
+    let end = put_bytes(text, at, label);
+    put_number(text, end, n)
+}
+
+// A name behind a blank, where the number is odd.
+fn put_odd(text: &mut [u8], at: usize, n: usize, name: u8) -> usize {
+    if n % 2 == 1 {
+        let end = put_byte(text, at, b' ');
+        return put_byte(text, end, name);
+    }
+    at
+}
+
+// Those of three names that are ones among the last three binary digits, from the last on.
+fn put_three(text: &mut [u8], at: usize, n: usize, names: &[u8; 3]) -> usize {
+    let end = put_odd(text, at, n, names[0]);
+    let end = put_odd(text, end, n / 2, names[1]);
+    put_odd(text, end, n / 4, names[2])
+}
+
+// The names of an evaluation behind a colon.
+fn put_names(text: &mut [u8], at: usize, e: usize) -> usize {
+    let end = put_byte(text, at, b':');
+    let end = put_three(text, end, e, b"abc");
+    put_three(text, end, e / 8, b"def")
+}
+
+// The line of a point whose position is its evaluation.
+fn put_point(text: &mut [u8], at: usize, e: usize) -> usize {
+    let end = put_labelled(text, at, b"point ", e);
+    let end = put_names(text, end, e);
+    put_byte(text, end, b'\n')
+}
+
+// The line of a contact, where the first position is the smaller.
+fn put_pair(text: &mut [u8], at: usize, i: usize, j: usize) -> usize {
+    if j <= i {
+        return at;
+    }
+    let end = put_labelled(text, at, b"contact ", i);
+    let end = put_labelled(text, end, b" ", j);
+    put_byte(text, end, b'\n')
+}
+
+// The lines of the points that lie in some name.
+fn put_points(text: &mut [u8], at: usize) -> usize {
+    let mut end = at;
+    let mut e: usize = 1;
+    while e < 64 {
+        end = put_point(text, end, e);
+        e += 1;
+    }
+    end
+}
+
+// The lines of all pairs.
+fn put_pairs(text: &mut [u8], at: usize) -> usize {
+    let mut end = at;
+    let mut k: usize = 0;
+    while k < 4096 {
+        end = put_pair(text, end, k / 64, k % 64);
+        k += 1;
+    }
+    end
+}
+
+// The plan of all 64 evaluations of six names, each in contact with each.
+fn put_every(text: &mut [u8]) -> usize {
+    let end = put_bytes(text, 0, b"PLAN names=6 points=64\npoint 0: -\n");
+    let end = put_points(text, end);
+    put_pairs(text, end)
+}
+
+// Whether the buffer has it, and zeros behind it.
+fn is_every(text: &[u8; report::BUILDING_ROOM]) -> bool {
+    let mut worked_out = report::no_building_text();
+    put_every(&mut worked_out);
+    check::same(text, &worked_out)
+}
+
+// A rule over six names that rules nothing out, so that this is its plan: the length of its text, and whether it is the one that is put
+// together here. The first line has 23 bytes. The positions have 10 + 2 * 54 = 118 digits, and each name stands at 32 points, behind a
+// blank: the point lines have 64 * 8 + 118 + 6 * 32 * 2 bytes and the two of " -", 1,016. Each position is in 63 pairs: the contact lines
+// have 2,016 * 10 + 63 * 118 bytes, 27,594. In all 28,633.
+fn every_point() {
+    show_title(b"64 points, one building");
+    let mut text = report::no_building_text();
+    let len = report::report_building(b"<=(a+b+c+d+e+f,1)", &mut text);
+    write_labelled(b"bytes ", len);
+    if is_every(&text) {
+        write_bytes(b", as worked out\n");
+    } else {
+        write_bytes(b", not as worked out\n");
+    }
+}
+
 fn main() {
     examples();
     others();
     long_lines();
     long_sheets();
     read_back();
+    buildings();
+    every_point();
 }

@@ -109,7 +109,7 @@ pub fn put_byte(text: &mut [u8], at: usize, b: u8) -> usize
 }
 
 // Puts bytes from a place on.
-fn put_bytes(text: &mut [u8], at: usize, bytes: &[u8]) -> usize
+pub fn put_bytes(text: &mut [u8], at: usize, bytes: &[u8]) -> usize
     ensures { λ r. ⌜ Puts (now (bytes .entry)) at (now (text .entry)) (now (text .exit)) r ⌝ }
 {
     let mut end = at;

@@ -7,8 +7,10 @@
 // must meet the rules on the floor that its words have, and all its words must be those of document 01, 'The plan that is given',
 // for its row. Atoms that are the same count as one, as document 02, T-03, says: now and then a sheet repeats an atom, a contact also
 // with its terms exchanged, the form's atoms are compared here sign by sign, and a sheet is refused exactly if more than 16 of them
-// differ. A sheet that disagrees is written, and why. The file `stdout` has document 01's answers to P1 to P12 and the counts that a
-// separate computation gave.
+// differ. Every sheet is asked for one building as well, document 02, T-04, and that answer is held to the same floors as far as they
+// hang together. Merged points leave a floor that hangs together, so that for up to two names these are all such floors, too.
+// A sheet that disagrees is written, and why. The file `stdout` has document 01's answers to P1 to P12 and the counts that a separate
+// computation gave.
 ghost use Prim.Native.Nat.{_<_};
 ghost use Rattle.table.specs.Calls.{FromUs};
 use table::AddAnswer;
@@ -862,8 +864,9 @@ struct Machine {
     whole: bool,
 }
 
-// Whether a floor that meets the rules is found, and the first of the rows of such floors.
+// Whether a floor is found that meets the rules, for one building one that hangs together, and the first of the rows of such floors.
 struct Found {
+    building: bool,
     some: bool,
     row: u32,
     whole: bool,
@@ -1134,6 +1137,41 @@ fn on_floor(code: &[u8], numbers: Numbers, floor: Floor) -> Machine {
     m
 }
 
+// The points of a set and all that can be reached from them through contacts, on a way of at most seven: eight times each point of the
+// set brings those that it is in contact with.
+fn reached(set: u8, touch: [u8; 8]) -> u8 {
+    let mut all = set;
+    let mut i: usize = 0;
+    while i < 64 {
+        if has(all, i % 8) {
+            all = all | touch[i % 8];
+        }
+        i += 1;
+    }
+    all
+}
+
+// The least evaluation of a set, alone: its lowest bit.
+fn lowest(set: u8) -> u8 {
+    if 0 < set {
+        return set & (255 - (set - 1));
+    }
+    0
+}
+
+// "every point can be reached from every other through contacts": all are reached from the least, and it from all, since contact is
+// symmetric.
+fn hangs_together(floor: Floor) -> bool {
+    let points = floor.points;
+    let touch = floor.touch;
+    reached(lowest(points), touch) == points
+}
+
+// Whether a floor counts for a question: for one building it must hang together.
+fn is_asked_for(floor: Floor, building: bool) -> bool {
+    !building || hangs_together(floor)
+}
+
 // What is found, with one floor more.
 fn with_floor(found: Found, m: Machine) -> Found {
     let mut next = found;
@@ -1155,16 +1193,20 @@ fn with_floors(found: Found, code: &[u8], numbers: Numbers, points: u8) -> Found
     let mut next = found;
     let mut contacts: usize = 0;
     while contacts < floors {
-        next = with_floor(next, on_floor(code, numbers, floor_of(points, contacts)));
+        let floor = floor_of(points, contacts);
+        if is_asked_for(floor, next.building) {
+            next = with_floor(next, on_floor(code, numbers, floor));
+        }
         contacts += 1;
     }
     next
 }
 
-// The search over all floors of at most four points.
-fn search(code: &[u8], numbers: Numbers, names: usize) -> Found {
+// The search over all floors of at most four points that count for a question.
+fn search(code: &[u8], numbers: Numbers, names: usize, building: bool) -> Found {
     let all = evaluations(names);
     let mut found = Found {
+        building,
         some: false,
         row: 0,
         whole: true,
@@ -1387,6 +1429,71 @@ fn points_of(atoms: Atoms) -> u8 {
     points
 }
 
+// The allowed evaluations, each two that are not separated in contact.
+fn widest(atoms: Atoms) -> Floor {
+    let mut floor = apart(0);
+    let mut i: usize = 0;
+    while i < 64 {
+        if allowed(atoms, i / 8) && allowed(atoms, i % 8) && !separated(atoms, i / 8, i % 8) {
+            floor.points = floor.points | bit(i / 8);
+            floor = joined(floor, i / 8, i % 8);
+        }
+        i += 1;
+    }
+    floor
+}
+
+// Whether a piece has what an atom needs.
+fn has_witness(piece: u8, touch: [u8; 8], kind: u8, x: u8, y: u8) -> bool {
+    match kind {
+        TRUE_CONTACT => touching(piece & x, piece & y, touch),
+        FALSE_ZERO => piece & x != 0,
+        _ => true,
+    }
+}
+
+// "the whole piece that meets the row's true contacts and false zero atoms".
+fn meets_row(atoms: Atoms, piece: u8, touch: [u8; 8]) -> bool {
+    let kinds = atoms.kinds;
+    let first = atoms.first;
+    let second = atoms.second;
+    let mut i: usize = 0;
+    while i < 16 {
+        if !has_witness(piece, touch, kinds[i], first[i], second[i]) {
+            return false;
+        }
+        i += 1;
+    }
+    true
+}
+
+// "of several, the one with the least evaluation"; 0 where there is none.
+fn building_of(atoms: Atoms) -> u8 {
+    let floor = widest(atoms);
+    let points = floor.points;
+    let touch = floor.touch;
+    let mut e: usize = 0;
+    while e < 8 {
+        if has(points, e) {
+            let piece = reached(bit(e), touch);
+            if meets_row(atoms, piece, touch) {
+                return piece;
+            }
+        }
+        e += 1;
+    }
+    0
+}
+
+// The points that are given for a question.
+fn given(atoms: Atoms, building: bool) -> u8 {
+    if building {
+        building_of(atoms)
+    } else {
+        points_of(atoms)
+    }
+}
+
 // No word yet.
 fn no_words() -> Words {
     let words = [UNWRITTEN; 64];
@@ -1441,8 +1548,8 @@ fn with_contacts(w: Words, points: u8, atoms: Atoms) -> Words {
 }
 
 // The words of the plan that is given for the atoms' values.
-fn words_of(atoms: Atoms) -> Words {
-    let points = points_of(atoms);
+fn words_of(atoms: Atoms, building: bool) -> Words {
+    let points = given(atoms, building);
     let first = with_word(no_words(), 1, two_bytes(atoms.names, position(points, 8)));
     let whole = with_contacts(with_points(first, points), points, atoms);
     with_word(whole, 4, whole.count)
@@ -1606,8 +1713,22 @@ fn answer_of(answer: AskAnswer) -> Answer {
     }
 }
 
-// What ask answers for a file's lines, the k-th withdrawn before where k is not 0.
-fn asked(file: &[u8], k: usize, words: &mut [u32; 530]) -> Answer {
+// What a table answers to a question.
+fn said(table: Table, building: bool, words: &mut [u32; 530]) -> Answer
+    requires { ⌜ FromUs table ⌝ }
+{
+    if building {
+        let r = table.ask_building(words);
+        let answer = r.answer;
+        return answer_of(answer);
+    }
+    let r = table.ask(words);
+    let answer = r.answer;
+    answer_of(answer)
+}
+
+// What is answered for a file's lines, the k-th withdrawn before where k is not 0.
+fn asked(file: &[u8], k: usize, building: bool, words: &mut [u32; 530]) -> Answer {
     let mut refused = NONE_REFUSED;
     let table = without(table_of(file, &mut refused), k);
     match refused {
@@ -1619,12 +1740,10 @@ fn asked(file: &[u8], k: usize, words: &mut [u32; 530]) -> Answer {
             return Answer::Refused;
         }
     }
-    let r = table.ask(words);
-    let answer = r.answer;
-    answer_of(answer)
+    said(table, building, words)
 }
 
-// ---- the checks: ask's answer held to the search
+// ---- the checks: the answer held to the search
 
 // What a check finds.
 enum Finding {
@@ -1650,15 +1769,15 @@ fn is_late(names: usize, row: u32, first: u32) -> bool {
     row < first
 }
 
-// Whether the words are those that document 01 gives for the atoms in their row.
-fn check_words(atoms: Atoms, n: usize, words: &[u32; 530]) -> Finding {
-    let expected = words_of(atoms);
+// Whether the words are those that the documents give for the atoms in their row.
+fn check_words(atoms: Atoms, building: bool, n: usize, words: &[u32; 530]) -> Finding {
+    let expected = words_of(atoms, building);
     if expected.count == n {
         if same_words(words, expected) {
             return Finding::Plan(n);
         }
     }
-    disagree(b"the words are not the document's")
+    disagree(b"the words are not the documents'")
 }
 
 fn check_plan(
@@ -1674,14 +1793,19 @@ fn check_plan(
             return disagree(b"a plan, but no floor is found");
         }
     }
-    let m = on_floor(code, numbers, floor_in(words, n));
+    let floor = floor_in(words, n);
+    let building = found.building;
+    if !is_asked_for(floor, building) {
+        return disagree(b"the plan does not hang together");
+    }
+    let m = on_floor(code, numbers, floor);
     if !m.met {
         return disagree(b"the plan does not meet the rules");
     }
     if is_late(names, m.row, found.row) {
         return disagree(b"the plan's row is not the first");
     }
-    check_words(atoms_of(code, numbers, names, m.row), n, words)
+    check_words(atoms_of(code, numbers, names, m.row), building, n, words)
 }
 
 fn check_no_plan(found: Found, words: &[u32; 530]) -> Finding {
@@ -1694,15 +1818,16 @@ fn check_no_plan(found: Found, words: &[u32; 530]) -> Finding {
     disagree(b"no plan, but words are written")
 }
 
-// Holds ask's answer to the search.
+// Holds the answer to the search.
 fn check_answer(
     code: &[u8],
     numbers: Numbers,
     names: usize,
+    building: bool,
     answer: Answer,
     words: &[u32; 530],
 ) -> Finding {
-    let found = search(code, numbers, names);
+    let found = search(code, numbers, names, building);
     if !found.whole {
         return disagree(b"the form is not evaluated");
     }
@@ -1726,29 +1851,24 @@ fn check(
     code: &[u8],
     numbers: Numbers,
     names: usize,
+    building: bool,
     answer: Answer,
     words: &[u32; 530],
 ) -> Finding {
     if 16 < numbers.count {
         return check_refused(answer);
     }
-    check_answer(code, numbers, names, answer, words)
+    check_answer(code, numbers, names, building, answer, words)
 }
 
 // ---- the checks: counts
 
 // What is counted, after the sheets: sheets of 0 to 3 names, answers, words, and sheets with a sign, by the signs' numbers, with
 // parentheses that group, with a comma, with atoms that are the same, with a contact that is so by exchange, with more than 16 atoms as
-// places are counted. `<=m` has no count: a rule with it is refused.
+// places are counted; last the answers and words for one building. `<=m` has no count: a rule with it is refused.
 const NAMES: usize = 1;
 
 const PLANS: usize = 5;
-
-const NO_PLANS: usize = 6;
-
-const TOO_MANY: usize = 7;
-
-const PLAN_WORDS: usize = 8;
 
 const DISAGREEMENTS: usize = 9;
 
@@ -1764,9 +1884,11 @@ const EXCHANGED: usize = 30;
 
 const MANY_PLACES: usize = 31;
 
+const BUILDINGS: usize = 32;
+
 // Writes part i of labels of 14 bytes each.
 fn write_part(labels: &[u8], i: usize) {
-    let start = i % 32 * 14;
+    let start = i % 36 * 14;
     let end = start + 14;
     if end <= labels.len() {
         write_bytes(&labels[start..end]);
@@ -1806,13 +1928,17 @@ fn write_label(i: usize) {
         with ,        \
         same atoms    \
         exchanged     \
-        many places   ";
+        many places   \
+        buildings     \
+        no buildings  \
+        refused 8     \
+        their words   ";
     write_part(labels, i);
 }
 
-fn write_counts(counts: [usize; 32]) {
+fn write_counts(counts: [usize; 36]) {
     let mut i: usize = 0;
-    while i < 32 {
+    while i < 36 {
         write_label(i);
         write_number(counts[i]);
         write_bytes(b"\n");
@@ -1821,11 +1947,11 @@ fn write_counts(counts: [usize; 32]) {
 }
 
 // Raises count i by n; no count comes near the bound.
-fn raise(counts: &mut [usize; 32], i: usize, n: usize) {
-    counts[i % 32] = counts[i % 32] % 0x1_0000_0000 + n % 0x1_0000;
+fn raise(counts: &mut [usize; 36], i: usize, n: usize) {
+    counts[i % 36] = counts[i % 36] % 0x1_0000_0000 + n % 0x1_0000;
 }
 
-fn raise_if(counts: &mut [usize; 32], i: usize, b: bool) {
+fn raise_if(counts: &mut [usize; 36], i: usize, b: bool) {
     if b {
         raise(counts, i, 1);
     }
@@ -1867,7 +1993,7 @@ fn is_grouped(file: &[u8]) -> bool {
 }
 
 // One more for each sign that a sheet has; a sheet with a name has the first.
-fn count_signs(counts: &mut [usize; 32], code: &[u8]) {
+fn count_signs(counts: &mut [usize; 36], code: &[u8]) {
     let mut sign: usize = 0;
     while sign < 17 {
         raise_if(counts, SIGNS + sign, occurs(code, sign as u8));
@@ -1876,13 +2002,13 @@ fn count_signs(counts: &mut [usize; 32], code: &[u8]) {
 }
 
 // One more for each way in which a sheet's atoms are the same.
-fn count_atoms(counts: &mut [usize; 32], numbers: Numbers) {
+fn count_atoms(counts: &mut [usize; 36], numbers: Numbers) {
     raise_if(counts, REPEATED, numbers.count < numbers.places);
     raise_if(counts, EXCHANGED, numbers.exchanged);
     raise_if(counts, MANY_PLACES, 16 < numbers.places);
 }
 
-fn count_sheet(counts: &mut [usize; 32], file: &[u8], code: &[u8], names: usize) {
+fn count_sheet(counts: &mut [usize; 36], file: &[u8], code: &[u8], names: usize) {
     raise(counts, 0, 1);
     raise(counts, NAMES + names % 4, 1);
     count_signs(counts, code);
@@ -1890,18 +2016,19 @@ fn count_sheet(counts: &mut [usize; 32], file: &[u8], code: &[u8], names: usize)
     raise_if(counts, COMMAS, occurs(file, b','));
 }
 
-// A sheet that disagrees is written with its rules.
-fn count_finding(counts: &mut [usize; 32], f: Finding, file: &[u8]) {
+// The answers to a question are counted from a place on: plans, no plans, those refused, words. A sheet that disagrees is written with
+// its rules.
+fn count_finding(counts: &mut [usize; 36], from: usize, f: Finding, file: &[u8]) {
     match f {
         Finding::Plan(n) => {
-            raise(counts, PLANS, 1);
-            raise(counts, PLAN_WORDS, n);
+            raise(counts, from, 1);
+            raise(counts, from % 36 + 3, n);
         }
         Finding::NoPlan => {
-            raise(counts, NO_PLANS, 1);
+            raise(counts, from % 36 + 1, 1);
         }
         Finding::TooManyAtoms => {
-            raise(counts, TOO_MANY, 1);
+            raise(counts, from % 36 + 2, 1);
         }
         Finding::Disagrees => {
             write_bytes(file);
@@ -1935,19 +2062,23 @@ fn write_answer(label: &[u8], f: Finding, words: &[u32; 530]) {
 }
 
 // Tests a sheet: its lines, the number of the one that is withdrawn or 0, its form without that one, and how many names.
-fn test(counts: &mut [usize; 32], label: &[u8], file: &[u8], k: usize, code: &[u8], names: usize) {
+fn test(counts: &mut [usize; 36], label: &[u8], file: &[u8], k: usize, code: &[u8], names: usize) {
     let mut words = [UNWRITTEN; 530];
-    let answer = asked(file, k, &mut words);
+    let mut others = [UNWRITTEN; 530];
+    let answer = asked(file, k, false, &mut words);
+    let other = asked(file, k, true, &mut others);
     let numbers = numbers_of(code);
-    let f = check(code, numbers, names, answer, &words);
+    let f = check(code, numbers, names, false, answer, &words);
+    let g = check(code, numbers, names, true, other, &others);
     write_answer(label, f, &words);
     count_sheet(counts, file, code, names);
     count_atoms(counts, numbers);
-    count_finding(counts, f, file);
+    count_finding(counts, PLANS, f, file);
+    count_finding(counts, BUILDINGS, g, file);
 }
 
 // Document 01, 'Worked sheets': P1 and P2.
-fn first_sheets(counts: &mut [usize; 32]) {
+fn first_sheets(counts: &mut [usize; 36]) {
     test(counts, b"P1:", b"T\n", 0, &[RULE, TRUE], 0);
     test(
         counts,
@@ -1960,7 +2091,7 @@ fn first_sheets(counts: &mut [usize; 32]) {
 }
 
 // P3 to P5.
-fn withdrawn_sheets(counts: &mut [usize; 32]) {
+fn withdrawn_sheets(counts: &mut [usize; 36]) {
     let code = [
         RULE,
         NOT,
@@ -1988,7 +2119,7 @@ fn withdrawn_sheets(counts: &mut [usize; 32]) {
 }
 
 // P6 to P9.
-fn plain_sheets(counts: &mut [usize; 32]) {
+fn plain_sheets(counts: &mut [usize; 36]) {
     test(
         counts,
         b"P6:",
@@ -2017,7 +2148,7 @@ fn plain_sheets(counts: &mut [usize; 32]) {
 }
 
 // P10 to P12.
-fn grouped_sheets(counts: &mut [usize; 32]) {
+fn grouped_sheets(counts: &mut [usize; 36]) {
     let code = [
         RULE,
         NOT,
@@ -2049,7 +2180,7 @@ fn grouped_sheets(counts: &mut [usize; 32]) {
 }
 
 // Tests a sheet that was made: the first bytes of a text and of a form.
-fn test_made(counts: &mut [usize; 32], text: &[u8; 1100], form: &[u8; 512], m: Maker) {
+fn test_made(counts: &mut [usize; 36], text: &[u8; 1100], form: &[u8; 512], m: Maker) {
     let text = &text[..];
     let form = &form[..];
     let end = m.text;
@@ -2063,10 +2194,10 @@ fn test_made(counts: &mut [usize; 32], text: &[u8; 1100], form: &[u8; 512], m: M
             }
         }
     }
-    count_finding(counts, disagree(b"a sheet is not made"), b"");
+    count_finding(counts, PLANS, disagree(b"a sheet is not made"), b"");
 }
 
-fn test_generated(counts: &mut [usize; 32], k: u64) {
+fn test_generated(counts: &mut [usize; 36], k: u64) {
     let mut text = [0u8; 1100];
     let mut form = [0u8; 512];
     let m = with_sheet(sheet_maker(k), k, &mut text, &mut form);
@@ -2076,7 +2207,7 @@ fn test_generated(counts: &mut [usize; 32], k: u64) {
 // How many sheets are generated.
 const SHEETS: u64 = 3000;
 
-fn generated_sheets(counts: &mut [usize; 32]) {
+fn generated_sheets(counts: &mut [usize; 36]) {
     let mut k: u64 = 0;
     while k < SHEETS {
         test_generated(counts, k);
@@ -2085,7 +2216,7 @@ fn generated_sheets(counts: &mut [usize; 32]) {
 }
 
 fn main() {
-    let mut counts = [0usize; 32];
+    let mut counts = [0usize; 36];
     first_sheets(&mut counts);
     withdrawn_sheets(&mut counts);
     plain_sheets(&mut counts);

@@ -7,6 +7,7 @@ use Prim.Native.Nat.{ℕ}
 use Rattle.lists.specs.Search.{In}
 use Rattle.table.specs.declared.Table.{Table}
 use Rattle.table.specs.declared.AskResult.{AskResult}
+use Rattle.contact.specs.Question.{Question}
 use Rattle.table.specs.Asking.{Asks}
 use Rattle.table.specs.Sheet.{Text}
 use Rattle.table.specs.Stands.{Call, Stands}
@@ -38,10 +39,10 @@ demand-one = Demands.demand-one
 pub demand-two : (cs : List Call) (t : Table) (rs : List Text) → Leaves cs t → Stands cs rs → Meant rs t
 demand-two = Demands.demand-two
 
--- demand 3: after any calls, ask with any buffer answers 11, no plan exactly where no finite floor meets the standing rules, the plan that is
--- defined, or 12; and table, answer and every word are those of the calls that add only the standing rules
-pub demand-three : (cs : List Call) (t : Table) (rs : List Text) → Leaves cs t → Stands cs rs → (buffer : List ℕ) (r : AskResult) (exit : List ℕ) → Asks t buffer r exit
-    → Same rs t buffer r exit
+-- demand 3: after any calls, ask for either question with any buffer answers 11, no plan exactly where no finite floor that counts meets the
+-- standing rules, the plan that is defined, or 12; and table, answer and every word are those of the calls that add only the standing rules
+pub demand-three : (cs : List Call) (t : Table) (rs : List Text) → Leaves cs t → Stands cs rs → (q : Question) (buffer : List ℕ) (r : AskResult) (exit : List ℕ) → Asks q t buffer r exit
+    → Same q rs t buffer r exit
 demand-three = Demands.demand-three
 
 -- P1 to P12

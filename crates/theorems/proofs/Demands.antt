@@ -11,12 +11,12 @@ use lib.ListN.{length, take}
 use Rattle.formula.specs.Formula.{Formula, Name}
 use Rattle.syntax.proofs.Claims.{text-means}
 use Rattle.contact.specs.Meaning.{Floor, meetsAll}
-use Rattle.contact.specs.Question.{plain, Counts, NoFloor}
+use Rattle.contact.specs.Question.{Question, Counts, NoFloor}
 use Rattle.plan.specs.Words.{Plan, wordsOf}
 use Rattle.plan.specs.Reader.{plan}
 use Rattle.plan.specs.Given.{givenPlan}
 use Rattle.plan.specs.Plans.{rowPlan, plansOf}
-use Rattle.plan.proofs.Claims.{written-read, no-plan-given, given-exactly, given-at-most-one, given-is-plan, given-meets, given-found, row-plan-exactly}
+use Rattle.plan.proofs.Claims.{written-read, no-plan-given, given-exactly, given-at-most-one, given-is-plan, given-counts, given-meets, given-found, row-plan-exactly}
 use Rattle.contact.specs.Numbering.{namesOf}
 use Rattle.contact.specs.Row.{Row}
 use Rattle.contact.specs.Check.{firstRowOf}
@@ -59,7 +59,7 @@ called-runs t cs u Called.none = refl
 called-runs t cs u (Called.add {s = s} {r = r} {cs = ds} h l) = called-runs (r .table) ds u l ∙ ap (λ (x : Table). runFrom x ds) (table.add-steps t s r h)
 called-runs t cs u (Called.withdraw {k = k} {r = r} {cs = ds} h l) = called-runs (r .table) ds u l ∙ ap (λ (x : Table). runFrom x ds) (table.withdraw-steps t k r h)
 called-runs t cs u (Called.load {f = f} {r = r} {cs = ds} h l) = called-runs (r .table) ds u l ∙ ap (λ (x : Table). runFrom x ds) (table.load-steps t f r h)
-called-runs t cs u (Called.ask {buffer = buffer} {r = r} {exit = exit} {cs = ds} h l) = called-runs (r .table) ds u l ∙ ap (λ (x : Table). runFrom x ds) (table.ask-steps t buffer r exit h)
+called-runs t cs u (Called.ask {q = q} {buffer = buffer} {r = r} {exit = exit} {cs = ds} h l) = called-runs (r .table) ds u l ∙ ap (λ (x : Table). runFrom x ds) (table.ask-steps q t buffer r exit h)
 called-runs t cs u (Called.judge {words = words} {r = r} {cs = ds} h l) = called-runs (r .table) ds u l ∙ ap (λ (x : Table). runFrom x ds) (table.judge-steps t words r h)
 called-runs t cs u (Called.print {k = k} {buffer = buffer} {r = r} {exit = exit} {cs = ds} h l) = called-runs (r .table) ds u l ∙ ap (λ (x : Table). runFrom x ds) (table.print-steps t k buffer r exit h)
 
@@ -70,8 +70,8 @@ calls-run [] t v = Called.none
 calls-run (Call.add s ∷ cs) t v = let h = adds-of t s (added (rulesOf t) s) v refl in Called.add h (calls-run cs (added (rulesOf t) s .table) (h .from-us))
 calls-run (Call.withdraw k ∷ cs) t v = let h = withdraws-of t k (withdrawn (rulesOf t) k) v refl in Called.withdraw h (calls-run cs (withdrawn (rulesOf t) k .table) (h .from-us))
 calls-run (Call.load f ∷ cs) t v = let h = loads-of t f (loaded (rulesOf t) f) v refl in Called.load h (calls-run cs (loaded (rulesOf t) f .table) (h .from-us))
-calls-run (Call.ask buffer ∷ cs) t v =
-    Called.ask (asks-of t v buffer (askAnswer (rulesOf t) (length buffer)) (askWords (rulesOf t) buffer) refl refl) (calls-run cs t v)
+calls-run (Call.ask q buffer ∷ cs) t v =
+    Called.ask (asks-of q t v buffer (askAnswer q (rulesOf t) (length buffer)) (askWords q (rulesOf t) buffer) refl refl) (calls-run cs t v)
 calls-run (Call.judge words ∷ cs) t v = Called.judge (judges-of t v words (judgeAnswer (rulesOf t) words) refl) (calls-run cs t v)
 calls-run (Call.print k buffer ∷ cs) t v =
     Called.print (prints-of t v k buffer (printAnswer (rulesOf t) k (length buffer)) (printBytes (rulesOf t) k buffer) refl refl) (calls-run cs t v)
@@ -92,49 +92,50 @@ by-row Row outcome e w only = subst (λ o. Exactly Row o) (sym (ap outcome e)) (
 -- ---- the words of the buffer
 
 -- the plan that is given, of the formulas that are computed
-given-computed : (rs : List Text) {fs : List (Formula Name)} → AreRules rs fs → (p : Plan) → IsGiven plain fs p → IsGiven plain (formulasOf rs) p
-given-computed rs {fs} are p = of-computed rs fs are (λ gs. IsGiven plain gs p)
+given-computed : (q : Question) (rs : List Text) {fs : List (Formula Name)} → AreRules rs fs → (p : Plan) → IsGiven q fs p → IsGiven q (formulasOf rs) p
+given-computed q rs {fs} are p = of-computed rs fs are (λ gs. IsGiven q gs p)
 
-words-kept : (rs : List Text) (buffer : List ℕ) (o : Outcome) → AskRow rs (length buffer) o → ((n : ℕ) → o ≡ Outcome.Plan n → ⊥) → askWords rs buffer ≡ buffer
+words-kept : (q : Question) (rs : List Text) (buffer : List ℕ) (o : Outcome) → AskRow q rs (length buffer) o → ((n : ℕ) → o ≡ Outcome.Plan n → ⊥) → askWords q rs buffer ≡ buffer
 unfolding askWords
-words-kept rs buffer o (AskRow.none e) n = ap (λ (l : List Text). askWords l buffer) e
-words-kept rs buffer o (AskRow.without {fs} some are never) n = words-none rs buffer some (of-computed rs fs are (λ gs. plansOf plain gs ≡ []) (no-plan-given plain fs .1 never))
-words-kept rs buffer o (AskRow.short {p = p} some are g l) n = words-short rs buffer some p (given-computed rs are p g) l
-words-kept rs buffer o (AskRow.given {p = p} some are g l) n = absurd (n (length (wordsOf p)) refl)
+words-kept q rs buffer o (AskRow.none e) n = ap (λ (l : List Text). askWords q l buffer) e
+words-kept q rs buffer o (AskRow.without {fs} some are never) n = words-none q rs buffer some (of-computed rs fs are (λ gs. plansOf q gs ≡ []) (no-plan-given q fs .1 never))
+words-kept q rs buffer o (AskRow.short {p = p} some are g l) n = words-short q rs buffer some p (given-computed q rs are p g) l
+words-kept q rs buffer o (AskRow.given {p = p} some are g l) n = absurd (n (length (wordsOf p)) refl)
 
 -- where a plan is said there was room for it
-had-room : (rs : List Text) (room : ℕ) (o : Outcome) → AskRow rs room o → (n : ℕ) → o ≡ Outcome.Plan n → SomeStand rs × (n ≤ room)
-had-room rs room o (AskRow.none z) n f = absurd (let z : _≡_ {A = ℕ} 0 1 = cc in omega arith)
-had-room rs room o (AskRow.without some are never) n f = absurd (let z : _≡_ {A = ℕ} 0 1 = cc in omega arith)
-had-room rs room o (AskRow.short some are g l) n f = absurd (let z : _≡_ {A = ℕ} 0 1 = cc in omega arith)
-had-room rs room o (AskRow.given {p = p} some are g l) n f = let z : length (wordsOf p) ≡ n = cc in (some, omega arith)
+had-room : (q : Question) (rs : List Text) (room : ℕ) (o : Outcome) → AskRow q rs room o → (n : ℕ) → o ≡ Outcome.Plan n → SomeStand rs × (n ≤ room)
+had-room q rs room o (AskRow.none z) n f = absurd (let z : _≡_ {A = ℕ} 0 1 = cc in omega arith)
+had-room q rs room o (AskRow.without some are never) n f = absurd (let z : _≡_ {A = ℕ} 0 1 = cc in omega arith)
+had-room q rs room o (AskRow.short some are g l) n f = absurd (let z : _≡_ {A = ℕ} 0 1 = cc in omega arith)
+had-room q rs room o (AskRow.given {p = p} some are g l) n f = let z : length (wordsOf p) ≡ n = cc in (some, omega arith)
 
 -- ---- plans
 
-without-plan : (rs : List Text) (room : ℕ) (o : Outcome) → AskRow rs room o → o ≡ Outcome.NoPlan → NoFloor plain (formulasOf rs)
-without-plan rs room o (AskRow.none z) f = absurd (let z : _≡_ {A = ℕ} 0 1 = cc in omega arith)
-without-plan rs room o (AskRow.without {fs} some are never) f = of-computed rs fs are (NoFloor plain) never
-without-plan rs room o (AskRow.short some are g l) f = absurd (let z : _≡_ {A = ℕ} 0 1 = cc in omega arith)
-without-plan rs room o (AskRow.given some are g l) f = absurd (let z : _≡_ {A = ℕ} 0 1 = cc in omega arith)
+without-plan : (q : Question) (rs : List Text) (room : ℕ) (o : Outcome) → AskRow q rs room o → o ≡ Outcome.NoPlan → NoFloor q (formulasOf rs)
+without-plan q rs room o (AskRow.none z) f = absurd (let z : _≡_ {A = ℕ} 0 1 = cc in omega arith)
+without-plan q rs room o (AskRow.without {fs} some are never) f = of-computed rs fs are (NoFloor q) never
+without-plan q rs room o (AskRow.short some are g l) f = absurd (let z : _≡_ {A = ℕ} 0 1 = cc in omega arith)
+without-plan q rs room o (AskRow.given some are g l) f = absurd (let z : _≡_ {A = ℕ} 0 1 = cc in omega arith)
 
 -- where some floor that counts meets the rules there is a plan
-plan-found : (rules : List (Formula Name)) (F : Floor Name) → Counts plain F → meetsAll F rules ≡ true → (p : Plan) × IsGiven plain rules p
-plan-found rules F counts m = go (plansOf plain rules) refl (given-at-most-one plain rules)
+plan-found : (q : Question) (rules : List (Formula Name)) (F : Floor Name) → Counts q F → meetsAll F rules ≡ true → (p : Plan) × IsGiven q rules p
+plan-found q rules F counts m = go (plansOf q rules) refl (given-at-most-one q rules)
   where
-    go : (ps : List Plan) → plansOf plain rules ≡ ps → length ps ≤ 1 → (p : Plan) × IsGiven plain rules p
-    go [] e l = absurd (no-plan-given plain rules .0 e F counts m)
-    go (p ∷ []) e l = (p, given-exactly plain rules p .0 e)
-    go (p ∷ q ∷ ps) e l = absurd (omega arith)
+    go : (ps : List Plan) → plansOf q rules ≡ ps → length ps ≤ 1 → (p : Plan) × IsGiven q rules p
+    go [] e l = absurd (no-plan-given q rules .0 e F counts m)
+    go (p ∷ []) e l = (p, given-exactly q rules p .0 e)
+    go (p ∷ r ∷ ps) e l = absurd (omega arith)
 
 -- the words of the plan of the first row decode to it, and it meets the rules
-row-given : (rs : List Text) (fs : List (Formula Name)) → SomeStand rs → AreRules rs fs → length (namesOf fs) ≤ 6 → (row : Row) → firstRowOf plain fs ≡ row ∷ [] → Given rs (wordsOf (rowPlan plain fs row))
+row-given : (q : Question) (rs : List Text) (fs : List (Formula Name)) → SomeStand rs → AreRules rs fs → length (namesOf fs) ≤ 6 → (row : Row) → firstRowOf q fs ≡ row ∷ [] → Given q rs (wordsOf (rowPlan q fs row))
 unfolding rowPlan givenPlan
-row-given rs fs some are few row found =
-    let is = given-is-plan plain fs few row found in
+row-given q rs fs some are few row found =
+    let is = given-is-plan q fs few row found in
     record {
-      met = record { some = some; formulas = fs; rules = are; plan = rowPlan plain fs row; decodes = record { is = is; words-are = refl; named = refl }; meets = given-meets plain fs row found is };
-      is = record { row = row; first = first-row-named plain fs row found; is = row-plan-exactly plain fs row found (rowPlan plain fs row) .0 refl };
-      back = written-read (rowPlan plain fs row) is;
+      met = record { some = some; formulas = fs; rules = are; plan = rowPlan q fs row; decodes = record { is = is; words-are = refl; named = refl }; meets = given-meets q fs row found is };
+      counts = given-counts q fs row found is;
+      is = record { row = row; first = first-row-named q fs row found; is = row-plan-exactly q fs row found (rowPlan q fs row) .0 refl };
+      back = written-read (rowPlan q fs row) is;
     }
 
 -- ---- a list of calls
@@ -155,21 +156,21 @@ module _ (cs : List Call) where
   are = can-rules (standing cs) stands
 
   -- ---- the answers as functions of the standing rules
-  pub asked-by : (buffer : List ℕ) (r : AskResult) (exit : List ℕ) → Asks (run cs) buffer r exit
-      → (r .answer ≡ askAnswer (standing cs) (length buffer)) × (exit ≡ askWords (standing cs) buffer)
+  pub asked-by : (q : Question) (buffer : List ℕ) (r : AskResult) (exit : List ℕ) → Asks q (run cs) buffer r exit
+      → (r .answer ≡ askAnswer q (standing cs) (length buffer)) × (exit ≡ askWords q (standing cs) buffer)
   unfolding asked
-  asked-by buffer r exit h = (
-    ap (λ (x : AskResult). x .answer) (h .result) ∙ ap (λ (rs : List Text). askAnswer rs (length buffer)) held,
-    h .words ∙ ap (λ (rs : List Text). askWords rs buffer) held,
+  asked-by q buffer r exit h = (
+    ap (λ (x : AskResult). x .answer) (h .result) ∙ ap (λ (rs : List Text). askAnswer q rs (length buffer)) held,
+    h .words ∙ ap (λ (rs : List Text). askWords q rs buffer) held,
   )
 
   judged-by : (words : List ℕ) (r : JudgeResult) → Judges (run cs) words r → r .answer ≡ judgeAnswer (standing cs) words
   unfolding judged
   judged-by words r h = ap (λ (x : JudgeResult). x .answer) (h .result) ∙ ap (λ (rs : List Text). judgeAnswer rs words) held
 
-  ask-exactly : (buffer : List ℕ) (r : AskResult) (exit : List ℕ) → Asks (run cs) buffer r exit → Exactly (AskRow (standing cs) (length buffer)) (askOutcome (r .answer))
-  ask-exactly buffer r exit h =
-      by-row (AskRow (standing cs) (length buffer)) askOutcome (asked-by buffer r exit h .0) (table.ask-answered (length buffer) (standing cs) fs are) (table.ask-answered-only (length buffer) (standing cs))
+  ask-exactly : (q : Question) (buffer : List ℕ) (r : AskResult) (exit : List ℕ) → Asks q (run cs) buffer r exit → Exactly (AskRow q (standing cs) (length buffer)) (askOutcome (r .answer))
+  ask-exactly q buffer r exit h =
+      by-row (AskRow q (standing cs) (length buffer)) askOutcome (asked-by q buffer r exit h .0) (table.ask-answered q (length buffer) (standing cs) fs are) (table.ask-answered-only q (length buffer) (standing cs))
 
   judge-exactly : (words : List ℕ) (r : JudgeResult) → Judges (run cs) words r → Exactly (JudgeRow (standing cs) words) (judgeOutcome (r .answer))
   judge-exactly words r h =
@@ -213,10 +214,10 @@ module _ (cs : List Call) where
         load-refused = λ f r h n. let e = h .result in
             ap (λ (x : LoadResult). x .table) e ∙ ap tableOf (not-loaded (judgeLoad f) _ _ (λ g. n (ap loadOutcome (ap (λ (x : LoadResult). x .answer) e ∙ g)))) ∙ same-table;
         ask = ask-exactly;
-        ask-same = λ buffer r exit h. h .same;
-        ask-written = λ buffer r exit h gs rules p g e. let fits = had-room (standing cs) (length buffer) (askOutcome (r .answer)) (ask-exactly buffer r exit h .row) (length (wordsOf p)) e in
-            asked-by buffer r exit h .1 ∙ words-written (standing cs) buffer (fits .0) p (given-computed (standing cs) rules p g) (fits .1);
-        ask-kept = λ buffer r exit h n. asked-by buffer r exit h .1 ∙ words-kept (standing cs) buffer (askOutcome (r .answer)) (ask-exactly buffer r exit h .row) n;
+        ask-same = λ q buffer r exit h. h .same;
+        ask-written = λ q buffer r exit h gs rules p g e. let fits = had-room q (standing cs) (length buffer) (askOutcome (r .answer)) (ask-exactly q buffer r exit h .row) (length (wordsOf p)) e in
+            asked-by q buffer r exit h .1 ∙ words-written q (standing cs) buffer (fits .0) p (given-computed q (standing cs) rules p g) (fits .1);
+        ask-kept = λ q buffer r exit h n. asked-by q buffer r exit h .1 ∙ words-kept q (standing cs) buffer (askOutcome (r .answer)) (ask-exactly q buffer r exit h .row) n;
         judge = judge-exactly;
         judge-same = λ words r h. h .same;
         print = print-exactly;
@@ -229,25 +230,25 @@ module _ (cs : List Call) where
   -- ---- demand 2
 
   -- the words of the plan that is given decode to it, and it meets the rules
-  plan-given : SomeStand (standing cs) → (p : Plan) → IsGiven plain fs p → Given (standing cs) (wordsOf p)
+  plan-given : (q : Question) → SomeStand (standing cs) → (p : Plan) → IsGiven q fs p → Given q (standing cs) (wordsOf p)
   unfolding namesIn
-  plan-given some p g =
-      let r = given-found plain fs p g in
-      subst (λ (q : Plan). Given (standing cs) (wordsOf q)) (sym (r .2)) (row-given (standing cs) fs some are (can-names (standing cs) stands) (r .0) (r .1))
+  plan-given q some p g =
+      let r = given-found q fs p g in
+      subst (λ (x : Plan). Given q (standing cs) (wordsOf x)) (sym (r .2)) (row-given q (standing cs) fs some are (can-names (standing cs) stands) (r .0) (r .1))
 
-  given : (buffer : List ℕ) (r : AskResult) (exit : List ℕ) → Asks (run cs) buffer r exit → (n : ℕ) → askOutcome (r .answer) ≡ Outcome.Plan n → Given (standing cs) (take n exit)
-  given buffer r exit h n e = go (askOutcome (r .answer)) (ask-exactly buffer r exit h .row) e
+  given : (q : Question) (buffer : List ℕ) (r : AskResult) (exit : List ℕ) → Asks q (run cs) buffer r exit → (n : ℕ) → askOutcome (r .answer) ≡ Outcome.Plan n → Given q (standing cs) (take n exit)
+  given q buffer r exit h n e = go (askOutcome (r .answer)) (ask-exactly q buffer r exit h .row) e
     where
-      go : (o : Outcome) → AskRow (standing cs) (length buffer) o → o ≡ Outcome.Plan n → Given (standing cs) (take n exit)
+      go : (o : Outcome) → AskRow q (standing cs) (length buffer) o → o ≡ Outcome.Plan n → Given q (standing cs) (take n exit)
       go o (AskRow.none z) f = absurd (let z : _≡_ {A = ℕ} 0 1 = cc in omega arith)
       go o (AskRow.without some rules never) f = absurd (let z : _≡_ {A = ℕ} 0 1 = cc in omega arith)
       go o (AskRow.short some rules g l) f = absurd (let z : _≡_ {A = ℕ} 0 1 = cc in omega arith)
       go o (AskRow.given {p = p} some rules k l) f =
           let z : length (wordsOf p) ≡ n = cc in
-          let g : IsGiven plain fs p = given-computed (standing cs) rules p k in
+          let g : IsGiven q fs p = given-computed q (standing cs) rules p k in
           let w : take n exit ≡ wordsOf p
-          = ap (take n) (asked-by buffer r exit h .1) ∙ ap (λ (k : ℕ). take k (askWords (standing cs) buffer)) (sym z) ∙ first-words (standing cs) buffer some p g l in
-          subst (Given (standing cs)) (sym w) (plan-given some p g)
+          = ap (take n) (asked-by q buffer r exit h .1) ∙ ap (λ (k : ℕ). take k (askWords q (standing cs) buffer)) (sym z) ∙ first-words q (standing cs) buffer some p g l in
+          subst (Given q (standing cs)) (sym w) (plan-given q some p g)
 
   -- what judge says of the words
   judged-so : (words : List ℕ) (o : Outcome) → JudgeRow (standing cs) words o → (o ≡ Outcome.Yes → Met (standing cs) words) × ((k : ℕ) → o ≡ Outcome.Unmet k → NotMet (standing cs) words k)
@@ -292,24 +293,24 @@ module _ (cs : List Call) where
       let before-held : rulesOf u ≡ before = ap rulesOf (left (adds before) u l) ∙ table.same-table (adds before) .holds ∙ table.adds-stand before (stand-first before (s ∷ later) can) in
       ap addOutcome (ap (λ (x : AddResult). x .answer) (h .result) ∙ ap (λ (rs : List Text). judgeAdd rs s) before-held ∙ table.next-added before s later can)
 
-  same : (buffer : List ℕ) (r : AskResult) (exit : List ℕ) → Asks (run cs) buffer r exit → Same (standing cs) (run cs) buffer r exit
-  same buffer r exit h =
-      let row = ask-exactly buffer r exit h in
+  same : (q : Question) (buffer : List ℕ) (r : AskResult) (exit : List ℕ) → Asks q (run cs) buffer r exit → Same q (standing cs) (run cs) buffer r exit
+  same q buffer r exit h =
+      let row = ask-exactly q buffer r exit h in
       let faithful = table.same-table cs in
       record {
         formulas = fs;
         rules = are;
         none = λ e. sym (row .only (Outcome.Refused 11 0) (AskRow.none e));
-        no-plan = λ some. (λ e. without-plan (standing cs) (length buffer) (askOutcome (r .answer)) (row .row) e, λ never. sym (row .only Outcome.NoPlan (AskRow.without some are never)));
-        plan = λ some p g l. (sym (row .only (Outcome.Plan (length (wordsOf p))) (AskRow.given some are g l)), asked-by buffer r exit h .1 ∙ words-written (standing cs) buffer some p g l);
-        short = λ some p g l. (sym (row .only (Outcome.Refused 12 (length (wordsOf p))) (AskRow.short some are g l)), asked-by buffer r exit h .1 ∙ words-short (standing cs) buffer some p g l);
-        otherwise = plan-found fs;
+        no-plan = λ some. (λ e. without-plan q (standing cs) (length buffer) (askOutcome (r .answer)) (row .row) e, λ never. sym (row .only Outcome.NoPlan (AskRow.without some are never)));
+        plan = λ some p g l. (sym (row .only (Outcome.Plan (length (wordsOf p))) (AskRow.given some are g l)), asked-by q buffer r exit h .1 ∙ words-written q (standing cs) buffer some p g l);
+        short = λ some p g l. (sym (row .only (Outcome.Refused 12 (length (wordsOf p))) (AskRow.short some are g l)), asked-by q buffer r exit h .1 ∙ words-short q (standing cs) buffer some p g l);
+        otherwise = plan-found q fs;
         table = λ u l. faithful .table ∙ sym (left (adds (standing cs)) u l);
         taken = taken;
         same = λ u l s words k.
             let e : run cs ≡ u = faithful .table ∙ sym (left (adds (standing cs)) u l) in (
-              h .result ∙ ap (λ (t : Table). asked (rulesOf t) buffer) e ∙ sym (k .result),
-              h .words ∙ ap (λ (t : Table). askWords (rulesOf t) buffer) e ∙ sym (k .words),
+              h .result ∙ ap (λ (t : Table). asked q (rulesOf t) buffer) e ∙ sym (k .result),
+              h .words ∙ ap (λ (t : Table). askWords q (rulesOf t) buffer) e ∙ sym (k .words),
             );
       }
 
@@ -326,7 +327,7 @@ demand-one cs = carried cs Answered (answered cs)
 pub demand-two : (cs : List Call) (t : Table) (rs : List Text) → Leaves cs t → Stands cs rs → Meant rs t
 demand-two cs = carried cs Meant (meant cs)
 
-pub demand-three : (cs : List Call) (t : Table) (rs : List Text) → Leaves cs t → Stands cs rs → (buffer : List ℕ) (r : AskResult) (exit : List ℕ) → Asks t buffer r exit
-    → Same rs t buffer r exit
-demand-three cs t rs l s buffer r exit =
-    carried cs (λ ss u. Asks u buffer r exit → Same ss u buffer r exit) (same cs buffer r exit) t rs l s
+pub demand-three : (cs : List Call) (t : Table) (rs : List Text) → Leaves cs t → Stands cs rs → (q : Question) (buffer : List ℕ) (r : AskResult) (exit : List ℕ) → Asks q t buffer r exit
+    → Same q rs t buffer r exit
+demand-three cs t rs l s q buffer r exit =
+    carried cs (λ ss u. Asks q u buffer r exit → Same q ss u buffer r exit) (same cs q buffer r exit) t rs l s

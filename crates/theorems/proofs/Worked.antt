@@ -78,8 +78,8 @@ sheets-computed = refl
 
 -- what ask computes where the rules rs stand: this outcome, and these words
 record Asked (rs : List Text) (buffer : List ℕ) (o : Outcome) (exit : List ℕ) : Type 0 where
-  pub answer : askOutcome (askAnswer rs (length buffer)) ≡ o
-  pub words : askWords rs buffer ≡ exit
+  pub answer : askOutcome (askAnswer plain rs (length buffer)) ≡ o
+  pub words : askWords plain rs buffer ≡ exit
 
 module _ (buffer : List ℕ) (s : Text) (rs : List Text) where
   -- ask, by the plans of the rules
@@ -110,7 +110,7 @@ asked buffer a (s ∷ rs) h e = asked-for buffer s rs a (plansOf plain (formulas
 -- what is computed is what ask gives on the table that the calls leave
 gives : (cs : List Call) (t : Table) → Leaves cs t → (buffer : List ℕ) (o : Outcome) (ws : List ℕ) → Asked (standing cs) buffer o ws → Gives t buffer o ws
 gives cs t l buffer o ws a r exit h =
-    let e = asked-by cs buffer r exit (subst (λ u. Asks u buffer r exit) (left cs t l) h) in
+    let e = asked-by cs plain buffer r exit (subst (λ u. Asks plain u buffer r exit) (left cs t l) h) in
     (ap askOutcome (e .0) ∙ a .answer, e .1 ∙ a .words)
 
 -- and so for a row's answer

@@ -1,5 +1,5 @@
 -- What is meant: the customer's three demands, each as one statement about a list of calls from the empty table. The list is any list of
--- add, withdraw, load, ask, judge and print, refused ones included, each with any text, number, buffer or plan words; the standing rules rs are those that
+-- add, withdraw, load, ask for either question, judge and print, refused ones included, each with any text, number, buffer or plan words; the standing rules rs are those that
 -- `Stands` makes of the calls alone, by the rows of the table of calls, and their formulas those that the grammar derives. The calls of
 -- the code come in by their contracts (Adds, Withdraws, Loads, Asks, Judges, Reads): what holds of every result that a contract allows
 -- holds of what the code gives. Assumes nothing.
@@ -12,7 +12,7 @@ use lib.ListN.{length, take}
 use Rattle.formula.specs.Formula.{Formula, Name}
 use Rattle.syntax.specs.RuleText.{IsRule}
 use Rattle.contact.specs.Meaning.{Floor, meetsAll}
-use Rattle.contact.specs.Question.{plain, Counts, NoFloor}
+use Rattle.contact.specs.Question.{Question, Counts, NoFloor}
 use Rattle.plan.specs.declared.PlanAnswer.the-variants as PlanAnswer
 use Rattle.plan.specs.declared.PlanRead.{PlanRead}
 use Rattle.plan.specs.Words.{Plan, wordsOf, over}
@@ -45,7 +45,7 @@ pub data Called : Table → List Call → Table → Type 0 where
   add : {t : Table} {s : Text} {r : AddResult} {cs : List Call} {u : Table} → Adds t s r → Called (r .table) cs u → Called t (Call.add s ∷ cs) u
   withdraw : {t : Table} {k : ℕ} {r : WithdrawResult} {cs : List Call} {u : Table} → Withdraws t k r → Called (r .table) cs u → Called t (Call.withdraw k ∷ cs) u
   load : {t : Table} {f : Text} {r : LoadResult} {cs : List Call} {u : Table} → Loads t f r → Called (r .table) cs u → Called t (Call.load f ∷ cs) u
-  ask : {t : Table} {buffer : List ℕ} {r : AskResult} {exit : List ℕ} {cs : List Call} {u : Table} → Asks t buffer r exit → Called (r .table) cs u → Called t (Call.ask buffer ∷ cs) u
+  ask : {t : Table} {q : Question} {buffer : List ℕ} {r : AskResult} {exit : List ℕ} {cs : List Call} {u : Table} → Asks q t buffer r exit → Called (r .table) cs u → Called t (Call.ask q buffer ∷ cs) u
   judge : {t : Table} {words : List ℕ} {r : JudgeResult} {cs : List Call} {u : Table} → Judges t words r → Called (r .table) cs u → Called t (Call.judge words ∷ cs) u
   print : {t : Table} {k : ℕ} {buffer : List ℕ} {r : PrintResult} {exit : List ℕ} {cs : List Call} {u : Table} → Prints t k buffer r exit → Called (r .table) cs u
       → Called t (Call.print k buffer ∷ cs) u
@@ -73,12 +73,12 @@ pub record Answered (rs : List Text) (t : Table) : Type 0 where
   pub withdraw-refused : (k : ℕ) (r : WithdrawResult) → Withdraws t k r → (withdrawOutcome (r .answer) ≡ Outcome.Done → ⊥) → r .table ≡ t
   pub load : (f : Text) (r : LoadResult) → Loads t f r → Exactly (LoadRow f) (loadOutcome (r .answer))
   pub load-refused : (f : Text) (r : LoadResult) → Loads t f r → (loadOutcome (r .answer) ≡ Outcome.Done → ⊥) → r .table ≡ t
-  pub ask : (buffer : List ℕ) (r : AskResult) (exit : List ℕ) → Asks t buffer r exit → Exactly (AskRow rs (length buffer)) (askOutcome (r .answer))
-  pub ask-same : (buffer : List ℕ) (r : AskResult) (exit : List ℕ) → Asks t buffer r exit → r .table ≡ t
+  pub ask : (q : Question) (buffer : List ℕ) (r : AskResult) (exit : List ℕ) → Asks q t buffer r exit → Exactly (AskRow q rs (length buffer)) (askOutcome (r .answer))
+  pub ask-same : (q : Question) (buffer : List ℕ) (r : AskResult) (exit : List ℕ) → Asks q t buffer r exit → r .table ≡ t
   -- "words past the plan, and all words for no plan, keep their values"; a refusal too writes nothing
-  pub ask-written : (buffer : List ℕ) (r : AskResult) (exit : List ℕ) → Asks t buffer r exit → (fs : List (Formula Name)) → AreRules rs fs → (p : Plan) → IsGiven plain fs p
+  pub ask-written : (q : Question) (buffer : List ℕ) (r : AskResult) (exit : List ℕ) → Asks q t buffer r exit → (fs : List (Formula Name)) → AreRules rs fs → (p : Plan) → IsGiven q fs p
       → askOutcome (r .answer) ≡ Outcome.Plan (length (wordsOf p)) → exit ≡ over (wordsOf p) buffer
-  pub ask-kept : (buffer : List ℕ) (r : AskResult) (exit : List ℕ) → Asks t buffer r exit → ((n : ℕ) → askOutcome (r .answer) ≡ Outcome.Plan n → ⊥) → exit ≡ buffer
+  pub ask-kept : (q : Question) (buffer : List ℕ) (r : AskResult) (exit : List ℕ) → Asks q t buffer r exit → ((n : ℕ) → askOutcome (r .answer) ≡ Outcome.Plan n → ⊥) → exit ≡ buffer
   pub judge : (words : List ℕ) (r : JudgeResult) → Judges t words r → Exactly (JudgeRow rs words) (judgeOutcome (r .answer))
   pub judge-same : (words : List ℕ) (r : JudgeResult) → Judges t words r → r .table ≡ t
   -- document 02, T-02
@@ -111,43 +111,46 @@ pub record NotMet (rs : List Text) (words : List ℕ) (k : ℕ) : Type 0 where
   pub decodes : Decodes formulas words plan
   pub lowest : FirstUnmet (floorOf decodes) 1 formulas k
 
--- the words of the plan that document 01 defines; it meets the rules, and what is read from the words is the plan
-pub record Given (rs : List Text) (words : List ℕ) : Type 0 where
+-- the words of the plan that the papers define for the question; its floor counts and meets the rules, and what is read from the words is
+-- the plan. Of one building: "a plan in which every point can be reached from every other through contacts"
+pub record Given (q : Question) (rs : List Text) (words : List ℕ) : Type 0 where
   pub met : Met rs words
-  pub is : IsGiven plain (met .formulas) (met .plan)
-  pub back : (q : PlanRead) → Reads words q → (q .answer ≡ PlanAnswer.Plan) × Stored (q .plan) (met .plan)
+  pub counts : Counts q (floorOf (met .decodes))
+  pub is : IsGiven q (met .formulas) (met .plan)
+  pub back : (r : PlanRead) → Reads words r → (r .answer ≡ PlanAnswer.Plan) × Stored (r .plan) (met .plan)
 
 pub record Meant (rs : List Text) (t : Table) : Type 0 where
   -- each standing text is derived by the grammar, and a text means one formula only
   pub formulas : List (Formula Name)
   pub rules : AreRules rs formulas
   pub one : (s : Text) (f g : Formula Name) → IsRule s f → IsRule s g → f ≡ g
-  pub given : (buffer : List ℕ) (r : AskResult) (exit : List ℕ) → Asks t buffer r exit → (n : ℕ) → askOutcome (r .answer) ≡ Outcome.Plan n → Given rs (take n exit)
+  pub given : (q : Question) (buffer : List ℕ) (r : AskResult) (exit : List ℕ) → Asks q t buffer r exit → (n : ℕ) → askOutcome (r .answer) ≡ Outcome.Plan n → Given q rs (take n exit)
   -- "Judge answers yes or the lowest unmet rule, from 1"
   pub yes : (words : List ℕ) (r : JudgeResult) → Judges t words r → (judgeOutcome (r .answer) ≡ Outcome.Yes) ↔ Met rs words
   pub unmet : (words : List ℕ) (r : JudgeResult) → Judges t words r → (k : ℕ) → (judgeOutcome (r .answer) ≡ Outcome.Unmet k) ↔ NotMet rs words k
 
 -- ---- demand 3
 
--- what ask gives after the list, with any plan buffer
-pub record Same (rs : List Text) (t : Table) (buffer : List ℕ) (r : AskResult) (exit : List ℕ) : Type 0 where
+-- what ask gives after the list, for a question, with any plan buffer; of one building (document 02, T-04): ""No" is said only if no finite floor
+-- that hangs together meets the standing rules, and the claim about withdrawn rules holds for this question as well."
+pub record Same (q : Question) (rs : List Text) (t : Table) (buffer : List ℕ) (r : AskResult) (exit : List ℕ) : Type 0 where
   -- what the standing rules mean
   pub formulas : List (Formula Name)
   pub rules : AreRules rs formulas
   -- "after the list, ask gives refusal 11 where no rule stands"
   pub none : rs ≡ [] → askOutcome (r .answer) ≡ Outcome.Refused 11 0
   -- "Where any stands, it says "no plan" exactly when no finite floor with any number of points, one or more, meets all the standing rules"
-  pub no-plan : SomeStand rs → (askOutcome (r .answer) ≡ Outcome.NoPlan) ↔ NoFloor plain formulas
+  pub no-plan : SomeStand rs → (askOutcome (r .answer) ≡ Outcome.NoPlan) ↔ NoFloor q formulas
   -- "and otherwise gives the plan that document 01 defines, or refusal 12 where the buffer is too short for it"
-  pub plan : SomeStand rs → (p : Plan) → IsGiven plain formulas p → length (wordsOf p) ≤ length buffer
+  pub plan : SomeStand rs → (p : Plan) → IsGiven q formulas p → length (wordsOf p) ≤ length buffer
       → (askOutcome (r .answer) ≡ Outcome.Plan (length (wordsOf p))) × (exit ≡ over (wordsOf p) buffer)
-  pub short : SomeStand rs → (p : Plan) → IsGiven plain formulas p → length buffer < length (wordsOf p)
+  pub short : SomeStand rs → (p : Plan) → IsGiven q formulas p → length buffer < length (wordsOf p)
       → (askOutcome (r .answer) ≡ Outcome.Refused 12 (length (wordsOf p))) × (exit ≡ buffer)
-  pub otherwise : (F : Floor Name) → Counts plain F → meetsAll F formulas ≡ true → (p : Plan) × IsGiven plain formulas p
+  pub otherwise : (F : Floor Name) → Counts q F → meetsAll F formulas ≡ true → (p : Plan) × IsGiven q formulas p
   -- "the table after the list .. equal to what comes from an empty table to which only the standing rules are added, in their order":
   -- "none of these adds is refused"
   pub table : (u : Table) → Leaves (adds rs) u → t ≡ u
   pub taken : (before : List Text) (s : Text) (later : List Text) → rs ≡ before ++ s ∷ later
       → (u : Table) → Leaves (adds before) u → (r : AddResult) → Adds u s r → addOutcome (r .answer) ≡ Outcome.Done
   -- "the answer that ask then gives, a refusal too, and every word of its plan buffer .. when ask is lent the same plan buffer"
-  pub same : (u : Table) → Leaves (adds rs) u → (s : AskResult) (words : List ℕ) → Asks u buffer s words → (r ≡ s) × (exit ≡ words)
+  pub same : (u : Table) → Leaves (adds rs) u → (s : AskResult) (words : List ℕ) → Asks q u buffer s words → (r ≡ s) × (exit ≡ words)

@@ -8,6 +8,7 @@ use Rattle.lexer.specs.Text.{bytes}
 use Rattle.plan.specs.Words.{over}
 use Rattle.table.specs.Sheet.{Text}
 use Rattle.table.specs.Stands.{Call, withdraw, adds, Stands}
+use Rattle.contact.specs.Question.{plain}
 use Rattle.table.specs.Asking.{Asks}
 use Rattle.table.specs.declared.Table.{Table}
 use Rattle.table.specs.declared.AskResult.{AskResult}
@@ -80,7 +81,7 @@ workedSheets = P1 ∷ P2 ∷ P3 ∷ P4 ∷ P5 ∷ P6 ∷ P7 ∷ P8 ∷ P9 ∷ P1
 
 -- ask, on the table t and lent this buffer, has this outcome and leaves these words in the buffer
 abbrev pub Gives : Table → List ℕ → Outcome → List ℕ → Type 0
-Gives t buffer o ws = (r : AskResult) (exit : List ℕ) → Asks t buffer r exit → (askOutcome (r .answer) ≡ o) × (exit ≡ ws)
+Gives t buffer o ws = (r : AskResult) (exit : List ℕ) → Asks plain t buffer r exit → (askOutcome (r .answer) ≡ o) × (exit ≡ ws)
 
 -- "Ask answers a plan, with its number of words, or no plan; words past the plan, and all words for no plan, keep their values";
 -- refusal 12: "the plan has more words than the buffer | words needed", so "P3 with 3 words of buffer gives 12, needed 4"

@@ -1,9 +1,10 @@
 -- `report::put_report` meets its contract: the sheet is loaded or refused, and each has its text (Reporting.antt). Assumes nothing.
 use borrow.Author.Needs.{needs}
 use native.Mathlib.Omega.{arith}
+use Rattle.search.specs.Asked.{questionOf}
 use Rattle.report.specs.Output.{rulesText}
 use Rattle.report.proofs.Putting.{puts-text}
-use Rattle.report.proofs.Reporting.{told-not-loaded, answer-comes, refused-text, loaded-some, loaded-text}
+use Rattle.report.proofs.Reporting.{told-not-loaded, answer-comes, refused-text, loaded-some, loaded-text, refusal-room}
 use Rattle.report.proofs.put_report.Statement.{statement}
 use Rattle.report.proofs.put_report.Tie as tie
 
@@ -17,22 +18,27 @@ enum-told : tie.Need-enum-told
 enum-told c = search needs
 
 put-refusal-requires : tie.Need-put-refusal-requires
-put-refusal-requires c κs = (answer-comes _ _ _ (c .before .before .load .ensures), omega arith)
+put-refusal-requires c κs = (answer-comes _ _ _ (c .before .before .load .ensures), omega (arith, refusal-room (questionOf (c .before .before .before .before .before .before .before .args .asked)), c .before .before .before .before .before .before .before .pre .1))
 
 same-length : tie.Need-same-length
 same-length c = search needs
 
 returns : tie.Need-returns
-returns c = puts-text (refused-text _ _ _ (c .before .before .before .before .before .load .ensures) rulesText (told-not-loaded _ (c .before .before .before .before .match .keys2))) (c .before .before .put-refusal .ensures)
+returns c = puts-text (refused-text _ _ _ (c .before .before .before .before .before .load .ensures) (rulesText (questionOf (c .before .before .before .before .before .before .before .before .before .before .args .asked))) (told-not-loaded _ (c .before .before .before .before .match .keys2))) (c .before .before .put-refusal .ensures)
 
 put-rules-requires : tie.Need-put-rules-requires
-put-rules-requires c κs = (c .before .before .before .before .load .ensures .from-us, loaded-some _ _ _ (c .before .before .before .before .load .ensures) (c .before .before .enum-told .given .1), c .before .before .before .before .before .before .before .before .pre)
+put-rules-requires c κs =
+    let load = c .before .before .before .before .before .load .ensures in
+    (load .from-us, loaded-some _ _ _ load (c .before .before .before .enum-told .given .1), c .before .before .before .before .before .before .before .before .before .before .pre .0, c .before .before .before .before .before .before .before .before .before .before .pre .1)
 
 same-length-2 : tie.Need-same-length-2
 same-length-2 c = search needs
 
+same-length-3 : tie.Need-same-length-3
+same-length-3 c = search needs
+
 returns-2 : tie.Need-returns-2
-returns-2 c = puts-text (loaded-text _ _ _ (c .before .before .before .before .before .before .before .load .ensures) (c .before .before .before .before .before .enum-told .given .1) rulesText) (c .before .before .put-rules .ensures)
+returns-2 c = puts-text (loaded-text _ _ _ (c .before .before .before .before .before .before .before .before .before .before .load .ensures) (c .before .before .before .before .before .before .before .before .enum-told .given .1) (rulesText (questionOf (c .before .before .before .before .before .before .before .before .before .before .before .before .before .before .before .args .asked)))) (c .before .before .before .before .put-rules .ensures)
 
 pub put-report-spec : {M : Type 1} → statement M
 put-report-spec =
@@ -46,4 +52,5 @@ put-report-spec =
     returns
     put-rules-requires
     same-length-2
+    same-length-3
     returns-2)

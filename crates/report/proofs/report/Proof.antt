@@ -4,11 +4,18 @@ use Rattle.report.proofs.Reporting.{puts-over}
 use Rattle.report.proofs.report.Statement.{statement}
 use Rattle.report.proofs.report.Tie as tie
 
+no-words-requires : tie.Need-no-words-requires
+no-words-requires c κs = search needs
+
+slice-aggregate-put-report : tie.Need-slice-aggregate-put-report
+slice-aggregate-put-report c = search needs
+
 put-report-requires : tie.Need-put-report-requires
 put-report-requires c κs = search needs
 
 returns : tie.Need-returns
-returns c = let p = puts-over _ _ _ _ (c .put-report .ensures) in record { counted = p .0; fits = p .2; bytes = p .1 }
+returns c = let p = puts-over _ _ _ _ (c .before .put-report .ensures) in record { counted = p .0; fits = p .2; bytes = p .1 }
 
 pub report-spec : {M : Type 1} → statement M
-report-spec = tie.close (tie.spec put-report-requires returns)
+report-spec =
+    tie.close (tie.spec no-words-requires slice-aggregate-put-report put-report-requires returns)

@@ -9,12 +9,12 @@ use Rattle.ruleset.proofs.plan_of.Tie as tie
 planned-requires : tie.Need-planned-requires
 planned-requires c κs = search needs
 
-cast-t7 : tie.Need-cast-t7
-cast-t7 c = search needs
+cast-t8 : tie.Need-cast-t8
+cast-t8 c = search needs
 
 returns : tie.Need-returns
 unfolding RowPlanIs
-returns c = λ rules kept code h. answer-row-plan rules _ kept code h _ _ (c .before .before .before .planned .ensures)
+returns c = λ rules kept code h. answer-row-plan rules _ kept code h _ _ _ (c .before .before .before .planned .ensures)
 
 pub plan-of-spec : {M : Type 1} → statement M
-plan-of-spec = tie.close (tie.spec planned-requires cast-t7 returns)
+plan-of-spec = tie.close (tie.spec planned-requires cast-t8 returns)

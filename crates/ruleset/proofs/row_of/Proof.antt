@@ -24,7 +24,7 @@ first-row-requires c κs = may-run _ _ _ _ (c .before .before .before .before .p
 
 returns : tie.Need-returns
 unfolding FirstRowIs
-returns c = λ rules kept h. answer-first-row rules _ kept _ h _ (c .first-row .ensures)
+returns c = λ rules kept h. answer-first-row rules _ kept _ h _ _ (c .first-row .ensures)
 
 pub row-of-spec : {M : Type 1} → statement M
 row-of-spec = tie.close (tie.spec array-share-prefix-ends slice-aggregate-first-row first-row-requires returns)

@@ -26,7 +26,7 @@ returns c =
     let none = not-true _ (sym (c .before .is-empty .ensures) ∙ c .if1 .taken) in (
       s .pre .3,
       λ g serving. walk-ends (λ h. WordsTested h (a .upper .now) (a .row)) (a .cut .k) (a .row) (a .cut .w) (a .cut .r) (words .result)
-          (words .ensures .1) _ _ (walk-starts _ _ _ _ _ _) (omega arith) (λ j l m. none-elim (mem (words .result)) none (below-intro room j m)) g,
+          (words .ensures .1 _) _ _ (walk-starts _ _ _ _ _ _) (omega arith) (λ j l m. none-elim (mem (words .result)) none (below-intro room j m)) g,
     )
 
 add-judged : tie.Need-add-judged
@@ -46,7 +46,7 @@ returns-2 c =
       c .in-words .ensures .0,
       λ g serving tests. c .in-words .ensures .1 g (
         rows-judged g _ (p .1) serving _ _ (p .2) (c .before .before .before .before .judged .ensures .1),
-        c .before .before .before .before .before .before .before .before .words-left .ensures .1 g tests,
+        c .before .before .before .before .before .before .before .before .words-left .ensures .1 _ g tests,
       ),
     )
 

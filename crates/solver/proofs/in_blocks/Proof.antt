@@ -8,6 +8,7 @@ use Rattle.evalset.specs.Sets.{room, mem}
 use Rattle.evalset.proofs.Walk.{Step, step}
 use Rattle.search.specs.Rows.{rowBits}
 use Rattle.pairing.specs.Words.{Serving}
+use Rattle.search.specs.declared.Chart.{Chart}
 use Rattle.solver.specs.declared.Cut.{Cut}
 use Rattle.solver.specs.Tree.{Lent, Given}
 use Rattle.solver.proofs.Under.{words-judged, left-refuted}
@@ -16,16 +17,16 @@ use Rattle.solver.proofs.in_blocks.Statement.{statement}
 use Rattle.solver.proofs.in_blocks.Tie as tie
 
 -- what is known of the list
-abbrev Known : {code ends : List ℕ} {cut : Cut} → List ℕ → Given code ends cut → Type 0
-Known list g = Serving (g .names) (g .atoms) list
+abbrev Known : {code ends : List ℕ} {chart : Chart} {cut : Cut} → List ℕ → Given code ends chart cut → Type 0
+Known {chart = chart} list g = Serving (chart .names) (g .atoms) list
 
 abbrev Inv-loop : tie.InvT-loop
-Inv-loop code ends list cut stack₀ leaves₀ upper rest₀ at₀ stack leaves rest at =
-    Walked {code = code} {ends = ends} {cut = cut} (Known list) 0 0 (cut .k) (cut .w + cut .r) rest₀ rest at
+Inv-loop code ends list chart cut stack₀ leaves₀ upper rest₀ at₀ stack leaves rest at =
+    Walked {code = code} {ends = ends} {chart = chart} {cut = cut} (Known list) 0 0 (cut .k) (cut .w + cut .r) rest₀ rest at
     × Lent cut leaves stack
 
 abbrev μ-loop : tie.MeasureT-loop
-μ-loop code ends list cut stack₀ leaves₀ upper rest₀ at₀ stack leaves rest at = room - at
+μ-loop code ends list chart cut stack₀ leaves₀ upper rest₀ at₀ stack leaves rest at = room - at
 
 -- the block that was taken
 taken : (c : tie.After-known-told Inv-loop μ-loop)
@@ -39,7 +40,7 @@ taken c =
 turned : (c : tie.After-block Inv-loop μ-loop)
     → let k = c .before .before .before .before .before .before .before .before .before in
     let a = k .before .before .before .before .before .before .before .before .before .args in
-    Turn {code = a .code .now} {ends = a .ends .now} {cut = a .cut} (Known (a .list .now)) 0 0 (a .cut .k) (a .cut .w + a .cut .r)
+    Turn {code = a .code .now} {ends = a .ends .now} {chart = a .chart} {cut = a .cut} (Known (a .list .now)) 0 0 (a .cut .k) (a .cut .w + a .cut .r)
     (k .before .unrefuted .result) (k .loop .rest) (c .before .before .before .before .before .e .given .0 .0) (c .block .result)
 turned c =
     let t = c .before .before .before .before in
@@ -89,7 +90,7 @@ block-requires : tie.Need-block-requires Inv-loop μ-loop
 block-requires c κs =
     let k = c .before .before .before .before .before .before .before .before in
     let p = k .before .before .before .before .before .before .before .before .before .pre in
-    (p .0, p .1, k .before .unrefuted .ensures .low _ (taken (c .before .before .before) .passes), k .loop .inv .1)
+    (p .0, p .1, k .before .unrefuted .ensures .low _ (taken (c .before .before .before) .passes), k .loop .inv .1, p .2)
 
 enum-told-2 : tie.Need-enum-told-2 Inv-loop μ-loop
 enum-told-2 c = search needs

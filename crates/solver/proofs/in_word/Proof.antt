@@ -24,7 +24,7 @@ judged-requires c κs = search needs
 word-requires : tie.Need-word-requires
 word-requires c κs =
     let s = c .before .before .before .before .before .before .before .before .before .before in
-    (s .pre .0, s .pre .1 .fits, pow-pos (s .args .cut .k), pow-pos (s .args .cut .w), (c .before .before .before .before .before .word-leaves .ensures, refl))
+    (s .pre .0, s .pre .1 .fits, pow-pos (s .args .cut .k), pow-pos (s .args .cut .w), (c .before .before .before .before .before .word-leaves .ensures, refl), s .pre .3)
 
 returns : tie.Need-returns
 returns c = λ g serving.

@@ -7,6 +7,7 @@ use borrow.Author.Needs.{needs}
 use Rattle.evalset.specs.declared.EvalSet.{EvalSet}
 use Rattle.evalset.specs.Sets.{room, mem}
 use Rattle.evalset.proofs.Walk.{Step, step}
+use Rattle.search.specs.declared.Chart.{Chart}
 use Rattle.solver.specs.declared.Cut.{Cut}
 use Rattle.solver.specs.Tree.{Lent, Given, RowsTested, Left}
 use Rattle.solver.proofs.Steps.{Walked, Turn, walk-starts, walk-ends, walk-stops, turn}
@@ -14,16 +15,16 @@ use Rattle.solver.proofs.in_words.Statement.{statement}
 use Rattle.solver.proofs.in_words.Tie as tie
 
 -- what is known of the block
-abbrev Known : {code ends : List ℕ} {cut : Cut} → List ℕ → ℕ → EvalSet → Given code ends cut → Type 0
+abbrev Known : {code ends : List ℕ} {chart : Chart} {cut : Cut} → List ℕ → ℕ → EvalSet → Given code ends chart cut → Type 0
 Known {cut = cut} table row words g = RowsTested g table row × Left g (cut .k) row (cut .w) words
 
 abbrev Inv-loop : tie.InvT-loop
-Inv-loop code ends leaves₀ stack₀ table cut row rest₀ at₀ leaves stack rest at =
-    Walked {code = code} {ends = ends} {cut = cut} (Known table row rest₀) (cut .k) row (cut .w) (cut .r) rest₀ rest at
+Inv-loop code ends leaves₀ stack₀ table chart cut row rest₀ at₀ leaves stack rest at =
+    Walked {code = code} {ends = ends} {chart = chart} {cut = cut} (Known table row rest₀) (cut .k) row (cut .w) (cut .r) rest₀ rest at
     × Lent cut leaves stack
 
 abbrev μ-loop : tie.MeasureT-loop
-μ-loop code ends leaves₀ stack₀ table cut row rest₀ at₀ leaves stack rest at = room - at
+μ-loop code ends leaves₀ stack₀ table chart cut row rest₀ at₀ leaves stack rest at = room - at
 
 -- the word that was taken
 taken : (c : tie.After-known-told Inv-loop μ-loop)
@@ -37,7 +38,7 @@ taken c =
 turned : (c : tie.After-word Inv-loop μ-loop)
     → let k = c .before .before .before .before .before .before .before .before in
     let a = k .before .before .before .args in
-    Turn {code = a .code .now} {ends = a .ends .now} {cut = a .cut} (Known (a .table .now) (a .row) (a .words)) (a .cut .k) (a .row) (a .cut .w)
+    Turn {code = a .code .now} {ends = a .ends .now} {chart = a .chart} {cut = a .cut} (Known (a .table .now) (a .row) (a .words)) (a .cut .k) (a .row) (a .cut .w)
     (a .cut .r) (a .words) (k .loop .rest) (c .before .before .before .before .e .given .0 .0) (c .word .result)
 turned c =
     let k = c .before .before .before .before .before .before .before .before in
@@ -64,7 +65,7 @@ returns c =
 word-requires : tie.Need-word-requires Inv-loop μ-loop
 word-requires c κs =
     let p = c .before .before .before .before .before .before .before .before .before .before .pre in
-    (p .0, p .1, p .2, p .3 _ (taken (c .before .before) .passes), c .before .before .before .before .before .before .before .loop .inv .1)
+    (p .0, p .1, p .2, p .3 _ (taken (c .before .before) .passes), c .before .before .before .before .before .before .before .loop .inv .1, p .5)
 
 enum-told-2 : tie.Need-enum-told-2 Inv-loop μ-loop
 enum-told-2 c = search needs

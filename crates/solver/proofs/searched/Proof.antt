@@ -54,7 +54,7 @@ same-length-2 c = search needs
 returns : tie.Need-returns
 returns c =
     let listed = c .before .before .before .before .before .before .before .before .before .before .before .before in
-    root-first _ _ _ _ _ _ _ _ _ (listed .before .before .before .before .contacts-of .ensures) (listed .words-of .ensures) (c .before .before .before .before .before .cut-of .ensures)
+    root-first _ _ _ _ _ _ _ _ _ _ (listed .before .before .before .before .contacts-of .ensures) (listed .words-of .ensures) (c .before .before .before .before .before .cut-of .ensures)
     (c .in-word .ensures)
 
 sub-in-blocks : tie.Need-sub-in-blocks
@@ -78,7 +78,7 @@ same-length-4 c = search needs
 returns-2 : tie.Need-returns-2
 returns-2 c =
     let listed = c .before .before .before .before .before .before .before .before .before .before .before .before in
-    root-first _ _ _ _ _ _ _ _ _ (listed .before .before .before .before .contacts-of .ensures) (listed .words-of .ensures) (c .before .before .before .before .before .cut-of .ensures)
+    root-first _ _ _ _ _ _ _ _ _ _ (listed .before .before .before .before .contacts-of .ensures) (listed .words-of .ensures) (c .before .before .before .before .before .cut-of .ensures)
     (c .in-blocks .ensures)
 
 pub searched-spec : {M : Type 1} → statement M

@@ -3,7 +3,7 @@ use mathlib.Core.Path.{refl, _∙_, subst}
 use Prim.Native.Nat.{ℕ, _+_, _*_, _%_, _^_, _<_}
 use native.Mathlib.Omega.{arith}
 use borrow.Author.Needs.{needs}
-use Rattle.solver.specs.Tree.{Finds}
+use Rattle.solver.specs.Tree.{Finds, ChosenSays}
 use Rattle.solver.proofs.Places.{row-small, start-is, start-small, next-is, next-fits, low-small}
 use Rattle.solver.proofs.Under.{tested-below, word-first}
 use Rattle.solver.proofs.word.Statement.{statement}
@@ -46,10 +46,13 @@ tested-requires c κs =
     let s = c .before .before .before .before .before .before .before .before .before .before in
     (low-small (s .args .cut .w + s .args .cut .r) _ (omega arith) (c .low-bits .ensures), small s)
 
-answer-requires : tie.Need-answer-requires
-answer-requires c κs = small (c .before .before .before .before .before .before .before .before .before .before .before)
+chosen-requires : tie.Need-chosen-requires
+chosen-requires c κs =
+    let s = c .before .before .before .before .before .before .before .before .before .before .before in
+    (small s, s .pre .5)
 
 returns : tie.Need-returns
+unfolding ChosenSays
 returns c =
     let s = c .before .before .before .before .before .before .before .before .before .before .before .before in
     let a = s .args in
@@ -57,8 +60,8 @@ returns c =
     let z = next-is (cut .k) (cut .w) (a .row) (omega arith) (s .pre .2) (a .e) (s .pre .3) in
     let set = c .before .before .before .before .whole-candidates in (
       (set .ensures .0, set .ensures .1),
-      λ g tests. subst (λ (n : ℕ). Finds g (cut .k + cut .w) n (cut .r) (c .answer .result)) z
-          (c .answer .ensures
+      λ g tests. subst (λ (n : ℕ). Finds g (cut .k + cut .w) n (cut .r) (c .chosen .result)) z
+          (c .chosen .ensures (g .atoms) (g .compiled)
           ∙ word-first g (cut .k + cut .w) _ (cut .r) _ _ _ _ (tested-below g _ _ _ _ (cut .k) (a .row) (cut .w) (cut .r) tests (a .e) _ _ (s .pre .3) refl z) _ _
           (c .before .before .low-bits .ensures) (start-is (cut .k + cut .w) (cut .r) _ (omega arith) (fits s)) (omega arith) (fits s) (g .counted) (set .result) _
           (set .ensures .2) (c .before .tested .ensures)),
@@ -76,5 +79,5 @@ word-spec =
     add-low-bits
     low-bits-requires
     tested-requires
-    answer-requires
+    chosen-requires
     returns)

@@ -5,6 +5,7 @@ use mathlib.Mathlib.Logic.Function.Defs.{congr-fun}
 use Prim.Native.Nat.{_+_}
 use native.Mathlib.Omega.{arith}
 use borrow.Author.Needs.{needs}
+use Rattle.search.specs.declared.Chart.{Chart}
 use Rattle.solver.specs.Tree.{Low, Given, WordsTested, Left}
 use Rattle.solver.proofs.Places.{start-is, start-small, low-small}
 use Rattle.solver.proofs.Blocks.{rows-are}
@@ -16,13 +17,13 @@ use Rattle.solver.proofs.words_left.Tie as tie
 passing : (c : tie.After-tested)
     → let a = c .before .before .before .before .before .before .before .before .before .args in
     Low (a .cut .w) (c .tested .result)
-    × ((g : Given (a .code .now) (a .ends .now) (a .cut)) → WordsTested g (a .upper .now) (a .row) → Left g (a .cut .k) (a .row) (a .cut .w) (c .tested .result))
+    × ((chart : Chart) (g : Given (a .code .now) (a .ends .now) chart (a .cut)) → WordsTested g (a .upper .now) (a .row) → Left g (a .cut .k) (a .row) (a .cut .w) (c .tested .result))
 passing c =
     let s = c .before .before .before .before .before .before .before .before .before in
     let cut = s .args .cut in
     let rows = rows-are (cut .w) _ _ _ (omega arith) (c .before .before .below .ensures) (c .tested .ensures) in (
       rows .low,
-      λ g tests. left-tested g (cut .k) (s .args .row) (cut .w) _ _ _ _ tests _ _ (c .before .before .before .low-bits .ensures)
+      λ chart g tests. left-tested g (cut .k) (s .args .row) (cut .w) _ _ _ _ tests _ _ (c .before .before .before .low-bits .ensures)
           (start-is (cut .k) (cut .w) (s .args .row) (omega arith) (s .pre .2)) _ rows,
     )
 
@@ -66,7 +67,7 @@ returns-2 : tie.Need-returns-2
 returns-2 c =
     let p = passing (c .before .before .before .before) in (
       λ e h. p .0 e (and-eq-true-iff _ _ .0 (sym (congr-fun (c .meet .ensures) e) ∙ h) .0),
-      λ g tests. left-meet g _ _ _ _ _ _ (c .meet .ensures) (p .1 g tests) (left-refuted g _ _ _ _ (c .before .unrefuted .ensures)),
+      λ chart g tests. left-meet g _ _ _ _ _ _ (c .meet .ensures) (p .1 chart g tests) (left-refuted g _ _ _ _ (c .before .unrefuted .ensures)),
     )
 
 pub words-left-spec : {M : Type 1} → statement M

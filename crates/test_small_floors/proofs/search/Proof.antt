@@ -5,10 +5,10 @@ use Rattle.test_small_floors.proofs.search.Statement.{statement}
 use Rattle.test_small_floors.proofs.search.Tie as tie
 
 abbrev Inv-loop : tie.InvT-loop
-Inv-loop code numbers names all found₀ points₀ found points = Unit {0}
+Inv-loop code numbers names building all found₀ points₀ found points = Unit {0}
 
 abbrev μ-loop : tie.MeasureT-loop
-μ-loop code numbers names all found₀ points₀ found points = all - points
+μ-loop code numbers names building all found₀ points₀ found points = all - points
 
 evaluations-requires : tie.Need-evaluations-requires Inv-loop μ-loop
 evaluations-requires c κs = search needs

@@ -19,6 +19,9 @@ loop-holds c = search needs
 floor-of-requires : tie.Need-floor-of-requires Inv-loop μ-loop
 floor-of-requires c κs = search needs
 
+is-asked-for-requires : tie.Need-is-asked-for-requires Inv-loop μ-loop
+is-asked-for-requires c κs = search needs
+
 on-floor-requires : tie.Need-on-floor-requires Inv-loop μ-loop
 on-floor-requires c κs = search needs
 
@@ -46,6 +49,7 @@ with-floors-spec =
     floors-on-requires
     loop-holds
     floor-of-requires
+    is-asked-for-requires
     on-floor-requires
     with-floor-requires
     add-contacts

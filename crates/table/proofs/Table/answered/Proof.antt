@@ -1,21 +1,22 @@
--- `table::Table::ask` meets its contract: the rules are compiled, the search finds the first row or none, and its plan is written. Assumes nothing.
+-- `table::Table::answered` meets its contract: the rules are compiled, the search finds the first row or none, and its plan is written. Assumes nothing.
 use borrow.Author.Needs.{needs}
 use mathlib.Core.Path.{_≡_, refl, sym, ap, _∙_}
 use mathlib.Core.List.{[], _∷_}
 use Rattle.plan.specs.Arrays.{planBy}
 use Rattle.ruleset.specs.Texts.{CompiledRules}
 use Rattle.ruleset.proofs.Claims.{none-given, plan-given}
+use Rattle.search.specs.Asked.{questionOf}
 use Rattle.table.specs.Store.{rulesOf}
 use Rattle.table.specs.declared.AskAnswer.{AskAnswer}
 use Rattle.table.specs.Calls.{formulasOf}
 use Rattle.table.specs.Asking.{Asks}
 use Rattle.table.proofs.Compiled.{reached-all}
 use Rattle.table.proofs.Asking.{askResult, asks-none, asks-some, writtenAnswer, wrote-plan}
-use Rattle.table.proofs.Table.ask.Statement.{statement}
-use Rattle.table.proofs.Table.ask.Tie as tie
+use Rattle.table.proofs.Table.answered.Statement.{statement}
+use Rattle.table.proofs.Table.answered.Tie as tie
 
 returns : tie.Need-returns
-returns c = asks-none _ (c .before .before .pre) _ (c .if1 .taken)
+returns c = asks-none _ _ (c .before .before .pre) _ (c .if1 .taken)
 
 searched-requires : tie.Need-searched-requires
 searched-requires c κs = search needs
@@ -33,8 +34,8 @@ enum-told c = search needs
 returns-2 : tie.Need-returns-2
 returns-2 c =
     let t = c .before .before .before .before .before .before .args .self in
-    asks-some t (c .before .before .before .before .before .before .pre) _ (c .before .before .before .before .if1 .left) []
-    (none-given (formulasOf (rulesOf t)) _ _ _ (all-compiled (c .before .before .before)) _ (c .before .before .before .searched .ensures .first) (c .enum-told .given .1)) _ _ refl refl
+    asks-some _ t (c .before .before .before .before .before .before .pre) _ (c .before .before .before .before .if1 .left) []
+    (none-given (formulasOf (rulesOf t)) _ _ _ (all-compiled (c .before .before .before)) _ _ (c .before .before .before .searched .ensures .first) (c .enum-told .given .1)) _ _ refl refl
 
 plan-of-requires : tie.Need-plan-of-requires
 plan-of-requires c κs = search needs
@@ -47,13 +48,13 @@ abbrev start : tie.After-slice-known2 → tie.Start
 start c = c .before .before .before .before .before .before .before .before .before .before .before .before
 
 wrote : (c : tie.After-slice-known2) (a : AskAnswer) → writtenAnswer (c .before .before .write-plan .result) ≡ a
-    → Asks (start c .args .self) (start c .args .buffer .now) (askResult (start c .args .self) a) (c .before .before .write-plan .last .1 .0)
+    → Asks (questionOf (start c .args .asked)) (start c .args .self) (start c .args .buffer .now) (askResult (start c .args .self) a) (c .before .before .write-plan .last .1 .0)
 wrote c a e =
     let t = start c .args .self in
     let plan = c .before .before .before .before .plan-of .result in
     let out = wrote-plan plan (start c .args .buffer .now) (c .before .before .write-plan .result) (c .before .before .write-plan .last .1 .0) (c .before .before .write-plan .ensures) in
-    asks-some t (start c .pre) _ (c .before .before .before .before .before .before .before .before .before .before .if1 .left) (planBy plan ∷ [])
-    (plan-given (formulasOf (rulesOf t)) _ _ _ (all-compiled (c .before .before .before .before .before .before .before .before .before)) _ _ _ (c .before .before .before .before .before .before .before .before .before .searched .ensures .first) (c .before .before .before .before .before .before .found .given .1) (c .before .before .before .before .plan-of .ensures)) _ _ (sym e ∙ out .0) (out .1)
+    asks-some _ t (start c .pre) _ (c .before .before .before .before .before .before .before .before .before .before .if1 .left) (planBy plan ∷ [])
+    (plan-given (formulasOf (rulesOf t)) _ _ _ (all-compiled (c .before .before .before .before .before .before .before .before .before)) _ _ _ _ (c .before .before .before .before .before .before .before .before .before .searched .ensures .first) (c .before .before .before .before .before .before .found .given .1) (c .before .before .before .before .plan-of .ensures)) _ _ (sym e ∙ out .0) (out .1)
 
 enum-known-written : tie.Need-enum-known-written
 enum-known-written c = search needs
@@ -73,8 +74,8 @@ same-length-2 c = search needs
 returns-4 : tie.Need-returns-4
 returns-4 c = wrote (c .before .before .before) _ (ap writtenAnswer (c .before .written2 .given .1))
 
-pub ask-spec : {M : Type 1} → statement M
-ask-spec =
+pub answered-spec : {M : Type 1} → statement M
+answered-spec =
     tie.close
     (tie.spec
     returns

@@ -1,0 +1,95 @@
+-- `building::main` is safe: what was read is a part of the sheet, and the text a part of its buffer. Assumes nothing.
+use borrow.Author.Needs.{needs}
+use Prim.Native.Nat.{_≤_}
+use mathlib.Core.Path.{sym, subst}
+use native.Mathlib.Omega.{arith}
+use lib.ListN.{length}
+use lib.Seq.{length-take-le}
+use Rattle.reading.specs.Reading.{Within}
+use Rattle.building.proofs.main.Statement.{statement}
+use Rattle.building.proofs.main.Tie as tie
+
+-- what was read is within the sheet
+read-within : (c : tie.After-got) → c .got .given .0 .0 ≤ length (c .before .before .before .read-sheet .last .0)
+read-within c = omega (arith, subst (Within 0 _) (c .got .given .1) (c .before .before .before .read-sheet .ensures))
+
+no-bytes-requires : tie.Need-no-bytes-requires
+no-bytes-requires c κs = search needs
+
+slice-aggregate-read-sheet : tie.Need-slice-aggregate-read-sheet
+slice-aggregate-read-sheet c = search needs
+
+read-sheet-requires : tie.Need-read-sheet-requires
+read-sheet-requires c κs = search needs
+
+enum-known-got : tie.Need-enum-known-got
+enum-known-got c = search needs
+
+enum-told : tie.Need-enum-told
+enum-told c = search needs
+
+slice-aggregate-fail : tie.Need-slice-aggregate-fail
+slice-aggregate-fail c = search needs
+
+fail-requires : tie.Need-fail-requires
+fail-requires c κs = search needs
+
+returns : tie.Need-returns
+returns c = search needs
+
+no-building-text-requires : tie.Need-no-building-text-requires
+no-building-text-requires c κs = search needs
+
+array-share-prefix-sheet : tie.Need-array-share-prefix-sheet
+array-share-prefix-sheet c = read-within (c .before .before)
+
+slice-aggregate-report-building : tie.Need-slice-aggregate-report-building
+slice-aggregate-report-building c = sym (length-take-le _ _ (read-within (c .before .before .before)))
+
+report-building-requires : tie.Need-report-building-requires
+report-building-requires c κs = search needs
+
+array-share-prefix-text : tie.Need-array-share-prefix-text
+array-share-prefix-text c = search needs
+
+slice-aggregate-write-all : tie.Need-slice-aggregate-write-all
+slice-aggregate-write-all c = sym (length-take-le _ _ (c .before .report-building .ensures .fits))
+
+write-all-requires : tie.Need-write-all-requires
+write-all-requires c κs = search needs
+
+slice-aggregate-fail-2 : tie.Need-slice-aggregate-fail-2
+slice-aggregate-fail-2 c = search needs
+
+fail-requires-2 : tie.Need-fail-requires-2
+fail-requires-2 c κs = search needs
+
+returns-2 : tie.Need-returns-2
+returns-2 c = search needs
+
+returns-3 : tie.Need-returns-3
+returns-3 c = search needs
+
+pub main-spec : {M : Type 1} → statement M
+main-spec =
+    tie.close
+    (tie.spec
+    no-bytes-requires
+    slice-aggregate-read-sheet
+    read-sheet-requires
+    enum-known-got
+    enum-told
+    slice-aggregate-fail
+    fail-requires
+    returns
+    no-building-text-requires
+    array-share-prefix-sheet
+    slice-aggregate-report-building
+    report-building-requires
+    array-share-prefix-text
+    slice-aggregate-write-all
+    write-all-requires
+    slice-aggregate-fail-2
+    fail-requires-2
+    returns-2
+    returns-3)
