@@ -1,4 +1,5 @@
 pub mod Classes
+pub mod Blanks
 pub mod Runs
 pub mod Signs
 pub mod Longest

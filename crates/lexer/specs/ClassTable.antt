@@ -1,4 +1,4 @@
--- What is computed: the classes of the 256 byte values as numbers in a table. Assumes nothing.
+-- What is computed: the classes of the byte values below 128 as numbers in a table. Assumes nothing.
 use mathlib.Core.Path.{_≡_}
 use mathlib.Core.List.{List}
 use Prim.Native.Nat.{ℕ, _<_}
@@ -14,6 +14,6 @@ classNumber Class.Alphanumeric = 1
 classNumber Class.Sign = 2
 classNumber Class.Foreign = 3
 
--- a table that has the class of each of the 256 byte values
+-- a table that has the class of each byte value below 128
 pub record ClassTable (table : List ℕ) : Type 0 where
-  pub right : (b : ℕ) → b < 256 → getD table b 0 ≡ classNumber (classOf b)
+  pub right : (b : ℕ) → b < 128 → getD table b 0 ≡ classNumber (classOf b)

@@ -6,7 +6,8 @@ ghost use mathlib.Core.Path.{_≡_};
 ghost use mathlib.Core.List.{[]};
 ghost use Prim.Native.Nat.{_+_, _≤_, _<_};
 ghost use lib.ListN.{length, getD, drop, replicate};
-ghost use Rattle.lexer.specs.Class.{classOf};
+ghost use Rattle.lists.specs.Search.{all};
+ghost use Rattle.lexer.specs.Class.{isBlank, classOf};
 ghost use Rattle.lexer.specs.Spelling.{constantKind};
 ghost use Rattle.lexer.specs.ClassTable.{ClassTable};
 ghost use Rattle.lexer.specs.Cutter.{inRun, runLength, runPiece, pieceOf, cutting};
@@ -79,8 +80,8 @@ pub struct Lexed {
     pub tokens: Tokens,
 }
 
-// 0 blank, 1 letter or digit, 2 sign, 3 foreign.
-const CLASS: [u8; 256] = [
+// The classes of the byte values below 128: 0 blank, 1 letter or digit, 2 sign, 3 foreign.
+const CLASS: [u8; 128] = [
     3,
     3,
     3,
@@ -208,150 +209,25 @@ const CLASS: [u8; 256] = [
     2,
     3,
     2,
-    3,
-    3,
-    3,
-    3,
-    3,
-    3,
-    3,
-    3,
-    3,
-    3,
-    3,
-    3,
-    3,
-    3,
-    3,
-    3,
-    3,
-    3,
-    3,
-    3,
-    3,
-    3,
-    3,
-    3,
-    3,
-    3,
-    3,
-    3,
-    3,
-    3,
-    3,
-    3,
-    3,
-    3,
-    3,
-    3,
-    3,
-    3,
-    3,
-    3,
-    3,
-    3,
-    3,
-    3,
-    3,
-    3,
-    3,
-    3,
-    3,
-    3,
-    3,
-    3,
-    3,
-    3,
-    3,
-    3,
-    3,
-    3,
-    3,
-    3,
-    3,
-    3,
-    3,
-    3,
-    3,
-    3,
-    3,
-    3,
-    3,
-    3,
-    3,
-    3,
-    3,
-    3,
-    3,
-    3,
-    3,
-    3,
-    3,
-    3,
-    3,
-    3,
-    3,
-    3,
-    3,
-    3,
-    3,
-    3,
-    3,
-    3,
-    3,
-    3,
-    3,
-    3,
-    3,
-    3,
-    3,
-    3,
-    3,
-    3,
-    3,
-    3,
-    3,
-    3,
-    3,
-    3,
-    3,
-    3,
-    3,
-    3,
-    3,
-    3,
-    3,
-    3,
-    3,
-    3,
-    3,
-    3,
-    3,
-    3,
-    3,
-    3,
-    3,
-    3,
-    3,
-    3,
-    3,
-    3,
     3,
 ];
 
 // The constant table as a value: each use of the constant lays it out anew, so that a function
 // that classes many bytes takes it once and lends it.
-fn class_table() -> [u8; 256]
+fn class_table() -> [u8; 128]
     ensures { λ r. ⌜ ClassTable r ⌝ }
 {
     CLASS
 }
 
-// The class of a byte by the table.
-fn class_in(table: &[u8; 256], b: u8) -> Class
+// The class of a byte: foreign from 128 on, and by the table below.
+fn class_in(table: &[u8; 128], b: u8) -> Class
     requires { ⌜ ClassTable (now table) ⌝ }
     ensures { λ r. ⌜ r ≡ classOf b ⌝ }
 {
+    if 128 <= b {
+        return Class::Foreign;
+    }
     let i = b as usize;
     match table[i] {
         0 => Class::Blank,
@@ -361,12 +237,20 @@ fn class_in(table: &[u8; 256], b: u8) -> Class
     }
 }
 
-// The class of a byte.
-pub fn class_of(b: u8) -> Class
-    ensures { λ r. ⌜ r ≡ classOf b ⌝ }
+// Whether every byte of a text is blank.
+pub fn all_blank(text: &[u8]) -> bool
+    ensures { λ r. ⌜ r ≡ all isBlank (now (text .entry)) ⌝ }
 {
     let table = class_table();
-    class_in(&table, b)
+    let mut i: usize = 0;
+    while i < text.len() {
+        let k = class_in(&table, text[i]);
+        let Class::Blank = k else {
+            return false;
+        };
+        i += 1;
+    }
+    true
 }
 
 // The numbers of the kinds of tokens, as `codeOf` has them.
@@ -539,7 +423,7 @@ fn constant(b: u8) -> Kind
 }
 
 // Whether a byte belongs to a run: its class alone decides.
-fn in_run(table: &[u8; 256], b: u8) -> bool
+fn in_run(table: &[u8; 128], b: u8) -> bool
     requires { ⌜ ClassTable (now table) ⌝ }
     ensures { λ r. ⌜ r ≡ inRun (classOf b) ⌝ }
 {
@@ -553,7 +437,7 @@ fn in_run(table: &[u8; 256], b: u8) -> bool
 }
 
 // The place where the run of letters and digits ends that goes on, or not, at a place.
-fn run_end(text: &[u8], table: &[u8; 256], at: usize) -> usize
+fn run_end(text: &[u8], table: &[u8; 128], at: usize) -> usize
     requires { ⌜ (at ≤ length (now text)) × ClassTable (now table) ⌝ }
     ensures { λ r. ⌜ r ≡ at + runLength (drop at (now (text .entry))) ⌝ }
 {
@@ -569,7 +453,7 @@ fn run_end(text: &[u8], table: &[u8; 256], at: usize) -> usize
 }
 
 // The name or constant that stands at a place, whose byte a is a letter or digit.
-fn run(text: &[u8], table: &[u8; 256], at: usize, a: u8) -> Piece
+fn run(text: &[u8], table: &[u8; 128], at: usize, a: u8) -> Piece
     requires { ⌜ (at < length (now text)) × ClassTable (now table) × (a ≡ getD (now text) at 0) × (classOf a ≡ Class.Alphanumeric) ⌝ }
     ensures { λ r. ⌜ r ≡ runPiece (drop at (now (text .entry))) ⌝ }
 {
@@ -585,7 +469,7 @@ fn run(text: &[u8], table: &[u8; 256], at: usize, a: u8) -> Piece
 }
 
 // What stands first from a place on.
-fn piece_at(text: &[u8], table: &[u8; 256], at: usize) -> Piece
+fn piece_at(text: &[u8], table: &[u8; 128], at: usize) -> Piece
     requires { ⌜ (at < length (now text)) × ClassTable (now table) ⌝ }
     ensures { λ r. ⌜ r ≡ pieceOf (drop at (now (text .entry))) ⌝ }
 {

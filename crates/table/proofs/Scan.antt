@@ -1,6 +1,6 @@
 -- One turn of each scan over a slice: a list from a place on is its element there and the rest. Assumes nothing.
 use Prim.Native.Nat.{ℕ, suc, _+_, _-_, _≤_, _<_}
-use mathlib.Core.Path.{_≡_, refl, sym, ap, _∙_}
+use mathlib.Core.Path.{_≡_, refl, sym, ap, _∙_, fun-ext}
 use mathlib.Core.List.{List, [], _∷_, _++_, append-assoc, append-nil}
 use mathlib.Core.Bool.{Bool, true, false, cond}
 use native.Mathlib.Omega.{arith}
@@ -8,22 +8,17 @@ use lib.ListN.{length, take, drop, getD, drop-of-length-le, length-drop}
 use lib.Seq.{getD-drop, take-suc}
 use lib.Dec.{eqb}
 use borrow.Author.Tests.{eq-eqb, ne-eqb, le-leb, lt-leb}
+use Rattle.lists.specs.Search.{all}
 use Rattle.lists.proofs.Lists.{rest}
-use Rattle.table.specs.Sheet.{Text, blankByte, blankLine, linesOf, onFirst}
+use Rattle.lexer.specs.Class.{isBlank}
+use Rattle.lexer.proofs.Blanks.{blank-by}
+use Rattle.table.specs.Sheet.{Text, blankClass, blankByte, blankLine, linesOf, onFirst}
 use Rattle.table.specs.Calls.{linesFrom}
 
-module _ (s : Text) (i : ℕ) (h : i < length s) where
-  pub blank-next : blankByte (getD s i 0) ≡ true → blankLine (drop i s) ≡ blankLine (drop (i + 1) s)
-  unfolding blankLine
-  blank-next k = rw (rest s i 0 h, k)
-
-  pub blank-not : blankByte (getD s i 0) ≡ false → blankLine (drop i s) ≡ false
-  unfolding blankLine
-  blank-not k = rw (rest s i 0 h, k)
-
-pub blank-end : (s : Text) (i : ℕ) → length s ≤ i → blankLine (drop i s) ≡ true
-unfolding blankLine
-blank-end s i h = rw (drop-of-length-le s h)
+-- a line is blank if each byte is: blank bytes are those of the class
+pub blank-line : (s : Text) → all isBlank s ≡ blankLine s
+unfolding blankLine blankByte
+blank-line s = ap (λ (p : ℕ → Bool). all p s) (fun-ext (blank-by blankClass refl refl refl refl))
 
 -- the lines of a rest, with p in front of the first
 abbrev pub onHead : Text → List Text → List Text

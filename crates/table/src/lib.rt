@@ -13,13 +13,12 @@ ghost use Rattle.names.specs.Gather.{arraysOf};
 ghost use Rattle.search.specs.Asked.{questionOf};
 ghost use Rattle.table.specs.Store.{keptLine, tableOf, rulesOf};
 ghost use Rattle.table.specs.Calls.{namesIn, readAnswer, linesFrom, FromUs, Adds, Withdraws, Loads};
-ghost use Rattle.table.specs.Sheet.{blankByte, blankLine, linesOf};
+ghost use Rattle.table.specs.Sheet.{blankLine, linesOf};
 ghost use Rattle.table.specs.Asking.{Asks, Judges};
 ghost use Rattle.table.specs.Printing.{Prints};
 ghost use Rattle.table.specs.Steps.{KnownTexts, Knowing, roomAdd, Tries, TextsCompiled, TextsSearched, loadResult, judgedAnswer};
 ghost use Rattle.table.specs.Numbers.{addOutcome, withdrawOutcome, onLine, CanCome, loadOutcome, askOutcome, judgeOutcome, printOutcome};
 use judging::Judged;
-use lexer::Class;
 use names::Names;
 use plan::PlanAnswer;
 use plan::Written;
@@ -192,32 +191,11 @@ fn line_of(text: &[u8]) -> Line
     Line { bytes, len }
 }
 
-// Whether a byte is blank: its class decides.
-fn blank_byte(b: u8) -> bool
-    ensures { λ r. ⌜ r ≡ blankByte b ⌝ }
-{
-    let k = lexer::class_of(b);
-    match k {
-        Class::Blank => true,
-        Class::Alphanumeric => false,
-        Class::Sign => false,
-        Class::Foreign => false,
-    }
-}
-
 // Whether every byte of a line is blank.
 fn blank_line(text: &[u8]) -> bool
     ensures { λ r. ⌜ r ≡ blankLine (now (text .entry)) ⌝ }
 {
-    let mut i: usize = 0;
-    while i < text.len() {
-        let b = blank_byte(text[i]);
-        if !b {
-            return false;
-        }
-        i += 1;
-    }
-    true
+    lexer::all_blank(text)
 }
 
 // The end of the line that starts at a place.

@@ -1,4 +1,4 @@
--- `lexer::class_table` meets its contract: the class rule is computed once over the 256 entries. Assumes nothing.
+-- `lexer::class_table` meets its contract: the class rule is computed once over the 128 entries. Assumes nothing.
 use mathlib.Core.Path.{refl}
 use Rattle.lexer.specs.Class.{classOf, isBlank, isAlphanumeric, isSign}
 use Rattle.lexer.proofs.Classes.{table-right}
