@@ -1,6 +1,6 @@
-// The test program of trees (document 02, T-06): each sheet of standard input is put to a table, its tree is written and checked, and
-// the words of a tree of up to seven are changed one by one, the last is dropped, and one is put behind them; every answer of the checker
-// is held to another that shares no code with the table.
+// The test program of trees (document 02, T-06): each sheet of standard input is put to a table, and its tree is written and checked. A
+// tree of up to seven words is also checked with each of its words changed, without its last word, and with one word more. Every answer of
+// the checker is held to another that shares no code with the table.
 //
 // A line is a sheet without a plan: its text, in which `/` is byte 10, and its form, signs before their operands and blanks anywhere. `@`
 // is before each of the different atoms, at most three, by first place, and `:` before each rule, at most three, in which these atoms are
@@ -9,6 +9,9 @@
 // The other checker works by the definitions: rules are read by Kleene's tables, and whether a floor gives the decided atoms their values
 // is found by going through the floors on the four evaluations, with all contacts; alike points can be merged, so these are all floors.
 // What disagrees is written. The file `stdout` has the counts that a separate computation gave.
+ghost use mathlib.Core.Path.{_≡_};
+ghost use Prim.Native.Nat.{_≤_};
+ghost use lib.ListN.{length};
 ghost use Rattle.table.specs.Calls.{FromUs};
 use table::CheckAnswer;
 use table::ExplainAnswer;
@@ -28,20 +31,14 @@ const TRUE: u8 = 1;
 
 const UNKNOWN: u8 = 2;
 
-// What a form is read on. A floor: its points, bit e for evaluation e, and its contacts, bit 6 for each point with itself. A branch:
-// the values of the three atoms as a number with three digits to the base 3, that of atom 0 the last.
-struct Place {
-    points: u8,
-    contacts: u8,
-    branch: usize,
-}
+// A form is read on a floor and in a branch. The floor is a number k: its points are in k / 64, bit e for evaluation e, and its contacts
+// in k % 64. The branch is a number too: the values of the three atoms, two bits each, atom 0 lowest; 42 has none decided.
 
-// The branch in which nothing is decided.
-const ROOT: usize = 26;
-
-// "C(x,y) holds if a point of x is in contact with a point of y."
-fn touching(x: u8, y: u8, contacts: u8) -> u8 {
+// "C(x,y) holds if a point of x is in contact with a point of y." The contact of the evaluations e and f is the bit in place 4 * e + f,
+// and bit 6 is that of each with itself.
+fn touching(x: u8, y: u8, floor: usize) -> u8 {
     let bits = b"6012063413652456";
+    let contacts = (floor % 64 + 64) as u8;
     let mut i: usize = 0;
     while i < 16 {
         let both = x >> (i / 4) & y >> (i % 4);
@@ -57,18 +54,9 @@ fn true_if(b: bool) -> u8 {
     if b { TRUE } else { FALSE }
 }
 
-// What an atom weighs in a branch.
-fn weight(atom: usize) -> usize {
-    match atom {
-        0 => 1,
-        1 => 3,
-        _ => 9,
-    }
-}
-
 // The value of an atom in a branch.
 fn value_in(branch: usize, atom: usize) -> u8 {
-    (branch / weight(atom) % 3) as u8
+    ((branch >> (atom % 3 * 2)) % 4) as u8
 }
 
 // The value of a rule from those of its parts, by Kleene's strong tables: for the first part false, true and unknown those with the second
@@ -90,8 +78,8 @@ fn rule_value(sign: u8, a: u8, b: u8, branch: usize) -> u8 {
 }
 
 // The points of a term, the value of an atom, or that of a rule, from those of its parts.
-fn value_of(sign: u8, a: u8, b: u8, place: Place) -> u8 {
-    let points = place.points;
+fn value_of(sign: u8, a: u8, b: u8, floor: usize, branch: usize) -> u8 {
+    let points = (floor / 64 % 16) as u8;
     match sign {
         b'0' => 0,
         b'1' => points,
@@ -100,10 +88,10 @@ fn value_of(sign: u8, a: u8, b: u8, place: Place) -> u8 {
         b'-' => points & (255 - a),
         b'*' => a & b,
         b'+' => a | b,
-        b'C' => touching(a, b, place.contacts),
+        b'C' => touching(a, b, floor),
         b'<' => true_if(a & (255 - b) == 0),
         b'Z' => true_if(a == 0),
-        _ => rule_value(sign, a, b, place.branch),
+        _ => rule_value(sign, a, b, branch),
     }
 }
 
@@ -149,7 +137,7 @@ fn with_value(r: Reading, taken: usize, value: u8) -> Reading {
 }
 
 // One sign more.
-fn step(r: Reading, sign: u8, place: Place) -> Reading {
+fn step(r: Reading, sign: u8, floor: usize, branch: usize) -> Reading {
     let a = operand(r, 0);
     let mut next = r;
     next.height = 0;
@@ -165,14 +153,16 @@ fn step(r: Reading, sign: u8, place: Place) -> Reading {
             next.refuted = r.refuted % 8 * 2 + true_if(a == FALSE) as usize * 2;
             next
         }
-        _ => with_value(r, operands(sign), value_of(sign, a, operand(r, 1), place)),
+        _ => {
+            let value = value_of(sign, a, operand(r, 1), floor, branch);
+            with_value(r, operands(sign), value)
+        }
     }
 }
 
-fn read_on(form: &[u8], place: Place) -> Reading {
-    let values = [0u8; 16];
+fn read_on(form: &[u8], floor: usize, branch: usize) -> Reading {
     let mut r = Reading {
-        values,
+        values: [0u8; 16],
         height: 0,
         atoms: 0,
         rules: 0,
@@ -181,7 +171,7 @@ fn read_on(form: &[u8], place: Place) -> Reading {
     };
     let mut i: usize = 0;
     while i < form.len() {
-        r = step(r, form[form.len() - 1 - i], place);
+        r = step(r, form[form.len() - 1 - i], floor, branch);
         i += 1;
     }
     r
@@ -192,52 +182,36 @@ fn read_on(form: &[u8], place: Place) -> Reading {
 // Whether an atom is undecided, or has the value that it has in a row.
 fn agrees(branch: usize, row: usize, atom: usize) -> bool {
     let value = value_in(branch, atom);
-    value == UNKNOWN || value == (row >> (atom % 8) & 1) as u8
+    value == UNKNOWN || value as usize == (row >> (atom % 3)) % 2
 }
 
-// "no finite plan gives the decided atoms their values": a floor has its points in k / 64 and its contacts in k % 64.
+// "no finite plan gives the decided atoms their values"
 fn floorless(form: &[u8], branch: usize) -> bool {
-    let mut k: usize = 64;
-    while k < 1024 {
-        let points = (k / 64) as u8;
-        let contacts = (k % 64 + 64) as u8;
-        let row = read_on(
-            form,
-            Place {
-                points,
-                contacts,
-                branch,
-            },
-        ).row;
-        if agrees(branch, row, 0) && agrees(branch, row, 1) && agrees(branch, row, 2) {
+    let mut floor: usize = 64;
+    while floor < 1024 {
+        let r = read_on(form, floor, branch);
+        if agrees(branch, r.row, 0) && agrees(branch, r.row, 1) && agrees(branch, r.row, 2) {
             return false;
         }
-        k += 1;
+        floor += 1;
     }
     true
 }
 
 // What a word does in a branch: it splits it on an atom, closes it, or may not stand there.
-enum Standing {
+enum Role {
     Splits(usize),
     Closes,
     Wrong,
 }
 
-fn standing(form: &[u8], branch: usize, word: u32) -> Standing {
-    let r = read_on(
-        form,
-        Place {
-            points: 0,
-            contacts: 0,
-            branch,
-        },
-    );
+fn role_of(form: &[u8], branch: usize, word: u32) -> Role {
+    let r = read_on(form, 0, branch);
     let n = (word % 0x1000_0000) as usize;
     let closes = match word / 0x1000_0000 {
         5 => {
             if n < r.atoms && value_in(branch, n) == UNKNOWN {
-                return Standing::Splits(n);
+                return Role::Splits(n);
             }
             false
         }
@@ -245,31 +219,20 @@ fn standing(form: &[u8], branch: usize, word: u32) -> Standing {
         7 => n == 0 && floorless(form, branch),
         _ => false,
     };
-    if closes {
-        Standing::Closes
-    } else {
-        Standing::Wrong
-    }
+    if closes { Role::Closes } else { Role::Wrong }
 }
 
 // The branch in which an undecided atom is true or false.
-fn decided(branch: usize, atom: usize, value: usize) -> usize {
-    let less = (2 - value % 3) * weight(atom);
-    if less <= branch {
-        branch - less
-    } else {
-        branch
-    }
+fn decided(branch: usize, atom: usize, value: u8) -> usize {
+    branch ^ (2 + value as usize % 2) << (atom % 3 * 2)
 }
 
-// An answer as one number: the index, or one that no index is for a closed tree, or for no rule.
+// An answer is a number: the index, or for a closed tree this one, which no index is.
 const CLOSED: usize = 1000;
-
-const NO_RULE: usize = 1001;
 
 // The answer by the definitions: the branches that are open wait on a stack, that with the atom true on top.
 fn judged(form: &[u8], words: &[u32]) -> usize {
-    let mut open = [ROOT; 8];
+    let mut open = [42usize; 8];
     let mut height: usize = 1;
     let mut i: usize = 0;
     while i < words.len() {
@@ -278,16 +241,16 @@ fn judged(form: &[u8], words: &[u32]) -> usize {
         }
         let top = (height - 1) % 8;
         let branch = open[top];
-        match standing(form, branch, words[i]) {
-            Standing::Splits(a) => {
-                open[top] = decided(branch, a, 0);
-                open[(top + 1) % 8] = decided(branch, a, 1);
+        match role_of(form, branch, words[i]) {
+            Role::Splits(a) => {
+                open[top] = decided(branch, a, FALSE);
+                open[(top + 1) % 8] = decided(branch, a, TRUE);
                 height = top + 2;
             }
-            Standing::Closes => {
+            Role::Closes => {
                 height = top;
             }
-            Standing::Wrong => {
+            Role::Wrong => {
                 return i;
             }
         }
@@ -298,9 +261,8 @@ fn judged(form: &[u8], words: &[u32]) -> usize {
 
 // ---- the checks
 
-// How many trees were written and how many words they have, how many lists of words were checked and how many of these are closed trees.
+// How many words the trees have, how many lists of words were checked, and how many of these are closed trees.
 struct Counts {
-    trees: usize,
     words: usize,
     lists: usize,
     closed: usize,
@@ -313,16 +275,16 @@ fn raised(n: usize, by: usize) -> usize {
 fn answer_of(a: CheckAnswer) -> usize {
     match a {
         CheckAnswer::Closed => CLOSED,
-        CheckAnswer::NoRule => NO_RULE,
+        CheckAnswer::NoRule => 1001,
         CheckAnswer::NotClosed(j) => j,
     }
 }
 
-// The table's answer to some words, held to the definitions.
-fn compared(c: Counts, t: Table, form: &[u8], words: &[u32]) -> Counts
+// The table's answer to the first n words of a buffer, held to the definitions.
+fn compared(c: Counts, t: Table, form: &[u8], buffer: [u32; 64], n: usize) -> Counts
     requires { ⌜ FromUs t ⌝ }
 {
-    let mut next = c;
+    let words = &buffer[0..n % 64];
     let r = t.check_tree(words);
     let answer = r.answer;
     let told = answer_of(answer);
@@ -334,6 +296,7 @@ fn compared(c: Counts, t: Table, form: &[u8], words: &[u32]) -> Counts
         write_labelled(b" right ", right);
         write_bytes(b"\n");
     }
+    let mut next = c;
     next.lists = raised(c.lists, 1);
     if right == CLOSED {
         next.closed = raised(c.closed, 1);
@@ -341,8 +304,8 @@ fn compared(c: Counts, t: Table, form: &[u8], words: &[u32]) -> Counts
     next
 }
 
-// The words with each of them in turn replaced by each of 50: of kinds 4 to 8, with a bit that is not named and without, and with 0 to 4
-// as the number of an atom or a rule.
+// Each of the words in turn replaced by each of 50: of kinds 4 to 8, with a bit that is not named and without, and with 0 to 4 as the
+// number of an atom or a rule.
 fn with_changes(c: Counts, t: Table, form: &[u8], tree: [u32; 64], n: usize) -> Counts
     requires { ⌜ FromUs t ⌝ }
 {
@@ -352,50 +315,58 @@ fn with_changes(c: Counts, t: Table, form: &[u8], tree: [u32; 64], n: usize) -> 
         let k = (i % 50) as u32;
         let mut words = tree;
         words[i / 50 % 64] = 0x4000_0000 + k / 10 * 0x1000_0000 + k / 5 % 2 * 0x100 + k % 5;
-        next = compared(next, t, form, &words[..n % 64]);
+        next = compared(next, t, form, words, n);
         i += 1;
     }
     next
 }
 
-// A tree; one of up to 7 words is changed, and checked without its last word and with one more, which is 0.
+// A tree; one of up to 7 words is checked with a word behind it, without its last word, and with its changes too.
 fn with_tree(c: Counts, t: Table, form: &[u8], words: [u32; 64], n: usize) -> Counts
     requires { ⌜ FromUs t ⌝ }
 {
-    let mut next = c;
-    next.trees = raised(c.trees, 1);
+    let mut next = compared(c, t, form, words, n);
     next.words = raised(c.words, n);
-    next = compared(next, t, form, &words[..n % 64]);
-    if 0 < n && n <= 7 {
-        next = with_changes(next, t, form, words, n);
-        next = compared(next, t, form, &words[..n - 1]);
-        return compared(next, t, form, &words[..n + 1]);
+    if 7 < n {
+        return next;
     }
-    next
+    next = compared(next, t, form, words, n + 1);
+    if 0 < n {
+        next = compared(next, t, form, words, n - 1);
+    }
+    with_changes(next, t, form, words, n)
 }
 
-// A sheet: its text is put to an empty table up to the form's first sign.
-fn with_sheet(c: Counts, line: &[u8]) -> Counts {
-    let mut text = no_text();
-    let mut n: usize = 0;
+// Puts a sheet's text, and answers where its form begins.
+fn put_rules(text: &mut [u8], line: &[u8]) -> usize
+    ensures { λ r. ⌜ (r ≤ length (now (line .entry))) × (length (now (text .exit)) ≡ length (now (text .entry))) ⌝ }
+{
     let mut i: usize = 0;
     while i < line.len() {
         let b = line[i];
         if b == b'@' || b == b':' {
-            let loaded = Table::empty().load(&text[..n]);
-            let mut words = [0u32; 64];
-            let r = loaded.table.explain(&mut words);
-            let answer = r.answer;
-            let ExplainAnswer::Tree(many) = answer else {
-                write_bytes(line);
-                return c;
-            };
-            return with_tree(c, r.table, &line[i..], words, many);
+            return i;
         }
-        n = put_byte(&mut text, n, if b == b'/' { b'\n' } else { b });
+        put_byte(text, i, if b == b'/' { b'\n' } else { b });
         i += 1;
     }
-    c
+    i
+}
+
+// A sheet: its text is put to an empty table.
+fn with_sheet(c: Counts, line: &[u8]) -> Counts {
+    let mut text = no_text();
+    let at = put_rules(&mut text, line);
+    let loaded = Table::empty().load(&text[0..at % 8200]);
+    let t = loaded.table;
+    let mut words = [0x6000_0001u32; 64];
+    let r = t.explain(&mut words);
+    let answer = r.answer;
+    let ExplainAnswer::Tree(n) = answer else {
+        write_bytes(line);
+        return c;
+    };
+    with_tree(c, t, &line[at..], words, n)
 }
 
 fn with_sheets(c: Counts, sheets: &[u8]) -> Counts {
@@ -403,7 +374,7 @@ fn with_sheets(c: Counts, sheets: &[u8]) -> Counts {
     let mut from: usize = 0;
     let mut i: usize = 0;
     while i < sheets.len() {
-        if sheets[i] == b'\n' {
+        if sheets[i] == b'\n' && from <= i {
             next = with_sheet(next, &sheets[from..i]);
             from = i + 1;
         }
@@ -415,17 +386,13 @@ fn with_sheets(c: Counts, sheets: &[u8]) -> Counts {
 fn main() {
     let mut sheets = io::large_buffer();
     let n = io::read_full(libc::STDIN_FILENO, &mut sheets);
-    let c = with_sheets(
-        Counts {
-            trees: 0,
-            words: 0,
-            lists: 0,
-            closed: 0,
-        },
-        &sheets[..n],
-    );
-    write_labelled(b"trees ", c.trees);
-    write_labelled(b"\ntheir words ", c.words);
+    let none = Counts {
+        words: 0,
+        lists: 0,
+        closed: 0,
+    };
+    let c = with_sheets(none, &sheets[0..n]);
+    write_labelled(b"words of trees ", c.words);
     write_labelled(b"\nlists of words checked ", c.lists);
     write_labelled(b"\nclosed trees among them ", c.closed);
     write_bytes(b"\n");
