@@ -3,8 +3,6 @@ use borrow.Author.Needs.{needs}
 use Prim.Native.Nat.{_-_}
 use Rattle.test_trees.proofs.floorless.Statement.{statement}
 use Rattle.test_trees.proofs.floorless.Tie as tie
-use Rattle.test_trees.proofs.agrees.Reads as agrees-reads
-use Rattle.test_trees.proofs.read_on.Reads as read-on-reads
 
 abbrev Inv-loop : tie.InvT-loop
 Inv-loop form branch floor₀ floor = Unit {0}

@@ -4,8 +4,6 @@ use Prim.Native.Nat.{_-_}
 use lib.ListN.{length}
 use Rattle.test_trees.proofs.judged.Statement.{statement}
 use Rattle.test_trees.proofs.judged.Tie as tie
-use Rattle.test_trees.proofs.decided.Reads as decided-reads
-use Rattle.test_trees.proofs.role_of.Reads as role-of-reads
 
 abbrev Inv-loop : tie.InvT-loop
 Inv-loop form words open₀ height₀ i₀ «open» height i = Unit {0}

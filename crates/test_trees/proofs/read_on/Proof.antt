@@ -4,7 +4,6 @@ use Prim.Native.Nat.{_-_}
 use lib.ListN.{length}
 use Rattle.test_trees.proofs.read_on.Statement.{statement}
 use Rattle.test_trees.proofs.read_on.Tie as tie
-use Rattle.test_trees.proofs.step.Reads as step-reads
 
 abbrev Inv-loop : tie.InvT-loop
 Inv-loop form floor branch r₀ i₀ r i = Unit {0}
