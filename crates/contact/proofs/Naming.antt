@@ -157,7 +157,7 @@ module _ (rules : List (Formula Name)) where
   numbers-row F = sym (row-map (numberOf rules) F (differentAtoms rules))
 
   -- and so does a floor over names, as one over numbers
-  names-row : (F : Floor Name) → map (atomOn (renamed (nameOf rules) F)) (rowAtoms rules) ≡ map (atomOn F) (differentAtoms rules)
+  pub names-row : (F : Floor Name) → map (atomOn (renamed (nameOf rules) F)) (rowAtoms rules) ≡ map (atomOn F) (differentAtoms rules)
   names-row F = sym (row-map (nameOf rules) F (rowAtoms rules)) ∙ ap (map (atomOn F)) names-back
 
   -- a floor that gives the different atoms a row that makes the rules true meets them

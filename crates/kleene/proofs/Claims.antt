@@ -1,5 +1,5 @@
 -- What the crate proves, each claim with the file that has its proof. Nothing is assumed: any formula over atom numbers, and any
--- pattern of undecided atoms. The contracts of `run` and `run_whole` are those of src/lib.rt.
+-- pattern of undecided atoms. The contracts of the runs are those of src/lib.rt.
 use mathlib.Core.Bool.{Bool, not}
 use mathlib.Core.Path.{_≡_}
 use mathlib.Core.List.{List, [], _∷_}
@@ -15,7 +15,7 @@ use Rattle.contact.specs.Row.{Three, is}
 use Rattle.contact.specs.Tableau.{kleeneValue, refuted}
 use Rattle.kleene.specs.declared.Two.{Two}
 use Rattle.kleene.specs.Code.{postfix, Safe}
-use Rattle.kleene.specs.Rails.{Duo, noOf, sure, duoOf, valueD, exec, duoAt, leafAt, wholeAt}
+use Rattle.kleene.specs.Rails.{Duo, duo, noOf, sure, duoOf, valueD, exec, duoAt, leafAt, wholeAt, railsAt}
 use Rattle.kleene.proofs.Formed
 use Rattle.kleene.proofs.Three
 
@@ -64,3 +64,8 @@ run-value = Three.run-value
 pub whole-refuted : (f : Form ℕ) (leaves : List ℕ) (e r : ℕ) (w : ℕ → Three) → exec (wholeAt leaves e) (postfix f) [] ≡ sure (bit r e) ∷ []
     → ((i : ℕ) → In i (atomsOf f) → is (bit (getD leaves i 0) e) ≡ w i) → not (bit r e) ≡ refuted (kleeneValue w f)
 whole-refuted = Three.whole-refuted
+
+-- on two rails of words, the rows on the second rail of the result of `run_rails` refute the formula
+pub rails-refuted : (f : Form ℕ) (ts fs : List ℕ) (e y n : ℕ) (w : ℕ → Three) → exec (railsAt ts fs e) (postfix f) [] ≡ duo (bit y e) (bit n e) ∷ []
+    → ((i : ℕ) → In i (atomsOf f) → railsAt ts fs e i ≡ duoOf (w i)) → bit n e ≡ refuted (kleeneValue w f)
+rails-refuted = Three.rails-refuted

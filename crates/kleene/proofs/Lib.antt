@@ -1,5 +1,6 @@
 pub mod Formed
 pub mod Turns
 pub mod Whole
+pub mod Railed
 pub mod Three
 pub mod Claims

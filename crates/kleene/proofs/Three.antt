@@ -16,7 +16,7 @@ use Rattle.contact.specs.Row.{Three, is, unknown}
 use Rattle.contact.specs.Tableau.{kleeneNot, kleeneAnd, kleeneOr, kleeneIff, kleeneValue, refuted}
 use Rattle.kleene.specs.declared.Two.{Two}
 use Rattle.kleene.specs.Code.{postfix}
-use Rattle.kleene.specs.Rails.{Duo, duo, noOf, yesOf, sure, duoOf, notD, andD, orD, impliesD, iffD, valueD, exec, duoAt, leafAt, wholeAt}
+use Rattle.kleene.specs.Rails.{Duo, duo, noOf, yesOf, sure, duoOf, notD, andD, orD, impliesD, iffD, valueD, exec, duoAt, leafAt, wholeAt, railsAt}
 use Rattle.kleene.proofs.Formed.{exec-postfix}
 use Rattle.contact.proofs.Searching.{value-known}
 
@@ -125,3 +125,9 @@ pub whole-refuted : (f : Form ℕ) (leaves : List ℕ) (e r : ℕ) (w : ℕ → 
     → ((i : ℕ) → In i (atomsOf f) → is (bit (getD leaves i 0) e) ≡ w i) → not (bit r e) ≡ refuted (kleeneValue w f)
 whole-refuted f leaves e r w h k =
     ap noOf (result f (wholeAt leaves e) (sure (bit r e)) h) ∙ refuted-three (wholeAt leaves e) w f (λ i j. ap duoOf (k i j))
+
+-- on two rails of words
+pub rails-refuted : (f : Form ℕ) (ts fs : List ℕ) (e y n : ℕ) (w : ℕ → Three) → exec (railsAt ts fs e) (postfix f) [] ≡ duo (bit y e) (bit n e) ∷ []
+    → ((i : ℕ) → In i (atomsOf f) → railsAt ts fs e i ≡ duoOf (w i)) → bit n e ≡ refuted (kleeneValue w f)
+rails-refuted f ts fs e y n w h k =
+    ap noOf (result f (railsAt ts fs e) (duo (bit y e) (bit n e)) h) ∙ refuted-three (railsAt ts fs e) w f k

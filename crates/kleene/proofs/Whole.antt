@@ -77,17 +77,17 @@ abbrev pub placeAt : List ℕ → ℕ → ℕ → ℕ → ℕ → Duo
 placeAt stack top height e k = valueAt (wordOf stack top height k) e
 
 module _ (stack : List ℕ) (top height k : ℕ) where
-  word-top : height ≡ suc k → wordOf stack top height k ≡ top
+  pub word-top : height ≡ suc k → wordOf stack top height k ≡ top
   unfolding wordOf
   word-top h = ap (λ (b : Bool). cond b top (getD stack (suc k) 0)) (eq-eqb (suc k) height (sym h))
 
-  word-under : suc k < height → wordOf stack top height k ≡ getD stack (suc k) 0
+  pub word-under : suc k < height → wordOf stack top height k ≡ getD stack (suc k) 0
   unfolding wordOf
   word-under h = ap (λ (b : Bool). cond b top (getD stack (suc k) 0)) (ne-eqb (suc k) height (λ q. omega arith))
 
 module _ (stack : List ℕ) (top height w : ℕ) where
   -- under a new top lies what was there
-  word-kept : height < length stack → (k : ℕ) → k < height → wordOf (set stack height top) w (height + 1) k ≡ wordOf stack top height k
+  pub word-kept : height < length stack → (k : ℕ) → k < height → wordOf (set stack height top) w (height + 1) k ≡ wordOf stack top height k
   word-kept l k m = word-under (set stack height top) w (height + 1) k (omega arith) ∙ go (decEq (suc k) height)
     where
       go : Dec (suc k ≡ height) → getD (set stack height top) (suc k) 0 ≡ wordOf stack top height k

@@ -124,3 +124,9 @@ wordRows = 64
 -- the atoms' values in row e: bit e of their words
 abbrev pub wholeAt : List ℕ → ℕ → ℕ → Duo
 wholeAt leaves e i = sure (bit (getD leaves i 0) e)
+
+-- ---- machine words on two rails: a value for each partial row
+
+-- the atoms' values in row e: bit e of their two words
+abbrev pub railsAt : List ℕ → List ℕ → ℕ → ℕ → Duo
+railsAt ts fs e i = duo (bit (getD ts i 0) e) (bit (getD fs i 0) e)

@@ -1,23 +1,29 @@
 // Kleene's strong three values on two rails of sets, surely true and surely false, for the postfix code of one rule over
 // atom numbers: a run gives a value for each evaluation of a set, so ROOM rows at once. What is on neither rail is undecided.
 // Values are pairs, `Duo` of specs/Rails.antt, and each contract says the pair at each evaluation. Where every atom is decided one
-// rail is enough: `run_whole` has a word for it, with 64 rows. The code comes from our own compiler: `run` and `run_whole` require
-// that it is safe, as that of a formula is (proofs/Formed.antt). Assumes nothing.
+// rail is enough: `run_whole` has a word for it, with 64 rows. `run_rails` has a word for each rail, and 64 partial rows. The code comes
+// from our own compiler: the runs require that it is safe, as that of a formula is (proofs/Formed.antt). Assumes nothing.
 ghost use mathlib.Core.Path.{_≡_};
 ghost use mathlib.Core.Bool.{not};
-ghost use mathlib.Core.List.{[], _∷_};
+ghost use mathlib.Core.List.{List, [], _∷_};
 ghost use Prim.Native.Nat.{ℕ, _≤_, _<_};
 ghost use lib.ListN.{length};
 ghost use Rattle.evalset.specs.Bit.{bit};
 ghost use Rattle.evalset.specs.Sets.{room};
 ghost use Rattle.kleene.specs.Code.{Safe};
-ghost use Rattle.kleene.specs.Rails.{Duo, sure, notD, tableOf, pushOf, exec, duoAt, leafAt, wordRows, wholeAt};
+ghost use Rattle.kleene.specs.Rails.{Duo, duo, noOf, sure, notD, tableOf, pushOf, exec, duoAt, leafAt, wordRows, wholeAt, railsAt};
 use evalset::EvalSet;
 
 // A value for each evaluation: where it is surely true, and where surely false.
 pub struct Two {
     pub yes: EvalSet,
     pub no: EvalSet,
+}
+
+// The same in words: a value for each row.
+pub struct Words {
+    pub yes: u64,
+    pub no: u64,
 }
 
 // The value with these rails.
@@ -180,4 +186,76 @@ pub fn run_whole(code: &[u8], leaves: &[u64; 16], stack: &mut [u64; 128]) -> u64
         }
     }
     top
+}
+
+// What the sign c of a constant or an atom pushes on the second rail.
+fn pushed_no(c: u8, no: &[u64; 16]) -> u64
+    requires { ⌜ (5 ≤ c) × (c < 23) ⌝ }
+    ensures { λ r. ⌜ ((yes : List ℕ) (e : ℕ) → e < wordRows → bit r e ≡ noOf (pushOf (railsAt yes (now (no .entry)) e) c)) ⌝ }
+{
+    if 6 < c {
+        no[c as usize - 7]
+    } else if c == 5 {
+        0xFFFF_FFFF_FFFF_FFFF
+    } else {
+        0
+    }
+}
+
+// The code of a formula run on 64 partial rows at once, with a word for each rail of an atom: bit e is its value in row e. A stack is
+// lent for each rail, with the tops kept apart as in `run_whole`.
+pub fn run_rails(
+    code: &[u8],
+    yes: &[u64; 16],
+    no: &[u64; 16],
+    ys: &mut [u64; 128],
+    ns: &mut [u64; 128],
+) -> Words
+    requires { ⌜ Safe 128 16 (now code) 0 × (length (now ys) ≡ 128) × (length (now ns) ≡ 128) ⌝ }
+    ensures { λ r. ⌜ (length (now (ys .exit)) ≡ 128) × (length (now (ns .exit)) ≡ 128) × ((e : ℕ) → e < wordRows → exec (railsAt (now (yes .entry)) (now (no .entry)) e) (now (code .entry)) [] ≡ (duo (bit (r .yes) e) (bit (r .no) e) ∷ [])) ⌝ }
+{
+    let mut y: u64 = 0;
+    let mut n: u64 = 0;
+    let mut height: usize = 0;
+    let mut i: usize = 0;
+    while i < code.len() {
+        let c = code[i];
+        i += 1;
+        match c {
+            0 => {
+                let z = y;
+                y = n;
+                n = z;
+            }
+            1 => {
+                height -= 1;
+                y = ys[height] & y;
+                n = ns[height] | n;
+            }
+            2 => {
+                height -= 1;
+                y = ys[height] | y;
+                n = ns[height] & n;
+            }
+            3 => {
+                height -= 1;
+                y = ns[height] | y;
+                n = ys[height] & n;
+            }
+            4 => {
+                height -= 1;
+                let z = y;
+                y = (ys[height] & z) | (ns[height] & n);
+                n = (ys[height] & n) | (ns[height] & z);
+            }
+            _ => {
+                ys[height] = y;
+                ns[height] = n;
+                height += 1;
+                y = pushed(c, yes);
+                n = pushed_no(c, no);
+            }
+        }
+    }
+    Words { yes: y, no: n }
 }

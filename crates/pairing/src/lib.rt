@@ -415,7 +415,7 @@ pub fn judged(list: &[u16], contacts: u32, s: usize, d: usize, row: usize) -> [u
 }
 
 // Whether a row passes the check, by the table of its block.
-fn passes(table: &[u16; PLACES], lone: bool, contacts: u32, low: u32, row: usize) -> bool
+pub fn passes(table: &[u16; PLACES], lone: bool, contacts: u32, low: u32, row: usize) -> bool
     requires { ⌜ (low < 1024) × (row < 4294967296) ⌝ }
     ensures { λ r. ⌜ r ≡ rowTest (now (table .entry)) lone contacts low row ⌝ }
 {

@@ -31,6 +31,8 @@ outcomeText Outcome.NoPlan = []
 outcomeText Outcome.Yes = []
 outcomeText (Outcome.Unmet rule) = []
 outcomeText (Outcome.Text n) = []
+outcomeText (Outcome.Tree n) = []
+outcomeText Outcome.Closed = []
 outcomeText (Outcome.Refused number carried) = []
 outcomeText (Outcome.RefusedLine number line place) = refusedText number line place
 

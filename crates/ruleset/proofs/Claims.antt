@@ -8,12 +8,13 @@ use Prim.Native.Nat.{ℕ, _*_, _≤_}
 use native.Mathlib.Omega.{arith}
 use lib.ListN.{length, take, length-map}
 use lib.Pow.{pow-mono}
+use lib.Seq.{length-take-le}
 use Rattle.formula.specs.Formula.{Formula, Name}
 use Rattle.syntax.specs.RuleText.{IsRule}
 use Rattle.syntax.specs.Rule.{meaningOf}
 use Rattle.lists.proofs.Search.{in-either, uncons, none-in}
-use Rattle.contact.specs.Numbering.{namesOf, numberedAtoms, rowAtoms}
-use Rattle.contact.specs.Question.{Question}
+use Rattle.contact.specs.Numbering.{namesOf, mapAtom, differentAtoms, numberedAtoms, rowAtoms, numberOf, AtomsBelow}
+use Rattle.contact.specs.Question.{Question, plain}
 use Rattle.contact.specs.Check.{pointsFor, firstRow, firstRowOf}
 use Rattle.solver.specs.declared.RowAnswer.{RowAnswer}
 use Rattle.solver.specs.declared.RowAnswer.the-variants.{At, Nothing}
@@ -40,6 +41,13 @@ use Rattle.judging.specs.declared.Judged.{Judged}
 use Rattle.judging.specs.Values.{judgedOf}
 use Rattle.judging.specs.Judges.{JudgesSay}
 use Rattle.judging.proofs.Claims as judging
+use Rattle.trees.specs.declared.Verdict.{Verdict}
+use Rattle.trees.specs.Branch.{CheckSays}
+use Rattle.trees.specs.Trees.{Tree}
+use Rattle.trees.specs.Checker.{checked, write, noFloor, checkedOf, treesOf}
+use Rattle.explaining.specs.declared.Explanation.{Explanation}
+use Rattle.explaining.specs.Explained.{Explained, ExplainSays}
+use Rattle.contact.proofs.Claims.{numbered-below}
 use Rattle.compile.proofs.Searched.{compiled-search}
 use Rattle.ruleset.specs.declared.Compiling.{Compiling}
 use Rattle.ruleset.specs.Texts.{Fits, CompiledRules, CompiledTexts, Another, Compilable, WithText, NothingCompiled, FirstRowIs, RowPlanIs, JudgedIs}
@@ -151,3 +159,32 @@ module _ (rules : List (Formula Name)) (c : Compiling) (kept code : List ℕ) (h
     pub judged-is : JudgedIs c code arrays r → r ≡ judgedOf (judge (namedFloor rules p is) rules)
     unfolding JudgedIs
     judged-is says = says rules kept h p is named stored
+
+  -- ---- for a caller of the checker of trees
+
+  -- the test of kind 7 by numbers for names, and how many atoms there are
+  as-many : length (rowAtoms rules) ≡ length (differentAtoms rules)
+  as-many = length-map (differentAtoms rules) (mapAtom (numberOf rules))
+
+  -- what `check_tree` answers is the verdict by the rules as read
+  pub answer-verdict : (words : List ℕ) (r : Verdict) → CheckSays words code ends chart r → r ≡ checkedOf rules words
+  unfolding CheckSays checkedOf
+  answer-verdict words r says =
+      says (rowAtoms rules) (numberedAtoms rules) comes-from
+      ∙ ap (λ (n : ℕ). checked n (numberedAtoms rules) (noFloor plain (chart .names) (rowAtoms rules)) words) as-many
+      ∙ ap (λ (n : ℕ). checked (length (differentAtoms rules)) (numberedAtoms rules) (noFloor plain n (rowAtoms rules)) words) (h .known .names-counted)
+
+  -- ---- for a caller of the writer of trees
+
+  -- the rules are few enough to have their numbers in words
+  pub few-ends : length (c .ends) ≡ 16 → length ends ≤ limit
+  few-ends long = omega (arith, length-take-le (c .known .count) (c .ends) (ends-fit long), ends-fit long, long)
+
+  -- what `explain` answers is by the writer's trees of the rules as read
+  pub answer-explained : (before after : List ℕ) (r : Explanation) → ExplainSays code ends chart before after r → Explained (treesOf rules) before after r
+  unfolding ExplainSays treesOf
+  answer-explained before after r says =
+      subst (λ (ts : List Tree). Explained ts before after r)
+      (ap (λ (n : ℕ). write (numberedAtoms rules) (noFloor plain (chart .names) (rowAtoms rules)) n []) as-many
+      ∙ ap (λ (n : ℕ). write (numberedAtoms rules) (noFloor plain n (rowAtoms rules)) (length (differentAtoms rules)) []) (h .known .names-counted))
+      (says (rowAtoms rules) (numberedAtoms rules) comes-from (subst (λ (n : ℕ). AtomsBelow n (rowAtoms rules)) (sym (h .known .names-counted)) (numbered-below rules)))

@@ -31,6 +31,10 @@ use Rattle.plan.specs.Judging.{judge}
 use Rattle.plan.specs.Floor.{namedFloor}
 use Rattle.judging.specs.declared.Judged.{Judged}
 use Rattle.judging.specs.Values.{judgedOf}
+use Rattle.trees.specs.declared.Verdict.{Verdict}
+use Rattle.trees.specs.Checker.{checkedOf, treesOf}
+use Rattle.explaining.specs.declared.Explanation.{Explanation}
+use Rattle.explaining.specs.Explained.{Explained}
 use Rattle.spelling.specs.Kept.{Keeps}
 use Rattle.compile.specs.Chart.{CompiledFrom}
 use Rattle.ruleset.specs.declared.Known.{Known}
@@ -154,3 +158,11 @@ unfoldable pub JudgedIs : Compiling → List ℕ → PlanArrays → Judged → T
 JudgedIs c code arrays r =
     (rules : List (Formula Name)) (kept : List ℕ) → CompiledRules rules c kept code → (p : Plan) (h : IsPlan p) → p .names ≡ length (namesOf rules)
     → Stored arrays p → r ≡ judgedOf (judge (namedFloor rules p h) rules)
+
+-- the verdict is that of the checker on the words, against the rules that are compiled
+unfoldable pub VerdictIs : Compiling → List ℕ → List ℕ → Verdict → Type 0
+VerdictIs c code words r = (rules : List (Formula Name)) (kept : List ℕ) → CompiledRules rules c kept code → r ≡ checkedOf rules words
+
+-- the answer and the buffer are by the writer's trees of the rules that are compiled
+unfoldable pub ExplainedIs : Compiling → List ℕ → List ℕ → List ℕ → Explanation → Type 0
+ExplainedIs c code before after r = (rules : List (Formula Name)) (kept : List ℕ) → CompiledRules rules c kept code → Explained (treesOf rules) before after r

@@ -1,7 +1,7 @@
 // Rules known and compiled one behind the other: the names of one rule more behind those before it, its atoms behind the different ones
 // before it, and its code. "Names and atoms are numbered from 0 by first place, rules in order, left to right", so what is there does
 // not change. To know rules is enough to say whether there is room for one more; what the compiled rules answer is their first row, the
-// plan of a row, and the judgement of a plan.
+// plan of a row, the judgement of a plan, the verdict on a tree, and the tree of a writer.
 // Only our own crates compile texts, and only rules: the requires say so. What is compiled so meets the other requires
 // (proofs/Claims.antt).
 ghost use mathlib.Core.Path.{_≡_};
@@ -12,8 +12,9 @@ ghost use Rattle.search.specs.Compiled.{limit};
 ghost use Rattle.evalset.specs.Most.{most};
 ghost use Rattle.ruleset.specs.Ends.{lastEnd};
 ghost use Rattle.ruleset.specs.Counted.{nameCount};
-ghost use Rattle.ruleset.specs.Texts.{NothingKnown, roomFor, Ready, WithRule, NothingCompiled, Compilable, WithText, Whole, FirstRowIs, RowPlanIs, JudgedIs};
+ghost use Rattle.ruleset.specs.Texts.{NothingKnown, roomFor, Ready, WithRule, NothingCompiled, Compilable, WithText, Whole, FirstRowIs, RowPlanIs, JudgedIs, VerdictIs, ExplainedIs};
 use compile::Atoms;
+use explaining::Explanation;
 use judging::Judged;
 use names::Names;
 use names::NamesAnswer;
@@ -21,6 +22,7 @@ use plan::PlanArrays;
 use search::Asked;
 use solver::RowAnswer;
 use syntax::Rule;
+use trees::Verdict;
 
 // What is known of rules, but for the symbols of their atoms' terms, which are lent: their names, their different atoms, and how many
 // rules there are.
@@ -207,4 +209,26 @@ pub fn judged(c: Compiling, code: &[u8], plan: PlanArrays) -> Judged
     let count = c.known.count;
     let chart = c.known.atoms.chart;
     judging::judge_plan(plan, chart, code, &ends[..count])
+}
+
+// The verdict on the words of a tree, by the compiled rules.
+pub fn tree_checked(c: Compiling, code: &[u8], words: &[u32]) -> Verdict
+    requires { ⌜ Whole c (now code) ⌝ }
+    ensures { λ r. ⌜ VerdictIs c (now (code .entry)) (now (words .entry)) r ⌝ }
+{
+    let ends = c.ends;
+    let count = c.known.count;
+    let chart = c.known.atoms.chart;
+    trees::check_tree(words, code, &ends[..count], chart)
+}
+
+// The writer's tree of the compiled rules, its words written over the first ones of the buffer, or why it is not.
+pub fn explained(c: Compiling, code: &[u8], buffer: &mut [u32]) -> Explanation
+    requires { ⌜ Whole c (now code) ⌝ }
+    ensures { λ r. ⌜ ExplainedIs c (now (code .entry)) (now (buffer .entry)) (now (buffer .exit)) r ⌝ }
+{
+    let ends = c.ends;
+    let count = c.known.count;
+    let chart = c.known.atoms.chart;
+    explaining::explain(buffer, code, &ends[..count], chart)
 }

@@ -66,7 +66,7 @@ row-upper j e l = ap₂ (λ (b : Bool) (r : List Bool). not b ∷ r) (bit-top j 
 
 -- ---- the number of a row
 
-number-below : (row : Row) → rowNumber row < 2 ^ length row
+pub number-below : (row : Row) → rowNumber row < 2 ^ length row
 unfolding rowNumber
 number-below [] = omega arith
 number-below (true ∷ row) = omega (arith, pow-suc 2 (length row), number-below row)

@@ -422,7 +422,7 @@ fn cut_of(list: &[u16], contacts: u32, n: usize, asked: Asked) -> Cut
 }
 
 // The number of evaluations of so many names: of six where there are more.
-fn all_evaluations(names: usize) -> usize
+pub fn all_evaluations(names: usize) -> usize
     ensures { λ r. ⌜ r ≡ evaluationCount names ⌝ }
 {
     let one: usize = 1;

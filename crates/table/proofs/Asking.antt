@@ -63,7 +63,7 @@ unfolding judgeAnswer
 judged-some [] some words = absurd (some refl)
 judged-some (s ∷ rs) some words = refl
 
-some-stand : (t : Table) → FromUs t → 0 < t .count → SomeStand (rulesOf t)
+pub some-stand : (t : Table) → FromUs t → 0 < t .count → SomeStand (rulesOf t)
 some-stand t v h e = omega (arith, count-is t v, ap length e)
 
 -- the buffer, where a plan is given, where it is too long, and where there is none

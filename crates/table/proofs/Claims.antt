@@ -15,6 +15,9 @@ use Rattle.table.specs.declared.AskResult.{AskResult}
 use Rattle.table.specs.declared.JudgeResult.{JudgeResult}
 use Rattle.table.specs.declared.PrintResult.{PrintResult}
 use Rattle.table.specs.Printing.{printAnswer, Prints}
+use Rattle.table.specs.declared.ExplainResult.{ExplainResult}
+use Rattle.table.specs.declared.CheckResult.{CheckResult}
+use Rattle.table.specs.Explaining.{explainAnswer, Explains, checkAnswer, Checks}
 use Rattle.table.specs.Store.{tableOf, rulesOf}
 use Rattle.table.specs.Sheet.{Text}
 use Rattle.table.specs.Calls.{formulasOf, judgeAdd, judgeWithdraw, judgeLoad, FromUs, Adds, Withdraws, Loads}
@@ -28,9 +31,9 @@ use Rattle.plan.specs.Words.{Refusal}
 use Rattle.plan.specs.Arrays.{Reads}
 use Rattle.table.specs.declared.Outcome.{Outcome}
 use Rattle.table.specs.declared.Outcome.the-variants as Outcome
-use Rattle.table.specs.Numbers.{addOutcome, withdrawOutcome, CanCome, loadOutcome, askOutcome, judgeOutcome, printOutcome, ruleOutcome, planOutcome}
-use Rattle.table.specs.Rows.{AddRow, WithdrawRow, LoadRow, AskRow, JudgeRow, PrintRow}
-use Rattle.table.specs.Stands.{Call, add, withdraw, load, ask, judge, print, adds, Stands}
+use Rattle.table.specs.Numbers.{addOutcome, withdrawOutcome, CanCome, loadOutcome, askOutcome, judgeOutcome, printOutcome, explainOutcome, checkOutcome, ruleOutcome, planOutcome}
+use Rattle.table.specs.Rows.{AddRow, WithdrawRow, LoadRow, AskRow, JudgeRow, PrintRow, ExplainRow, CheckRow}
+use Rattle.table.specs.Stands.{Call, add, withdraw, load, ask, judge, print, explain, check, adds, Stands}
 use Rattle.table.specs.Runs.{step, run, after, standing, Faithful}
 use Rattle.table.proofs.Stored as Stored
 use Rattle.table.proofs.Rules as Rules
@@ -40,6 +43,7 @@ use Rattle.table.proofs.Rows as Rows
 use Rattle.table.proofs.LoadRows as LoadRows
 use Rattle.table.proofs.AskRows as AskRows
 use Rattle.table.proofs.PrintRows as PrintRows
+use Rattle.table.proofs.TreeRows as TreeRows
 use Rattle.table.proofs.Stands as Stands
 
 -- ---- tables and lists
@@ -89,6 +93,12 @@ judge-steps = Running.by-judge
 
 pub print-steps : (t : Table) (k : ℕ) (buffer : List ℕ) (r : PrintResult) (exit : List ℕ) → Prints t k buffer r exit → r .table ≡ step t (print k buffer)
 print-steps = Running.by-print
+
+pub explain-steps : (t : Table) (buffer : List ℕ) (r : ExplainResult) (exit : List ℕ) → Explains t buffer r exit → r .table ≡ step t (explain buffer)
+explain-steps = Running.by-explain
+
+pub check-steps : (t : Table) (words : List ℕ) (r : CheckResult) → Checks t words r → r .table ≡ step t (check words)
+check-steps = Running.by-check
 
 -- every call maps the table of a list to the table of the list after it
 pub call-maps : (rs : List Text) (c : Call) → step (tableOf rs) c ≡ tableOf (after rs c)
@@ -173,6 +183,18 @@ print-answered k room rs fs are = PrintRows.print-row rs k room (Rules.are-read 
 
 pub print-answered-only : (k room : ℕ) (rs : List Text) (o : Outcome) → PrintRow rs k room o → o ≡ printOutcome (printAnswer rs k room)
 print-answered-only k room rs = PrintRows.print-row-only rs k room
+
+pub explain-answered : (room : ℕ) (rs : List Text) (fs : List (Formula Name)) → AreRules rs fs → ExplainRow rs room (explainOutcome (explainAnswer rs room))
+explain-answered room rs fs are = TreeRows.explain-row room rs (Rules.are-read rs fs are)
+
+pub explain-answered-only : (room : ℕ) (rs : List Text) (o : Outcome) → ExplainRow rs room o → o ≡ explainOutcome (explainAnswer rs room)
+explain-answered-only = TreeRows.explain-row-only
+
+pub check-answered : (words : List ℕ) (rs : List Text) → CanStand rs → CheckRow rs words (checkOutcome (checkAnswer rs words))
+check-answered words rs h = TreeRows.check-row words rs (Rules.are-read rs (h .formulas) (h .rules)) (TreeRows.few-for rs h)
+
+pub check-answered-only : (words : List ℕ) (rs : List Text) → CanStand rs → (o : Outcome) → CheckRow rs words o → o ≡ checkOutcome (checkAnswer rs words)
+check-answered-only words rs h = TreeRows.check-row-only words rs (TreeRows.few-for rs h)
 
 -- ---- rule texts and plan words alone
 

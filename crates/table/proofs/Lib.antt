@@ -16,6 +16,8 @@ pub mod Loading
 pub mod Rows
 pub mod LoadRows
 pub mod PrintRows
+pub mod TreeRows
+pub mod Explaining
 pub mod Printing
 pub mod Stands
 pub mod AskRows

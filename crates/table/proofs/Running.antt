@@ -19,8 +19,11 @@ use Rattle.table.specs.Calls.{FromUs, Adds, Withdraws, Loads, judgeAdd, 
 use Rattle.table.specs.Rules.{CanStand}
 use Rattle.contact.specs.Question.{Question}
 use Rattle.table.specs.Asking.{Asks, Judges}
+use Rattle.table.specs.Explaining.{Explains, Checks}
+use Rattle.table.specs.declared.ExplainResult.{ExplainResult}
+use Rattle.table.specs.declared.CheckResult.{CheckResult}
 use Rattle.table.specs.Printing.{Prints}
-use Rattle.table.specs.Stands.{Call, add, withdraw, load, ask, judge, print, adds}
+use Rattle.table.specs.Stands.{Call, add, withdraw, load, ask, judge, print, explain, check, adds}
 use Rattle.table.specs.Runs.{step, runFrom, run, after, standingFrom, standing, Faithful}
 use Rattle.table.proofs.Stored.{rules-table, from-us-table}
 use Rattle.table.proofs.Standing.{stand-none, stand-first, stand-added, stand-add, stand-withdraw, stand-load, added-taken}
@@ -50,6 +53,14 @@ pub by-print : (t : Table) (k : ℕ) (buffer : List ℕ) (r : PrintResult) (exit
 unfolding step
 by-print t k buffer r exit h = h .same
 
+pub by-explain : (t : Table) (buffer : List ℕ) (r : ExplainResult) (exit : List ℕ) → Explains t buffer r exit → r .table ≡ step t (explain buffer)
+unfolding step
+by-explain t buffer r exit h = h .same
+
+pub by-check : (t : Table) (words : List ℕ) (r : CheckResult) → Checks t words r → r .table ≡ step t (check words)
+unfolding step
+by-check t words r h = h .same
+
 -- one call, from the table of a list
 pub step-table : (rs : List Text) (c : Call) → step (tableOf rs) c ≡ tableOf (after rs c)
 unfolding step after added withdrawn loaded
@@ -59,6 +70,8 @@ step-table rs (load f) = rw rules-table
 step-table rs (ask q buffer) = refl
 step-table rs (judge words) = refl
 step-table rs (print k buffer) = refl
+step-table rs (explain buffer) = refl
+step-table rs (check words) = refl
 
 pub stand-after : (rs : List Text) (c : Call) → CanStand rs → CanStand (after rs c)
 unfolding after
@@ -68,6 +81,8 @@ stand-after rs (load f) h = stand-load rs f h
 stand-after rs (ask q buffer) h = h
 stand-after rs (judge words) h = h
 stand-after rs (print k buffer) h = h
+stand-after rs (explain buffer) h = h
+stand-after rs (check words) h = h
 
 -- a list of calls
 run-table : (cs : List Call) (rs : List Text) → runFrom (tableOf rs) cs ≡ tableOf (standingFrom rs cs)

@@ -9,3 +9,4 @@ pub mod Stands
 pub mod Runs
 pub mod Asking
 pub mod Printing
+pub mod Explaining

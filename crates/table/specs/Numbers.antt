@@ -1,4 +1,4 @@
--- What is meant: document 01's number of each answer, and what it carries, by the table of calls; of print, that of document 02. Assumes nothing.
+-- What is meant: document 01's number of each answer, and what it carries, by the table of calls; of print, explain and check_tree, that of document 02. Assumes nothing.
 use Prim.Native.Nat.{ℕ}
 use mathlib.Core.Path.{_≡_}
 use Rattle.syntax.specs.declared.RuleAnswer.{RuleAnswer}
@@ -19,6 +19,10 @@ use Rattle.table.specs.declared.JudgeAnswer.{JudgeAnswer}
 use Rattle.table.specs.declared.JudgeAnswer.the-variants as JudgeAnswer
 use Rattle.table.specs.declared.PrintAnswer.{PrintAnswer}
 use Rattle.table.specs.declared.PrintAnswer.the-variants as PrintAnswer
+use Rattle.table.specs.declared.ExplainAnswer.{ExplainAnswer}
+use Rattle.table.specs.declared.ExplainAnswer.the-variants as ExplainAnswer
+use Rattle.table.specs.declared.CheckAnswer.{CheckAnswer}
+use Rattle.table.specs.declared.CheckAnswer.the-variants as CheckAnswer
 
 abbrev pub addOutcome : AddAnswer → Outcome
 addOutcome AddAnswer.Added = Outcome.Done
@@ -44,6 +48,8 @@ onLine n Outcome.NoPlan = Outcome.NoPlan
 onLine n Outcome.Yes = Outcome.Yes
 onLine n (Outcome.Unmet k) = Outcome.Unmet k
 onLine n (Outcome.Text b) = Outcome.Text b
+onLine n (Outcome.Tree w) = Outcome.Tree w
+onLine n Outcome.Closed = Outcome.Closed
 onLine n (Outcome.Refused k p) = Outcome.RefusedLine k n p
 onLine n (Outcome.RefusedLine k l p) = Outcome.RefusedLine k l p
 
@@ -76,6 +82,19 @@ abbrev pub printOutcome : PrintAnswer → Outcome
 printOutcome (PrintAnswer.Text n) = Outcome.Text n
 printOutcome (PrintAnswer.NoSuchRule k) = Outcome.Refused 10 k
 printOutcome (PrintAnswer.ShortBuffer n) = Outcome.Refused 12 n
+
+-- "both calls start with 11"; "17 in the writer, carrying 0, where a plan exists; then 12 in the writer, with the words needed"
+abbrev pub explainOutcome : ExplainAnswer → Outcome
+explainOutcome (ExplainAnswer.Tree n) = Outcome.Tree n
+explainOutcome ExplainAnswer.NoRule = Outcome.Refused 11 0
+explainOutcome ExplainAnswer.HasPlan = Outcome.Refused 17 0
+explainOutcome (ExplainAnswer.ShortBuffer n) = Outcome.Refused 12 n
+
+-- "16 in the checker with the index of the first word that .."
+abbrev pub checkOutcome : CheckAnswer → Outcome
+checkOutcome CheckAnswer.Closed = Outcome.Closed
+checkOutcome CheckAnswer.NoRule = Outcome.Refused 11 0
+checkOutcome (CheckAnswer.NotClosed j) = Outcome.Refused 16 j
 
 -- ---- the same of the readers' answers
 

@@ -14,7 +14,7 @@ use Rattle.syntax.specs.declared.RuleAnswer.the-variants as RuleAnswer
 use Rattle.lists.specs.Search.{collect}
 use Rattle.contact.specs.Numbering.{allAtoms, namesOf, differentAtoms}
 use Rattle.contact.specs.Meaning.{Floor, meetsAll}
-use Rattle.contact.specs.Question.{Question, NoFloor}
+use Rattle.contact.specs.Question.{Question, plain, Counts, NoFloor}
 use Rattle.plan.specs.Words.{Plan, IsPlan, wordsOf, Refusal}
 use Rattle.plan.specs.Floor.{namedFloor}
 use Rattle.names.specs.Seventh.{SeventhAt, placesOf}
@@ -24,6 +24,8 @@ use Rattle.table.specs.declared.Outcome.the-variants as Outcome
 use Rattle.table.specs.Rules.{AreRules, CanStand}
 use Rattle.plan.specs.Meant.{IsGiven, FirstUnmet}
 use Rattle.printing.specs.Text.{textOf}
+use Rattle.trees.specs.Trees.{Tree, wordsOf as treeWords}
+use Rattle.trees.specs.OfRules.{IsClosedTree, IsNoTree, IsWrittenTree}
 
 -- add's text s where the texts rs stand
 pub data AddRow (rs : List Text) (s : Text) : Outcome → Type 0 where
@@ -130,3 +132,22 @@ pub data PrintRow (rs : List Text) (k room : ℕ) : Outcome → Type 0 where
   short : {s : Text} {f : Formula Name} → IsKth rs k s → IsRule s f → room < length (textOf f) → PrintRow rs k room (Outcome.Refused 12 (length (textOf f)))
   -- "the answer carries the length written"
   text : {s : Text} {f : Formula Name} → IsKth rs k s → IsRule s f → length (textOf f) ≤ room → PrintRow rs k room (Outcome.Text (length (textOf f)))
+
+-- explain, with a buffer of so many words: document 02, T-06
+pub data ExplainRow (rs : List Text) (room : ℕ) : Outcome → Type 0 where
+  -- "both calls start with 11"
+  none : rs ≡ [] → ExplainRow rs room (Outcome.Refused 11 0)
+  -- "17 in the writer, carrying 0, where a plan exists"
+  plan : {fs : List (Formula Name)} → SomeStand rs → AreRules rs fs → (F : Floor Name) → Counts plain F → meetsAll F fs ≡ true → ExplainRow rs room (Outcome.Refused 17 0)
+  -- "then 12 in the writer, with the words needed"
+  short : {fs : List (Formula Name)} (t : Tree) → SomeStand rs → AreRules rs fs → IsWrittenTree fs t → room < length (treeWords t) → ExplainRow rs room (Outcome.Refused 12 (length (treeWords t)))
+  -- "A new call writes a closed tree as words"
+  tree : {fs : List (Formula Name)} (t : Tree) → SomeStand rs → AreRules rs fs → IsWrittenTree fs t → length (treeWords t) ≤ room → ExplainRow rs room (Outcome.Tree (length (treeWords t)))
+
+-- check_tree, with these words
+pub data CheckRow (rs : List Text) (words : List ℕ) : Outcome → Type 0 where
+  none : rs ≡ [] → CheckRow rs words (Outcome.Refused 11 0)
+  -- "16 in the checker with the index of the first word that .., or with the length where the words end early"
+  wrong : {fs : List (Formula Name)} {j : ℕ} → SomeStand rs → AreRules rs fs → IsNoTree fs words j → CheckRow rs words (Outcome.Refused 16 j)
+  -- it "accepts exactly the closed trees of these rules that split on no atom twice in a branch"
+  closed : {fs : List (Formula Name)} (t : Tree) → SomeStand rs → AreRules rs fs → IsClosedTree fs t → treeWords t ≡ words → CheckRow rs words Outcome.Closed

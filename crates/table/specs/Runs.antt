@@ -6,9 +6,9 @@ use Rattle.table.specs.declared.Table.{Table}
 use Rattle.table.specs.Store.{tableOf, rulesOf}
 use Rattle.table.specs.Sheet.{Text}
 use Rattle.table.specs.Calls.{FromUs, addRules, added, withdrawRules, withdrawn, loadRules, loaded}
-use Rattle.table.specs.Stands.{Call, add, withdraw, load, ask, judge, print, adds}
+use Rattle.table.specs.Stands.{Call, add, withdraw, load, ask, judge, print, explain, check, adds}
 
--- the table that a call gives back, by the functions that the contracts cite; "Ask passes the table on unchanged", and so do judge and print
+-- the table that a call gives back, by the functions that the contracts cite; "Ask passes the table on unchanged", and so do judge, print, explain and check_tree
 unfoldable pub step : Table → Call → Table
 step t (add s) = added (rulesOf t) s .table
 step t (withdraw k) = withdrawn (rulesOf t) k .table
@@ -16,6 +16,8 @@ step t (load f) = loaded (rulesOf t) f .table
 step t (ask q buffer) = t
 step t (judge words) = t
 step t (print k buffer) = t
+step t (explain buffer) = t
+step t (check words) = t
 
 unfoldable pub runFrom : Table → List Call → Table
 runFrom t [] = t
@@ -33,6 +35,8 @@ after rs (load f) = loadRules rs f
 after rs (ask q buffer) = rs
 after rs (judge words) = rs
 after rs (print k buffer) = rs
+after rs (explain buffer) = rs
+after rs (check words) = rs
 
 unfoldable pub standingFrom : List Text → List Call → List Text
 standingFrom rs [] = rs

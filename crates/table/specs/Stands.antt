@@ -9,7 +9,7 @@ use Rattle.table.specs.declared.Outcome.{Outcome}
 use Rattle.table.specs.declared.Outcome.the-variants as Outcome
 use Rattle.table.specs.Rows.{AddRow, WithdrawRow, LoadRow, IsKth}
 
--- a call, with any text, number, buffer or plan words; ask for any question: `ask` of the code is that of the plain one, `ask_building` of the other
+-- a call, with any text, number, buffer, plan words or tree words; ask for any question: `ask` of the code is that of the plain one, `ask_building` of the other
 pub data Call : Type 0 where
   add : Text → Call
   withdraw : ℕ → Call
@@ -17,6 +17,8 @@ pub data Call : Type 0 where
   ask : Question → List ℕ → Call
   judge : List ℕ → Call
   print : ℕ → List ℕ → Call
+  explain : List ℕ → Call
+  check : List ℕ → Call
 
 -- "The run it is compared with has one add for each standing rule, with that rule's text"
 unfoldable pub adds : List Text → List Call
@@ -49,6 +51,8 @@ pub data StandsAfter (rs : List Text) : Call → List Text → Type 0 where
   asked : {q : Question} {buffer : List ℕ} → StandsAfter rs (ask q buffer) rs
   judged : {words : List ℕ} → StandsAfter rs (judge words) rs
   printed : {k : ℕ} {buffer : List ℕ} → StandsAfter rs (print k buffer) rs
+  explained : {buffer : List ℕ} → StandsAfter rs (explain buffer) rs
+  checked : {words : List ℕ} → StandsAfter rs (check words) rs
 
 -- where rs stand, these stand after the calls, one after the other
 pub data StandsFrom : List Text → List Call → List Text → Type 0 where

@@ -16,8 +16,10 @@ ghost use Rattle.table.specs.Calls.{namesIn, readAnswer, linesFrom, From
 ghost use Rattle.table.specs.Sheet.{blankLine, linesOf};
 ghost use Rattle.table.specs.Asking.{Asks, Judges};
 ghost use Rattle.table.specs.Printing.{Prints};
+ghost use Rattle.table.specs.Explaining.{explanationAnswer, Explains, verdictAnswer, Checks};
 ghost use Rattle.table.specs.Steps.{KnownTexts, Knowing, roomAdd, Tries, TextsCompiled, TextsSearched, loadResult, judgedAnswer};
-ghost use Rattle.table.specs.Numbers.{addOutcome, withdrawOutcome, onLine, CanCome, loadOutcome, askOutcome, judgeOutcome, printOutcome};
+ghost use Rattle.table.specs.Numbers.{addOutcome, withdrawOutcome, onLine, CanCome, loadOutcome, askOutcome, judgeOutcome, printOutcome, explainOutcome, checkOutcome};
+use explaining::Explanation;
 use judging::Judged;
 use names::Names;
 use plan::PlanAnswer;
@@ -29,6 +31,7 @@ use ruleset::RoomAnswer;
 use search::Asked;
 use solver::RowAnswer;
 use syntax::RuleAnswer;
+use trees::Verdict;
 
 // How many rules there may be, and how many bytes a file may have.
 const RULES: usize = 16;
@@ -143,8 +146,35 @@ pub struct PrintResult {
     pub answer: PrintAnswer,
 }
 
-// What an answer says: done, a plan of so many words, no plan, yes, the lowest unmet rule, or a text of so many bytes; or a refusal, by document 01's number and
-// what it carries, and for a load by its number, line and place.
+// How explain answers: a tree of so many words, or why none is written; a short buffer carries the words needed.
+pub enum ExplainAnswer {
+    Tree(usize),
+    NoRule,
+    HasPlan,
+    ShortBuffer(usize),
+}
+
+// What explain hands back.
+pub struct ExplainResult {
+    pub table: Table,
+    pub answer: ExplainAnswer,
+}
+
+// How check_tree answers: the words are those of a closed tree, or why not; others carry the index of the word that is wrong, or their number.
+pub enum CheckAnswer {
+    Closed,
+    NoRule,
+    NotClosed(usize),
+}
+
+// What check_tree hands back.
+pub struct CheckResult {
+    pub table: Table,
+    pub answer: CheckAnswer,
+}
+
+// What an answer says: done, a plan of so many words, no plan, yes, the lowest unmet rule, a text of so many bytes, a tree of so many words, or
+// that words are those of a closed tree; or a refusal, by the papers' number and what it carries, and for a load by its number, line and place.
 pub enum Outcome {
     Done,
     Plan(usize),
@@ -152,6 +182,8 @@ pub enum Outcome {
     Yes,
     Unmet(usize),
     Text(usize),
+    Tree(usize),
+    Closed,
     Refused(usize, usize),
     RefusedLine(usize, usize, usize),
 }
@@ -307,6 +339,27 @@ fn no_code() -> [u8; 4096]
     [0u8; 4096]
 }
 
+// The answer of a writer.
+fn explanation_answer(told: Explanation) -> ExplainAnswer
+    ensures { λ r. ⌜ r ≡ explanationAnswer told ⌝ }
+{
+    match told {
+        Explanation::Tells(n) => ExplainAnswer::Tree(n),
+        Explanation::PlanExists => ExplainAnswer::HasPlan,
+        Explanation::Short(n) => ExplainAnswer::ShortBuffer(n),
+    }
+}
+
+// The answer of a verdict.
+fn verdict_answer(v: Verdict) -> CheckAnswer
+    ensures { λ r. ⌜ r ≡ verdictAnswer v ⌝ }
+{
+    match v {
+        Verdict::Accepts => CheckAnswer::Closed,
+        Verdict::Refuses(j) => CheckAnswer::NotClosed(j),
+    }
+}
+
 // What judging a plan answers, as judge's.
 fn judged_answer(j: Judged) -> JudgeAnswer
     ensures { λ r. ⌜ r ≡ judgedAnswer j ⌝ }
@@ -356,6 +409,8 @@ fn on_line(line: usize, said: Outcome) -> Outcome
         Outcome::Yes => Outcome::Yes,
         Outcome::Unmet(k) => Outcome::Unmet(k),
         Outcome::Text(n) => Outcome::Text(n),
+        Outcome::Tree(n) => Outcome::Tree(n),
+        Outcome::Closed => Outcome::Closed,
         Outcome::Refused(number, place) => Outcome::RefusedLine(number, line, place),
         Outcome::RefusedLine(number, at, place) => Outcome::RefusedLine(number, at, place),
     }
@@ -406,6 +461,29 @@ pub fn print_outcome(answer: PrintAnswer) -> Outcome
         PrintAnswer::Text(n) => Outcome::Text(n),
         PrintAnswer::NoSuchRule(k) => Outcome::Refused(10, k),
         PrintAnswer::ShortBuffer(n) => Outcome::Refused(12, n),
+    }
+}
+
+// That of explain's answer.
+pub fn explain_outcome(answer: ExplainAnswer) -> Outcome
+    ensures { λ r. ⌜ r ≡ explainOutcome answer ⌝ }
+{
+    match answer {
+        ExplainAnswer::Tree(n) => Outcome::Tree(n),
+        ExplainAnswer::NoRule => Outcome::Refused(11, 0),
+        ExplainAnswer::HasPlan => Outcome::Refused(17, 0),
+        ExplainAnswer::ShortBuffer(n) => Outcome::Refused(12, n),
+    }
+}
+
+// That of check_tree's answer.
+pub fn check_outcome(answer: CheckAnswer) -> Outcome
+    ensures { λ r. ⌜ r ≡ checkOutcome answer ⌝ }
+{
+    match answer {
+        CheckAnswer::Closed => Outcome::Closed,
+        CheckAnswer::NoRule => Outcome::Refused(11, 0),
+        CheckAnswer::NotClosed(j) => Outcome::Refused(16, j),
     }
 }
 
@@ -682,6 +760,55 @@ impl Table {
             answer,
         }
     }
+
+    // Why the standing rules have no plan: the words of a closed tree, written over the first ones of the buffer. Where no rule stands, where a
+    // plan exists, or where the buffer is shorter than the tree, the answer says so. The words past the tree, and all words of another
+    // answer, keep their values; the table comes back as it was.
+    pub fn explain(self, buffer: &mut [u32]) -> ExplainResult
+        requires { ⌜ FromUs self ⌝ }
+        ensures { λ r. ⌜ Explains self (now (buffer .entry)) r (now (buffer .exit)) ⌝ }
+    {
+        let count = self.count;
+        if count <= 0 {
+            return ExplainResult {
+                table: self,
+                answer: ExplainAnswer::NoRule,
+            };
+        }
+        let mut code = no_code();
+        let c = self.compiled(count, &mut code);
+        let told = ruleset::explained(c, &code, buffer);
+        let answer = explanation_answer(told);
+        ExplainResult {
+            table: self,
+            answer,
+        }
+    }
+
+    // Whether the words are those of a closed tree of the standing rules, which shows that they have no plan. Where no rule stands the answer
+    // says so, and for other words it carries the index of the first that is wrong, or their number where they end early. The table comes
+    // back as it was.
+    pub fn check_tree(self, words: &[u32]) -> CheckResult
+        requires { ⌜ FromUs self ⌝ }
+        ensures { λ r. ⌜ Checks self (now (words .entry)) r ⌝ }
+    {
+        let count = self.count;
+        if count <= 0 {
+            return CheckResult {
+                table: self,
+                answer: CheckAnswer::NoRule,
+            };
+        }
+        let mut code = no_code();
+        let c = self.compiled(count, &mut code);
+        let verdict = ruleset::tree_checked(c, &code, words);
+        let answer = verdict_answer(verdict);
+        CheckResult {
+            table: self,
+            answer,
+        }
+    }
+
     // The k-th rule, from 1, as it was read, its text written over the first bytes of the buffer. Where there is no such rule the answer
     // carries k, and where the buffer is shorter than the text the bytes needed. The bytes past the text, and all bytes of another
     // answer, keep their values; the table comes back as it was.

@@ -8,17 +8,20 @@
 //     building N, which asks for one building (document 02, T-04) with N words lent
 //     print K N, which prints rule K into N bytes that are lent
 //     every N, which judges the plan over N names that has every point and every contact
+//     explain N, with N words lent, and check WORDS, the writer and the checker of trees (document 02, T-06)
 //
 // In a text `/` is byte 10, a backslash and two hexadecimal digits are that byte, and `{N:PART}` is N times PART. A refusal has
 // document 01's number and what it carries. `same`: the table has as many rules as before the call, and gives the same plans, also
-// while they are withdrawn one by one. `kept`: the words lent to a question have their old values, those past the plan or, for
-// another answer, all. A plan that is given is judged at once. The file `stdout` has the lines that documents 01 and 02 ask for.
+// while they are withdrawn one by one. `kept`: the words lent to a question have their old values, those past the plan or the tree or,
+// for another answer, all. A plan that is given is judged at once, and a tree is checked. The file `stdout` has the lines that documents
+// 01 and 02 ask for.
 ghost use mathlib.Core.Path.{_≡_};
 ghost use Prim.Native.Nat.{_≤_, _<_};
 ghost use lib.ListN.{length};
 ghost use Rattle.table.specs.Calls.{FromUs};
 use table::AskAnswer;
 use table::AskResult;
+use table::ExplainAnswer;
 use table::Outcome;
 use table::PrintAnswer;
 use table::Table;
@@ -46,6 +49,8 @@ enum Command {
     Judge,
     Print,
     Every,
+    Explain,
+    Check,
 }
 
 // ---- writing
@@ -72,6 +77,13 @@ fn write_outcome(done: &[u8], said: Outcome) {
         Outcome::Text(n) => {
             write_labelled(b"text of ", n);
             write_bytes(b" bytes");
+        }
+        Outcome::Tree(n) => {
+            write_labelled(b"tree of ", n);
+            write_bytes(b" words");
+        }
+        Outcome::Closed => {
+            write_bytes(b"closed");
         }
         Outcome::Refused(number, carried) => {
             write_refusal(number, carried);
@@ -135,7 +147,11 @@ fn command_of(line: &[u8]) -> Command {
         b'b' => Command::Building,
         b'j' => Command::Judge,
         b'p' => Command::Print,
-        b'e' => Command::Every,
+        b'c' => Command::Check,
+        b'e' => match byte_at(line, 1) {
+            b'v' => Command::Every,
+            _ => Command::Explain,
+        },
         _ => Command::Heading,
     }
 }
@@ -289,7 +305,7 @@ fn put_words(words: &mut [u32], line: &[u8]) -> usize
     end
 }
 
-// Words that all differ, none of which a plan has.
+// Words that all differ, none of which a plan or a tree has.
 fn marked() -> [u32; 2083]
     ensures { λ r. ⌜ length r ≡ 2083 ⌝ }
 {
@@ -542,6 +558,54 @@ fn ask_plan(t: Table, building: bool, rest: &[u8]) -> Table
     next
 }
 
+// Writes what explain answered, with its words and whether the others are kept, and how its own tree is checked.
+fn write_explained(a: ExplainAnswer, t: Table, words: [u32; 2083])
+    requires { ⌜ FromUs t ⌝ }
+{
+    write_outcome(b"", table::explain_outcome(a));
+    let ExplainAnswer::Tree(n) = a else {
+        write_kept(words, 0);
+        return;
+    };
+    if n <= 2083 {
+        write_words(b" ", &words[0..n], b"");
+        write_kept(words, n);
+        let r = t.check_tree(&words[0..n]);
+        let answer = r.answer;
+        write_bytes(b"; checked ");
+        write_outcome(b"", table::check_outcome(answer));
+    }
+}
+
+// Has the tree written over the first n words of a buffer, at most 2083.
+fn explain_rules(t: Table, rest: &[u8]) -> Table
+    requires { ⌜ FromUs t ⌝ }
+    ensures { λ r. ⌜ FromUs r ⌝ }
+{
+    let n = at_most(number_of(rest), 2083);
+    let mut words = marked();
+    let r = t.explain(&mut words[0..n]);
+    let next = r.table;
+    let answer = r.answer;
+    write_explained(answer, next, words);
+    write_same(t, next);
+    next
+}
+
+fn check_words(t: Table, rest: &[u8]) -> Table
+    requires { ⌜ FromUs t ⌝ }
+    ensures { λ r. ⌜ FromUs r ⌝ }
+{
+    let mut words = no_words();
+    let n = put_words(&mut words, rest);
+    let r = t.check_tree(&words[0..n]);
+    let next = r.table;
+    let answer = r.answer;
+    write_outcome(b"", table::check_outcome(answer));
+    write_same(t, next);
+    next
+}
+
 // Writes whether bytes are those that were lent, none of which a text has.
 fn write_bytes_kept(bytes: &[u8]) {
     let lent = [255u8; 300];
@@ -601,6 +665,8 @@ fn call(t: Table, c: Command, rest: &[u8]) -> Table
         Command::Judge => judge_words(t, rest),
         Command::Print => print_rule(t, rest),
         Command::Every => judge_every(t, rest),
+        Command::Explain => explain_rules(t, rest),
+        Command::Check => check_words(t, rest),
     }
 }
 

@@ -13,7 +13,7 @@ use Rattle.table.specs.Sheet.{Text}
 use Rattle.table.specs.Stands.{Call, Stands}
 use Rattle.table.specs.Runs.{run}
 use Rattle.table.proofs.Claims as table
-use Rattle.theorems.specs.Demands.{Leaves, Answered, Meant, Same}
+use Rattle.theorems.specs.Demands.{Leaves, Answered, Meant, Same, Reasons}
 use Rattle.theorems.specs.Worked.{WorkedSheet, workedSheets, Holds}
 use Rattle.theorems.proofs.Demands as Demands
 use Rattle.theorems.proofs.Worked as Worked
@@ -44,6 +44,11 @@ demand-two = Demands.demand-two
 pub demand-three : (cs : List Call) (t : Table) (rs : List Text) → Leaves cs t → Stands cs rs → (q : Question) (buffer : List ℕ) (r : AskResult) (exit : List ℕ) → Asks q t buffer r exit
     → Same q rs t buffer r exit
 demand-three = Demands.demand-three
+
+-- document 02, T-06: after any calls, what check_tree accepts has no plan, it accepts every tree that explain writes, and explain has a tree
+-- exactly where ask says "no plan"
+pub reasons-hold : (cs : List Call) (t : Table) (rs : List Text) → Leaves cs t → Stands cs rs → Reasons rs t
+reasons-hold = Demands.reasons-hold
 
 -- P1 to P12
 pub worked-sheets : (row : WorkedSheet) → In row workedSheets → Holds row

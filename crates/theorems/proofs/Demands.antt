@@ -11,8 +11,8 @@ use lib.ListN.{length, take}
 use Rattle.formula.specs.Formula.{Formula, Name}
 use Rattle.syntax.proofs.Claims.{text-means}
 use Rattle.contact.specs.Meaning.{Floor, meetsAll}
-use Rattle.contact.specs.Question.{Question, Counts, NoFloor}
-use Rattle.plan.specs.Words.{Plan, wordsOf}
+use Rattle.contact.specs.Question.{Question, plain, Counts, NoFloor}
+use Rattle.plan.specs.Words.{Plan, wordsOf, over}
 use Rattle.plan.specs.Reader.{plan}
 use Rattle.plan.specs.Given.{givenPlan}
 use Rattle.plan.specs.Plans.{rowPlan, plansOf}
@@ -30,6 +30,12 @@ use Rattle.table.specs.declared.LoadResult.{LoadResult}
 use Rattle.table.specs.declared.AskResult.{AskResult}
 use Rattle.table.specs.declared.JudgeResult.{JudgeResult}
 use Rattle.table.specs.declared.PrintResult.{PrintResult}
+use Rattle.table.specs.declared.ExplainResult.{ExplainResult}
+use Rattle.table.specs.declared.CheckResult.{CheckResult}
+use Rattle.table.specs.Explaining.{explainAnswer, explainWords, explained, Explains, checkAnswer, treeChecked, Checks}
+use Rattle.trees.specs.Trees.{Tree, wordsOf as treeWords}
+use Rattle.trees.specs.OfRules.{IsWrittenTree}
+use Rattle.trees.proofs.OfRules.{closed-no-plan, written-closed}
 use Rattle.table.specs.Printing.{printAnswer, printBytes, printed, Prints}
 use Rattle.printing.specs.Text.{textOf}
 use Rattle.table.specs.Store.{tableOf, rulesOf}
@@ -38,17 +44,19 @@ use Rattle.table.specs.Calls.{formulasOf, namesIn, judgeAdd, addRules, added, j
 use Rattle.table.specs.Rules.{AreRules, CanStand}
 use Rattle.table.proofs.Rules.{of-computed, can-rules, can-names}
 use Rattle.table.specs.Asking.{askAnswer, askWords, asked, Asks, judgeAnswer, judged, Judges}
-use Rattle.table.specs.Numbers.{addOutcome, withdrawOutcome, loadOutcome, askOutcome, judgeOutcome, printOutcome}
-use Rattle.table.specs.Rows.{AddRow, WithdrawRow, LoadRow, SomeStand, AskRow, floorOf, JudgeRow, PrintRow}
+use Rattle.table.specs.Numbers.{addOutcome, withdrawOutcome, loadOutcome, askOutcome, judgeOutcome, printOutcome, explainOutcome, checkOutcome}
+use Rattle.table.specs.Rows.{AddRow, WithdrawRow, LoadRow, SomeStand, AskRow, floorOf, JudgeRow, PrintRow, ExplainRow, CheckRow}
 use Rattle.table.specs.Stands.{Call, adds, Stands}
 use Rattle.table.specs.Runs.{step, runFrom, run, standing}
 use Rattle.table.proofs.Standing.{refused-else, not-withdrawn, not-loaded, stand-none, stand-first}
 use Rattle.table.proofs.Results.{adds-of, withdraws-of, loads-of}
 use Rattle.table.proofs.Printing.{prints-of}
 use Rattle.table.proofs.PrintRows.{bytes-written, had-text, bytes-kept}
+use Rattle.table.proofs.Explaining.{explains-of, checks-of}
+use Rattle.table.proofs.TreeRows.{had-tree, tree-written, first-tree, tree-kept}
 use Rattle.table.proofs.Asking.{asks-of, judges-of, words-none, words-written, words-short, first-words}
 use Rattle.table.proofs.Claims as table
-use Rattle.theorems.specs.Demands.{Called, Leaves, Exactly, Answered, Met, NotMet, Given, Meant, Same}
+use Rattle.theorems.specs.Demands.{Called, Leaves, Exactly, Answered, Met, NotMet, Given, Meant, Same, Reasons}
 use Rattle.plan.specs.Meant.{IsGiven, FirstUnmet}
 
 -- ---- calls of the code leave the table of the run
@@ -62,10 +70,12 @@ called-runs t cs u (Called.load {f = f} {r = r} {cs = ds} h l) = called-runs (r 
 called-runs t cs u (Called.ask {q = q} {buffer = buffer} {r = r} {exit = exit} {cs = ds} h l) = called-runs (r .table) ds u l ∙ ap (λ (x : Table). runFrom x ds) (table.ask-steps q t buffer r exit h)
 called-runs t cs u (Called.judge {words = words} {r = r} {cs = ds} h l) = called-runs (r .table) ds u l ∙ ap (λ (x : Table). runFrom x ds) (table.judge-steps t words r h)
 called-runs t cs u (Called.print {k = k} {buffer = buffer} {r = r} {exit = exit} {cs = ds} h l) = called-runs (r .table) ds u l ∙ ap (λ (x : Table). runFrom x ds) (table.print-steps t k buffer r exit h)
+called-runs t cs u (Called.explain {buffer = buffer} {r = r} {exit = exit} {cs = ds} h l) = called-runs (r .table) ds u l ∙ ap (λ (x : Table). runFrom x ds) (table.explain-steps t buffer r exit h)
+called-runs t cs u (Called.check {words = words} {r = r} {cs = ds} h l) = called-runs (r .table) ds u l ∙ ap (λ (x : Table). runFrom x ds) (table.check-steps t words r h)
 
 -- and every list of calls leaves one: the contracts can be met
 calls-run : (cs : List Call) (t : Table) → FromUs t → Called t cs (runFrom t cs)
-unfolding runFrom step asked judged printed
+unfolding runFrom step asked judged printed explained treeChecked
 calls-run [] t v = Called.none
 calls-run (Call.add s ∷ cs) t v = let h = adds-of t s (added (rulesOf t) s) v refl in Called.add h (calls-run cs (added (rulesOf t) s .table) (h .from-us))
 calls-run (Call.withdraw k ∷ cs) t v = let h = withdraws-of t k (withdrawn (rulesOf t) k) v refl in Called.withdraw h (calls-run cs (withdrawn (rulesOf t) k .table) (h .from-us))
@@ -75,6 +85,9 @@ calls-run (Call.ask q buffer ∷ cs) t v =
 calls-run (Call.judge words ∷ cs) t v = Called.judge (judges-of t v words (judgeAnswer (rulesOf t) words) refl) (calls-run cs t v)
 calls-run (Call.print k buffer ∷ cs) t v =
     Called.print (prints-of t v k buffer (printAnswer (rulesOf t) k (length buffer)) (printBytes (rulesOf t) k buffer) refl refl) (calls-run cs t v)
+calls-run (Call.explain buffer ∷ cs) t v =
+    Called.explain (explains-of t v buffer (explainAnswer (rulesOf t) (length buffer)) (explainWords (rulesOf t) buffer) refl refl) (calls-run cs t v)
+calls-run (Call.check words ∷ cs) t v = Called.check (checks-of t v words (checkAnswer (rulesOf t) words) refl) (calls-run cs t v)
 
 pub left : (cs : List Call) (t : Table) → Leaves cs t → t ≡ run cs
 unfolding run
@@ -190,6 +203,32 @@ module _ (cs : List Call) where
       by-row (PrintRow (standing cs) k (length buffer)) printOutcome (printed-by k buffer r exit h .0) (table.print-answered k (length buffer) (standing cs) fs are)
       (table.print-answered-only k (length buffer) (standing cs))
 
+  explained-by : (buffer : List ℕ) (r : ExplainResult) (exit : List ℕ) → Explains (run cs) buffer r exit
+      → (r .answer ≡ explainAnswer (standing cs) (length buffer)) × (exit ≡ explainWords (standing cs) buffer)
+  unfolding explained
+  explained-by buffer r exit h = (
+    ap (λ (x : ExplainResult). x .answer) (h .result) ∙ ap (λ (rs : List Text). explainAnswer rs (length buffer)) held,
+    h .words ∙ ap (λ (rs : List Text). explainWords rs buffer) held,
+  )
+
+  explain-exactly : (buffer : List ℕ) (r : ExplainResult) (exit : List ℕ) → Explains (run cs) buffer r exit
+      → Exactly (ExplainRow (standing cs) (length buffer)) (explainOutcome (r .answer))
+  explain-exactly buffer r exit h =
+      by-row (ExplainRow (standing cs) (length buffer)) explainOutcome (explained-by buffer r exit h .0) (table.explain-answered (length buffer) (standing cs) fs are)
+      (table.explain-answered-only (length buffer) (standing cs))
+
+  tree-there : (buffer : List ℕ) (r : ExplainResult) (exit : List ℕ) → Explains (run cs) buffer r exit → (gs : List (Formula Name)) → AreRules (standing cs) gs → (w : Tree) → IsWrittenTree gs w
+      → explainOutcome (r .answer) ≡ Outcome.Tree (length (treeWords w)) → exit ≡ over (treeWords w) buffer
+  tree-there buffer r exit h gs rules w is e =
+      let fits = had-tree (length buffer) (standing cs) (explainOutcome (r .answer)) (explain-exactly buffer r exit h .row) (length (treeWords w)) e in
+      explained-by buffer r exit h .1 ∙ tree-written (standing cs) buffer gs (fits .0) rules w is (fits .1)
+
+  check-exactly : (words : List ℕ) (r : CheckResult) → Checks (run cs) words r → Exactly (CheckRow (standing cs) words) (checkOutcome (r .answer))
+  unfolding treeChecked
+  check-exactly words r h =
+      by-row (CheckRow (standing cs) words) checkOutcome (ap (λ (x : CheckResult). x .answer) (h .result) ∙ ap (λ (rs : List Text). checkAnswer rs words) held)
+      (table.check-answered words (standing cs) stands) (table.check-answered-only words (standing cs) stands)
+
   -- ---- demand 1
 
   same-table : tableOf (rulesOf (run cs)) ≡ run cs
@@ -225,6 +264,12 @@ module _ (cs : List Call) where
         print-written = λ k buffer r exit h s f at rule e. printed-by k buffer r exit h .1
             ∙ bytes-written (standing cs) k buffer s f at rule (had-text (standing cs) k (length buffer) (printOutcome (r .answer)) (print-exactly k buffer r exit h .row) (length (textOf f)) e);
         print-kept = λ k buffer r exit h n. printed-by k buffer r exit h .1 ∙ bytes-kept (standing cs) k buffer (printOutcome (r .answer)) (print-exactly k buffer r exit h .row) n;
+        explain = explain-exactly;
+        explain-same = λ buffer r exit h. h .same;
+        explain-written = tree-there;
+        explain-kept = λ buffer r exit h n. explained-by buffer r exit h .1 ∙ tree-kept (standing cs) buffer (explainOutcome (r .answer)) (explain-exactly buffer r exit h .row) n;
+        check = check-exactly;
+        check-same = λ words r h. h .same;
       }
 
   -- ---- demand 2
@@ -314,6 +359,50 @@ module _ (cs : List Call) where
             );
       }
 
+  -- ---- document 02, T-06
+
+  accepted : (words : List ℕ) (r : CheckResult) → Checks (run cs) words r → checkOutcome (r .answer) ≡ Outcome.Closed
+      → (gs : List (Formula Name)) → AreRules (standing cs) gs → NoFloor plain gs
+  accepted words r h e gs rules = go (checkOutcome (r .answer)) (check-exactly words r h .row) e
+    where
+      go : (o : Outcome) → CheckRow (standing cs) words o → o ≡ Outcome.Closed → NoFloor plain gs
+      go o (CheckRow.none z) f = absurd (let z : _≡_ {A = ℕ} 0 1 = cc in omega arith)
+      go o (CheckRow.wrong some others z) f = absurd (let z : _≡_ {A = ℕ} 0 1 = cc in omega arith)
+      go o (CheckRow.closed {fs = hs} w some others c z) f = subst (NoFloor plain) (table.formulas-one (standing cs) hs gs others rules) (closed-no-plan hs w c)
+
+  tree-closed : (buffer : List ℕ) (r : ExplainResult) (exit : List ℕ) → Explains (run cs) buffer r exit → (n : ℕ) → explainOutcome (r .answer) ≡ Outcome.Tree n
+      → (s : CheckResult) → Checks (run cs) (take n exit) s → checkOutcome (s .answer) ≡ Outcome.Closed
+  tree-closed buffer r exit h n e s k = go (explainOutcome (r .answer)) (explain-exactly buffer r exit h .row) e
+    where
+      go : (o : Outcome) → ExplainRow (standing cs) (length buffer) o → o ≡ Outcome.Tree n → checkOutcome (s .answer) ≡ Outcome.Closed
+      go o (ExplainRow.none z) f = absurd (let z : _≡_ {A = ℕ} 0 1 = cc in omega arith)
+      go o (ExplainRow.plan some rules F counts meets) f = absurd (let z : _≡_ {A = ℕ} 0 1 = cc in omega arith)
+      go o (ExplainRow.short t some rules w l) f = absurd (let z : _≡_ {A = ℕ} 0 1 = cc in omega arith)
+      go o (ExplainRow.tree {fs = gs} w some rules is l) f =
+          let z : length (treeWords w) ≡ n = cc in
+          let words : treeWords w ≡ take n exit
+          = sym (ap (take n) (explained-by buffer r exit h .1) ∙ ap (λ (k : ℕ). take k (explainWords (standing cs) buffer)) (sym z) ∙ first-tree (standing cs) buffer gs some rules w is l) in
+          sym (check-exactly (take n exit) s k .only Outcome.Closed (CheckRow.closed w some rules (written-closed gs w is) words))
+
+  tree-or-plan : SomeStand (standing cs) → (buffer : List ℕ) (r : ExplainResult) (exit : List ℕ) → Explains (run cs) buffer r exit
+      → (lent : List ℕ) (s : AskResult) (words : List ℕ) → Asks plain (run cs) lent s words
+      → (explainOutcome (r .answer) ≡ Outcome.Refused 17 0 → ⊥) ↔ (askOutcome (s .answer) ≡ Outcome.NoPlan)
+  tree-or-plan some buffer r exit h lent s words k = (
+    λ none. sym (ask-exactly plain lent s words k .only Outcome.NoPlan (AskRow.without some are (λ F counts meets.
+        none (sym (explain-exactly buffer r exit h .only (Outcome.Refused 17 0) (ExplainRow.plan some are F counts meets)))))),
+    λ e f. go (explainOutcome (r .answer)) (explain-exactly buffer r exit h .row) f
+        (without-plan plain (standing cs) (length lent) (askOutcome (s .answer)) (ask-exactly plain lent s words k .row) e),
+  )
+    where
+      go : (o : Outcome) → ExplainRow (standing cs) (length buffer) o → o ≡ Outcome.Refused 17 0 → NoFloor plain fs → ⊥
+      go o (ExplainRow.none z) f none = absurd (some z)
+      go o (ExplainRow.plan {fs = gs} also rules F counts meets) f none = none F counts (of-computed (standing cs) gs rules (λ hs. meetsAll F hs ≡ true) meets)
+      go o (ExplainRow.short t also rules w l) f none = absurd (let z : _≡_ {A = ℕ} 12 17 = cc in omega arith)
+      go o (ExplainRow.tree t also rules w l) f none = absurd (let z : _≡_ {A = ℕ} 0 1 = cc in omega arith)
+
+  reasons : Reasons (standing cs) (run cs)
+  reasons = record { accepted = accepted; written = tree-closed; told = tree-or-plan }
+
 -- ---- the calls of the code
 
 -- what holds of the computed table and rules holds of the table that is left and of the rules that stand
@@ -331,3 +420,6 @@ pub demand-three : (cs : List Call) (t : Table) (rs : List Text) → Leaves cs t
     → Same q rs t buffer r exit
 demand-three cs t rs l s q buffer r exit =
     carried cs (λ ss u. Asks q u buffer r exit → Same q ss u buffer r exit) (same cs q buffer r exit) t rs l s
+
+pub reasons-hold : (cs : List Call) (t : Table) (rs : List Text) → Leaves cs t → Stands cs rs → Reasons rs t
+reasons-hold cs = carried cs Reasons (reasons cs)

@@ -1,7 +1,7 @@
 -- What is meant: the customer's three demands, each as one statement about a list of calls from the empty table. The list is any list of
--- add, withdraw, load, ask for either question, judge and print, refused ones included, each with any text, number, buffer or plan words; the standing rules rs are those that
+-- add, withdraw, load, ask for either question, judge, print, explain and check_tree, refused ones included, each with any text, number, buffer or plan words; the standing rules rs are those that
 -- `Stands` makes of the calls alone, by the rows of the table of calls, and their formulas those that the grammar derives. The calls of
--- the code come in by their contracts (Adds, Withdraws, Loads, Asks, Judges, Reads): what holds of every result that a contract allows
+-- the code come in by their contracts (Adds, Withdraws, Loads, Asks, Judges, Prints, Explains, Checks, Reads): what holds of every result that a contract allows
 -- holds of what the code gives. Assumes nothing.
 use Prim.Native.Nat.{ℕ, _≤_, _<_}
 use mathlib.Core.Path.{_≡_}
@@ -12,7 +12,7 @@ use lib.ListN.{length, take}
 use Rattle.formula.specs.Formula.{Formula, Name}
 use Rattle.syntax.specs.RuleText.{IsRule}
 use Rattle.contact.specs.Meaning.{Floor, meetsAll}
-use Rattle.contact.specs.Question.{Question, Counts, NoFloor}
+use Rattle.contact.specs.Question.{Question, plain, Counts, NoFloor}
 use Rattle.plan.specs.declared.PlanAnswer.the-variants as PlanAnswer
 use Rattle.plan.specs.declared.PlanRead.{PlanRead}
 use Rattle.plan.specs.Words.{Plan, wordsOf, over}
@@ -27,15 +27,20 @@ use Rattle.table.specs.declared.LoadResult.{LoadResult}
 use Rattle.table.specs.declared.AskResult.{AskResult}
 use Rattle.table.specs.declared.JudgeResult.{JudgeResult}
 use Rattle.table.specs.declared.PrintResult.{PrintResult}
+use Rattle.table.specs.declared.ExplainResult.{ExplainResult}
+use Rattle.table.specs.declared.CheckResult.{CheckResult}
 use Rattle.table.specs.Store.{tableOf}
 use Rattle.table.specs.Sheet.{Text}
 use Rattle.table.specs.Rules.{AreRules}
 use Rattle.table.specs.Calls.{FromUs, Adds, Withdraws, Loads}
 use Rattle.table.specs.Asking.{Asks, Judges}
 use Rattle.table.specs.Printing.{Prints}
+use Rattle.table.specs.Explaining.{Explains, Checks}
+use Rattle.trees.specs.Trees.{Tree, wordsOf as treeWords}
+use Rattle.trees.specs.OfRules.{IsWrittenTree}
 use Rattle.printing.specs.Text.{textOf}
-use Rattle.table.specs.Numbers.{addOutcome, withdrawOutcome, loadOutcome, askOutcome, judgeOutcome, printOutcome}
-use Rattle.table.specs.Rows.{AddRow, WithdrawRow, LoadRow, SomeStand, AskRow, Decodes, floorOf, JudgeRow, IsKth, PrintRow}
+use Rattle.table.specs.Numbers.{addOutcome, withdrawOutcome, loadOutcome, askOutcome, judgeOutcome, printOutcome, explainOutcome, checkOutcome}
+use Rattle.table.specs.Rows.{AddRow, WithdrawRow, LoadRow, SomeStand, AskRow, Decodes, floorOf, JudgeRow, IsKth, PrintRow, ExplainRow, CheckRow}
 use Rattle.table.specs.Stands.{Call, adds}
 use Rattle.plan.specs.Meant.{IsGiven, FirstUnmet}
 
@@ -49,6 +54,8 @@ pub data Called : Table → List Call → Table → Type 0 where
   judge : {t : Table} {words : List ℕ} {r : JudgeResult} {cs : List Call} {u : Table} → Judges t words r → Called (r .table) cs u → Called t (Call.judge words ∷ cs) u
   print : {t : Table} {k : ℕ} {buffer : List ℕ} {r : PrintResult} {exit : List ℕ} {cs : List Call} {u : Table} → Prints t k buffer r exit → Called (r .table) cs u
       → Called t (Call.print k buffer ∷ cs) u
+  explain : {t : Table} {buffer : List ℕ} {r : ExplainResult} {exit : List ℕ} {cs : List Call} {u : Table} → Explains t buffer r exit → Called (r .table) cs u → Called t (Call.explain buffer ∷ cs) u
+  check : {t : Table} {words : List ℕ} {r : CheckResult} {cs : List Call} {u : Table} → Checks t words r → Called (r .table) cs u → Called t (Call.check words ∷ cs) u
 
 -- "from an empty table", which is what `Table::empty` gives
 abbrev pub Leaves : List Call → Table → Type 0
@@ -89,6 +96,14 @@ pub record Answered (rs : List Text) (t : Table) : Type 0 where
       → printOutcome (r .answer) ≡ Outcome.Text (length (textOf f)) → exit ≡ over (textOf f) buffer
   -- "the buffer keeps its contents"
   pub print-kept : (k : ℕ) (buffer : List ℕ) (r : PrintResult) (exit : List ℕ) → Prints t k buffer r exit → ((n : ℕ) → printOutcome (r .answer) ≡ Outcome.Text n → ⊥) → exit ≡ buffer
+  -- document 02, T-06; "What lies past it is kept, all of it where the answer is no" tree
+  pub explain : (buffer : List ℕ) (r : ExplainResult) (exit : List ℕ) → Explains t buffer r exit → Exactly (ExplainRow rs (length buffer)) (explainOutcome (r .answer))
+  pub explain-same : (buffer : List ℕ) (r : ExplainResult) (exit : List ℕ) → Explains t buffer r exit → r .table ≡ t
+  pub explain-written : (buffer : List ℕ) (r : ExplainResult) (exit : List ℕ) → Explains t buffer r exit → (fs : List (Formula Name)) → AreRules rs fs → (w : Tree) → IsWrittenTree fs w
+      → explainOutcome (r .answer) ≡ Outcome.Tree (length (treeWords w)) → exit ≡ over (treeWords w) buffer
+  pub explain-kept : (buffer : List ℕ) (r : ExplainResult) (exit : List ℕ) → Explains t buffer r exit → ((n : ℕ) → explainOutcome (r .answer) ≡ Outcome.Tree n → ⊥) → exit ≡ buffer
+  pub check : (words : List ℕ) (r : CheckResult) → Checks t words r → Exactly (CheckRow rs words) (checkOutcome (r .answer))
+  pub check-same : (words : List ℕ) (r : CheckResult) → Checks t words r → r .table ≡ t
 
 -- ---- demand 2: "Rule text is read as the grammar of document 01 has it, and a plan given meets every standing rule .. Plan words read
 -- back give the plan that was written, and a stranger's plan is judged by the same definition."
@@ -154,3 +169,16 @@ pub record Same (q : Question) (rs : List Text) (t : Table) (buffer : List ℕ) 
       → (u : Table) → Leaves (adds before) u → (r : AddResult) → Adds u s r → addOutcome (r .answer) ≡ Outcome.Done
   -- "the answer that ask then gives, a refusal too, and every word of its plan buffer .. when ask is lent the same plan buffer"
   pub same : (u : Table) → Leaves (adds rs) u → (s : AskResult) (words : List ℕ) → Asks q u buffer s words → (r ≡ s) × (exit ≡ words)
+
+-- ---- document 02, T-06: the reasons
+
+pub record Reasons (rs : List Text) (t : Table) : Type 0 where
+  -- "What it accepts has no plan"
+  pub accepted : (words : List ℕ) (r : CheckResult) → Checks t words r → checkOutcome (r .answer) ≡ Outcome.Closed → (fs : List (Formula Name)) → AreRules rs fs → NoFloor plain fs
+  -- "and every tree of our writer is accepted"
+  pub written : (buffer : List ℕ) (r : ExplainResult) (exit : List ℕ) → Explains t buffer r exit → (n : ℕ) → explainOutcome (r .answer) ≡ Outcome.Tree n
+      → (s : CheckResult) → Checks t (take n exit) s → checkOutcome (s .answer) ≡ Outcome.Closed
+  -- where ask says "no plan", and nowhere else, there is a tree: explain does not say that a plan exists
+  pub told : SomeStand rs → (buffer : List ℕ) (r : ExplainResult) (exit : List ℕ) → Explains t buffer r exit
+      → (lent : List ℕ) (s : AskResult) (words : List ℕ) → Asks plain t lent s words
+      → (explainOutcome (r .answer) ≡ Outcome.Refused 17 0 → ⊥) ↔ (askOutcome (s .answer) ≡ Outcome.NoPlan)

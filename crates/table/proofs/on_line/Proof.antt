@@ -26,8 +26,14 @@ enum-known-said-3 c = search needs
 enum-known-said-4 : tie.Need-enum-known-said-4
 enum-known-said-4 c = search needs
 
+enum-told-4 : tie.Need-enum-told-4
+enum-told-4 c = search needs
+
 enum-known-said-5 : tie.Need-enum-known-said-5
 enum-known-said-5 c = search needs
+
+enum-known-said-6 : tie.Need-enum-known-said-6
+enum-known-said-6 c = search needs
 
 returns : tie.Need-returns
 returns c = search needs
@@ -51,7 +57,13 @@ returns-7 : tie.Need-returns-7
 returns-7 c = sym (ap (onLine _) (c .before .said4 .given .1))
 
 returns-8 : tie.Need-returns-8
-returns-8 c = sym (ap (onLine _) (c .before .said5 .given .1))
+returns-8 c = search needs
+
+returns-9 : tie.Need-returns-9
+returns-9 c = sym (ap (onLine _) (c .before .said5 .given .1))
+
+returns-10 : tie.Need-returns-10
+returns-10 c = sym (ap (onLine _) (c .before .said6 .given .1))
 
 pub on-line-spec : {M : Type 1} → statement M
 on-line-spec =
@@ -64,7 +76,9 @@ on-line-spec =
     enum-known-said-2
     enum-known-said-3
     enum-known-said-4
+    enum-told-4
     enum-known-said-5
+    enum-known-said-6
     returns
     returns-2
     returns-3
@@ -72,4 +86,6 @@ on-line-spec =
     returns-5
     returns-6
     returns-7
-    returns-8)
+    returns-8
+    returns-9
+    returns-10)

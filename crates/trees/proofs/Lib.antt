@@ -1,0 +1,12 @@
+pub mod Branches
+pub mod Spelling
+pub mod Checking
+pub mod Sound
+pub mod Writing
+pub mod Words
+pub mod Floors
+pub mod Rules
+pub mod Steps
+pub mod Telling
+pub mod OfRules
+pub mod Claims
