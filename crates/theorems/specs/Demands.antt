@@ -96,7 +96,7 @@ pub record Answered (rs : List Text) (t : Table) : Type 0 where
       → printOutcome (r .answer) ≡ Outcome.Text (length (textOf f)) → exit ≡ over (textOf f) buffer
   -- "the buffer keeps its contents"
   pub print-kept : (k : ℕ) (buffer : List ℕ) (r : PrintResult) (exit : List ℕ) → Prints t k buffer r exit → ((n : ℕ) → printOutcome (r .answer) ≡ Outcome.Text n → ⊥) → exit ≡ buffer
-  -- document 02, T-06; "What lies past it is kept, all of it where the answer is no" tree
+  -- document 02, T-06; "what lies past it is kept" (T-02), and all of it for another answer than a tree
   pub explain : (buffer : List ℕ) (r : ExplainResult) (exit : List ℕ) → Explains t buffer r exit → Exactly (ExplainRow rs (length buffer)) (explainOutcome (r .answer))
   pub explain-same : (buffer : List ℕ) (r : ExplainResult) (exit : List ℕ) → Explains t buffer r exit → r .table ≡ t
   pub explain-written : (buffer : List ℕ) (r : ExplainResult) (exit : List ℕ) → Explains t buffer r exit → (fs : List (Formula Name)) → AreRules rs fs → (w : Tree) → IsWrittenTree fs w
