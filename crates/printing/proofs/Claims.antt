@@ -4,17 +4,20 @@ use mathlib.Core.Bool.{false}
 use mathlib.Core.List.{List}
 use Prim.Native.Nat.{ℕ, _≤_}
 use native.Mathlib.Omega.{arith}
-use lib.ListN.{length}
-use Rattle.formula.specs.Formula.{Formula, Name}
+use lib.ListN.{length, getD}
+use Rattle.lists.specs.Search.{In}
+use Rattle.formula.specs.Formula.{Term, Atom, Form, Formula, Name}
+use Rattle.formula.specs.Atoms.{atomsOf}
 use Rattle.syntax.specs.Symbol.{Symbol}
 use Rattle.syntax.specs.Grammar.{Derives}
 use Rattle.syntax.specs.RuleText.{IsRule}
 use Rattle.syntax.proofs.Claims as syntax
 use Rattle.printing.specs.Tokens.{formulaTokens}
 use Rattle.printing.specs.Text.{textOf}
-use Rattle.printing.specs.Prints.{printedText}
+use Rattle.printing.specs.Prints.{printedText, atomText}
 use Rattle.printing.proofs.Named.{AreNames}
 use Rattle.printing.proofs.Lengths.{rule-names, text-shorter}
+use Rattle.printing.proofs.AtomEnds.{atom-text-shorter}
 use Rattle.printing.proofs.Derived.{derives}
 use Rattle.printing.proofs.Apart.{formula-apart}
 use Rattle.printing.proofs.Cuts.{tokensFrom, cut-written, symbols-again}
@@ -42,3 +45,12 @@ same-bytes s t f h k = gives-text s f h ∙ sym (gives-text t f k)
 -- "A written rule is never longer than the one that was read."
 pub never-longer : (s : List ℕ) (f : Formula Name) → IsRule s f → length (textOf f) ≤ length s
 never-longer s f h = text-shorter s f h
+
+-- what `print_atom` gives is the text of the formula that is the atom alone
+pub gives-atom : (s : List ℕ) (f : Formula Name) → IsRule s f → (i : ℕ) → atomText s i ≡ textOf (Form.atom (getD (atomsOf f) i (Atom.empty Term.zero)))
+unfolding atomText
+gives-atom s f h i = ap (λ (g : Formula Name). textOf (Form.atom (getD (atomsOf g) i (Atom.empty Term.zero)))) (syntax.text-means s f h)
+
+-- it is never longer than the rule
+pub atom-never-longer : (s : List ℕ) (f : Formula Name) → IsRule s f → (a : Atom Name) → In a (atomsOf f) → length (textOf (Form.atom a)) ≤ length s
+atom-never-longer s f h a i = omega (arith, atom-text-shorter f a i, text-shorter s f h)

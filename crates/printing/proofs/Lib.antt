@@ -9,5 +9,10 @@ pub mod Cuts
 pub mod Tasks
 pub mod Arrays
 pub mod Walking
+pub mod Whole
+pub mod Counting
+pub mod Atoms
+pub mod Seeking
+pub mod AtomEnds
 pub mod Claims
 pub mod Examples

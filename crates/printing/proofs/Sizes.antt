@@ -23,7 +23,7 @@ unfolding written size
 size-written [] = refl
 size-written (x ∷ xs) = length-append (spelling x) (collect spelling xs) ∙ ap (λ (n : ℕ). length (spelling x) + n) (size-written xs)
 
-size-append : (xs ys : List (Symbol Name)) → size (xs ++ ys) ≡ size xs + size ys
+pub size-append : (xs ys : List (Symbol Name)) → size (xs ++ ys) ≡ size xs + size ys
 unfolding size
 size-append [] ys = omega arith
 size-append (x ∷ xs) ys = omega (arith, size-append xs ys)

@@ -1,8 +1,7 @@
 -- For proofs: what the private functions compute. A job is a byte to write, an operand at a level (0 to 3), or a name (4). Assumes nothing.
-use mathlib.Core.Path.{_≡_}
 use mathlib.Core.Bool.{cond}
 use mathlib.Core.List.{List, [], _∷_, _++_, map}
-use Prim.Native.Nat.{ℕ, suc, _+_, _*_, _≤_}
+use Prim.Native.Nat.{ℕ, suc, _+_, _*_}
 use lib.Dec.{ltb}
 use lib.ListN.{length, take, drop, getD}
 use Rattle.lists.specs.Search.{collect}
@@ -12,7 +11,6 @@ use Rattle.formula.specs.Sign.{levelOf, tightest}
 use Rattle.lexer.specs.Text.{bytes}
 use Rattle.syntax.specs.Symbol.{binary}
 use Rattle.printing.specs.Text.{spelling}
-use Rattle.printing.specs.Prints.{printedText}
 
 -- a binary sign between its operands
 abbrev pub signJobs : Sign → List ℕ
@@ -56,9 +54,3 @@ jobsAt r = take (getD table (r * 8) 0) (drop (r * 8 + 1) table)
 unfoldable pub rowOf : ℕ → ℕ → ℕ
 unfolding table
 rowOf c l = cond (ltb c 6) (cond (ltb (getD table (c * 8 + 1) 0) l) (c + 19) c) c
-
--- the printed text of the rule text s stands at the end of 256 bytes, from the place r on
-pub record Filled (s made : List ℕ) (r : ℕ) : Type 0 where
-  pub within : r ≤ 256
-  pub whole : length made ≡ 256
-  pub text : drop r made ≡ printedText s

@@ -4,7 +4,9 @@ use mathlib.Core.Bool.{Bool, cond}
 use mathlib.Core.List.{List, _++_}
 use Prim.Native.Nat.{ℕ}
 use lib.Dec.{leb}
-use lib.ListN.{length, drop}
+use lib.ListN.{length, getD, drop}
+use Rattle.formula.specs.Formula.{Term, Atom, Form, Name}
+use Rattle.formula.specs.Atoms.{atomsOf}
 use Rattle.syntax.specs.Rule.{ruleOf, meaningOf}
 use Rattle.syntax.specs.declared.Rule.{Rule}
 use Rattle.syntax.specs.declared.RuleAnswer.the-variants as RuleAnswer
@@ -20,6 +22,14 @@ pub record WasRead (s : List ℕ) (rule : Rule) : Type 0 where
 -- the text that is printed for a rule text: that of the formula read from it
 unfoldable pub printedText : List ℕ → List ℕ
 printedText s = textOf (meaningOf s)
+
+-- the atom of a rule text with this number, from 0 in written order; of a number that none has, 0=0
+abbrev pub atomAt : List ℕ → ℕ → Atom Name
+atomAt s i = getD (atomsOf (meaningOf s)) i (Atom.empty Term.zero)
+
+-- the text that is printed for it: that of the formula that is this atom alone
+unfoldable pub atomText : List ℕ → ℕ → List ℕ
+atomText s i = textOf (Form.atom (atomAt s i))
 
 -- the text ws fits into the buffer
 abbrev pub fits : List ℕ → List ℕ → Bool

@@ -1,14 +1,18 @@
 -- What is proved of the text that the program floorplan prints for a sheet, `outputOf` of the plain question, which `report` gives by its
--- contract, of that of building, by the question of one building, which `report_building` gives, and of that of asread, `asReadOf`, which
--- `as_read` gives: for every list of bytes it is what is meant (specs/Printed.antt), and no other text is. Each claim cites the file that
--- proves it. Assumes nothing.
-use mathlib.Core.Path.{_≡_, sym}
+-- contract, of that of building, by the question of one building, which `report_building` gives, of that of asread, `asReadOf`, which
+-- `as_read` gives, and of that of why, `whyOf`, which `why` and `why_piece` give: for every list of bytes it is what is meant
+-- (specs/Printed.antt), and no other text is. Each claim cites the file that proves it. Assumes nothing.
+use mathlib.Core.Path.{_≡_, refl, sym, ap, _∙_}
 use mathlib.Core.Logic.{_↔_}
+use mathlib.Core.Bool.{true}
 use mathlib.Core.List.{List}
-use Prim.Native.Nat.{ℕ}
+use Prim.Native.Nat.{ℕ, _-_}
 use Rattle.formula.specs.Formula.{Formula, Name}
 use Rattle.lexer.specs.Text.{bytes}
-use Rattle.contact.specs.Question.{Question, plain, building, NoFloor}
+use Rattle.contact.specs.Meaning.{Floor, meetsAll}
+use Rattle.contact.specs.Question.{Question, plain, building, Counts, NoFloor}
+use Rattle.lists.specs.Search.{collect}
+use native.Mathlib.Omega.{arith}
 use Rattle.contact.specs.Numbering.{namesOf}
 use Rattle.plan.specs.Words.{Plan}
 use Rattle.plan.specs.Meant.{IsGiven}
@@ -16,10 +20,13 @@ use Rattle.table.specs.Sheet.{Text, linesOf, filled}
 use Rattle.table.specs.Rules.{AreRules}
 use Rattle.table.specs.Rows.{LoadRow}
 use Rattle.table.specs.declared.Outcome.the-variants as Outcome
-use Rattle.report.specs.Output.{outputOf, asReadOf}
+use Rattle.report.specs.Output.{outputOf, asReadOf, whyOf}
+use Rattle.report.specs.Pieces.{linesFrom, Answers, Pieces}
+use Rattle.report.specs.declared.WhyAnswer.the-variants as WhyAnswer
 use Rattle.report.specs.Lines.{ended, planText}
-use Rattle.report.specs.Printed.{Printed, plan-lines, no-plan-line, AsRead}
+use Rattle.report.specs.Printed.{Printed, plan-lines, no-plan-line, AsRead, Why}
 use Rattle.report.proofs.Printing as Printing
+use Rattle.report.proofs.Reasons as Reasons
 use Rattle.report.proofs.Examples as Examples
 
 -- for each question, a plan, NO PLAN or a refusal, as it is meant, and one text only is meant
@@ -35,6 +42,26 @@ as-read = Printing.as-read
 
 pub as-read-only : (file : Text) (out : List ℕ) → AsRead file out → out ≡ asReadOf file
 as-read-only = Printing.as-read-only
+
+-- the tree of T-06's writer in lines, PLAN EXISTS or the refusal, as it is meant, and one text only is meant
+pub why : (file : Text) → Why file (whyOf file)
+why = Printing.why
+
+pub why-only : (file : Text) (out : List ℕ) → Why file out → out ≡ whyOf file
+why-only = Printing.why-only
+
+-- the line PLAN EXISTS, exactly if the sheet is loaded and some finite floor meets its rules
+pub plan-exists-printed : (file : Text) → (whyOf file ≡ ended (bytes "PLAN EXISTS"))
+    ↔ (LoadRow file Outcome.Done × (fs : List (Formula Name)) × AreRules (filled (linesOf file)) fs × (F : Floor Name) × Counts plain F × (meetsAll F fs ≡ true))
+plan-exists-printed file =
+    (Printing.some-floor file (whyOf file) (why file), λ r. sym (why-only file _ (Why.exists (r .0) (r .2) (r .3) (r .4) (r .5))))
+
+-- where `why` tells of a tree, the pieces that `why_piece` gives, each from where the one before it ended, are the text
+pub pieces-joined : (file : Text) (line : ℕ → List ℕ) (count : ℕ) (buffer exit : List ℕ) → Answers (whyOf file) line buffer exit (WhyAnswer.Tree count)
+    → (pieces : List (List ℕ)) → Pieces line count 0 pieces → collect (λ p. p) pieces ≡ whyOf file
+pieces-joined file line count buffer exit told pieces p =
+    let z : count - 0 ≡ count = omega arith in
+    Reasons.joined line 0 pieces p (omega arith) ∙ ap (linesFrom line 0) z ∙ Reasons.answered-tree _ told count refl
 
 -- the line NO PLAN, exactly if the sheet is loaded and no finite floor that counts, of any number of points, meets its rules
 pub no-plan-printed : (q : Question) (file : Text) → (outputOf q file ≡ ended (bytes "NO PLAN"))

@@ -6,6 +6,8 @@ pub mod Bounds
 pub mod Short
 pub mod Reporting
 pub mod AsRead
+pub mod Reasons
+pub mod Told
 pub mod Examples
 pub mod Printing
 pub mod Claims

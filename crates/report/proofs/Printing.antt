@@ -1,13 +1,14 @@
--- The text that is computed for a sheet is meant, and no other is: the load's judgement has the outcome of the sheet's row, the formulas and
--- the plan that are computed are those that are meant, and the first byte tells the three sorts of text apart. Assumes nothing.
+-- The text that is computed for a sheet is meant, and no other is: the load's judgement has the outcome of the sheet's row, the formulas, the
+-- plan and the tree that are computed are those that are meant, and the first byte tells the sorts of text apart. Assumes nothing.
 use mathlib.Core.Path.{_≡_, refl, sym, ap, subst, _∙_}
+use mathlib.Core.Bool.{true}
 use mathlib.Core.List.{List, [], _∷_, head-eq-of-cons-eq}
 use Prim.Native.Nat.{ℕ}
 use native.Mathlib.Omega.{arith}
 use lib.ListN.{length}
 use Rattle.formula.specs.Formula.{Formula, Name}
 use Rattle.lexer.specs.Text.{bytes}
-use Rattle.contact.specs.Question.{Question, NoFloor}
+use Rattle.contact.specs.Question.{Question, plain, Counts, NoFloor}
 use Rattle.contact.specs.Numbering.{namesOf}
 use Rattle.plan.specs.Words.{Plan}
 use Rattle.plan.specs.Plans.{plansOf}
@@ -24,9 +25,18 @@ use Rattle.table.specs.Numbers.{loadOutcome}
 use Rattle.table.proofs.Standing.{not-loaded}
 use Rattle.table.proofs.LoadRows.{load-done}
 use Rattle.table.proofs.Claims.{formulas-computed, load-answered, load-answered-only}
-use Rattle.report.specs.Output.{plansText, rulesText, outcomeText, sheetText, outputOf, asReadOf}
-use Rattle.report.specs.Lines.{ended, headLine, planText, ruleLines, refusedText}
-use Rattle.report.specs.Printed.{Printed, plan-lines, no-plan-line, refused-line, AsRead}
+use Rattle.contact.specs.Meaning.{Floor, meetsAll}
+use Rattle.contact.proofs.Claims.{plan-counts-named, plan-meets-named}
+use Rattle.contact.proofs.Naming.{namedPlan}
+use Rattle.trees.specs.Trees.{Tree, split, rule, floorless, missing}
+use Rattle.trees.specs.OfRules.{IsWrittenTree}
+use Rattle.trees.specs.Checker.{treesOf}
+use Rattle.trees.proofs.OfRules.{Writes, Writes.told, Writes.exists, writes}
+use Rattle.table.specs.AtomText.{atomTextOf}
+use Rattle.table.proofs.TreeRows.{trees-none, trees-one}
+use Rattle.report.specs.Output.{plansText, rulesText, treesText, reasonsText, outcomeText, sheetText, outputOf, asReadOf, whyOf}
+use Rattle.report.specs.Lines.{ended, headLine, planText, ruleLines, refusedText, margin, indented, reasonLines}
+use Rattle.report.specs.Printed.{Printed, plan-lines, no-plan-line, refused-line, AsRead, Why}
 
 module _ (file : Text) where
   -- what its rules are given
@@ -73,6 +83,42 @@ module _ (file : Text) where
 
   pub as-read : AsRead file (asReadOf file)
   as-read = by-row ruleLines (AsRead file) (λ number line place row. AsRead.refused row) (λ fs done are. AsRead.lines done are)
+
+  -- ---- why there is no plan: likewise
+
+  pub why-only : (out : List ℕ) → Why file out → out ≡ whyOf file
+  unfolding reasonsText
+  why-only out (Why.reasons {fs} t done are w) = sym (ap (treesText (atomTextOf fs)) (trees-one fs t w)) ∙ loaded-output reasonsText done are
+  why-only out (Why.exists {fs} done are F counts meets) =
+      sym (ap (treesText (atomTextOf fs)) (trees-none fs (λ none. none F counts meets))) ∙ loaded-output reasonsText done are
+  why-only out (Why.refused row) = refused-output reasonsText row
+
+  reasons-printed : {fs : List (Formula Name)} → LoadRow file Outcome.Done → AreRules (filled (linesOf file)) fs → Why file (reasonsText fs)
+  unfolding reasonsText
+  reasons-printed {fs} done are = go (writes fs)
+    where
+      go : Writes fs → Why file (treesText (atomTextOf fs) (treesOf fs))
+      go (Writes.told t w e none) = subst (λ (ts : List Tree). Why file (treesText (atomTextOf fs) ts)) (sym e) (Why.reasons t done are w)
+      go (Writes.exists row found e) =
+          subst (λ (ts : List Tree). Why file (treesText (atomTextOf fs) ts)) (sym e)
+          (Why.exists done are (namedPlan plain fs row found) (plan-counts-named plain fs row found) (plan-meets-named plain fs row found))
+
+  pub why : Why file (whyOf file)
+  why = by-row reasonsText (Why file) (λ number line place row. Why.refused row) (λ fs done are. reasons-printed done are)
+
+  -- the line PLAN EXISTS: no tree's text and no refusal's begins as it does
+  pub some-floor : (out : List ℕ) → Why file out → out ≡ ended (bytes "PLAN EXISTS")
+      → LoadRow file Outcome.Done × (fs : List (Formula Name)) × AreRules (filled (linesOf file)) fs × (F : Floor Name) × Counts plain F × (meetsAll F fs ≡ true)
+  unfolding refusedText margin indented
+  some-floor out (Why.reasons {fs} t done are w) e = absurd (go t w e)
+    where
+      go : (t : Tree) → IsWrittenTree fs t → reasonLines (atomTextOf fs) 0 t ≡ ended (bytes "PLAN EXISTS") → ⊥
+      go (split a t f) w e = let z = head-eq-of-cons-eq e in omega arith
+      go (rule k) w e = let z = head-eq-of-cons-eq e in omega arith
+      go floorless w e = let z = head-eq-of-cons-eq e in omega arith
+      go missing w e = w
+  some-floor out (Why.exists {fs} done are F counts meets) e = (done, fs, are, F, counts, meets)
+  some-floor out (Why.refused row) e = absurd (let z = head-eq-of-cons-eq e in omega arith)
 
   -- ---- the plan by a question: likewise
 

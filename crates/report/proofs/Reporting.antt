@@ -49,7 +49,7 @@ use Rattle.table.proofs.Standing.{not-loaded}
 use Rattle.table.proofs.Asking.{words-written, first-words}
 use Rattle.report.specs.Output.{plansText, rulesText, outcomeText, sheetText}
 use Rattle.report.specs.Lines.{planText, ended}
-use Rattle.report.specs.Putting.{wordRoom, textRoom, Puts}
+use Rattle.report.specs.Putting.{wordRoom, textRoom, Puts, Reports}
 use Rattle.report.proofs.Short.{names-short}
 use Rattle.report.proofs.Bounds.{plan-few}
 
@@ -247,9 +247,9 @@ module _ (t : Table) (file : Text) (r : LoadResult) (loads : Loads t file r) whe
         ∙ sym (ap (λ (a : LoadAnswer). ifLoaded a (given (formulasOf (filled (linesOf file)))) (outcomeText (loadOutcome a))) good)
 
 -- put at the first byte, a text is over the buffer
-pub puts-over : (text buffer exit : List ℕ) (end : ℕ) → Puts 0 text buffer exit end → (end ≡ length text) × (exit ≡ over text buffer) × (end ≤ length exit)
+pub puts-over : (text buffer exit : List ℕ) (end : ℕ) → Puts 0 text buffer exit end → Reports text buffer end exit
 unfolding over
 puts-over text buffer exit end p =
     let z : end ≡ length text = omega (arith, p .place) in
     let e : exit ≡ over text buffer = p .bytes ∙ written-over text buffer in
-    (z, e, omega (arith, z, ap length e, length-append text (drop (length text) buffer)))
+    record { counted = z; fits = omega (arith, z, ap length e, length-append text (drop (length text) buffer)); bytes = e }

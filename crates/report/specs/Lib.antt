@@ -1,4 +1,5 @@
 pub mod Lines
 pub mod Output
+pub mod Pieces
 pub mod Printed
 pub mod Putting

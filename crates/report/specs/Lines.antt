@@ -1,5 +1,5 @@
 -- What is meant: the lines that the program floorplan prints (document 01, 'Worked sheets', the last paragraph), and those of asread
--- (document 02, T-02). Assumes nothing.
+-- (document 02, T-02) and of why (T-06). Assumes nothing.
 use mathlib.Core.Bool.{cond}
 use mathlib.Core.List.{List, [], _∷_, _++_}
 use Prim.Native.Nat.{ℕ, zero, suc, _+_, _/_, _%_}
@@ -11,6 +11,7 @@ use Rattle.lists.specs.Search.{collect, below, orElse}
 use Rattle.evalset.specs.Bit.{bit}
 use Rattle.plan.specs.Words.{Plan}
 use Rattle.printing.specs.Text.{textOf}
+use Rattle.trees.specs.Trees.{Tree, split, rule, floorless, missing}
 
 -- ---- numbers, in decimal
 
@@ -80,3 +81,31 @@ refusedText number line place = ended (labelled (bytes "refused ") number ++ lab
 -- T-02: "Planners want to see a standing rule as the tool has read it.": each rule's text, one a line
 unfoldable pub ruleLines : List (Formula Name) → List ℕ
 ruleLines rules = collect (λ f. ended (textOf f)) rules
+
+-- ---- a tree
+
+-- two blanks a level
+unfoldable pub margin : ℕ → List ℕ
+margin depth = collect (λ level. bytes "  ") (below depth)
+
+-- a line, indented by its depth
+unfoldable pub indented : ℕ → List ℕ → List ℕ
+indented depth line = margin depth ++ ended line
+
+-- "split on C(raw,cooked)"
+abbrev pub splitText : List ℕ → List ℕ
+splitText atom = bytes "split on " ++ atom
+
+-- "rule 4 is false here"
+abbrev pub ruleText : ℕ → List ℕ
+ruleText k = labelled (bytes "rule ") k ++ bytes " is false here"
+
+abbrev pub floorlessText : List ℕ
+floorlessText = bytes "no floor"
+
+-- one line a word, in the order of words: the atom's text, and under it its branches, first the one with it true; or why the branch is closed
+abbrev pub reasonLines : (ℕ → List ℕ) → ℕ → Tree → List ℕ
+reasonLines atom depth (split a t f) = indented depth (splitText (atom a)) ++ (reasonLines atom (suc depth) t ++ reasonLines atom (suc depth) f)
+reasonLines atom depth (rule k) = indented depth (ruleText k)
+reasonLines atom depth floorless = indented depth floorlessText
+reasonLines atom depth missing = []

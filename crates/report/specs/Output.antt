@@ -7,12 +7,15 @@ use Rattle.contact.specs.Question.{Question}
 use Rattle.contact.specs.Numbering.{namesOf}
 use Rattle.plan.specs.Words.{Plan}
 use Rattle.plan.specs.Plans.{plansOf}
+use Rattle.table.specs.AtomText.{atomTextOf}
 use Rattle.table.specs.Sheet.{Text, linesOf, filled}
 use Rattle.table.specs.Calls.{formulasOf, judgeLoad, ifLoaded}
 use Rattle.table.specs.declared.Outcome.{Outcome}
 use Rattle.table.specs.declared.Outcome.the-variants as Outcome
 use Rattle.table.specs.Numbers.{loadOutcome}
-use Rattle.report.specs.Lines.{ended, planText, ruleLines, refusedText}
+use Rattle.trees.specs.Trees.{Tree}
+use Rattle.trees.specs.Checker.{treesOf}
+use Rattle.report.specs.Lines.{ended, planText, ruleLines, refusedText, reasonLines}
 
 -- "Otherwise the one line is "NO PLAN" or .."
 abbrev pub plansText : List Name → List Plan → List ℕ
@@ -22,6 +25,14 @@ plansText names (p ∷ ps) = planText names p
 -- the text of the plan that is given for these rules by the question, or of none
 unfoldable pub rulesText : Question → List (Formula Name) → List ℕ
 rulesText q rules = plansText (namesOf rules) (plansOf q rules)
+
+-- the text of the writer's tree, or of none
+abbrev pub treesText : (ℕ → List ℕ) → List Tree → List ℕ
+treesText atom [] = ended (bytes "PLAN EXISTS")
+treesText atom (t ∷ ts) = reasonLines atom 0 t
+
+unfoldable pub reasonsText : List (Formula Name) → List ℕ
+reasonsText rules = treesText (atomTextOf rules) (treesOf rules)
 
 -- a load that is refused has a line and a place
 abbrev pub outcomeText : Outcome → List ℕ
@@ -52,3 +63,7 @@ outputOf q file = sheetText (rulesText q) file
 -- the text of the program asread for them
 abbrev pub asReadOf : Text → List ℕ
 asReadOf file = sheetText ruleLines file
+
+-- the text of the program why for them
+abbrev pub whyOf : Text → List ℕ
+whyOf file = sheetText reasonsText file

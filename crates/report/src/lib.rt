@@ -1,10 +1,11 @@
-// The text that the program floorplan writes for a sheet (document 01, 'Worked sheets'), the one of building (document 02, T-04), and that of
-// asread (T-02). What is meant is in specs/Printed.antt, what is computed in specs/Output.antt: a function from the sheet's bytes to the
-// text's. Here the text is put into a buffer piece by piece: each private function puts one piece at a place, and answers the place after
-// it. The buffer has room for the text of every sheet. Assumes nothing.
+// The text that the program floorplan writes for a sheet (document 01, 'Worked sheets'), the one of building (document 02, T-04), that of
+// asread (T-02), and that of why (T-06). What is meant is in specs/Printed.antt, what is computed in specs/Output.antt: a function from the
+// sheet's bytes to the text's. Here the text is put into a buffer part by part: each private function puts one at a place, and answers the
+// place after it. The buffer has room for the text of every sheet, but for that of a tree, which is given in pieces (specs/Pieces.antt).
+// Assumes nothing.
 ghost use mathlib.Core.Path.{_≡_};
 ghost use Prim.Native.Nat.{_+_, _*_, _≤_, _<_};
-ghost use lib.ListN.{length, replicate, take, drop};
+ghost use lib.ListN.{length, getD, replicate, take, drop};
 ghost use Rattle.contact.specs.Question.{plain, building};
 ghost use Rattle.evalset.specs.Bit.{bit};
 ghost use Rattle.lists.specs.Search.{collect};
@@ -18,16 +19,20 @@ ghost use Rattle.table.specs.Calls.{formulasOf, FromUs};
 ghost use Rattle.table.specs.Asking.{Asks};
 ghost use Rattle.table.specs.Rows.{SomeStand};
 ghost use Rattle.table.specs.Numbers.{CanCome, loadOutcome};
-ghost use Rattle.report.specs.Output.{outcomeText, rulesText, outputOf, asReadOf};
-ghost use Rattle.report.specs.Lines.{decimal, labelled, headLine, nameIf, pointNames, namesOrNone, blanked, pointLine, pointLines, contactLine, planText, ruleLines, refusedText};
+ghost use Rattle.table.specs.AtomText.{atomTextOf};
+ghost use Rattle.report.specs.Output.{outcomeText, rulesText, outputOf, asReadOf, reasonsText, whyOf};
+ghost use Rattle.report.specs.Lines.{decimal, labelled, headLine, nameIf, pointNames, namesOrNone, blanked, pointLine, pointLines, contactLine, planText, ruleLines, refusedText, margin, indented};
+ghost use Rattle.report.specs.Pieces.{saying, held, heldAt, lineAt, DepthsSay, Answers, GivesPiece};
 ghost use Rattle.report.specs.Putting.{wordRoom, textRoom, Puts, Reports};
 use evalset::EvalSet;
 use names::KeptName;
 use names::Names;
 use plan::PlanArrays;
+use printing::Printed;
 use search::Asked;
 use table::AskAnswer;
 use table::AskResult;
+use table::ExplainAnswer;
 use table::LoadAnswer;
 use table::Outcome;
 use table::PrintAnswer;
@@ -397,4 +402,282 @@ pub fn as_read(file: &[u8], out: &mut [u8; ROOM]) -> usize
     ensures { λ r. ⌜ Reports (asReadOf (now (file .entry))) (now (out .entry)) r (now (out .exit)) ⌝ }
 {
     put_as_read(file, out)
+}
+
+// ---- why there is no plan
+
+// The words of the largest tree.
+pub const TREE: usize = 131071;
+
+// The kinds of words, in front of 28 bits.
+const KIND: u32 = 0x1000_0000;
+
+const SPLIT: u32 = 5;
+
+const RULE: u32 = 6;
+
+// How deep a split may lie: there are 16 atoms.
+const DEEPEST: u8 = 16;
+
+// Room for a line: 510 blanks at most, and a text of at most 266 bytes.
+const LINE: usize = 1024;
+
+// The text of an atom: its first bytes, as many as its length.
+pub struct AtomText {
+    pub bytes: [u8; 256],
+    pub len: usize,
+}
+
+// What `why` answers: a text of so many bytes, which is in the buffer, or a tree of so many words, whose lines `why_piece` gives.
+pub enum WhyAnswer {
+    Text(usize),
+    Tree(usize),
+}
+
+// What `why` hands back: for a tree, the texts of the atoms by their numbers.
+pub struct WhyResult {
+    pub answer: WhyAnswer,
+    pub atoms: [AtomText; 16],
+}
+
+// A piece of a tree's text: its bytes, and the index of the word whose line is next.
+pub struct Piece {
+    pub len: usize,
+    pub next: usize,
+}
+
+// The blanks before a line of this depth.
+fn put_margin(depth: u8, out: &mut [u8], at: usize) -> usize
+    requires { ⌜ at + length (margin depth) ≤ length (now out) ⌝ }
+    ensures { λ r. ⌜ Puts at (margin depth) (now (out .entry)) (now (out .exit)) r ⌝ }
+{
+    let mut end = at;
+    let mut level: u8 = 0;
+    while level < depth {
+        end = put_text(b"  ", out, end);
+        level += 1;
+    }
+    end
+}
+
+// The text of an atom.
+fn put_atom_text(text: AtomText, out: &mut [u8], at: usize) -> usize
+    requires { ⌜ at + 256 ≤ length (now out) ⌝ }
+    ensures { λ r. ⌜ Puts at (held text) (now (out .entry)) (now (out .exit)) r × (r ≤ at + 256) ⌝ }
+{
+    let bytes = text.bytes;
+    let len = text.len;
+    if len < 256 {
+        return put_text(&bytes[..len], out, at);
+    }
+    put_text(&bytes, out, at)
+}
+
+// The text of the atom with this number, if there is one.
+fn put_atom(atoms: [AtomText; 16], which: usize, out: &mut [u8], at: usize) -> usize
+    requires { ⌜ at + 256 ≤ length (now out) ⌝ }
+    ensures { λ r. ⌜ Puts at (heldAt atoms which) (now (out .entry)) (now (out .exit)) r × (r ≤ at + 256) ⌝ }
+{
+    if which < 16 {
+        let text = atoms[which];
+        return put_atom_text(text, out, at);
+    }
+    at
+}
+
+// What a word says.
+fn put_saying(word: u32, atoms: [AtomText; 16], out: &mut [u8], at: usize) -> usize
+    requires { ⌜ at + 266 ≤ length (now out) ⌝ }
+    ensures { λ r. ⌜ Puts at (saying (heldAt atoms) word) (now (out .entry)) (now (out .exit)) r × (r ≤ at + 266) ⌝ }
+{
+    let kind = word / KIND;
+    let body = (word % KIND) as usize;
+    if kind == SPLIT {
+        let end = put_text(b"split on ", out, at);
+        return put_atom(atoms, body, out, end);
+    }
+    if kind == RULE {
+        let end = put_labelled(b"rule ", body, out, at);
+        return put_text(b" is false here", out, end);
+    }
+    put_text(b"no floor", out, at)
+}
+
+// The line of a word at its depth.
+fn put_reason(word: u32, depth: u8, atoms: [AtomText; 16], out: &mut [u8], at: usize) -> usize
+    requires { ⌜ at + 1024 ≤ length (now out) ⌝ }
+    ensures { λ r. ⌜ Puts at (indented depth (saying (heldAt atoms) word)) (now (out .entry)) (now (out .exit)) r ⌝ }
+{
+    let end = put_margin(depth, out, at);
+    let end = put_saying(word, atoms, out, end);
+    put_text(b"\n", out, end)
+}
+
+// The word at an index, and its depth; 0 past the last.
+fn word_at(words: &[u32], i: usize) -> u32
+    ensures { λ r. ⌜ r ≡ getD (now (words .entry)) i 0 ⌝ }
+{
+    if i < words.len() { words[i] } else { 0 }
+}
+
+fn depth_at(depths: &[u8], i: usize) -> u8
+    ensures { λ r. ⌜ r ≡ getD (now (depths .entry)) i 0 ⌝ }
+{
+    if i < depths.len() { depths[i] } else { 0 }
+}
+
+// The next lines of a tree of so many words, from that of the word at an index on, as many as there is room for.
+fn put_reasons(
+    words: &[u32],
+    depths: &[u8],
+    count: usize,
+    atoms: [AtomText; 16],
+    from: usize,
+    out: &mut [u8],
+) -> Piece
+    requires { ⌜ 16384 ≤ length (now out) ⌝ }
+    ensures { λ r. ⌜ GivesPiece (lineAt (now (words .entry)) (now (depths .entry)) atoms) count from (now (out .entry)) r (now (out .exit)) ⌝ }
+{
+    let mut end: usize = 0;
+    let mut next = from;
+    while next < count {
+        if ROOM < end + LINE {
+            return Piece { len: end, next };
+        }
+        let word = word_at(words, next);
+        let depth = depth_at(depths, next);
+        end = put_reason(word, depth, atoms, out, end);
+        next += 1;
+    }
+    Piece { len: end, next }
+}
+
+// The depths of the words of the tree whose first word, at this index, has this depth; the index after its last word.
+fn put_depths(words: &[u32], at: usize, depth: u8, depths: &mut [u8]) -> usize
+    requires { ⌜ length (now words) ≤ length (now depths) ⌝ }
+    ensures { λ r. ⌜ (length (now (depths .exit)) ≡ length (now (depths .entry))) × DepthsSay (now (words .entry)) at depth (now (depths .entry)) (now (depths .exit)) r ⌝ }
+{
+    if words.len() <= at {
+        return at;
+    }
+    depths[at] = depth;
+    if words[at] / KIND != SPLIT {
+        return at + 1;
+    }
+    if DEEPEST <= depth {
+        return at + 1;
+    }
+    let middle = put_depths(words, at + 1, depth + 1, depths);
+    put_depths(words, middle, depth + 1, depths)
+}
+
+// The text of the atom with this number, of no bytes where there is none.
+fn atom_text(table: Table, which: usize) -> AtomText
+    requires { ⌜ FromUs table ⌝ }
+    ensures { λ r. ⌜ held r ≡ atomTextOf (formulasOf (rulesOf table)) which ⌝ }
+{
+    let mut bytes = [0u8; 256];
+    let printed = table.atom(which, &mut bytes);
+    match printed {
+        Printed::Text(len) => AtomText { bytes, len },
+        Printed::Needs(len) => AtomText { bytes, len },
+    }
+}
+
+// Room for the texts of atoms.
+fn no_texts() -> [AtomText; 16]
+    ensures { λ r. ⌜ length r ≡ 16 ⌝ }
+{
+    let bytes = [0u8; 256];
+    let text = AtomText { bytes, len: 0 };
+    [text; 16]
+}
+
+// The texts of the atoms by their numbers.
+fn atom_texts(table: Table) -> [AtomText; 16]
+    requires { ⌜ FromUs table ⌝ }
+    ensures { λ r. ⌜ heldAt r ≡ atomTextOf (formulasOf (rulesOf table)) ⌝ }
+{
+    let mut texts = no_texts();
+    let mut i: usize = 0;
+    while i < 16 {
+        let text = atom_text(table, i);
+        texts[i] = text;
+        i += 1;
+    }
+    texts
+}
+
+// Why the rules that stand have no plan.
+fn put_why(table: Table, words: &mut [u32], depths: &mut [u8], out: &mut [u8]) -> WhyResult
+    requires { ⌜ FromUs table × SomeStand (rulesOf table) × (length (now words) ≡ 131071) × (length (now depths) ≡ 131071) × (16384 ≤ length (now out)) ⌝ }
+    ensures { λ r. ⌜ Answers (reasonsText (formulasOf (rulesOf table))) (lineAt (now (words .exit)) (now (depths .exit)) (r .atoms)) (now (out .entry)) (now (out .exit)) (r .answer) ⌝ }
+{
+    let atoms = atom_texts(table);
+    let given = table.explain(words);
+    let answer = given.answer;
+    let ExplainAnswer::Tree(n) = answer else {
+        let len = put_text(b"PLAN EXISTS\n", out, 0);
+        return WhyResult {
+            answer: WhyAnswer::Text(len),
+            atoms,
+        };
+    };
+    put_depths(&words[..n], 0, 0, depths);
+    WhyResult {
+        answer: WhyAnswer::Tree(n),
+        atoms,
+    }
+}
+
+// Why a sheet of any bytes has no plan: a short text over the first bytes of the buffer, where it is refused or has a plan, or its tree, as the
+// words that are lent, their depths and the texts of the atoms.
+pub fn why(
+    file: &[u8],
+    words: &mut [u32; TREE],
+    depths: &mut [u8; TREE],
+    out: &mut [u8; ROOM],
+) -> WhyResult
+    ensures { λ r. ⌜ Answers (whyOf (now (file .entry))) (lineAt (now (words .exit)) (now (depths .exit)) (r .atoms)) (now (out .entry)) (now (out .exit)) (r .answer) ⌝ }
+{
+    let t = Table::empty();
+    let loaded = t.load(file);
+    let answer = loaded.answer;
+    let LoadAnswer::Loaded = answer else {
+        let len = put_refusal(answer, out, 0);
+        let atoms = no_texts();
+        return WhyResult {
+            answer: WhyAnswer::Text(len),
+            atoms,
+        };
+    };
+    let table = loaded.table;
+    put_why(table, words, depths, out)
+}
+
+// The next piece of a tree's text, over the first bytes of the buffer: whole lines, from that of the word at an index on.
+pub fn why_piece(
+    words: &[u32; TREE],
+    depths: &[u8; TREE],
+    count: usize,
+    atoms: [AtomText; 16],
+    from: usize,
+    out: &mut [u8; ROOM],
+) -> Piece
+    ensures { λ r. ⌜ GivesPiece (lineAt (now (words .entry)) (now (depths .entry)) atoms) count from (now (out .entry)) r (now (out .exit)) ⌝ }
+{
+    put_reasons(words, depths, count, atoms, from, out)
+}
+
+// Room for the words of a tree, and for their depths.
+pub fn no_tree() -> [u32; TREE]
+    ensures { λ r. ⌜ length r ≡ 131071 ⌝ }
+{
+    [0u32; TREE]
+}
+
+pub fn no_depths() -> [u8; TREE]
+    ensures { λ r. ⌜ length r ≡ 131071 ⌝ }
+{
+    [0u8; TREE]
 }

@@ -4,7 +4,7 @@
 use mathlib.Core.Path.{_≡_, sym, ap, subst, _∙_}
 use mathlib.Core.Logic.{⊎-elim}
 use mathlib.Core.List.{List, [], _∷_, _++_, map, map-append}
-use Prim.Native.Nat.{ℕ, _*_, _≤_}
+use Prim.Native.Nat.{ℕ, _+_, _*_, _≤_, _<_}
 use native.Mathlib.Omega.{arith}
 use lib.ListN.{length, take, length-map}
 use lib.Pow.{pow-mono}
@@ -49,8 +49,12 @@ use Rattle.explaining.specs.declared.Explanation.{Explanation}
 use Rattle.explaining.specs.Explained.{Explained, ExplainSays}
 use Rattle.contact.proofs.Claims.{numbered-below}
 use Rattle.compile.proofs.Searched.{compiled-search}
+use Rattle.kleene.specs.Code.{atomSign}
+use Rattle.ruleset.specs.declared.AtomPlace.{AtomPlace}
 use Rattle.ruleset.specs.declared.Compiling.{Compiling}
 use Rattle.ruleset.specs.Texts.{Fits, CompiledRules, CompiledTexts, Another, Compilable, WithText, NothingCompiled, FirstRowIs, RowPlanIs, JudgedIs}
+use Rattle.ruleset.specs.Places.{Writing, placeFrom}
+use Rattle.ruleset.proofs.Writings.{first-writing}
 use Rattle.ruleset.proofs.Planning.{rowArrays, plan-stored}
 
 -- ---- for a caller of `with_text`: the texts
@@ -105,6 +109,13 @@ module _ (rules : List (Formula Name)) (c : Compiling) (kept code : List ℕ) (h
   -- and the ends of the rules have their places in the array
   pub ends-fit : length (c .ends) ≡ 16 → c .known .count ≤ length (c .ends)
   ends-fit long = omega (arith, h .known .counted, h .known .fits .rules-fit)
+
+  -- the first place of an atom's sign is where the atom is written first
+  pub answer-writing : (i : ℕ) → i < chart .atoms → (s : ℕ) → s ≡ 7 + i → (r : AtomPlace) → r ≡ placeFrom s code 0 0 ends → Writing rules i r
+  answer-writing i l s e r says =
+      let sign : atomSign i ≡ s = omega (arith, e) in
+      let few : i < length (differentAtoms rules) = omega (arith, l, h .known .compiled .counted, length-map (differentAtoms rules) (mapAtom (numberOf rules))) in
+      subst (Writing rules i) (ap (λ (n : ℕ). placeFrom n code 0 0 ends) sign ∙ sym says) (first-writing rules (chart .atoms) code ends (h .coded) i few)
 
   -- the answer of `first_row` is the number of the first row of the numbered rules
   pub answer-first-row : (q : Question) (r : RowAnswer) → FirstRowSays q code ends chart r

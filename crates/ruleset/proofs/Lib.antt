@@ -3,4 +3,6 @@ pub mod Coding
 pub mod Counting
 pub mod Adding
 pub mod Planning
+pub mod Writings
+pub mod Scanning
 pub mod Claims

@@ -1,3 +1,4 @@
 pub mod Ends
 pub mod Counted
 pub mod Texts
+pub mod Places

@@ -1,16 +1,19 @@
 // Rules known and compiled one behind the other: the names of one rule more behind those before it, its atoms behind the different ones
 // before it, and its code. "Names and atoms are numbered from 0 by first place, rules in order, left to right", so what is there does
 // not change. To know rules is enough to say whether there is room for one more; what the compiled rules answer is their first row, the
-// plan of a row, the judgement of a plan, the verdict on a tree, and the tree of a writer.
+// plan of a row, the judgement of a plan, the verdict on a tree, the tree of a writer, and where an atom is written first.
 // Only our own crates compile texts, and only rules: the requires say so. What is compiled so meets the other requires
 // (proofs/Claims.antt).
 ghost use mathlib.Core.Path.{_≡_};
-ghost use Prim.Native.Nat.{_≤_};
+ghost use Prim.Native.Nat.{_≤_, _<_};
 ghost use lib.ListN.{length, take};
 ghost use Rattle.search.specs.Asked.{questionOf};
 ghost use Rattle.search.specs.Compiled.{limit};
 ghost use Rattle.evalset.specs.Most.{most};
+ghost use Rattle.lists.specs.Search.{elem};
+ghost use Rattle.solver.specs.Coded.{SafeFrom};
 ghost use Rattle.ruleset.specs.Ends.{lastEnd};
+ghost use Rattle.ruleset.specs.Places.{WritingIs, signsTo, placeFrom};
 ghost use Rattle.ruleset.specs.Counted.{nameCount};
 ghost use Rattle.ruleset.specs.Texts.{NothingKnown, roomFor, Ready, WithRule, NothingCompiled, Compilable, WithText, Whole, FirstRowIs, RowPlanIs, JudgedIs, VerdictIs, ExplainedIs};
 use compile::Atoms;
@@ -51,6 +54,12 @@ pub struct Grown {
 pub struct Compiling {
     pub known: Known,
     pub ends: [usize; 16],
+}
+
+// A place of an atom in rules: the number of the rule, and the atom's number among those of the rule, both from 0.
+pub struct AtomPlace {
+    pub rule: usize,
+    pub atom: usize,
 }
 
 // Nothing is known where there is no rule.
@@ -231,4 +240,70 @@ pub fn explained(c: Compiling, code: &[u8], buffer: &mut [u32]) -> Explanation
     let count = c.known.count;
     let chart = c.known.atoms.chart;
     explaining::explain(buffer, code, &ends[..count], chart)
+}
+
+// The first sign of an atom in a code.
+const FIRST: u8 = 7;
+
+// Whether a sign stands in a part of the code.
+fn stands(part: &[u8], sign: u8) -> bool
+    ensures { λ r. ⌜ r ≡ elem sign (now (part .entry)) ⌝ }
+{
+    let mut at: usize = 0;
+    while at < part.len() {
+        if sign == part[at] {
+            return true;
+        }
+        at += 1;
+    }
+    false
+}
+
+// How many signs of atoms stand in a part of the code before the first that is this one.
+fn signs_to(part: &[u8], sign: u8) -> usize
+    ensures { λ r. ⌜ r ≡ signsTo (now (part .entry)) sign ⌝ }
+{
+    let mut n: usize = 0;
+    let mut at: usize = 0;
+    while at < part.len() {
+        let next = part[at];
+        at += 1;
+        if next < FIRST {
+            continue;
+        }
+        if next == sign {
+            return n;
+        }
+        n += 1;
+    }
+    n
+}
+
+// The place at which a sign stands first in the parts of the code.
+fn sign_place(code: &[u8], ends: &[usize], sign: u8) -> AtomPlace
+    requires { ⌜ SafeFrom (now code) 0 (now ends) ⌝ }
+    ensures { λ r. ⌜ r ≡ placeFrom sign (now (code .entry)) 0 0 (now (ends .entry)) ⌝ }
+{
+    let mut from: usize = 0;
+    let mut rule: usize = 0;
+    while rule < ends.len() {
+        let end = ends[rule];
+        if stands(&code[from..end], sign) {
+            let atom = signs_to(&code[from..end], sign);
+            return AtomPlace { rule, atom };
+        }
+        from = end;
+        rule += 1;
+    }
+    AtomPlace { rule, atom: 0 }
+}
+
+// Where the different atom with this number is written first among the compiled rules.
+pub fn first_writing(c: Compiling, code: &[u8], i: usize) -> AtomPlace
+    requires { ⌜ Whole c (now code) × (i < c .known .atoms .chart .atoms) ⌝ }
+    ensures { λ r. ⌜ WritingIs c (now (code .entry)) i r ⌝ }
+{
+    let ends = c.ends;
+    let count = c.known.count;
+    sign_place(code, &ends[..count], FIRST + i as u8)
 }

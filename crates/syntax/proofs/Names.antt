@@ -40,7 +40,7 @@ module _ {N : Type 0} where
   term-order (Term.intersection t u) o = names-two termAfter termNames t u o (binary Times) refl (term-order t o) (term-order u (termAfter t o))
   term-order (Term.union t u) o = names-two termAfter termNames t u o (binary Plus) refl (term-order t o) (term-order u (termAfter t o))
 
-  formula-order : (f : Formula N) (o : List (Symbol N)) → namesAmong (formulaAfter f o) ≡ namesAmong o ++ formulaNames f
+  pub formula-order : (f : Formula N) (o : List (Symbol N)) → namesAmong (formulaAfter f o) ≡ namesAmong o ++ formulaNames f
   unfolding formulaAfter namesAmong
   formula-order Form.truth o = collect-last symbolNames o _
   formula-order Form.falsity o = collect-last symbolNames o _

@@ -24,7 +24,7 @@ module _ {N : Type 0} where
   term-put (Term.intersection t u) o s = rw (puts-last, term-put u (termAfter t o) s, term-put t o s)
   term-put (Term.union t u) o s = rw (puts-last, term-put u (termAfter t o) s, term-put t o s)
 
-  formula-put : (f : Formula N) (o : List (Symbol N)) (s : List (Value N)) → puts (formulaAfter f o) s ≡ formula f ∷ puts o s
+  pub formula-put : (f : Formula N) (o : List (Symbol N)) (s : List (Value N)) → puts (formulaAfter f o) s ≡ formula f ∷ puts o s
   unfolding formulaAfter
   formula-put Form.truth o s = rw puts-last
   formula-put Form.falsity o s = rw puts-last

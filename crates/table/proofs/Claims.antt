@@ -1,10 +1,11 @@
 -- What is proved of the table, for whoever builds on it: it is that of the standing rules whatever calls were made, these are made by the
 -- rows of the table of calls, and each call is answered by the first row of the table of calls that applies. Each claim cites the file
 -- that proves it. Assumes nothing.
-use Prim.Native.Nat.{ℕ}
+use Prim.Native.Nat.{ℕ, _≤_}
 use mathlib.Core.Path.{_≡_, sym, _∙_}
 use mathlib.Core.Logic.{_↔_}
 use mathlib.Core.List.{List, [], _∷_, _++_}
+use lib.ListN.{length}
 use Rattle.table.specs.declared.Table.{Table}
 use Rattle.table.specs.declared.AddAnswer.{AddAnswer}
 use Rattle.table.specs.declared.AddAnswer.the-variants as AddAnswer
@@ -22,6 +23,7 @@ use Rattle.table.specs.Store.{tableOf, rulesOf}
 use Rattle.table.specs.Sheet.{Text}
 use Rattle.table.specs.Calls.{formulasOf, judgeAdd, judgeWithdraw, judgeLoad, FromUs, Adds, Withdraws, Loads}
 use Rattle.table.specs.Rules.{AreRules, CanStand}
+use Rattle.table.specs.AtomText.{atomTextOf}
 use Rattle.contact.specs.Question.{Question}
 use Rattle.table.specs.Asking.{askAnswer, Asks, judgeAnswer, Judges}
 use Rattle.formula.specs.Formula.{Formula, Name}
@@ -44,6 +46,7 @@ use Rattle.table.proofs.LoadRows as LoadRows
 use Rattle.table.proofs.AskRows as AskRows
 use Rattle.table.proofs.PrintRows as PrintRows
 use Rattle.table.proofs.TreeRows as TreeRows
+use Rattle.table.proofs.AtomText as AtomText
 use Rattle.table.proofs.Stands as Stands
 
 -- ---- tables and lists
@@ -195,6 +198,12 @@ check-answered words rs h = TreeRows.check-row words rs (Rules.are-read rs (h .f
 
 pub check-answered-only : (words : List ℕ) (rs : List Text) → CanStand rs → (o : Outcome) → CheckRow rs words o → o ≡ checkOutcome (checkAnswer rs words)
 check-answered-only words rs h = TreeRows.check-row-only words rs (TreeRows.few-for rs h)
+
+-- ---- the texts of atoms
+
+-- 256 bytes have room for each that `Table::atom` gives
+pub atom-short : (rs : List Text) → CanStand rs → (which : ℕ) → length (atomTextOf (formulasOf rs) which) ≤ 256
+atom-short = AtomText.atom-short
 
 -- ---- rule texts and plan words alone
 

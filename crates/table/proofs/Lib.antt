@@ -19,6 +19,7 @@ pub mod PrintRows
 pub mod TreeRows
 pub mod Explaining
 pub mod Printing
+pub mod AtomText
 pub mod Stands
 pub mod AskRows
 pub mod Claims

@@ -55,7 +55,7 @@ checked-some (s ∷ rs) some words = refl
 -- ---- the writer's trees of rules
 
 -- none where a floor meets them
-trees-none : (fs : List (Formula Name)) → (NoFloor plain fs → ⊥) → treesOf fs ≡ []
+pub trees-none : (fs : List (Formula Name)) → (NoFloor plain fs → ⊥) → treesOf fs ≡ []
 trees-none fs some = go (writes fs)
   where
     go : Writes fs → treesOf fs ≡ []
@@ -63,7 +63,7 @@ trees-none fs some = go (writes fs)
     go (Writes.exists row found e) = e
 
 -- and the one that is meant
-trees-one : (fs : List (Formula Name)) (t : Tree) → IsWrittenTree fs t → treesOf fs ≡ t ∷ []
+pub trees-one : (fs : List (Formula Name)) (t : Tree) → IsWrittenTree fs t → treesOf fs ≡ t ∷ []
 trees-one fs t w = go (writes fs)
   where
     go : Writes fs → treesOf fs ≡ t ∷ []

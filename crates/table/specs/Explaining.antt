@@ -1,12 +1,16 @@
 -- What is computed: what explain and check_tree give (document 02, T-06), as functions of the list of standing texts and of what is lent
--- beside the table, and their contracts. Rows says what is meant; proofs/Claims.antt ties the two. Assumes nothing.
+-- beside the table, and their contracts. Rows says what is meant; proofs/Claims.antt ties the two. Then what
+-- atom gives, whose text is meant in AtomText. Assumes nothing.
 use Prim.Native.Nat.{ℕ}
 use mathlib.Core.Path.{_≡_}
 use mathlib.Core.Bool.{cond}
 use mathlib.Core.List.{List, [], _∷_}
 use lib.Dec.{leb}
 use lib.ListN.{length}
+use Rattle.formula.specs.Formula.{Formula, Name}
 use Rattle.plan.specs.Words.{over}
+use Rattle.printing.specs.declared.Printed.{Printed}
+use Rattle.printing.specs.Prints.{Prints}
 use Rattle.trees.specs.declared.Verdict.{Verdict}
 use Rattle.trees.specs.declared.Verdict.the-variants as Verdict
 use Rattle.trees.specs.Trees.{Tree, wordsOf}
@@ -23,6 +27,7 @@ use Rattle.table.specs.declared.CheckResult.{CheckResult}
 use Rattle.table.specs.Store.{tableOf, rulesOf}
 use Rattle.table.specs.Sheet.{Text}
 use Rattle.table.specs.Calls.{formulasOf, FromUs}
+use Rattle.table.specs.AtomText.{atomTextOf}
 
 -- ---- explain
 
@@ -83,3 +88,9 @@ pub record Checks (t : Table) (words : List ℕ) (r : CheckResult) : Type 0 wher
   pub result : r ≡ treeChecked (rulesOf t) words
   pub same : r .table ≡ t
   pub from-us : FromUs (r .table)
+
+-- ---- atom
+
+-- its text is printed into the buffer, as that of a rule is
+abbrev pub GivesAtom : List (Formula Name) → ℕ → List ℕ → Printed → List ℕ → Type 0
+GivesAtom rules which = Prints (atomTextOf rules which)

@@ -9,4 +9,5 @@ pub mod Stands
 pub mod Runs
 pub mod Asking
 pub mod Printing
+pub mod AtomText
 pub mod Explaining

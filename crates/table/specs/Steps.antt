@@ -1,14 +1,21 @@
 -- For proofs: what the private functions do: what is known of standing texts, a text put to them, the rules of a table compiled, and the
 -- answers of the judge of plans as those of judge. Assumes nothing.
-use Prim.Native.Nat.{ℕ}
+use Prim.Native.Nat.{ℕ, _≤_, _<_}
 use mathlib.Core.Path.{_≡_}
 use mathlib.Core.List.{List, [], _∷_, _++_}
+use lib.ListN.{length}
+use Rattle.formula.specs.Formula.{Formula, Name}
 use Rattle.contact.specs.Question.{Question}
+use Rattle.contact.specs.Numbering.{differentAtoms}
 use Rattle.ruleset.specs.declared.Known.{Known}
 use Rattle.ruleset.specs.declared.RoomAnswer.{RoomAnswer}
 use Rattle.ruleset.specs.declared.RoomAnswer.the-variants as RoomAnswer
 use Rattle.ruleset.specs.declared.Compiling.{Compiling}
-use Rattle.ruleset.specs.Texts.{KnownRules, CompiledTexts, FirstRowIs}
+use Rattle.ruleset.specs.declared.AtomPlace.{AtomPlace}
+use Rattle.ruleset.specs.Places.{Writing}
+use Rattle.ruleset.specs.Texts.{KnownRules, CompiledTexts, FirstRowIs, ExplainedIs, VerdictIs}
+use Rattle.explaining.specs.declared.Explanation.{Explanation}
+use Rattle.trees.specs.declared.Verdict.{Verdict}
 use Rattle.judging.specs.declared.Judged.{Judged}
 use Rattle.judging.specs.declared.Judged.the-variants as Judged
 use Rattle.table.specs.declared.JudgeAnswer.{JudgeAnswer}
@@ -56,6 +63,25 @@ pub record TextsSearched (q : Question) (texts : List Text) (r : Searched) : Typ
   pub code : List ℕ
   pub compiled : TextsCompiled texts (r .compiled) code
   pub first : FirstRowIs q (r .compiled) code (r .found)
+
+-- or the writer puts their tree into a buffer
+pub record TextsTold (texts : List Text) (before after : List ℕ) (r : Explanation) : Type 0 where
+  pub compiling : Compiling
+  pub code : List ℕ
+  pub compiled : TextsCompiled texts compiling code
+  pub told : ExplainedIs compiling code before after r
+
+-- or the checker judges words by them
+pub record TextsChecked (texts : List Text) (words : List ℕ) (r : Verdict) : Type 0 where
+  pub compiling : Compiling
+  pub code : List ℕ
+  pub compiled : TextsCompiled texts compiling code
+  pub verdict : VerdictIs compiling code words r
+
+-- the different atom with this number is written first at the place; where there is no such atom, the place is in no rule
+pub record FirstPlace (rules : List (Formula Name)) (which : ℕ) (p : AtomPlace) : Type 0 where
+  pub there : which < length (differentAtoms rules) → Writing rules which p
+  pub none : length (differentAtoms rules) ≤ which → length rules ≤ p .rule
 
 abbrev pub loadResult : Table → LoadAnswer → LoadResult
 loadResult t a = record { table = t; answer = a }

@@ -12,12 +12,12 @@ ghost use Rattle.contact.specs.Question.{plain, building};
 ghost use Rattle.names.specs.Gather.{arraysOf};
 ghost use Rattle.search.specs.Asked.{questionOf};
 ghost use Rattle.table.specs.Store.{keptLine, tableOf, rulesOf};
-ghost use Rattle.table.specs.Calls.{namesIn, readAnswer, linesFrom, FromUs, Adds, Withdraws, Loads};
+ghost use Rattle.table.specs.Calls.{formulasOf, namesIn, readAnswer, linesFrom, FromUs, Adds, Withdraws, Loads};
 ghost use Rattle.table.specs.Sheet.{blankLine, linesOf};
 ghost use Rattle.table.specs.Asking.{Asks, Judges};
 ghost use Rattle.table.specs.Printing.{Prints};
-ghost use Rattle.table.specs.Explaining.{explanationAnswer, Explains, verdictAnswer, Checks};
-ghost use Rattle.table.specs.Steps.{KnownTexts, Knowing, roomAdd, Tries, TextsCompiled, TextsSearched, loadResult, judgedAnswer};
+ghost use Rattle.table.specs.Explaining.{explanationAnswer, Explains, verdictAnswer, Checks, GivesAtom};
+ghost use Rattle.table.specs.Steps.{KnownTexts, Knowing, roomAdd, Tries, TextsCompiled, TextsSearched, TextsTold, TextsChecked, FirstPlace, loadResult, judgedAnswer};
 ghost use Rattle.table.specs.Numbers.{addOutcome, withdrawOutcome, onLine, CanCome, loadOutcome, askOutcome, judgeOutcome, printOutcome, explainOutcome, checkOutcome};
 use explaining::Explanation;
 use judging::Judged;
@@ -25,6 +25,7 @@ use names::Names;
 use plan::PlanAnswer;
 use plan::Written;
 use printing::Printed;
+use ruleset::AtomPlace;
 use ruleset::Compiling;
 use ruleset::Known;
 use ruleset::RoomAnswer;
@@ -761,6 +762,36 @@ impl Table {
         }
     }
 
+    // The first so many of the standing rules compiled, and the writer's tree of them put into the buffer.
+    fn told(self, rules: usize, buffer: &mut [u32]) -> Explanation
+        requires { ⌜ FromUs self × (rules ≤ self .count) ⌝ }
+        ensures { λ r. ⌜ TextsTold (take rules (rulesOf self)) (now (buffer .entry)) (now (buffer .exit)) r ⌝ }
+    {
+        if rules <= HALF {
+            let mut code = half_code();
+            let c = self.compiled(rules, &mut code);
+            return ruleset::explained(c, &code, buffer);
+        }
+        let mut code = no_code();
+        let c = self.compiled(rules, &mut code);
+        ruleset::explained(c, &code, buffer)
+    }
+
+    // The first so many of the standing rules compiled, and the checker's verdict on the words by them.
+    fn tree_checked(self, rules: usize, words: &[u32]) -> Verdict
+        requires { ⌜ FromUs self × (rules ≤ self .count) ⌝ }
+        ensures { λ r. ⌜ TextsChecked (take rules (rulesOf self)) (now (words .entry)) r ⌝ }
+    {
+        if rules <= HALF {
+            let mut code = half_code();
+            let c = self.compiled(rules, &mut code);
+            return ruleset::tree_checked(c, &code, words);
+        }
+        let mut code = no_code();
+        let c = self.compiled(rules, &mut code);
+        ruleset::tree_checked(c, &code, words)
+    }
+
     // Why the standing rules have no plan: the words of a closed tree, written over the first ones of the buffer. Where no rule stands, where a
     // plan exists, or where the buffer is shorter than the tree, the answer says so. The words past the tree, and all words of another
     // answer, keep their values; the table comes back as it was.
@@ -775,9 +806,7 @@ impl Table {
                 answer: ExplainAnswer::NoRule,
             };
         }
-        let mut code = no_code();
-        let c = self.compiled(count, &mut code);
-        let told = ruleset::explained(c, &code, buffer);
+        let told = self.told(count, buffer);
         let answer = explanation_answer(told);
         ExplainResult {
             table: self,
@@ -799,14 +828,51 @@ impl Table {
                 answer: CheckAnswer::NoRule,
             };
         }
-        let mut code = no_code();
-        let c = self.compiled(count, &mut code);
-        let verdict = ruleset::tree_checked(c, &code, words);
+        let verdict = self.tree_checked(count, words);
         let answer = verdict_answer(verdict);
         CheckResult {
             table: self,
             answer,
         }
+    }
+
+    // Where the different atom with this number, from 0, is written first among the standing rules; where there is no such atom, a place
+    // behind the last rule.
+    fn atom_place(self, which: usize) -> AtomPlace
+        requires { ⌜ FromUs self ⌝ }
+        ensures { λ r. ⌜ FirstPlace (formulasOf (rulesOf self)) which r ⌝ }
+    {
+        let count = self.count;
+        let mut code = no_code();
+        let c = self.compiled(count, &mut code);
+        let chart = c.known.atoms.chart;
+        if chart.atoms <= which {
+            return AtomPlace {
+                rule: count,
+                atom: 0,
+            };
+        }
+        ruleset::first_writing(c, &code, which)
+    }
+
+    // The text of the different atom with this number, from 0 by first place, as it was read there, over the first bytes of the buffer; no
+    // byte where there is no such atom. Where the buffer is shorter than the text the answer has the bytes needed, which are at most 256.
+    // The bytes past the text, and all bytes of the other answer, keep their values.
+    pub fn atom(self, which: usize, buffer: &mut [u8]) -> Printed
+        requires { ⌜ FromUs self ⌝ }
+        ensures { λ r. ⌜ GivesAtom (formulasOf (rulesOf self)) which (now (buffer .entry)) r (now (buffer .exit)) ⌝ }
+    {
+        let place = self.atom_place(which);
+        let at = place.rule;
+        if self.count <= at {
+            return Printed::Text(0);
+        }
+        let line = self.lines[at];
+        let len = line.len;
+        let bytes = line.bytes;
+        let text = &bytes[..len];
+        let rule = syntax::read_rule(text);
+        printing::print_atom(text, rule, place.atom, buffer)
     }
 
     // The k-th rule, from 1, as it was read, its text written over the first bytes of the buffer. Where there is no such rule the answer

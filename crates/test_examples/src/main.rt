@@ -1,6 +1,7 @@
 // The test program of the output: the text for each sheet of the folder examples, for a contact, for no plan, for each refusal that
-// a sheet can get, and for the longest sheets; then some sheets as they were read, and some for one building. The file `stdout` has the
-// texts that document 01 asks for, and T-02, T-03 and T-04 of document 02, worked out by hand.
+// a sheet can get, and for the longest sheets; then some sheets as they were read, some for one building, and why some have no plan. The file
+// `stdout` has the texts that document 01 asks for, and T-02, T-03, T-04 and T-06 of document 02, worked out by hand.
+use report::WhyAnswer;
 use test_kit::put_byte;
 use test_kit::put_bytes;
 use test_kit::write_bytes;
@@ -35,6 +36,25 @@ fn show_building(title: &[u8], sheet: &[u8]) {
     let mut text = report::no_building_text();
     let len = report::report_building(sheet, &mut text);
     write_bytes(&text[0..len]);
+}
+
+// It, and why the sheet has no plan: the trees shown fit in one piece.
+fn show_why(title: &[u8], sheet: &[u8]) {
+    show_title(title);
+    let mut words = report::no_tree();
+    let mut depths = report::no_depths();
+    let mut text = report::no_text();
+    let told = report::why(sheet, &mut words, &mut depths, &mut text);
+    let answer = told.answer;
+    let atoms = told.atoms;
+    match answer {
+        WhyAnswer::Text(len) => write_bytes(&text[..len]),
+        WhyAnswer::Tree(count) => {
+            let piece = report::why_piece(&words, &depths, count, atoms, 0, &mut text);
+            let len = piece.len;
+            write_bytes(&text[..len]);
+        }
+    }
 }
 
 // The sheets of the folder examples.
@@ -136,6 +156,23 @@ fn buildings() {
     show(b"halls only", halls_only);
     show_building(b"halls only, one building", halls_only);
     show_building(b"unfinished, one building", b"C(raw,cooked)\nC(raw,\n");
+}
+
+// ---- why there is no plan
+
+// Sheets of the folder examples: one with no plan, one with a plan and a refused one. Then a rule that is false at once, and the whole floor
+// empty; a contact's first writing, in which the second rule has its terms exchanged; and the empty region, which is never not empty.
+fn reasons() {
+    show_why(
+        b"no plan, why",
+        b"~C(raw,cooked)\n~raw=0\n~cooked=0\n<=(raw,cooked)\n",
+    );
+    show_why(b"halls, why", b"~C(raw,cooked)\n~raw=0\n~cooked=0\n");
+    show_why(b"unfinished, why", b"C(raw,cooked)\nC(raw,\n");
+    show_why(b"false at once, why", b"T\n~F&F");
+    show_why(b"no floor at all, why", b"( 1 ) = 0");
+    show_why(b"exchanged, why", b"C(raw , (cooked))\n~C(cooked,raw)");
+    show_why(b"never empty, why", b"~0=0");
 }
 
 // A number below 100.
@@ -254,4 +291,5 @@ fn main() {
     read_back();
     buildings();
     every_point();
+    reasons();
 }

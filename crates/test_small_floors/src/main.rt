@@ -9,12 +9,18 @@
 // with its terms exchanged, the form's atoms are compared here sign by sign, and a sheet is refused exactly if more than 16 of them
 // differ. Every sheet is asked for one building as well, document 02, T-04, and that answer is held to the same floors as far as they
 // hang together. Merged points leave a floor that hangs together, so that for up to two names these are all such floors, too.
-// A sheet that disagrees is written, and why. The file `stdout` has document 01's answers to P1 to P12 and the counts that a separate
-// computation gave.
+// Every sheet is explained as well, document 02, T-06: one without a plan has a tree, which the checker takes; one with a plan has none, and
+// the checker does not take that there is no floor.
+// A sheet that disagrees is written, and why. The file `stdout` has the documents' answers to P1 to P12 and the counts that separate
+// computations gave. Those of plans, buildings and trees, and the number that all trees' words give, are of a program in Python: it makes
+// each sheet's text again, reads it by a reader of its own, and takes the first row and writes the tree by the documents' words, with floors
+// sought on all evaluations that a branch leaves; for up to two names it tries all floors on distinct evaluations as well.
 ghost use Prim.Native.Nat.{_<_};
 ghost use Rattle.table.specs.Calls.{FromUs};
 use table::AddAnswer;
 use table::AskAnswer;
+use table::CheckAnswer;
+use table::ExplainAnswer;
 use table::Table;
 use test_kit::write_bytes;
 use test_kit::write_number;
@@ -872,6 +878,12 @@ struct Found {
     whole: bool,
 }
 
+// What is found for the two questions.
+struct Both {
+    plain: Found,
+    building: Found,
+}
+
 // The set of each evaluation alone.
 const BITS: [u8; 8] = [1, 2, 4, 8, 16, 32, 64, 128];
 
@@ -1172,6 +1184,15 @@ fn is_asked_for(floor: Floor, building: bool) -> bool {
     !building || hangs_together(floor)
 }
 
+fn nothing_found(building: bool) -> Found {
+    Found {
+        building,
+        some: false,
+        row: 0,
+        whole: true,
+    }
+}
+
 // What is found, with one floor more.
 fn with_floor(found: Found, m: Machine) -> Found {
     let mut next = found;
@@ -1187,29 +1208,35 @@ fn with_floor(found: Found, m: Machine) -> Found {
     next
 }
 
+// What is found for each question that a floor counts for.
+fn with_floor_for_both(found: Both, floor: Floor, m: Machine) -> Both {
+    let plain = with_floor(found.plain, m);
+    let mut building = found.building;
+    if hangs_together(floor) {
+        building = with_floor(building, m);
+    }
+    Both { plain, building }
+}
+
 // What is found, with the floors of these points.
-fn with_floors(found: Found, code: &[u8], numbers: Numbers, points: u8) -> Found {
+fn with_floors(found: Both, code: &[u8], numbers: Numbers, points: u8) -> Both {
     let floors = floors_on(points);
     let mut next = found;
     let mut contacts: usize = 0;
     while contacts < floors {
         let floor = floor_of(points, contacts);
-        if is_asked_for(floor, next.building) {
-            next = with_floor(next, on_floor(code, numbers, floor));
-        }
+        next = with_floor_for_both(next, floor, on_floor(code, numbers, floor));
         contacts += 1;
     }
     next
 }
 
-// The search over all floors of at most four points that count for a question.
-fn search(code: &[u8], numbers: Numbers, names: usize, building: bool) -> Found {
+// The search over all floors of at most four points, for both questions.
+fn search(code: &[u8], numbers: Numbers, names: usize) -> Both {
     let all = evaluations(names);
-    let mut found = Found {
-        building,
-        some: false,
-        row: 0,
-        whole: true,
+    let mut found = Both {
+        plain: nothing_found(false),
+        building: nothing_found(true),
     };
     let mut points: u8 = 0;
     while points < all {
@@ -1727,20 +1754,81 @@ fn said(table: Table, building: bool, words: &mut [u32; 530]) -> Answer
     answer_of(answer)
 }
 
-// What is answered for a file's lines, the k-th withdrawn before where k is not 0.
-fn asked(file: &[u8], k: usize, building: bool, words: &mut [u32; 530]) -> Answer {
-    let mut refused = NONE_REFUSED;
-    let table = without(table_of(file, &mut refused), k);
+// What is answered, by whether rules were refused.
+fn asked(table: Table, refused: u8, building: bool, words: &mut [u32; 530]) -> Answer
+    requires { ⌜ FromUs table ⌝ }
+{
     match refused {
-        NONE_REFUSED => {}
-        ATOMS_REFUSED => {
-            return Answer::TooManyAtoms;
-        }
-        _ => {
-            return Answer::Refused;
-        }
+        NONE_REFUSED => said(table, building, words),
+        ATOMS_REFUSED => Answer::TooManyAtoms,
+        _ => Answer::Refused,
     }
-    said(table, building, words)
+}
+
+// What explain and check_tree say, document 02, T-06: a tree of so many words, which is closed; that there is a plan, and that there are
+// floors; or anything else.
+enum Reasons {
+    Tree(usize),
+    HasPlan,
+    Wrong,
+}
+
+// Whether the words from a place on are as they were.
+fn kept_from(words: &[u32; 530], from: usize) -> bool {
+    let mut i = from;
+    while i < 530 {
+        if words[i] != UNWRITTEN {
+            return false;
+        }
+        i += 1;
+    }
+    true
+}
+
+// "every tree of our writer is accepted": whether the first n words of the buffer are, and the others are kept.
+fn tree_told(table: Table, words: &[u32; 530], n: usize) -> Reasons
+    requires { ⌜ FromUs table ⌝ }
+{
+    let all = &words[..];
+    if all.len() < n {
+        return Reasons::Wrong;
+    }
+    let r = table.check_tree(&all[0..n]);
+    let answer = r.answer;
+    let CheckAnswer::Closed = answer else {
+        return Reasons::Wrong;
+    };
+    if kept_from(words, n) {
+        return Reasons::Tree(n);
+    }
+    Reasons::Wrong
+}
+
+// "What it accepts has no plan": whether, where there is a plan, one word that no floor exists is refused, and the buffer is kept.
+fn plan_told(table: Table, words: &[u32; 530]) -> Reasons
+    requires { ⌜ FromUs table ⌝ }
+{
+    let r = table.check_tree(&[0x7000_0000]);
+    let answer = r.answer;
+    let CheckAnswer::NotClosed(j) = answer else {
+        return Reasons::Wrong;
+    };
+    if j == 0 && kept_from(words, 0) {
+        return Reasons::HasPlan;
+    }
+    Reasons::Wrong
+}
+
+fn told(table: Table, words: &mut [u32; 530]) -> Reasons
+    requires { ⌜ FromUs table ⌝ }
+{
+    let r = table.explain(words);
+    let answer = r.answer;
+    match answer {
+        ExplainAnswer::Tree(n) => tree_told(table, words, n),
+        ExplainAnswer::HasPlan => plan_told(table, words),
+        _ => Reasons::Wrong,
+    }
 }
 
 // ---- the checks: the answer held to the search
@@ -1823,11 +1911,10 @@ fn check_answer(
     code: &[u8],
     numbers: Numbers,
     names: usize,
-    building: bool,
+    found: Found,
     answer: Answer,
     words: &[u32; 530],
 ) -> Finding {
-    let found = search(code, numbers, names, building);
     if !found.whole {
         return disagree(b"the form is not evaluated");
     }
@@ -1851,21 +1938,22 @@ fn check(
     code: &[u8],
     numbers: Numbers,
     names: usize,
-    building: bool,
+    found: Found,
     answer: Answer,
     words: &[u32; 530],
 ) -> Finding {
     if 16 < numbers.count {
         return check_refused(answer);
     }
-    check_answer(code, numbers, names, building, answer, words)
+    check_answer(code, numbers, names, found, answer, words)
 }
 
 // ---- the checks: counts
 
 // What is counted, after the sheets: sheets of 0 to 3 names, answers, words, and sheets with a sign, by the signs' numbers, with
 // parentheses that group, with a comma, with atoms that are the same, with a contact that is so by exchange, with more than 16 atoms as
-// places are counted; last the answers and words for one building. `<=m` has no count: a rule with it is refused.
+// places are counted; the answers and words for one building; last the trees, their words, these by their kinds 5 to 7, all of them mixed
+// into one number, and the plans that explain refuses with 17. `<=m` has no count: a rule with it is refused.
 const NAMES: usize = 1;
 
 const PLANS: usize = 5;
@@ -1886,9 +1974,15 @@ const MANY_PLACES: usize = 31;
 
 const BUILDINGS: usize = 32;
 
+const TREES: usize = 36;
+
+const MIXED: usize = 41;
+
+const EXPLAIN_REFUSED: usize = 42;
+
 // Writes part i of labels of 14 bytes each.
 fn write_part(labels: &[u8], i: usize) {
-    let start = i % 36 * 14;
+    let start = i % 43 * 14;
     let end = start + 14;
     if end <= labels.len() {
         write_bytes(&labels[start..end]);
@@ -1932,13 +2026,20 @@ fn write_label(i: usize) {
         buildings     \
         no buildings  \
         refused 8     \
-        their words   ";
+        their words   \
+        trees         \
+        tree words    \
+        kind 5        \
+        kind 6        \
+        kind 7        \
+        mixed         \
+        explain 17    ";
     write_part(labels, i);
 }
 
-fn write_counts(counts: [usize; 36]) {
+fn write_counts(counts: [usize; 43]) {
     let mut i: usize = 0;
-    while i < 36 {
+    while i < 43 {
         write_label(i);
         write_number(counts[i]);
         write_bytes(b"\n");
@@ -1947,11 +2048,11 @@ fn write_counts(counts: [usize; 36]) {
 }
 
 // Raises count i by n; no count comes near the bound.
-fn raise(counts: &mut [usize; 36], i: usize, n: usize) {
-    counts[i % 36] = counts[i % 36] % 0x1_0000_0000 + n % 0x1_0000;
+fn raise(counts: &mut [usize; 43], i: usize, n: usize) {
+    counts[i % 43] = counts[i % 43] % 0x1_0000_0000 + n % 0x1_0000;
 }
 
-fn raise_if(counts: &mut [usize; 36], i: usize, b: bool) {
+fn raise_if(counts: &mut [usize; 43], i: usize, b: bool) {
     if b {
         raise(counts, i, 1);
     }
@@ -1993,7 +2094,7 @@ fn is_grouped(file: &[u8]) -> bool {
 }
 
 // One more for each sign that a sheet has; a sheet with a name has the first.
-fn count_signs(counts: &mut [usize; 36], code: &[u8]) {
+fn count_signs(counts: &mut [usize; 43], code: &[u8]) {
     let mut sign: usize = 0;
     while sign < 17 {
         raise_if(counts, SIGNS + sign, occurs(code, sign as u8));
@@ -2002,13 +2103,13 @@ fn count_signs(counts: &mut [usize; 36], code: &[u8]) {
 }
 
 // One more for each way in which a sheet's atoms are the same.
-fn count_atoms(counts: &mut [usize; 36], numbers: Numbers) {
+fn count_atoms(counts: &mut [usize; 43], numbers: Numbers) {
     raise_if(counts, REPEATED, numbers.count < numbers.places);
     raise_if(counts, EXCHANGED, numbers.exchanged);
     raise_if(counts, MANY_PLACES, 16 < numbers.places);
 }
 
-fn count_sheet(counts: &mut [usize; 36], file: &[u8], code: &[u8], names: usize) {
+fn count_sheet(counts: &mut [usize; 43], file: &[u8], code: &[u8], names: usize) {
     raise(counts, 0, 1);
     raise(counts, NAMES + names % 4, 1);
     count_signs(counts, code);
@@ -2018,23 +2119,70 @@ fn count_sheet(counts: &mut [usize; 36], file: &[u8], code: &[u8], names: usize)
 
 // The answers to a question are counted from a place on: plans, no plans, those refused, words. A sheet that disagrees is written with
 // its rules.
-fn count_finding(counts: &mut [usize; 36], from: usize, f: Finding, file: &[u8]) {
+fn count_finding(counts: &mut [usize; 43], from: usize, f: Finding, file: &[u8]) {
     match f {
         Finding::Plan(n) => {
             raise(counts, from, 1);
-            raise(counts, from % 36 + 3, n);
+            raise(counts, from % 43 + 3, n);
         }
         Finding::NoPlan => {
-            raise(counts, from % 36 + 1, 1);
+            raise(counts, from % 43 + 1, 1);
         }
         Finding::TooManyAtoms => {
-            raise(counts, from % 36 + 2, 1);
+            raise(counts, from % 43 + 2, 1);
         }
         Finding::Disagrees => {
             write_bytes(file);
             raise(counts, DISAGREEMENTS, 1);
         }
     }
+}
+
+// One more of a tree's words: by its kind, and mixed with those before it, so that each counts by its place.
+fn count_word(counts: &mut [usize; 43], word: u32) {
+    let w = word as usize;
+    raise(counts, TREES + 1, 1);
+    raise(counts, TREES + w / 0x1000_0000 % 16 - 3, 1);
+    counts[MIXED] = (counts[MIXED] % 0x1_0000_0000 * 31 + w) % 0x1_0000_0000;
+}
+
+fn count_tree(counts: &mut [usize; 43], words: &[u32; 530], n: usize) {
+    raise(counts, TREES, 1);
+    let mut i: usize = 0;
+    while i < 530 {
+        if i < n {
+            count_word(counts, words[i]);
+        }
+        i += 1;
+    }
+}
+
+// Whether a sheet without a plan has a tree, and one with a plan has none.
+fn count_reasons(
+    counts: &mut [usize; 43],
+    f: Finding,
+    r: Reasons,
+    words: &[u32; 530],
+    file: &[u8],
+) {
+    match f {
+        Finding::Plan(_) => {
+            if let Reasons::HasPlan = r {
+                raise(counts, EXPLAIN_REFUSED, 1);
+                return;
+            }
+        }
+        Finding::NoPlan => {
+            if let Reasons::Tree(n) = r {
+                count_tree(counts, words, n);
+                return;
+            }
+        }
+        _ => {
+            return;
+        }
+    }
+    count_finding(counts, TREES, disagree(b"explain and check_tree"), file);
 }
 
 // ---- the checks: the sheets
@@ -2062,23 +2210,29 @@ fn write_answer(label: &[u8], f: Finding, words: &[u32; 530]) {
 }
 
 // Tests a sheet: its lines, the number of the one that is withdrawn or 0, its form without that one, and how many names.
-fn test(counts: &mut [usize; 36], label: &[u8], file: &[u8], k: usize, code: &[u8], names: usize) {
+fn test(counts: &mut [usize; 43], label: &[u8], file: &[u8], k: usize, code: &[u8], names: usize) {
+    let mut refused = NONE_REFUSED;
+    let table = without(table_of(file, &mut refused), k);
     let mut words = [UNWRITTEN; 530];
     let mut others = [UNWRITTEN; 530];
-    let answer = asked(file, k, false, &mut words);
-    let other = asked(file, k, true, &mut others);
+    let mut tree = [UNWRITTEN; 530];
+    let answer = asked(table, refused, false, &mut words);
+    let other = asked(table, refused, true, &mut others);
+    let reasons = told(table, &mut tree);
     let numbers = numbers_of(code);
-    let f = check(code, numbers, names, false, answer, &words);
-    let g = check(code, numbers, names, true, other, &others);
+    let found = search(code, numbers, names);
+    let f = check(code, numbers, names, found.plain, answer, &words);
+    let g = check(code, numbers, names, found.building, other, &others);
     write_answer(label, f, &words);
     count_sheet(counts, file, code, names);
     count_atoms(counts, numbers);
     count_finding(counts, PLANS, f, file);
     count_finding(counts, BUILDINGS, g, file);
+    count_reasons(counts, f, reasons, &tree, file);
 }
 
 // Document 01, 'Worked sheets': P1 and P2.
-fn first_sheets(counts: &mut [usize; 36]) {
+fn first_sheets(counts: &mut [usize; 43]) {
     test(counts, b"P1:", b"T\n", 0, &[RULE, TRUE], 0);
     test(
         counts,
@@ -2091,7 +2245,7 @@ fn first_sheets(counts: &mut [usize; 36]) {
 }
 
 // P3 to P5.
-fn withdrawn_sheets(counts: &mut [usize; 36]) {
+fn withdrawn_sheets(counts: &mut [usize; 43]) {
     let code = [
         RULE,
         NOT,
@@ -2119,7 +2273,7 @@ fn withdrawn_sheets(counts: &mut [usize; 36]) {
 }
 
 // P6 to P9.
-fn plain_sheets(counts: &mut [usize; 36]) {
+fn plain_sheets(counts: &mut [usize; 43]) {
     test(
         counts,
         b"P6:",
@@ -2148,7 +2302,7 @@ fn plain_sheets(counts: &mut [usize; 36]) {
 }
 
 // P10 to P12.
-fn grouped_sheets(counts: &mut [usize; 36]) {
+fn grouped_sheets(counts: &mut [usize; 43]) {
     let code = [
         RULE,
         NOT,
@@ -2180,7 +2334,7 @@ fn grouped_sheets(counts: &mut [usize; 36]) {
 }
 
 // Tests a sheet that was made: the first bytes of a text and of a form.
-fn test_made(counts: &mut [usize; 36], text: &[u8; 1100], form: &[u8; 512], m: Maker) {
+fn test_made(counts: &mut [usize; 43], text: &[u8; 1100], form: &[u8; 512], m: Maker) {
     let text = &text[..];
     let form = &form[..];
     let end = m.text;
@@ -2197,7 +2351,7 @@ fn test_made(counts: &mut [usize; 36], text: &[u8; 1100], form: &[u8; 512], m: M
     count_finding(counts, PLANS, disagree(b"a sheet is not made"), b"");
 }
 
-fn test_generated(counts: &mut [usize; 36], k: u64) {
+fn test_generated(counts: &mut [usize; 43], k: u64) {
     let mut text = [0u8; 1100];
     let mut form = [0u8; 512];
     let m = with_sheet(sheet_maker(k), k, &mut text, &mut form);
@@ -2207,7 +2361,7 @@ fn test_generated(counts: &mut [usize; 36], k: u64) {
 // How many sheets are generated.
 const SHEETS: u64 = 3000;
 
-fn generated_sheets(counts: &mut [usize; 36]) {
+fn generated_sheets(counts: &mut [usize; 43]) {
     let mut k: u64 = 0;
     while k < SHEETS {
         test_generated(counts, k);
@@ -2216,7 +2370,7 @@ fn generated_sheets(counts: &mut [usize; 36]) {
 }
 
 fn main() {
-    let mut counts = [0usize; 36];
+    let mut counts = [0usize; 43];
     first_sheets(&mut counts);
     withdrawn_sheets(&mut counts);
     plain_sheets(&mut counts);

@@ -4,7 +4,8 @@
 //
 // A line is a sheet without a plan: its text, in which `/` is byte 10, and its form, signs before their operands and blanks anywhere. `@`
 // is before each of the different atoms, at most three, by first place, and `:` before each rule, at most three, in which these atoms are
-// x, y and z. In an atom `Z` is `=0` and `<` is `<=`; in a rule `>` is `->` and `=` is `<->`. There are at most two names, a and b.
+// x, y and z. In an atom `Z` is `=0` and `<` is `<=`; in a rule `>` is `->` and `=` is `<->`. There are at most two names, in the form a and
+// b. After the sheets made by hand come all those of test_small_floors that are such, with a tree of up to seven words.
 //
 // The other checker works by the definitions: rules are read by Kleene's tables, and whether a floor gives the decided atoms their values
 // is found by going through the floors on the four evaluations, with all contacts; alike points can be merged, so these are all floors.

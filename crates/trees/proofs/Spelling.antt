@@ -83,8 +83,8 @@ module _ (many : ℕ) (rules : List (Form ℕ)) (NoPlan : PartialRow → Type 0)
       (λ t. tt))
       (λ five. pick Says (eqb kind 6) _ _
       (λ six. let q = eqb-true kind 6 six in
-      pick Says (falseThere rules part body) closes wrong
-      (λ t. rule body (omega arith) (false-meant rules part body t))
+      pick Says (ltb body 256 && falseThere rules part body) closes wrong
+      (λ t. rule body (omega arith) (false-meant rules part body (and-eq-true-iff (ltb body 256) _ .0 t .1)))
       (λ t. tt))
       (λ six. pick Says (eqb kind 7) _ wrong
       (λ seven. let q = eqb-true kind 7 seven in
@@ -111,9 +111,9 @@ module _ (many : ℕ) (rules : List (Form ℕ)) (NoPlan : PartialRow → Type 0)
       by-parts 5 a (omega arith) l
       ∙ ap (λ (b : Bool). cond b (splits a) wrong) (and-intro (lt-ltb a many (s .named)) (ap isUnknown (s .undecided)))
 
-  pub does-rule : (k : ℕ) → w ≡ ruleWord k → k < 0x10000000 → RuleFalse rules part k → does many rules noPlan part w ≡ closes
+  pub does-rule : (k : ℕ) → w ≡ ruleWord k → k < 256 → RuleFalse rules part k → does many rules noPlan part w ≡ closes
   does-rule k e l r =
-      by-parts 6 k (omega arith) l ∙ ap (λ (b : Bool). cond b closes wrong) (false-computed rules part k r)
+      by-parts 6 k (omega arith) (omega arith) ∙ ap (λ (b : Bool). cond b closes wrong) (and-intro (lt-ltb k 256 l) (false-computed rules part k r))
 
   pub does-floor : w ≡ floorlessWord → NoPlan part → does many rules noPlan part w ≡ closes
   does-floor e n =
@@ -125,7 +125,7 @@ module _ (many : ℕ) (rules : List (Form ℕ)) (NoPlan : PartialRow → Type 0)
       let d = does-split a e (omega arith) s in
       let z : _≡_ {A = ℕ} 0 1 = cc in omega arith
   stands-right (Stands.refutes k e l r) q =
-      let d = does-rule k e (omega arith) r in
+      let d = does-rule k e l r in
       let z : _≡_ {A = ℕ} 0 1 = cc in omega arith
   stands-right (Stands.excludes e n) q =
       let d = does-floor e n in

@@ -10,7 +10,7 @@ use lib.Bits.{bitOr}
 use lib.Dec.{eqb, ltb}
 use lib.ListN.{length, getD, take, drop, drop-of-length-le}
 use lib.Pow.{pow-pos}
-use borrow.Author.Tests.{ne-eqb}
+use borrow.Author.Tests.{lt-ltb, le-ltb, ne-eqb}
 use Rattle.formula.specs.Formula.{Atom, Form}
 use Rattle.lists.proofs.Lists.{rest}
 use Rattle.lists.proofs.Truth.{clash}
@@ -40,11 +40,18 @@ closing-is true = refl
 closing-is false = refl
 
 module _ (code ends list : List ℕ) (many contacts : ℕ) (b : Branch) (w : ℕ) where
-  pub closes-rule : w / 0x10000000 ≡ 6 → (x : Bool) → RuleSays code ends many b (w % 0x10000000) x → ClosesSays code ends list many contacts b w x
+  pub closes-rule : w / 0x10000000 ≡ 6 → w % 0x10000000 < 256 → (x : Bool) → RuleSays code ends many b (w % 0x10000000) x → ClosesSays code ends list many contacts b w x
   unfolding ClosesSays RuleSays does
-  closes-rule six x says-rule names atoms rules c p h =
+  closes-rule six low x says-rule names atoms rules c p h =
       says-rule rules (c .coded) p h ∙ closing-is (falseThere rules p (w % 0x10000000))
-      ∙ sym (ap (λ (k : ℕ). isClosing (byKind many rules (noFloor plain names atoms) p k (w % 0x10000000))) six)
+      ∙ sym (ap (λ (k : ℕ). isClosing (byKind many rules (noFloor plain names atoms) p k (w % 0x10000000))) six
+      ∙ ap (λ (y : Bool). isClosing (cond (y && falseThere rules p (w % 0x10000000)) closes wrong)) (lt-ltb (w % 0x10000000) 256 low))
+
+  pub closes-high : w / 0x10000000 ≡ 6 → 256 ≤ w % 0x10000000 → ClosesSays code ends list many contacts b w false
+  unfolding ClosesSays does
+  closes-high six high names atoms rules c p h =
+      sym (ap (λ (k : ℕ). isClosing (byKind many rules (noFloor plain names atoms) p k (w % 0x10000000))) six
+      ∙ ap (λ (y : Bool). isClosing (cond (y && falseThere rules p (w % 0x10000000)) closes wrong)) (le-ltb (w % 0x10000000) 256 high))
 
   pub closes-floor : w / 0x10000000 ≡ 7 → w % 0x10000000 ≡ 0 → many ≤ 16 → (x : Bool) → FloorSays list contacts b x
       → ClosesSays code ends list many contacts b w (not x)

@@ -32,7 +32,7 @@ module _ (many known w : ℕ) where
   pub split-kind : (w / 0x10000000 ≡ 5 → ⊥) → SplitSays many known w 0
   unfolding SplitSays does
   split-kind h rules noPlan part s =
-      go (eqb (w / 0x10000000) 5) (eqb (w / 0x10000000) 6) (eqb (w / 0x10000000) 7) (falseThere rules part (w % 0x10000000))
+      go (eqb (w / 0x10000000) 5) (eqb (w / 0x10000000) 6) (eqb (w / 0x10000000) 7) (ltb (w % 0x10000000) 256 && falseThere rules part (w % 0x10000000))
       (eqb (w % 0x10000000) 0 && noPlan part) (cond (ltb (w % 0x10000000) many && isUnknown (valueIn part (w % 0x10000000))) (splits (w % 0x10000000)) wrong)
       (ne-eqb (w / 0x10000000) 5 h)
     where

@@ -51,7 +51,7 @@ module _ (many : ℕ) (rules : List (Form ℕ)) (noPlan : PartialRow → Bool) w
   abbrev pub byKind : PartialRow → ℕ → ℕ → Does
   byKind part kind body =
       cond (eqb kind 5) (cond (ltb body many && isUnknown (valueIn part body)) (splits body) wrong)
-      (cond (eqb kind 6) (cond (falseThere rules part body) closes wrong)
+      (cond (eqb kind 6) (cond (ltb body 256 && falseThere rules part body) closes wrong)
       (cond (eqb kind 7) (cond (eqb body 0 && noPlan part) closes wrong) wrong))
 
   unfoldable pub does : PartialRow → ℕ → Does

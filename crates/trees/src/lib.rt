@@ -12,7 +12,7 @@ ghost use Rattle.evalset.specs.Bit.{bit};
 ghost use Rattle.search.specs.Compiled.{limit};
 ghost use Rattle.pairing.specs.Words.{within};
 ghost use Rattle.solver.specs.Coded.{SafeFrom};
-ghost use Rattle.solver.specs.Tree.{Runnable};
+ghost use Rattle.solver.specs.Tree.{Unseen, Roomy, Runnable};
 ghost use Rattle.trees.specs.Branch.{servedBy, FloorSays, LeavesSay, startOf, RuleSays, SplitSays, ClosesSays, ReachedSays, Moves, CheckSays};
 use search::ATOMS;
 use search::Chart;
@@ -161,7 +161,10 @@ fn closes(
 {
     let body = (w % 0x1000_0000) as usize;
     match w / 0x1000_0000 {
-        6 => rule_false(code, ends, many, b, body, ys, ns),
+        6 => match body {
+            0..=0xFF => rule_false(code, ends, many, b, body, ys, ns),
+            _ => false,
+        },
         7 => match body {
             0 => !some_floor(list, contacts, b),
             _ => false,
@@ -218,18 +221,23 @@ fn tree_from(
     tree_from(words, middle, code, ends, list, many, contacts, no, ys, ns)
 }
 
-// "A separate small checker takes words from anyone against a table": whether the words are those of a closed tree of the rules.
-pub fn check_tree(words: &[u32], code: &[u8], ends: &[usize], chart: Chart) -> Verdict
-    requires { ⌜ Runnable (now code) (now ends) chart ⌝ }
+// The verdict with the lent memory for the words that are seen and for the list of words.
+fn judged(
+    words: &[u32],
+    code: &[u8],
+    ends: &[usize],
+    chart: Chart,
+    seen: &mut [u64],
+    list: &mut [u16],
+) -> Verdict
+    requires { ⌜ Runnable (now code) (now ends) chart × Roomy chart (now seen) (now list) ⌝ }
     ensures { λ r. ⌜ CheckSays (now (words .entry)) (now (code .entry)) (now (ends .entry)) chart r ⌝ }
 {
-    let mut seen = [0u64; 1024];
-    let mut list = [0u16; 2080];
     let mut ys = [0u64; 128];
     let mut ns = [0u64; 128];
     let contacts = pairing::contacts_of(chart);
     let top = solver::all_evaluations(chart.names);
-    let count = pairing::words_of(chart, contacts, top, &mut seen, &mut list);
+    let count = pairing::words_of(chart, contacts, top, seen, list);
     let root = Branch { known: 0, truth: 0 };
     let all = tree_from(
         words,
@@ -253,4 +261,30 @@ pub fn check_tree(words: &[u32], code: &[u8], ends: &[usize], chart: Chart) -> V
             }
         }
     }
+}
+
+// The same with room for the list of words by the number of names: sheets of few names do not clear more than they need.
+fn listed(words: &[u32], code: &[u8], ends: &[usize], chart: Chart, seen: &mut [u64]) -> Verdict
+    requires { ⌜ Runnable (now code) (now ends) chart × Unseen chart (now seen) ⌝ }
+    ensures { λ r. ⌜ CheckSays (now (words .entry)) (now (code .entry)) (now (ends .entry)) chart r ⌝ }
+{
+    if chart.names <= 4 {
+        let mut few = [0u16; 136];
+        return judged(words, code, ends, chart, seen, &mut few);
+    }
+    let mut list = [0u16; 2080];
+    judged(words, code, ends, chart, seen, &mut list)
+}
+
+// "A separate small checker takes words from anyone against a table": whether the words are those of a closed tree of the rules.
+pub fn check_tree(words: &[u32], code: &[u8], ends: &[usize], chart: Chart) -> Verdict
+    requires { ⌜ Runnable (now code) (now ends) chart ⌝ }
+    ensures { λ r. ⌜ CheckSays (now (words .entry)) (now (code .entry)) (now (ends .entry)) chart r ⌝ }
+{
+    if chart.atoms <= 10 {
+        let mut few = [0u64; 16];
+        return listed(words, code, ends, chart, &mut few);
+    }
+    let mut seen = [0u64; 1024];
+    listed(words, code, ends, chart, &mut seen)
 }

@@ -6,12 +6,13 @@ use mathlib.Core.List.{List}
 use native.Mathlib.Omega.{arith}
 use borrow.Author.Needs.{needs}
 use lib.ListN.{length, take, drop, length-map}
+use Rattle.printing.specs.Places.{textTo}
 use Rattle.printing.proofs.Walking.{Goes, few-left, order-some, row-low, jobs-fit, goes-operand, byte-fits, goes-byte, name-left, goes-past, name-lies, name-long, name-fits, goes-name, goes-end, goes-first}
 use Rattle.printing.proofs.fill.Statement.{statement}
 use Rattle.printing.proofs.fill.Tie as tie
 
 abbrev Inv-loop : tie.InvT-loop
-Inv-loop text stack₀ made₀ order kinds starts lens k₀ j₀ height₀ at₀ stack made k j height at = Goes text order kinds starts lens made k j stack height at
+Inv-loop text stack₀ made₀ order kinds starts lens k₀ j₀ height₀ at₀ stack made k j height at = Goes (textTo text k₀) text order kinds starts lens made k j stack height at
 
 abbrev μ-loop : tie.MeasureT-loop
 μ-loop text stack₀ made₀ order kinds starts lens k₀ j₀ height₀ at₀ stack made k j height at = at + k + j
@@ -20,7 +21,7 @@ loop-holds : tie.Need-loop-holds Inv-loop μ-loop
 loop-holds c =
     let start = c .before .before .before .before .before .before .before .before in
     let full : length (start .args .rule .order) ≡ 256 = simp length-map at (start .good .1 .0 .1 .1 .1 .1 .0 .1 .0 .1) in
-    goes-first (start .args .text .now) (start .args .rule) (start .pre .0) (start .args .made .now) (start .pre .2) (start .args .stack .now) (start .pre .1) full
+    goes-first (start .args .text .now) (start .args .rule) (start .pre .0) (start .args .place) (start .pre .1) (start .args .made .now) (start .pre .3) (start .args .stack .now) (start .pre .2) full
 
 sub-height : tie.Need-sub-height Inv-loop μ-loop
 sub-height c = search needs
@@ -167,10 +168,10 @@ loop-again-4 c =
     (c .before .before .put .last .0) (c .before .before .put .ensures)
 
 same-length : tie.Need-same-length Inv-loop μ-loop
-same-length c = c .before .loop .inv .1 .stacked .room ∙ sym (ap length (c .before .before .before .before .before .before .before .before .before .before .pre .1))
+same-length c = c .before .loop .inv .1 .stacked .room ∙ sym (ap length (c .before .before .before .before .before .before .before .before .before .before .pre .2))
 
 same-length-2 : tie.Need-same-length-2 Inv-loop μ-loop
-same-length-2 c = c .before .loop .inv .1 .making .room ∙ sym (c .before .before .before .before .before .before .before .before .before .before .pre .2)
+same-length-2 c = c .before .loop .inv .1 .making .room ∙ sym (c .before .before .before .before .before .before .before .before .before .before .pre .3)
 
 returns : tie.Need-returns Inv-loop μ-loop
 returns c = let z : c .before .loop .height ≡ 0 = omega (arith, c .loop-test .left) in goes-end (c .before .loop .inv) z

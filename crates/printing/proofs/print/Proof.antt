@@ -1,94 +1,24 @@
--- `printing::print` meets its contract: what `fill` leaves at the end of the bytes is written into the buffer, if there is room for it.
--- Assumes nothing.
-use mathlib.Core.Path.{_≡_, ap, _∙_}
-use mathlib.Core.Bool.{true, false}
-use mathlib.Core.List.{List, _++_}
-use Prim.Native.Nat.{ℕ, _-_, _≤_, _<_}
-use native.Mathlib.Omega.{arith}
+-- `printing::print` meets its contract: the rule's formula ends with its order. Assumes nothing.
+use mathlib.Core.Path.{subst}
+use mathlib.Core.List.{List}
+use Prim.Native.Nat.{ℕ}
 use borrow.Author.Needs.{needs}
-use borrow.Author.Tests.{le-leb, lt-leb}
-use lib.ListN.{length, take, drop, length-drop}
-use lib.Seq.{take-all, take-length}
-use Rattle.printing.specs.Prints.{printedText, fits, Prints}
-use Rattle.printing.specs.Jobs.{Filled}
-use Rattle.printing.specs.declared.Printed.the-variants.{Text, Needs}
+use Rattle.printing.specs.Prints.{Prints}
+use Rattle.printing.proofs.Whole.{whole-text, whole-ends}
 use Rattle.printing.proofs.print.Statement.{statement}
 use Rattle.printing.proofs.print.Tie as tie
 
-module _ (s made : List ℕ) (from : ℕ) (f : Filled s made from) (buf : List ℕ) where
-  long : 256 - from ≡ length (printedText s)
-  long = omega (arith, ap length (f .text), length-drop from made, f .whole)
-
-  too-short : length buf < 256 - from → Prints (printedText s) buf (Needs (256 - from)) buf
-  too-short h =
-      let b : fits (printedText s) buf ≡ false = lt-leb (length (printedText s)) (length buf) (omega (arith, long)) in
-      record { answer = rw (b, long); bytes = rw b }
-
-  enough : 256 - from ≤ length buf → (out : List ℕ) → out ≡ take (length (take (256 - from) (drop from made))) (take (256 - from) (drop from made)) ++ drop (length (take (256 - from) (drop from made))) buf
-      → Prints (printedText s) buf (Text (256 - from)) out
-  enough h out e =
-      let b : fits (printedText s) buf ≡ true = le-leb (length (printedText s)) (length buf) (omega (arith, long)) in
-      let t : take (256 - from) (drop from made) ≡ printedText s = take-all (256 - from) (drop from made) (omega (arith, length-drop from made, f .whole)) ∙ f .text in
-      record { answer = rw (b, long); bytes = rw b (e ∙ ap (λ (ws : List ℕ). take (length ws) ws ++ drop (length ws) buf) t ∙ ap (λ (ws : List ℕ). ws ++ drop (length (printedText s)) buf) (take-length (printedText s))) }
-
-zeros-requires : tie.Need-zeros-requires
-zeros-requires c κs = search needs
-
-zeros-requires-2 : tie.Need-zeros-requires-2
-zeros-requires-2 c κs = search needs
-
-slice-aggregate-fill : tie.Need-slice-aggregate-fill
-slice-aggregate-fill c = search needs
-
-slice-aggregate-fill-2 : tie.Need-slice-aggregate-fill-2
-slice-aggregate-fill-2 c = search needs
-
-fill-requires : tie.Need-fill-requires
-fill-requires c κs = search needs
-
-sub-n : tie.Need-sub-n
-sub-n c = search needs
-
-returns : tie.Need-returns
-returns c =
-    let start = c .before .before .before .before .before .before .before .before .before .before in
-    too-short (start .args .text .now) _ (c .before .before .before .fill .result) (c .before .before .before .fill .ensures) (start .args .buffer .now) (c .if1 .taken)
-
-sub-copy : tie.Need-sub-copy
-sub-copy c = search needs
-
-part-copy-start : tie.Need-part-copy-start
-part-copy-start c = search needs
-
-part-copy-end : tie.Need-part-copy-end
-part-copy-end c = search needs
-
-copy-requires : tie.Need-copy-requires
-copy-requires c κs = search needs
+print-to-requires : tie.Need-print-to-requires
+print-to-requires c κs = let start = c .before .before .before .before in (start .pre, whole-ends (start .args .text .now) (start .args .rule) (start .pre))
 
 same-length : tie.Need-same-length
 same-length c = search needs
 
-returns-2 : tie.Need-returns-2
-returns-2 c =
-    let start = c .before .before .before .before .before .before .before .before .before .before .before .before .before .before .before .before in
-    let filled = c .before .before .before .before .before .before .before .before .before .fill in
-    enough (start .args .text .now) _ (filled .result) (filled .ensures) (start .args .buffer .now) (c .before .before .before .before .before .before .if1 .left) (c .before .before .copy .last .1 .0) (c .before .before .copy .ensures .1)
+returns : tie.Need-returns
+returns c =
+    let start = c .before .before .before .before .before .before .before in
+    let call = c .before .before .print-to in
+    subst (λ (ws : List ℕ). Prints ws (start .args .buffer .now) (call .result) (call .last .1 .1 .1 .0)) (whole-text (start .args .text .now) (start .args .rule) (start .pre)) (call .ensures)
 
 pub print-spec : {M : Type 1} → statement M
-print-spec =
-    tie.close
-    (tie.spec
-    zeros-requires
-    zeros-requires-2
-    slice-aggregate-fill
-    slice-aggregate-fill-2
-    fill-requires
-    sub-n
-    returns
-    sub-copy
-    part-copy-start
-    part-copy-end
-    copy-requires
-    same-length
-    returns-2)
+print-spec = tie.close (tie.spec print-to-requires same-length returns)

@@ -8,7 +8,7 @@ put-as-read-requires : tie.Need-put-as-read-requires
 put-as-read-requires c κs = search needs
 
 returns : tie.Need-returns
-returns c = let p = puts-over _ _ _ _ (c .put-as-read .ensures) in record { counted = p .0; fits = p .2; bytes = p .1 }
+returns c = puts-over _ _ _ _ (c .put-as-read .ensures)
 
 pub as-read-spec : {M : Type 1} → statement M
 as-read-spec = tie.close (tie.spec put-as-read-requires returns)

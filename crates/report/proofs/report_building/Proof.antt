@@ -14,7 +14,7 @@ put-report-requires : tie.Need-put-report-requires
 put-report-requires c κs = search needs
 
 returns : tie.Need-returns
-returns c = let p = puts-over _ _ _ _ (c .before .put-report .ensures) in record { counted = p .0; fits = p .2; bytes = p .1 }
+returns c = puts-over _ _ _ _ (c .before .put-report .ensures)
 
 pub report-building-spec : {M : Type 1} → statement M
 report-building-spec =

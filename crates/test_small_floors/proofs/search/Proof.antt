@@ -5,13 +5,19 @@ use Rattle.test_small_floors.proofs.search.Statement.{statement}
 use Rattle.test_small_floors.proofs.search.Tie as tie
 
 abbrev Inv-loop : tie.InvT-loop
-Inv-loop code numbers names building all found₀ points₀ found points = Unit {0}
+Inv-loop code numbers names all found₀ points₀ found points = Unit {0}
 
 abbrev μ-loop : tie.MeasureT-loop
-μ-loop code numbers names building all found₀ points₀ found points = all - points
+μ-loop code numbers names all found₀ points₀ found points = all - points
 
 evaluations-requires : tie.Need-evaluations-requires Inv-loop μ-loop
 evaluations-requires c κs = search needs
+
+nothing-found-requires : tie.Need-nothing-found-requires Inv-loop μ-loop
+nothing-found-requires c κs = search needs
+
+nothing-found-requires-2 : tie.Need-nothing-found-requires-2 Inv-loop μ-loop
+nothing-found-requires-2 c κs = search needs
 
 loop-holds : tie.Need-loop-holds Inv-loop μ-loop
 loop-holds c = search needs
@@ -38,6 +44,8 @@ search-spec =
     Inv-loop
     μ-loop
     evaluations-requires
+    nothing-found-requires
+    nothing-found-requires-2
     loop-holds
     add-points
     with-floors-requires

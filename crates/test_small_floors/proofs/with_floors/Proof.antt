@@ -19,14 +19,11 @@ loop-holds c = search needs
 floor-of-requires : tie.Need-floor-of-requires Inv-loop μ-loop
 floor-of-requires c κs = search needs
 
-is-asked-for-requires : tie.Need-is-asked-for-requires Inv-loop μ-loop
-is-asked-for-requires c κs = search needs
-
 on-floor-requires : tie.Need-on-floor-requires Inv-loop μ-loop
 on-floor-requires c κs = search needs
 
-with-floor-requires : tie.Need-with-floor-requires Inv-loop μ-loop
-with-floor-requires c κs = search needs
+with-floor-for-both-requires : tie.Need-with-floor-for-both-requires Inv-loop μ-loop
+with-floor-for-both-requires c κs = search needs
 
 add-contacts : tie.Need-add-contacts Inv-loop μ-loop
 add-contacts c = search needs
@@ -49,9 +46,8 @@ with-floors-spec =
     floors-on-requires
     loop-holds
     floor-of-requires
-    is-asked-for-requires
     on-floor-requires
-    with-floor-requires
+    with-floor-for-both-requires
     add-contacts
     loop-less
     loop-again

@@ -1,10 +1,5 @@
--- `table::Table::check_tree` meets its contract: the rules are compiled, and the checker's verdict by them is the answer. Assumes nothing.
+-- `table::Table::check_tree` meets its contract: the checker's verdict by the compiled rules is the answer. Assumes nothing.
 use borrow.Author.Needs.{needs}
-use native.Mathlib.Omega.{arith}
-use Rattle.ruleset.specs.Texts.{CompiledRules}
-use Rattle.table.specs.Store.{rulesOf}
-use Rattle.table.specs.Calls.{formulasOf}
-use Rattle.table.proofs.Lines.{count-few}
 use Rattle.table.proofs.Compiled.{reached-all}
 use Rattle.table.proofs.Explaining.{checks-none, checks-verdict}
 use Rattle.table.proofs.Table.check_tree.Statement.{statement}
@@ -12,24 +7,6 @@ use Rattle.table.proofs.Table.check_tree.Tie as tie
 
 returns : tie.Need-returns
 returns c = checks-none _ (c .before .before .pre) _ (c .if1 .taken)
-
-no-code-requires : tie.Need-no-code-requires
-no-code-requires c κs = search needs
-
-slice-aggregate-compiled : tie.Need-slice-aggregate-compiled
-slice-aggregate-compiled c = search needs
-
-compiled-requires : tie.Need-compiled-requires
-compiled-requires c κs =
-    let pre = c .before .before .before .before .pre in
-    (pre, omega arith, omega (arith, count-few _ pre, c .before .no-code .ensures))
-
--- every standing rule is compiled
-all-compiled : (c : tie.After-compiled) → CompiledRules (formulasOf (rulesOf (c .before .before .before .before .before .args .self))) (c .compiled .result) (c .compiled .ensures .0 .kept) (c .compiled .last .1 .1 .0)
-all-compiled c = reached-all (c .before .before .before .before .before .args .self) (c .compiled .result) (c .compiled .last .1 .1 .0) (c .before .before .before .before .before .pre) (c .compiled .ensures .0)
-
-slice-aggregate-tree-checked : tie.Need-slice-aggregate-tree-checked
-slice-aggregate-tree-checked c = search needs
 
 tree-checked-requires : tie.Need-tree-checked-requires
 tree-checked-requires c κs = search needs
@@ -39,19 +16,11 @@ verdict-answer-requires c κs = search needs
 
 returns-2 : tie.Need-returns-2
 returns-2 c =
-    let start = c .before .before .before .before .before .before .before .before .before in
-    checks-verdict _ (start .pre) _ (c .before .before .before .before .before .before .before .if1 .left) _ _ _ (all-compiled (c .before .before .before .before)) _ (c .before .tree-checked .ensures) _
+    let start = c .before .before .before .before in
+    let by = c .before .tree-checked .ensures in
+    checks-verdict _ (start .pre) _ (c .before .before .if1 .left) _ _ _ (reached-all (start .args .self) (by .compiling) (by .code) (start .pre) (by .compiled)) _ (by .verdict) _
     (c .verdict-answer .ensures)
 
 pub check-tree-spec : {M : Type 1} → statement M
 check-tree-spec =
-    tie.close
-    (tie.spec
-    returns
-    no-code-requires
-    slice-aggregate-compiled
-    compiled-requires
-    slice-aggregate-tree-checked
-    tree-checked-requires
-    verdict-answer-requires
-    returns-2)
+    tie.close (tie.spec returns tree-checked-requires verdict-answer-requires returns-2)

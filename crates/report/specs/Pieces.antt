@@ -1,0 +1,83 @@
+-- What is computed: the lines of a tree word by word, so that they can be given in pieces; and the contracts of `why` and `why_piece`. For
+-- proofs: the depths of a tree's words. The claim `pieces-joined` of proofs/Claims.antt says that the pieces of a sheet, one after the other,
+-- are its text. Assumes nothing.
+use mathlib.Core.Path.{_≡_}
+use mathlib.Core.Bool.{cond}
+use mathlib.Core.List.{List, [], _∷_, _++_}
+use Prim.Native.Nat.{ℕ, suc, _+_, _/_, _%_, _≤_, _<_}
+use lib.Dec.{eqb}
+use lib.ListN.{getD, take, drop}
+use Rattle.lists.specs.Search.{collect, from}
+use Rattle.trees.specs.Trees.{Tree, split, rule, floorless, missing, wordsOf}
+use Rattle.report.specs.declared.AtomText.{AtomText}
+use Rattle.report.specs.declared.WhyAnswer.{WhyAnswer}
+use Rattle.report.specs.declared.WhyAnswer.the-variants as WhyAnswer
+use Rattle.report.specs.declared.Piece.{Piece}
+use Rattle.report.specs.Lines.{indented, splitText, ruleText, floorlessText}
+use Rattle.report.specs.Putting.{Puts, Reports}
+
+-- ---- the lines of words
+
+-- what a word says, by its kind and the rest of its bits
+abbrev pub wordText : (ℕ → List ℕ) → ℕ → ℕ → List ℕ
+wordText atom kind body = cond (eqb kind 5) (splitText (atom body)) (cond (eqb kind 6) (ruleText body) floorlessText)
+
+unfoldable pub saying : (ℕ → List ℕ) → ℕ → List ℕ
+saying atom w = wordText atom (w / 0x10000000) (w % 0x10000000)
+
+-- the texts of atoms that an array holds, by their numbers
+unfoldable pub held : AtomText → List ℕ
+held text = take (text .len) (text .bytes)
+
+unfoldable pub heldAt : List AtomText → ℕ → List ℕ
+heldAt atoms a = held (getD atoms a (record { bytes = []; len = 0 }))
+
+-- the line of the word at index i, from the words, their depths and the atoms' texts
+unfoldable pub lineAt : List ℕ → List ℕ → List AtomText → ℕ → List ℕ
+lineAt words depths atoms i = indented (getD depths i 0) (saying (heldAt atoms) (getD words i 0))
+
+-- so many lines, from that of an index on
+unfoldable pub linesFrom : (ℕ → List ℕ) → ℕ → ℕ → List ℕ
+linesFrom line at count = collect line (from at count)
+
+-- ---- depths
+
+-- the depth of each word of a tree whose first word has this one
+abbrev pub depthsOf : ℕ → Tree → List ℕ
+depthsOf depth (split a t f) = depth ∷ (depthsOf (suc depth) t ++ depthsOf (suc depth) f)
+depthsOf depth (rule k) = depth ∷ []
+depthsOf depth floorless = depth ∷ []
+depthsOf depth missing = []
+
+-- a tree of words that are at most 16 deep, with numbers that words have room for: so are the trees of the writer
+abbrev pub Shallow : ℕ → Tree → Type 0
+Shallow depth (split a t f) = (depth < 16) × (a < 256) × Shallow (suc depth) t × Shallow (suc depth) f
+Shallow depth (rule k) = k < 256
+Shallow depth floorless = Unit {0}
+Shallow depth missing = ⊥
+
+-- where the words of such a tree stand, its depths are put at the same indices
+unfoldable pub DepthsSay : List ℕ → ℕ → ℕ → List ℕ → List ℕ → ℕ → Type 0
+DepthsSay words at depth buffer exit end =
+    (t : Tree) (later : List ℕ) → drop at words ≡ wordsOf t ++ later → Shallow depth t → Puts at (depthsOf depth t) buffer exit end
+
+-- ---- the contracts
+
+-- the text is in the buffer, or it is that of the lines of so many words
+pub data Answers (text : List ℕ) (line : ℕ → List ℕ) (buffer exit : List ℕ) : WhyAnswer → Type 0 where
+  short : {n : ℕ} → Reports text buffer n exit → Answers text line buffer exit (WhyAnswer.Text n)
+  lines : {n : ℕ} → linesFrom line 0 n ≡ text → Answers text line buffer exit (WhyAnswer.Tree n)
+
+-- the lines from an index to the next, which is past it where a line was left, are in the buffer
+pub record GivesPiece (line : ℕ → List ℕ) (count at : ℕ) (buffer : List ℕ) (r : Piece) (exit : List ℕ) : Type 0 where
+  pub lines : ℕ
+  pub next : r .next ≡ at + lines
+  pub reports : Reports (linesFrom line at lines) buffer (r .len) exit
+  pub within : at ≤ count → r .next ≤ count
+  pub forward : at < count → at < r .next
+
+-- pieces from an index on: each is what is given from where the one before it ended, until there is none left
+pub data Pieces (line : ℕ → List ℕ) (count : ℕ) : ℕ → List (List ℕ) → Type 0 where
+  none : {at : ℕ} → count ≤ at → Pieces line count at []
+  more : {at : ℕ} {buffer exit : List ℕ} {r : Piece} {pieces : List (List ℕ)} → at < count → GivesPiece line count at buffer r exit
+      → Pieces line count (r .next) pieces → Pieces line count at (take (r .len) exit ∷ pieces)

@@ -1,0 +1,116 @@
+-- `why::main` is safe: what was read is a part of the sheet, and the text a part of its buffer. Assumes nothing.
+use Prim.Native.Nat.{_≤_}
+use mathlib.Core.Path.{sym, subst}
+use native.Mathlib.Omega.{arith}
+use lib.ListN.{length}
+use lib.Seq.{length-take-le}
+use Rattle.reading.specs.Reading.{Within}
+use Rattle.report.proofs.Reasons.{answered-text}
+use borrow.Author.Needs.{needs}
+use Rattle.why.proofs.main.Statement.{statement}
+use Rattle.why.proofs.main.Tie as tie
+
+-- what was read is within the sheet
+read-within : (c : tie.After-got) → c .got .given .0 .0 ≤ length (c .before .before .before .read-sheet .last .0)
+read-within c = omega (arith, subst (Within 0 _) (c .got .given .1) (c .before .before .before .read-sheet .ensures))
+
+no-bytes-requires : tie.Need-no-bytes-requires
+no-bytes-requires c κs = search needs
+
+slice-aggregate-read-sheet : tie.Need-slice-aggregate-read-sheet
+slice-aggregate-read-sheet c = search needs
+
+read-sheet-requires : tie.Need-read-sheet-requires
+read-sheet-requires c κs = search needs
+
+enum-known-got : tie.Need-enum-known-got
+enum-known-got c = search needs
+
+enum-told : tie.Need-enum-told
+enum-told c = search needs
+
+slice-aggregate-fail : tie.Need-slice-aggregate-fail
+slice-aggregate-fail c = search needs
+
+fail-requires : tie.Need-fail-requires
+fail-requires c κs = search needs
+
+returns : tie.Need-returns
+returns c = search needs
+
+no-tree-requires : tie.Need-no-tree-requires
+no-tree-requires c κs = search needs
+
+no-depths-requires : tie.Need-no-depths-requires
+no-depths-requires c κs = search needs
+
+no-text-requires : tie.Need-no-text-requires
+no-text-requires c κs = search needs
+
+array-share-prefix-sheet : tie.Need-array-share-prefix-sheet
+array-share-prefix-sheet c = read-within (c .before .before .before .before)
+
+slice-aggregate-why : tie.Need-slice-aggregate-why
+slice-aggregate-why c = sym (length-take-le _ _ (read-within (c .before .before .before .before .before)))
+
+why-requires : tie.Need-why-requires
+why-requires c κs = search needs
+
+enum-known-answer : tie.Need-enum-known-answer
+enum-known-answer c = search needs
+
+array-share-prefix-text : tie.Need-array-share-prefix-text
+array-share-prefix-text c = answered-text _ (c .before .before .before .before .why .ensures) _ (c .before .answer .given .1) .fits
+
+slice-aggregate-write-all : tie.Need-slice-aggregate-write-all
+slice-aggregate-write-all c = sym (length-take-le _ _ (answered-text _ (c .before .before .before .before .before .why .ensures) _ (c .before .before .answer .given .1) .fits))
+
+write-all-requires : tie.Need-write-all-requires
+write-all-requires c κs = search needs
+
+enum-known-answer-2 : tie.Need-enum-known-answer-2
+enum-known-answer-2 c = search needs
+
+write-tree-requires : tie.Need-write-tree-requires
+write-tree-requires c κs = search needs
+
+slice-aggregate-fail-2 : tie.Need-slice-aggregate-fail-2
+slice-aggregate-fail-2 c = search needs
+
+fail-requires-2 : tie.Need-fail-requires-2
+fail-requires-2 c κs = search needs
+
+returns-2 : tie.Need-returns-2
+returns-2 c = search needs
+
+returns-3 : tie.Need-returns-3
+returns-3 c = search needs
+
+pub main-spec : {M : Type 1} → statement M
+main-spec =
+    tie.close
+    (tie.spec
+    no-bytes-requires
+    slice-aggregate-read-sheet
+    read-sheet-requires
+    enum-known-got
+    enum-told
+    slice-aggregate-fail
+    fail-requires
+    returns
+    no-tree-requires
+    no-depths-requires
+    no-text-requires
+    array-share-prefix-sheet
+    slice-aggregate-why
+    why-requires
+    enum-known-answer
+    array-share-prefix-text
+    slice-aggregate-write-all
+    write-all-requires
+    enum-known-answer-2
+    write-tree-requires
+    slice-aggregate-fail-2
+    fail-requires-2
+    returns-2
+    returns-3)
