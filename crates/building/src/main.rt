@@ -1,8 +1,8 @@
 // The program: it reads one sheet from standard input and writes the text for its plan of one building, in floorplan's form, which
 // `report_building` makes (document 02, T-04). A read that fails, or a standard output that does not take the text, is said on standard
-// error and never as an answer. The file `stdout` has the text for P3, the sheet `stdin`. Raw and cooked may not touch, so no point is in
-// both, and raw and cooked points are separated; neither is empty. Allowed are the evaluations 0, 1 and 2, and 0 is separated from none:
-// all three are one piece, in contact but for 1 with 2.
+// error and never as an answer. The file `stdout` has the text for the air lock, the sheet `stdin`. Raw and cooked may not touch, so no
+// point is in both, and raw and cooked points are separated; the lock overlaps neither, and every point lies in a region (document 02,
+// T-07). Allowed are the evaluations 1, 2 and 4, and 4 is separated from none: all three are one piece, in contact but for 1 with 2.
 use reading::Got;
 
 fn main() {

@@ -11,12 +11,12 @@ use native.Mathlib.Omega.{arith}
 use native.Mathlib.Nat.{ℕ-set}
 use lib.ListN.{length, length-map}
 use Rattle.formula.specs.Formula.{Atom, Form, Formula, Name}
-use Rattle.lists.specs.Search.{In, here, any, first, orElse}
+use Rattle.lists.specs.Search.{In, here, any, first, orElse, below}
 use Rattle.lists.proofs.Search.{none-in, uncons, in-left, in-right, in-either, map-intro, map-elim, any-intro, none-elim, none-intro, first-some, first-none, first-found, first-append, first-map}
 use Rattle.lists.proofs.Truth.{clash, cases}
 use Rattle.contact.specs.Meaning.{Floor, atomOn}
 use Rattle.contact.specs.Question.{Question, Counts}
-use Rattle.contact.specs.Numbering.{differentAtoms, AtomsBelow}
+use Rattle.contact.specs.Numbering.{namesOf, differentAtoms, AtomsBelow}
 use Rattle.contact.specs.Row.{IsFirstRow, Row, Realises, Realisable, rulesTrue, Before}
 use Rattle.contact.specs.Plan.{rowMarks}
 use Rattle.contact.specs.Check.{passes, rows, good, firstRow}
@@ -91,15 +91,16 @@ neither-before (false ∷ r) (true ∷ o) l f g = absurd (g tt)
 neither-before (false ∷ r) (false ∷ o) l f g = ap (λ s. false ∷ s) (neither-before r o (omega arith) f g)
 
 -- a realisable row has a value for each atom
-realisable-length : {N : Type 0} (q : Question) (atoms : List (Atom N)) (row : Row) → Realisable q atoms row → length row ≡ length atoms
-realisable-length q atoms row real =
+realisable-length : {N : Type 0} (q : Question) (names : List N) (atoms : List (Atom N)) (row : Row) → Realisable q names atoms row → length row ≡ length atoms
+realisable-length q names atoms row real =
     ∥∥₁-elim real (ℕ-set _ _) (λ f. ap length (sym (f .2)) ∙ length-map atoms (atomOn (f .0)))
 
 -- so the first realisable row that makes the rules true is one
 pub first-row-once : (q : Question) (rules : List (Formula Name)) (row other : Row) → IsFirstRow q rules row → IsFirstRow q rules other → row ≡ other
 first-row-once q rules row other r s =
     neither-before row other
-    (realisable-length q (differentAtoms rules) row (r .realisable) ∙ sym (realisable-length q (differentAtoms rules) other (s .realisable)))
+    (realisable-length q (namesOf rules) (differentAtoms rules) row (r .realisable)
+    ∙ sym (realisable-length q (namesOf rules) (differentAtoms rules) other (s .realisable)))
     (s .earliest row (r .realisable) (r .makes)) (r .earliest other (s .realisable) (s .makes))
 
 -- ---- for any atoms and rules over their numbers
@@ -134,7 +135,7 @@ module _ (q : Question) (n : ℕ) (atoms : List (Atom ℕ)) (nums : List (Form �
     rowFloor = marksFloor q n (rowMarks atoms row) (first-good row e .checked)
 
     -- counts
-    pub row-counts : Counts q rowFloor
+    pub row-counts : Counts q (below n) rowFloor
     row-counts = plan-counts q n (rowMarks atoms row) (first-good row e .checked)
 
     -- and gives exactly the row
@@ -143,27 +144,27 @@ module _ (q : Question) (n : ℕ) (atoms : List (Atom ℕ)) (nums : List (Form �
 
   module _ (names : AtomsBelow n atoms) where
     -- a realisable row that makes the rules true is good
-    realised-good : (row : Row) (F : Floor ℕ) → Counts q F → Realises F atoms row → rulesTrue nums row ≡ true → good q n atoms nums row ≡ true
+    realised-good : (row : Row) (F : Floor ℕ) → Counts q (below n) F → Realises F atoms row → rulesTrue nums row ≡ true → good q n atoms nums row ≡ true
     unfolding good
     realised-good row F counts h k = and-intro k (row-check q n atoms names row F counts h)
 
     -- no realisable row before the first makes the rules true
-    pub first-earliest : (row other : Row) → firstRow q n atoms nums ≡ row ∷ [] → Realisable q atoms other → rulesTrue nums other ≡ true
+    pub first-earliest : (row other : Row) → firstRow q n atoms nums ≡ row ∷ [] → Realisable q (below n) atoms other → rulesTrue nums other ≡ true
         → Before other row → ⊥
     unfolding firstRow
     first-earliest row other e real k b =
         ∥∥₁-elim real (λ x y. absurd x)
         (λ f. clash (realised-good other (f .0) (f .1) (f .2) k)
-        (before-first (length atoms) (good q n atoms nums) row other e (realisable-length q atoms other real) b))
+        (before-first (length atoms) (good q n atoms nums) row other e (realisable-length q (below n) atoms other real) b))
 
     -- the row of a floor that counts and makes the rules true is among those tried, and good
-    some-good : (F : Floor ℕ) → Counts q F → Makes F → any (good q n atoms nums) (rows (length atoms)) ≡ true
+    some-good : (F : Floor ℕ) → Counts q (below n) F → Makes F → any (good q n atoms nums) (rows (length atoms)) ≡ true
     some-good F counts h =
         let row : Row = map (atomOn F) atoms in
         any-intro (good q n atoms nums) (subst (λ k. In row (rows k)) (length-map atoms (atomOn F)) (rows-intro row)) (realised-good row F counts refl h)
 
     -- so a row is found where some realisable row makes the rules true
-    pub some-found : (row : Row) → Realisable q atoms row → rulesTrue nums row ≡ true → (other : Row) × (firstRow q n atoms nums ≡ other ∷ [])
+    pub some-found : (row : Row) → Realisable q (below n) atoms row → rulesTrue nums row ≡ true → (other : Row) × (firstRow q n atoms nums ≡ other ∷ [])
     unfolding firstRow
     some-found row real k =
         let found : any (good q n atoms nums) (rows (length atoms)) ≡ true =
@@ -172,7 +173,7 @@ module _ (q : Question) (n : ℕ) (atoms : List (Atom ℕ)) (nums : List (Form �
         (r .0, r .1)
 
     -- and none exactly where no floor that counts does
-    pub none-exactly : (firstRow q n atoms nums ≡ []) ↔ ((F : Floor ℕ) → Counts q F → Makes F → ⊥)
+    pub none-exactly : (firstRow q n atoms nums ≡ []) ↔ ((F : Floor ℕ) → Counts q (below n) F → Makes F → ⊥)
     unfolding firstRow
     none-exactly = (
       λ e F counts h. let r = first-some (good q n atoms nums) (rows (length atoms)) (some-good F counts h) in nil≢cons (sym e ∙ r .1),

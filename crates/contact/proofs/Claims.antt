@@ -5,24 +5,25 @@ use mathlib.Core.Bool.{Bool, true, false, not}
 use mathlib.Core.Path.{_≡_}
 use mathlib.Core.Logic.{_↔_}
 use mathlib.Core.List.{List, [], _∷_, map}
-use Prim.Native.Nat.{ℕ, _+_, _*_, _^_, _≤_, _<_, max}
+use Prim.Native.Nat.{ℕ, _+_, _-_, _*_, _^_, _≤_, _<_, max}
 use lib.Dec.{eqb}
 use lib.ListN.{length, getD}
 use Rattle.formula.specs.Formula.{Atom, Form, Formula, Name}
 use Rattle.lists.specs.Search.{In, first, collect, below, elem}
 use Rattle.evalset.specs.Bit.{bit}
 use Rattle.contact.specs.Meaning.{Floor, atomOn, meetsAll}
-use Rattle.contact.specs.Question.{Question, plain, building, HangsTogether, Counts, NoFloor}
+use Rattle.contact.specs.Question.{Question, plain, building, HangsTogether, Somewhere, Counts, NoFloor}
 use Rattle.formula.specs.Names.{atomNames}
 use Rattle.formula.specs.Same.{name-discrete, sameAtom}
 use Rattle.contact.specs.Numbering.{allAtoms, distinct, sameName, namesOf, numberOf, nameOf, differentAtoms, atomNumber, numberedAtoms, rowAtoms, AtomBelow, AtomsBelow}
 use Rattle.contact.specs.Row.{IsFirstRow, Row, Realises, Realisable, is, PartialRow, RealisesPart, rulesTrue, Sound, Exact}
-use Rattle.contact.specs.Plan.{Mark, marksOf, rowMarks, separated, allowed, Linked, IsPiece, ArePoints, trueContacts, falseZeros}
+use Rattle.contact.specs.Plan.{Mark, marksOf, rowMarks, separated, may, allowed, Linked, IsPiece, ArePoints, trueContacts, falseZeros}
 use Rattle.contact.specs.Pieces.{wholePiece}
 use Rattle.contact.specs.Check.{check, passes, pointsFor, rows, good, firstRow, firstRowOf}
 use Rattle.contact.specs.Pairs.{pairCheck}
 use Rattle.contact.specs.Tableau.{refutes, closes, search}
 use Rattle.contact.proofs.Bits
+use Rattle.contact.proofs.Somewhere
 use Rattle.contact.proofs.Pieces
 use Rattle.contact.proofs.Floors
 use Rattle.contact.proofs.Pairs
@@ -39,6 +40,13 @@ use Rattle.contact.proofs.Count
 -- every choice of names below n is an evaluation below 2^n
 pub every-choice : (n : ℕ) (v : ℕ → Bool) → (e : ℕ) × (e < 2 ^ n) × ((i : ℕ) → i < n → bit e i ≡ v i)
 every-choice n v = (Bits.encode n v, Bits.encode-lt n v, Bits.bit-encode n v)
+
+-- ---- each point stands somewhere (Somewhere)
+
+-- where evaluations are those of a floor's points, each point lies in some name exactly if each of them may be
+pub somewhere-exactly : (n : ℕ) (F : Floor ℕ) (e : ℕ → ℕ) → ((p : ℕ) → p < F .points → e p < 2 ^ n)
+    → ((i p : ℕ) → p < F .points → F .lies i p ≡ bit (e p) i) → ((p : ℕ) → p < F .points → may n (e p) ≡ true) ↔ Somewhere (below n) F
+somewhere-exactly n F e low lies = (λ h. Somewhere.somewhere-points n F e h lies, Somewhere.points-somewhere n F e low lies)
 
 -- ---- numbers for names and for atoms (Naming, Numbered)
 
@@ -82,12 +90,12 @@ atoms-fewer = Naming.atoms-fewer
 
 -- the check of a partial row passes exactly if some floor that counts gives the decided atoms their values
 pub check-exactly : (q : Question) (n : ℕ) (atoms : List (Atom ℕ)) (part : PartialRow) → ((a : Atom ℕ) → In a atoms → AtomBelow n a)
-    → length part ≤ length atoms → (passes q n (marksOf atoms part) ≡ true) ↔ ∥ ((F : Floor ℕ) × Counts q F × RealisesPart F atoms part) ∥₁
+    → length part ≤ length atoms → (passes q n (marksOf atoms part) ≡ true) ↔ ∥ ((F : Floor ℕ) × Counts q (below n) F × RealisesPart F atoms part) ∥₁
 check-exactly = Floors.check-exactly
 
 -- the check of a row passes exactly if the row is realisable
 pub row-exactly : (q : Question) (n : ℕ) (atoms : List (Atom ℕ)) (row : Row) → ((a : Atom ℕ) → In a atoms → AtomBelow n a)
-    → length row ≡ length atoms → (passes q n (rowMarks atoms row) ≡ true) ↔ Realisable q atoms row
+    → length row ≡ length atoms → (passes q n (rowMarks atoms row) ≡ true) ↔ Realisable q (below n) atoms row
 row-exactly = Floors.row-exactly
 
 -- ---- the check by pairs of evaluations (Pairs)
@@ -120,8 +128,8 @@ pub plan-lies : (q : Question) (n : ℕ) (ms : List Mark) (h : passes q n ms ≡
     → Floors.marksFloor q n ms h .lies i p ≡ bit (getD (pointsFor q n ms) p 0) i
 plan-lies = Floors.plan-lies
 
--- it counts: the plan of a building hangs together
-pub plan-counts : (q : Question) (n : ℕ) (ms : List Mark) (h : passes q n ms ≡ true) → Counts q (Floors.marksFloor q n ms h)
+-- it counts: each point lies in a name where there is one, and the plan of a building hangs together
+pub plan-counts : (q : Question) (n : ℕ) (ms : List Mark) (h : passes q n ms ≡ true) → Counts q (below n) (Floors.marksFloor q n ms h)
 plan-counts = Floors.plan-counts
 
 -- the plan of a row that passes the check gives every atom the row's value
@@ -144,7 +152,7 @@ first-row-only-named = Naming.first-row-only-named
 
 -- the plan, each name at its number, counts
 pub plan-counts-named : (q : Question) (rules : List (Formula Name)) (row : Row) (e : firstRowOf q rules ≡ row ∷ [])
-    → Counts q (Naming.namedPlan q rules row e)
+    → Counts q (namesOf rules) (Naming.namedPlan q rules row e)
 plan-counts-named = Naming.plan-counts-named
 
 -- gives their atoms this row
@@ -161,18 +169,28 @@ plan-meets-named = Naming.plan-meets-named
 pub no-plan-named : (q : Question) (rules : List (Formula Name)) → (firstRowOf q rules ≡ []) ↔ NoFloor q rules
 no-plan-named = Naming.no-plan-named
 
--- for one building: exactly if no floor that hangs together does
+-- with no names: exactly if no floor at all does
+pub no-plan-unnamed : (rules : List (Formula Name)) → namesOf rules ≡ []
+    → (firstRowOf plain rules ≡ []) ↔ ((F : Floor Name) → meetsAll F rules ≡ true → ⊥)
+no-plan-unnamed = Naming.no-plan-unnamed
+
+-- for one building: exactly if no floor that hangs together does, of those whose points lie in names
 pub no-building-named : (rules : List (Formula Name))
-    → (firstRowOf building rules ≡ []) ↔ ((F : Floor Name) → HangsTogether F → meetsAll F rules ≡ true → ⊥)
-no-building-named rules = Naming.no-plan-named building rules
+    → (firstRowOf building rules ≡ []) ↔ ((F : Floor Name) → Somewhere (namesOf rules) F → HangsTogether F → meetsAll F rules ≡ true → ⊥)
+no-building-named rules =
+    let w = Naming.no-plan-named building rules in (
+      λ e F somewhere hangs h. w .0 e F (record { somewhere = somewhere; shaped = hangs }) h,
+      λ none. w .1 (λ F c h. none F (c .somewhere) (c .shaped) h),
+    )
 
 -- floors with the same points, contacts and regions meet the same rules
 pub meets-same : {N : Type 0} (F G : Floor N) → SameFloor.SameFloor F G → (rules : List (Formula N)) → meetsAll F rules ≡ meetsAll G rules
 meets-same F G same rules = SameFloor.meets-same F G same rules
 
 -- and count for the same questions
-pub counts-same : {N : Type 0} (F G : Floor N) → SameFloor.SameFloor F G → (q : Question) → Counts q F → Counts q G
-counts-same F G same q c = SameFloor.counts-same F G same q c
+pub counts-same : {N : Type 0} (F G : Floor N) → SameFloor.SameFloor F G → (q : Question) (names : List N) → Counts q names F
+    → Counts q names G
+counts-same F G same q names c = SameFloor.counts-same F G same q names c
 
 -- ---- pieces (Pieces)
 
@@ -201,6 +219,10 @@ points-at-most = Count.points-at-most
 -- for each question at most as many as there are evaluations
 pub points-room : (q : Question) (n : ℕ) (ms : List Mark) → length (pointsFor q n ms) ≤ 2 ^ n
 points-room = Count.points-room
+
+-- one fewer where a name is used
+pub points-room-named : (q : Question) (n : ℕ) (ms : List Mark) → 0 < n → length (pointsFor q n ms) ≤ 2 ^ n - 1
+points-room-named = Count.points-room-named
 
 -- ---- the search (Searching)
 

@@ -1,18 +1,25 @@
 -- The plain question's plan has at most max(1, 2c + z) points: each true contact gives at most two evaluations, each false zero atom at most
 -- one, and an evaluation stands once among the points (lists' `keep-elems`). For each question the points are some of the evaluations.
 -- Assumes nothing.
+use mathlib.Core.Bool.{Bool, false}
+use mathlib.Core.Path.{_≡_, sym, subst}
 use mathlib.Core.List.{List, [], _∷_}
-use Prim.Native.Nat.{ℕ, _+_, _*_, _≤_, max, _^_}
+use mathlib.Mathlib.Data.Bool.Basic.{eq-false-of-not-eq-true}
+use Prim.Native.Nat.{ℕ, suc, _+_, _-_, _*_, _≤_, _<_, max, _^_}
 use native.Mathlib.Omega.{arith}
 use lib.ListN.{length, length-append}
+use lib.Pow.{pow-pos}
 use Rattle.formula.specs.Formula.{Term, Atom}
-use Rattle.lists.specs.Search.{first, collect, elem}
-use Rattle.lists.proofs.Search.{first-short, or-else-length, collect-few, keep-elems}
+use Rattle.lists.specs.Search.{first, keep, collect, from, below, elem}
+use Rattle.lists.proofs.Search.{first-short, or-else-length, collect-few, keep-shorter, keep-elems, from-length, elem-elim}
 use Rattle.lists.proofs.Below.{keep-length}
 use Rattle.contact.specs.Question.{Question, plain}
 use Rattle.contact.specs.Row.{PartialRow, is, unknown}
 use Rattle.contact.specs.Plan.{Mark, touching, apart, vacant, inhabited, marksOf, allowed, fills, partners, leads, evaluations, withPartner, gives, given, trueContacts, falseZeros}
 use Rattle.contact.specs.Check.{givenBy, pointsFor}
+use Rattle.contact.proofs.Somewhere.{may-some}
+use Rattle.contact.proofs.Realise.{allowed-elim}
+use Rattle.contact.proofs.Floors.{given-allowed}
 
 module _ (n : ℕ) (all : List Mark) where
   pair-short : (y : Term ℕ) (p : ℕ) → length (withPartner n all y p) ≤ 2
@@ -72,3 +79,16 @@ points-at-most n atoms part h = omega (arith, point-bound-atoms n atoms part)
 pub points-room : (q : Question) (n : ℕ) (ms : List Mark) → length (pointsFor q n ms) ≤ 2 ^ n
 unfolding pointsFor
 points-room q n ms = keep-length (λ e. elem e (givenBy q n ms)) (2 ^ n)
+
+-- and one fewer where a name is used, since 0 is not given: "a one-building plan now has at most 63 points"
+pub points-room-named : (q : Question) (n : ℕ) (ms : List Mark) → 0 < n → length (pointsFor q n ms) ≤ 2 ^ n - 1
+unfolding pointsFor
+points-room-named q n ms some =
+    let kept : ℕ → Bool = λ e. elem e (givenBy q n ms) in
+    let all : 2 ^ n ≡ suc (2 ^ n - 1) = omega (arith, pow-pos n) in
+    let none : kept 0 ≡ false =
+    eq-false-of-not-eq-true (λ h. let i = elem-elim 0 (givenBy q n ms) h in
+    let l = may-some n 0 some (allowed-elim n ms 0 (given-allowed q n ms 0 i) .0) in
+    omega (arith, l)) in
+    subst (λ (m : ℕ). length (keep kept (below m)) ≤ 2 ^ n - 1) (sym all)
+    (rw none (omega (arith, keep-shorter kept (from 1 (2 ^ n - 1)), from-length 1 (2 ^ n - 1))))

@@ -11,7 +11,7 @@ use Rattle.evalset.specs.Bit.{bit}
 use Rattle.contact.specs.Question.{Question, plain, building}
 use Rattle.contact.specs.Numbering.{namesOf, rowAtoms}
 use Rattle.contact.specs.Row.{Row, rulesTrue}
-use Rattle.contact.specs.Plan.{separated, allowed, fills, partners, leads, given, rowMarks}
+use Rattle.contact.specs.Plan.{separated, may, allowed, fills, partners, leads, given, rowMarks}
 use Rattle.contact.specs.Pieces.{allowedOnes, grown, grownBy, wholePiece, pieceMeets, checkPieces, pieceGiven}
 use Rattle.contact.specs.Check.{check, pointsFor, good, firstRow, firstRowOf}
 
@@ -28,6 +28,9 @@ raw = Term.name (114 ∷ [])
 abbrev cooked : Term Name
 cooked = Term.name (99 ∷ [])
 
+abbrev hall : Term Name
+hall = Term.name (104 ∷ [])
+
 abbrev touch : Formula Name
 touch = Form.atom (Atom.contact raw cooked)
 
@@ -42,33 +45,44 @@ touching = touch ∷ []
 abbrev apart : List (Formula Name)
 apart = Form.negation touch ∷ Form.negation (isEmpty raw) ∷ Form.negation (isEmpty cooked) ∷ []
 
--- the same, and -(raw+cooked)=0: no floor outside the two regions
-abbrev full : List (Formula Name)
-full =
+-- the same, and T | hall=0: a third name is used
+abbrev third : List (Formula Name)
+third =
     Form.negation touch ∷ Form.negation (isEmpty raw) ∷ Form.negation (isEmpty cooked)
-    ∷ isEmpty (Term.complement (Term.union raw cooked)) ∷ []
+    ∷ Form.disjunction Form.truth (isEmpty hall) ∷ []
 
 -- raw=0 | ~raw=0, as P9
 abbrev either : List (Formula Name)
 either = Form.disjunction (isEmpty raw) (Form.negation (isEmpty raw)) ∷ []
 
+-- raw=0: no floor is left
+abbrev nothing : List (Formula Name)
+nothing = isEmpty raw ∷ []
+
+-- ~1=0: no name is used
+abbrev unnamed : List (Formula Name)
+unnamed = Form.negation (isEmpty Term.one) ∷ []
+
 -- a question, rules, and the answer
 abbrev sheets : List ((Question × List (Formula Name)) × Answer)
 sheets =
     ((plain, touching), ((true ∷ []), 1 ∷ 2 ∷ []) ∷ [])
-    -- all four evaluations are one piece
-    ∷ ((building, touching), ((true ∷ []), 0 ∷ 1 ∷ 2 ∷ 3 ∷ []) ∷ [])
+    -- all three evaluations but 0 are one piece
+    ∷ ((building, touching), ((true ∷ []), 1 ∷ 2 ∷ 3 ∷ []) ∷ [])
     ∷ ((plain, apart), ((false ∷ false ∷ false ∷ []), 1 ∷ 2 ∷ []) ∷ [])
-    -- the two regions hang together through floor that belongs to neither
-    ∷ ((building, apart), ((false ∷ false ∷ false ∷ []), 0 ∷ 1 ∷ 2 ∷ []) ∷ [])
-    ∷ ((plain, full), ((false ∷ false ∷ false ∷ true ∷ []), 1 ∷ 2 ∷ []) ∷ [])
-    -- and not without
-    ∷ ((building, full), [])
-    ∷ ((plain, either), ((true ∷ []), 0 ∷ []) ∷ [])
-    ∷ ((building, either), ((true ∷ []), 0 ∷ []) ∷ [])
+    -- the two regions do not hang together, since no floor belongs to neither
+    ∷ ((building, apart), [])
+    ∷ ((plain, third), ((false ∷ false ∷ false ∷ true ∷ []), 1 ∷ 2 ∷ []) ∷ [])
+    -- they do through a third: every evaluation but 0 that is not both raw and cooked
+    ∷ ((building, third), ((false ∷ false ∷ false ∷ false ∷ []), 1 ∷ 2 ∷ 4 ∷ 5 ∷ 6 ∷ []) ∷ [])
+    ∷ ((plain, either), ((false ∷ []), 1 ∷ []) ∷ [])
+    ∷ ((building, either), ((false ∷ []), 1 ∷ []) ∷ [])
+    ∷ ((plain, nothing), [])
+    ∷ ((plain, unnamed), ((false ∷ []), 0 ∷ []) ∷ [])
+    ∷ ((building, unnamed), ((false ∷ []), 0 ∷ []) ∷ [])
     ∷ []
 
 -- all of them, computed
 pub sheets-answered : map (λ s. answer (s .0 .0) (s .0 .1)) sheets ≡ map (λ s. s .1) sheets
-unfolding decide ℕ-discrete name-discrete equalAtom sameAtom bit separated allowed fills partners leads check given allowedOnes grown grownBy wholePiece pieceMeets checkPieces pieceGiven pointsFor rulesTrue good firstRow
+unfolding decide ℕ-discrete name-discrete equalAtom sameAtom bit separated may allowed fills partners leads check given allowedOnes grown grownBy wholePiece pieceMeets checkPieces pieceGiven pointsFor rulesTrue good firstRow
 sheets-answered = refl

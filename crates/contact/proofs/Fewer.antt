@@ -5,14 +5,13 @@ use mathlib.Core.Path.{_≡_, refl, ap}
 use mathlib.Core.List.{List}
 use mathlib.Mathlib.Data.Bool.Basic.{and-intro}
 use Prim.Native.Nat.{ℕ, _^_}
-use lib.Dec.{ltb}
 use borrow.Author.Tests.{not-true}
 use Rattle.formula.specs.Formula.{Term}
 use Rattle.lists.specs.Search.{In, any, all}
 use Rattle.lists.proofs.Search.{any-intro, any-elim, any-wider, none-intro, all-intro, all-elim}
 use Rattle.lists.proofs.Truth.{clash}
 use Rattle.contact.specs.Question.{Question, plain, building}
-use Rattle.contact.specs.Plan.{at, Mark, touching, apart, vacant, inhabited, evaluations, parts, empties, separated, allowed, fills, partners, leads, Linked, start, onward, met}
+use Rattle.contact.specs.Plan.{at, Mark, touching, apart, vacant, inhabited, evaluations, parts, empties, separated, may, allowed, fills, partners, leads, Linked, start, onward, met}
 use Rattle.contact.specs.Pieces.{wholePiece, pieceMeets, checkPieces}
 use Rattle.contact.specs.Check.{witnessed, check, passes}
 use Rattle.contact.proofs.Realise.{fills-intro, partners-intro, leads-intro, check-intro}
@@ -29,7 +28,7 @@ module _ (n : ℕ) (ms fewer : List Mark) (sub : (m : Mark) → In m fewer → I
   allowed-fewer : (e : ℕ) → allowed n ms e ≡ true → allowed n fewer e ≡ true
   unfolding allowed
   allowed-fewer e h =
-      let w = and-eq-true-iff (ltb e (2 ^ n)) (not (any (empties e) ms) && not (separated ms e e)) .0 h in
+      let w = and-eq-true-iff (may n e) (not (any (empties e) ms) && not (separated ms e e)) .0 h in
       let v = and-eq-true-iff (not (any (empties e) ms)) (not (separated ms e e)) .0 (w .1) in
       and-intro (w .0) (and-intro (none-fewer (empties e) (v .0)) (unseparated e e (v .1)))
 

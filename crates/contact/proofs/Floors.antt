@@ -18,15 +18,16 @@ use Rattle.lists.proofs.Search.{any-intro, any-elim, all-elim, all-intro, first
 use Rattle.lists.proofs.Below.{Least, FirstSays, first-says, first-says-least}
 use Rattle.lists.proofs.Truth.{clash, side}
 use Rattle.contact.specs.Meaning.{Floor, within, atomOn}
-use Rattle.contact.specs.Question.{Question, plain, building, Way, stay, step, HangsTogether, Counts}
+use Rattle.contact.specs.Question.{Question, plain, building, Way, stay, step, HangsTogether, Shaped, Somewhere, Counts}
 use Rattle.contact.specs.Numbering.{AtomBelow}
 use Rattle.contact.specs.Row.{Row, Realises, Realisable, is, PartialRow, Extends, RealisesPart}
 use Rattle.contact.specs.Plan.{at, evaluations, Mark, touching, apart, vacant, inhabited, marksOf, rowMarks, separated, allowed, Linked, start, onward, met, MeetsMarks, IsThePiece, AreGiven, ArePoints}
 use Rattle.contact.specs.Pieces.{wholePiece, pieceMeets, checkPieces, pieceGiven}
 use Rattle.contact.specs.Check.{passes, givenBy, pointsFor}
+use Rattle.contact.proofs.Somewhere.{somewhere-points}
 use Rattle.contact.proofs.Pieces.{allowed-in, meets-elim, meets-intro, linked-on, linked-back, piece-elim, piece-own, piece-intro, piece-allowed}
 use Rattle.contact.proofs.Fewer.{met-fewer}
-use Rattle.contact.proofs.Realise.{MarkBelow, RealisesMarks, floorOf, points-own, points-realise, given-ok, some-given, given-meet, evOf, ev-at, ev-allowed, ev-separated, floor-check, touches-elim, marks-below, part-marks, marks-part, extends-self, extends-whole}
+use Rattle.contact.proofs.Realise.{MarkBelow, RealisesMarks, allowed-elim, floorOf, points-own, points-realise, given-ok, some-given, given-meet, evOf, ev-at, ev-allowed, ev-separated, floor-check, touches-elim, marks-below, part-marks, marks-part, extends-self, extends-whole}
 
 -- lists with the same elements
 elem-same : (e : ℕ) (xs ys : List ℕ) → (In e xs → In e ys) → (In e ys → In e xs) → elem e xs ≡ elem e ys
@@ -94,19 +95,19 @@ module _ (n : ℕ) (ms : List Mark) where
 
 -- ---- from a floor to the check
 
-module _ (n : ℕ) (ms : List Mark) (names : (m : Mark) → In m ms → MarkBelow n m) (F : Floor ℕ) (real : RealisesMarks F ms)
-    (hangs : HangsTogether F) where
+module _ (n : ℕ) (ms : List Mark) (names : (m : Mark) → In m ms → MarkBelow n m) (F : Floor ℕ) (somewhere : Somewhere (below n) F)
+    (real : RealisesMarks F ms) (hangs : HangsTogether F) where
   abbrev ev : ℕ → ℕ
   ev p = evOf n F p
 
   ok : (p : ℕ) → p < F .points → allowed n ms (ev p) ≡ true
-  ok p hp = ev-allowed n ms names F real p hp
+  ok p hp = ev-allowed n ms names F somewhere real p hp
 
   -- points in contact, and so all points, have linked evaluations
   way-linked : {p q : ℕ} → Way F p q → p < F .points → Linked n ms (ev 0) (ev p) → Linked n ms (ev 0) (ev q)
   way-linked stay hp l = l
   way-linked (step {p} {q} {r} hq t w) hp l =
-      way-linked w hq (onward l (ok q hq) (ev-separated n ms names F real p q hp hq t))
+      way-linked w hq (onward l (ok q hq) (ev-separated n ms names F somewhere real p q hp hq t))
 
   ev-piece : (p : ℕ) → p < F .points → In (ev p) (wholePiece n ms (ev 0))
   ev-piece p hp = piece-intro n ms (ev 0) (ok 0 (F .some)) (way-linked (hangs 0 p (F .some) hp) (F .some) start)
@@ -116,24 +117,24 @@ module _ (n : ℕ) (ms : List Mark) (names : (m : Mark) → In m ms → MarkBelo
       let o = names (touching x y) i in
       let w = touches-elim F x y (real (touching x y) i) in
       any-intro (λ e. at x e && any (λ f. at y f && not (separated ms e f)) (wholePiece n ms (ev 0))) (ev-piece (w .p) (w .p-lt))
-      (and-intro (ev-at n ms names F real x (w .p) (o .0) ∙ w .p-in)
+      (and-intro (ev-at n ms names F somewhere real x (w .p) (o .0) ∙ w .p-in)
       (any-intro (λ f. at y f && not (separated ms (ev (w .p)) f)) (ev-piece (w .q) (w .q-lt))
-      (and-intro (ev-at n ms names F real y (w .q) (o .1) ∙ w .q-in)
-      (ap not (ev-separated n ms names F real (w .p) (w .q) (w .p-lt) (w .q-lt) (w .meet))))))
+      (and-intro (ev-at n ms names F somewhere real y (w .q) (o .1) ∙ w .q-in)
+      (ap not (ev-separated n ms names F somewhere real (w .p) (w .q) (w .p-lt) (w .q-lt) (w .meet))))))
   ev-met (apart x y) i = refl
   ev-met (vacant t) i = refl
   ev-met (inhabited t) i =
       let r = any-elim (within F t) (below (F .points)) (not-false _ (real (inhabited t) i)) in
       let hp : r .0 < F .points = below-elim (F .points) (r .0) (r .1) in
-      any-intro (at t) (ev-piece (r .0) hp) (ev-at n ms names F real t (r .0) (names (inhabited t) i) ∙ r .2)
+      any-intro (at t) (ev-piece (r .0) hp) (ev-at n ms names F somewhere real t (r .0) (names (inhabited t) i) ∙ r .2)
 
   floor-pieces : checkPieces n ms ≡ true
   floor-pieces = meets-intro n ms (ev 0) (ok 0 (F .some)) ev-met
 
-floor-passes : (q : Question) (n : ℕ) (ms : List Mark) → ((m : Mark) → In m ms → MarkBelow n m) → (F : Floor ℕ) → Counts q F
+floor-passes : (q : Question) (n : ℕ) (ms : List Mark) → ((m : Mark) → In m ms → MarkBelow n m) → (F : Floor ℕ) → Counts q (below n) F
     → RealisesMarks F ms → passes q n ms ≡ true
-floor-passes plain n ms names F counts real = floor-check n ms names F real
-floor-passes building n ms names F counts real = floor-pieces n ms names F real counts
+floor-passes plain n ms names F counts real = floor-check n ms names F (counts .somewhere) real
+floor-passes building n ms names F counts real = floor-pieces n ms names F (counts .somewhere) real (counts .shaped)
 
 -- ---- what is given
 
@@ -209,15 +210,27 @@ module _ (q : Question) (n : ℕ) (ms : List Mark) (checked : passes q n ms ≡ 
   plan-realises =
       points-realise n ms (pointsFor q n ms) (point-allowed q n ms) points-some points-meet
 
--- the plan counts
-pub plan-counts : (q : Question) (n : ℕ) (ms : List Mark) (checked : passes q n ms ≡ true) → Counts q (marksFloor q n ms checked)
+-- the plan has the shape that is asked
+plan-shaped : (q : Question) (n : ℕ) (ms : List Mark) (checked : passes q n ms ≡ true) → Shaped q (marksFloor q n ms checked)
 unfolding marksFloor
-plan-counts plain n ms checked = tt
-plan-counts building n ms checked =
+plan-shaped plain n ms checked = tt
+plan-shaped building n ms checked =
     let r = piece-found n ms checked in
     piece-hangs n ms (r .e) (r .ok) (pointsFor building n ms)
     (λ f i. subst (In f) (r .given) (points-elim building n ms f i))
     (λ f i. points-intro building n ms f (subst (In f) (sym (r .given)) i)) _ _
+
+-- and counts: its points are allowed, so each lies in a name where there is one
+pub plan-counts : (q : Question) (n : ℕ) (ms : List Mark) (checked : passes q n ms ≡ true) → Counts q (below n) (marksFloor q n ms checked)
+plan-counts q n ms checked =
+    let points : List ℕ = pointsFor q n ms in
+    record {
+      somewhere =
+          somewhere-points n (marksFloor q n ms checked) (λ p. getD points p 0)
+          (λ p l. allowed-elim n ms _ (point-allowed q n ms _ (placed 0 points p (omega (arith, plan-points q n ms checked)))) .0)
+          (λ i p l. plan-lies q n ms checked i p);
+      shaped = plan-shaped q n ms checked;
+    }
 
 -- ---- the claims
 
@@ -237,19 +250,19 @@ module _ (q : Question) (n : ℕ) (atoms : List (Atom ℕ)) where
       extends-whole (map (atomOn F) atoms) row (l ∙ sym (length-map atoms (atomOn F))) (plan-part (map is row) whole checked)
 
   module _ (names : (a : Atom ℕ) → In a atoms → AtomBelow n a) where
-    part-check : (part : PartialRow) (F : Floor ℕ) → Counts q F → RealisesPart F atoms part
+    part-check : (part : PartialRow) (F : Floor ℕ) → Counts q (below n) F → RealisesPart F atoms part
         → passes q n (marksOf atoms part) ≡ true
     part-check part F counts h =
         floor-passes q n (marksOf atoms part) (marks-below n atoms part names) F counts (part-marks F atoms part h)
 
-    pub row-check : (row : Row) (F : Floor ℕ) → Counts q F → Realises F atoms row → passes q n (rowMarks atoms row) ≡ true
+    pub row-check : (row : Row) (F : Floor ℕ) → Counts q (below n) F → Realises F atoms row → passes q n (rowMarks atoms row) ≡ true
     row-check row F counts h =
         part-check (map is row) F counts (subst (λ (r : Row). Extends r (map is row)) (sym h) (extends-self row))
 
 -- the check of a partial row passes exactly if some floor that counts gives the decided atoms their values
 pub check-exactly : (q : Question) (n : ℕ) (atoms : List (Atom ℕ)) (part : PartialRow) → ((a : Atom ℕ) → In a atoms → AtomBelow n a)
     → length part ≤ length atoms
-    → (passes q n (marksOf atoms part) ≡ true) ↔ ∥ ((F : Floor ℕ) × Counts q F × RealisesPart F atoms part) ∥₁
+    → (passes q n (marksOf atoms part) ≡ true) ↔ ∥ ((F : Floor ℕ) × Counts q (below n) F × RealisesPart F atoms part) ∥₁
 check-exactly q n atoms part names l = (
   λ h. ∣ (marksFloor q n (marksOf atoms part) h, plan-counts q n (marksOf atoms part) h, plan-part q n atoms part l h) ∣₁,
   λ r. ∥∥₁-elim r (Bool-set _ _) (λ f. part-check q n atoms names part (f .0) (f .1) (f .2)),
@@ -257,7 +270,7 @@ check-exactly q n atoms part names l = (
 
 -- the check of a row passes exactly if some floor that counts realises it
 pub row-exactly : (q : Question) (n : ℕ) (atoms : List (Atom ℕ)) (row : Row) → ((a : Atom ℕ) → In a atoms → AtomBelow n a)
-    → length row ≡ length atoms → (passes q n (rowMarks atoms row) ≡ true) ↔ Realisable q atoms row
+    → length row ≡ length atoms → (passes q n (rowMarks atoms row) ≡ true) ↔ Realisable q (below n) atoms row
 row-exactly q n atoms row names l = (
   λ h. ∣ (marksFloor q n (rowMarks atoms row) h, plan-counts q n (rowMarks atoms row) h, plan-row q n atoms row l h) ∣₁,
   λ r. ∥∥₁-elim r (Bool-set _ _) (λ f. row-check q n atoms names row (f .0) (f .1) (f .2)),

@@ -1,4 +1,5 @@
 pub mod Bits
+pub mod Somewhere
 pub mod Realise
 pub mod Pieces
 pub mod Pairs

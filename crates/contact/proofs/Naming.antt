@@ -1,6 +1,6 @@
 -- Numbers may stand for names: a floor over numbers is one over names, each name at its number, and gives the rules' atoms the row that
--- it gives these with numbers for names; the atoms with the names put back are as read, so the same holds the other way round. Whether a
--- floor counts does not depend on its names. Assumes nothing.
+-- it gives these with numbers for names; the atoms with the names put back are as read, so the same holds the other way round. A floor counts
+-- over numbers where it counts over names, since each name has its number and each number its name. Assumes nothing.
 use mathlib.Core.Bool.{Bool, true, not, _&&_, _||_, and-eq-true-iff}
 use mathlib.Core.Path.{_≡_, refl, sym, ap, ap₂, _∙_, subst, fun-ext}
 use mathlib.Core.Logic.{_↔_, ∥∥₁-map}
@@ -13,9 +13,9 @@ use borrow.Author.Tests.{eqb-true, eq-eqb}
 use Rattle.formula.specs.Formula.{Term, Atom, Formula, Name}
 use Rattle.lists.specs.Search.{In, here, any, collect, below}
 use Rattle.lists.proofs.Lists.{map-agree}
-use Rattle.lists.proofs.Search.{in-left, in-right, map-elim, collect-intro, collect-elim}
+use Rattle.lists.proofs.Search.{in-left, in-right, placed, map-elim, collect-intro, collect-elim, below-intro, below-elim}
 use Rattle.contact.specs.Meaning.{Floor, holds, within, partTerm, atomOn, meetsAll, renamed}
-use Rattle.contact.specs.Question.{Question, plain, building, Way, stay, step, Counts, NoFloor}
+use Rattle.contact.specs.Question.{Question, plain, building, Way, stay, step, Shaped, Somewhere, Counts, NoFloor}
 use Rattle.formula.specs.Atoms.{atomsOf}
 use Rattle.formula.specs.Names.{termNames, atomNames}
 use Rattle.formula.specs.Same.{name-discrete, sameAtom}
@@ -23,7 +23,8 @@ use Rattle.contact.specs.Numbering.{allAtoms, sameName, namesOf, mapTerm
 use Rattle.lists.proofs.Truth.{clash}
 use Rattle.contact.specs.Row.{IsFirstRow, Row, Realises, Realisable, rulesTrue}
 use Rattle.contact.specs.Check.{firstRowOf}
-use Rattle.contact.proofs.Distinct.{Alike, Decides, decides-alike, from-distinct, position-in, position-same, in-distinct, distinct-fewer}
+use Rattle.contact.proofs.Somewhere.{somewhere-unnamed, somewhere-renamed, somewhere-back}
+use Rattle.contact.proofs.Distinct.{Alike, Decides, decides-alike, from-distinct, position-in, position-same, in-distinct, distinct-places, distinct-fewer}
 use Rattle.contact.proofs.Same.{same-alike}
 use Rattle.contact.proofs.Numbered.{numbered-faithful}
 use Rattle.contact.proofs.Answer.{first-good, first-row-once, first-earliest, some-found, none-exactly, rowFloor, row-counts, plan-gives-row}
@@ -61,10 +62,20 @@ way-renamed : {N M : Type 0} (g : N → M) (F : Floor M) {p r : ℕ} → Way F p
 way-renamed g F stay = stay
 way-renamed g F (step l t w) = step l t (way-renamed g F w)
 
--- so a floor that counts still does
-pub counts-renamed : {N M : Type 0} (g : N → M) (q : Question) (F : Floor M) → Counts q F → Counts q (renamed g F)
-counts-renamed g plain F h = tt
-counts-renamed g building F h = λ p r hp hr. way-renamed g F (h p r hp hr)
+shaped-renamed : {N M : Type 0} (g : N → M) (q : Question) (F : Floor M) → Shaped q F → Shaped q (renamed g F)
+shaped-renamed g plain F h = tt
+shaped-renamed g building F h = λ p r hp hr. way-renamed g F (h p r hp hr)
+
+-- so a floor that counts still does, if the names are those that it is renamed by
+counts-renamed : {N M : Type 0} (g : N → M) (q : Question) (names : List N) (others : List M) (F : Floor M)
+    → ((x : N) → In x names → In (g x) others) → ((y : M) → In y others → (x : N) × In x names × (g x ≡ y))
+    → Counts q others F → Counts q names (renamed g F)
+counts-renamed g q names others F into onto c =
+    record { somewhere = somewhere-renamed g names others F into onto (c .somewhere); shaped = shaped-renamed g q F (c .shaped) }
+
+-- where no name is used every floor counts for the plain question
+plain-unnamed : {N : Type 0} (F : Floor N) → Counts plain [] F
+plain-unnamed F = record { somewhere = somewhere-unnamed F; shaped = tt }
 
 -- ---- and back again
 
@@ -160,6 +171,39 @@ module _ (rules : List (Formula Name)) where
   pub names-row : (F : Floor Name) → map (atomOn (renamed (nameOf rules) F)) (rowAtoms rules) ≡ map (atomOn F) (differentAtoms rules)
   names-row F = sym (row-map (nameOf rules) F (rowAtoms rules)) ∙ ap (map (atomOn F)) names-back
 
+  -- a name that is used has its number
+  used : {x : Name} → In x (namesOf rules) → In x (collect atomNames (allAtoms rules))
+  used i = from-distinct sameName (collect atomNames (allAtoms rules)) i
+
+  -- and each number below how many they are is its name's
+  number-name : (i : ℕ) → i < length (namesOf rules) → (x : Name) × In x (namesOf rules) × (numberOf rules x ≡ i)
+  number-name i l =
+      let r = map-elim (numberOf rules) (namesOf rules)
+      (subst (In i) (sym (distinct-places sameName name-alike (collect atomNames (allAtoms rules)))) (below-intro (length (namesOf rules)) i l)) in
+      (r .0, r .2, sym (r .1))
+
+  -- a floor counts over names where it counts over numbers, and the other way round
+  number-in : (x : Name) → In x (namesOf rules) → In (numberOf rules x) (below (length (namesOf rules)))
+  number-in x i = below-intro (length (namesOf rules)) (numberOf rules x) (name-found (used i) .0)
+
+  pub numbers-count : (q : Question) (F : Floor ℕ) → Counts q (below (length (namesOf rules))) F
+      → Counts q (namesOf rules) (renamed (numberOf rules) F)
+  numbers-count q F c =
+      counts-renamed (numberOf rules) q (namesOf rules) (below (length (namesOf rules))) F number-in
+      (λ y i. number-name y (below-elim (length (namesOf rules)) y i)) c
+
+  pub numbers-somewhere : (F : Floor ℕ) → Somewhere (namesOf rules) (renamed (numberOf rules) F) → Somewhere (below (length (namesOf rules))) F
+  numbers-somewhere F s =
+      somewhere-back (numberOf rules) (namesOf rules) (below (length (namesOf rules))) F number-in
+      (λ y i. number-name y (below-elim (length (namesOf rules)) y i)) s
+
+  pub names-count : (q : Question) (F : Floor Name) → Counts q (namesOf rules) F
+      → Counts q (below (length (namesOf rules))) (renamed (nameOf rules) F)
+  names-count q F c =
+      counts-renamed (nameOf rules) q (below (length (namesOf rules))) (namesOf rules) F
+      (λ i j. placed [] (namesOf rules) i (below-elim (length (namesOf rules)) i j))
+      (λ y i. (numberOf rules y, number-in y i, name-found (used i) .1)) c
+
   -- a floor that gives the different atoms a row that makes the rules true meets them
   pub row-meets : (F : Floor Name) (row : Row) → Realises F (differentAtoms rules) row → rulesTrue (numberedAtoms rules) row ≡ true → meetsAll F rules ≡ true
   row-meets F row real k = sym (numbered-faithful rules F) ∙ ap (rulesTrue (numberedAtoms rules)) real ∙ k
@@ -168,10 +212,10 @@ module _ (rules : List (Formula Name)) where
 
 module _ (q : Question) (rules : List (Formula Name)) where
   -- the realisable rows are the same
-  realisable-named : (row : Row) → Realisable q (rowAtoms rules) row ↔ Realisable q (differentAtoms rules) row
+  realisable-named : (row : Row) → Realisable q (below (length (namesOf rules))) (rowAtoms rules) row ↔ Realisable q (namesOf rules) (differentAtoms rules) row
   realisable-named row = (
-    λ r. ∥∥₁-map r (λ f. (renamed (numberOf rules) (f .0), counts-renamed (numberOf rules) q (f .0) (f .1), numbers-row rules (f .0) ∙ f .2)),
-    λ r. ∥∥₁-map r (λ f. (renamed (nameOf rules) (f .0), counts-renamed (nameOf rules) q (f .0) (f .1), names-row rules (f .0) ∙ f .2)),
+    λ r. ∥∥₁-map r (λ f. (renamed (numberOf rules) (f .0), numbers-count rules q (f .0) (f .1), numbers-row rules (f .0) ∙ f .2)),
+    λ r. ∥∥₁-map r (λ f. (renamed (nameOf rules) (f .0), names-count rules q (f .0) (f .1), names-row rules (f .0) ∙ f .2)),
   )
 
   -- what is found, of these atoms and rules
@@ -182,7 +226,7 @@ module _ (q : Question) (rules : List (Formula Name)) where
   abbrev foundFloor : (row : Row) → Found row → Floor ℕ
   foundFloor row e = rowFloor q (length (namesOf rules)) (rowAtoms rules) (numberedAtoms rules) row e
 
-  found-counts : (row : Row) (e : Found row) → Counts q (foundFloor row e)
+  found-counts : (row : Row) (e : Found row) → Counts q (below (length (namesOf rules))) (foundFloor row e)
   found-counts row e = row-counts q (length (namesOf rules)) (rowAtoms rules) (numberedAtoms rules) row e
 
   found-row : (row : Row) (e : Found row) → Realises (foundFloor row e) (rowAtoms rules) row
@@ -209,9 +253,9 @@ module _ (q : Question) (rules : List (Formula Name)) where
   pub no-plan-named : (firstRowOf q rules ≡ []) ↔ NoFloor q rules
   no-plan-named =
       let w = none-exactly q (length (namesOf rules)) (rowAtoms rules) (numberedAtoms rules) (numbered-below rules) in (
-        λ e F c h. w .0 e (renamed (nameOf rules) F) (counts-renamed (nameOf rules) q F c)
+        λ e F c h. w .0 e (renamed (nameOf rules) F) (names-count rules q F c)
             (ap (rulesTrue (numberedAtoms rules)) (names-row rules F) ∙ numbered-faithful rules F ∙ h),
-        λ none. w .1 (λ F c h. none (renamed (numberOf rules) F) (counts-renamed (numberOf rules) q F c)
+        λ none. w .1 (λ F c h. none (renamed (numberOf rules) F) (numbers-count rules q F c)
             (sym (numbered-faithful rules (renamed (numberOf rules) F)) ∙ ap (rulesTrue (numberedAtoms rules)) (numbers-row rules F) ∙ h)),
       )
 
@@ -219,14 +263,23 @@ module _ (q : Question) (rules : List (Formula Name)) where
   abbrev pub namedPlan : (row : Row) → Found row → Floor Name
   namedPlan row e = renamed (numberOf rules) (foundFloor row e)
 
-  pub plan-counts-named : (row : Row) (e : Found row) → Counts q (namedPlan row e)
-  plan-counts-named row e = counts-renamed (numberOf rules) q (foundFloor row e) (found-counts row e)
+  pub plan-counts-named : (row : Row) (e : Found row) → Counts q (namesOf rules) (namedPlan row e)
+  plan-counts-named row e = numbers-count rules q (foundFloor row e) (found-counts row e)
 
   pub plan-row-named : (row : Row) (e : Found row) → Realises (namedPlan row e) (differentAtoms rules) row
   plan-row-named row e = numbers-row rules (foundFloor row e) ∙ found-row row e
 
   pub plan-meets-named : (row : Row) (e : Found row) → meetsAll (namedPlan row e) rules ≡ true
   plan-meets-named row e = row-meets rules (namedPlan row e) row (plan-row-named row e) (first-row-named row e .makes)
+
+-- "with no names the old meaning stays": then no row is found exactly where no floor at all meets the rules
+pub no-plan-unnamed : (rules : List (Formula Name)) → namesOf rules ≡ []
+    → (firstRowOf plain rules ≡ []) ↔ ((F : Floor Name) → meetsAll F rules ≡ true → ⊥)
+no-plan-unnamed rules none =
+    let w = no-plan-named plain rules in (
+      λ e F h. w .0 e F (subst (λ (names : List Name). Counts plain names F) (sym none) (plain-unnamed F)) h,
+      λ no. w .1 (λ F c h. no F h),
+    )
 
 -- rules that are all among others have no more different atoms
 pub atoms-fewer : (rules others : List (Formula Name)) → ((f : Formula Name) → In f rules → In f others)

@@ -5,29 +5,33 @@ use mathlib.Core.Path.{_≡_, refl, ap}
 use mathlib.Core.Logic.{_⊎_, inl, inr, ⊎-elim}
 use mathlib.Core.List.{List}
 use mathlib.Mathlib.Data.Bool.Basic.{and-intro, eq-false-of-not-eq-true, or-inl, or-inr, partialOrderLaws}
-use Prim.Native.Nat.{ℕ, _^_, _<_}
+use Prim.Native.Nat.{ℕ, _^_}
 use borrow.Author.Tests.{not-true}
 use Rattle.formula.specs.Formula.{Term}
 use Rattle.lists.specs.Search.{any, all}
-use Rattle.lists.proofs.Search.{any-intro, any-elim, none-elim, none-intro, all-elim, all-intro, below-intro, below-elim}
+use Rattle.lists.proofs.Search.{any-intro, any-elim, none-elim, none-intro, all-elim, all-intro, below-intro}
 use Rattle.lists.proofs.Truth.{clash, or-cases}
-use Rattle.contact.specs.Plan.{at, evaluations, Mark, touching, apart, vacant, inhabited, parts, separated, empties, allowed, fills, partners, leads}
+use Rattle.contact.specs.Plan.{at, evaluations, Mark, touching, apart, vacant, inhabited, parts, separated, empties, may, allowed, fills, partners, leads}
 use Rattle.contact.specs.Check.{witnessed, check}
 use Rattle.contact.specs.Pairs.{serves, restricts, lives, somePair, served, pairCheck}
-use Rattle.contact.proofs.Realise.{separated-symmetric, allowed-elim, allowed-intro, fills-elim, fills-intro, partners-elim, partners-intro, leads-elim, leads-intro, check-elim, check-intro}
+use Rattle.contact.proofs.Somewhere.{may-below}
+use Rattle.contact.proofs.Realise.{separated-symmetric, allowed-elim, allowed-intro, allowed-below, fills-elim, fills-intro, partners-elim, partners-intro, leads-elim, leads-intro, check-elim, check-intro}
 
 -- ---- pairs
 
-pub pair-intro : (names : ℕ) (p : ℕ → ℕ → Bool) (e f : ℕ) → e < 2 ^ names → f < 2 ^ names → p e f ≡ true → somePair names p ≡ true
+pub pair-intro : (names : ℕ) (p : ℕ → ℕ → Bool) (e f : ℕ) → may names e ≡ true → may names f ≡ true → p e f ≡ true → somePair names p ≡ true
 pair-intro names p e f a b h =
-    any-intro (λ e. any (p e) (evaluations names)) (below-intro (2 ^ names) e a) (any-intro (p e) (below-intro (2 ^ names) f b) h)
+    any-intro (λ e. may names e && any (λ f. may names f && p e f) (evaluations names)) (below-intro (2 ^ names) e (may-below names e a))
+    (and-intro a (any-intro (λ f. may names f && p e f) (below-intro (2 ^ names) f (may-below names f b)) (and-intro b h)))
 
 pub pair-elim : (names : ℕ) (p : ℕ → ℕ → Bool) → somePair names p ≡ true
-    → (e : ℕ) × (f : ℕ) × (e < 2 ^ names) × (f < 2 ^ names) × (p e f ≡ true)
+    → (e : ℕ) × (f : ℕ) × (may names e ≡ true) × (may names f ≡ true) × (p e f ≡ true)
 pair-elim names p h =
-    let r = any-elim (λ e. any (p e) (evaluations names)) (evaluations names) h in
-    let s = any-elim (p (r .0)) (evaluations names) (r .2) in
-    (r .0, s .0, below-elim (2 ^ names) (r .0) (r .1), below-elim (2 ^ names) (s .0) (s .1), s .2)
+    let r = any-elim (λ e. may names e && any (λ f. may names f && p e f) (evaluations names)) (evaluations names) h in
+    let a = and-eq-true-iff (may names (r .0)) (any (λ f. may names f && p (r .0) f) (evaluations names)) .0 (r .2) in
+    let s = any-elim (λ f. may names f && p (r .0) f) (evaluations names) (a .1) in
+    let b = and-eq-true-iff (may names (s .0)) (p (r .0) (s .0)) .0 (s .2) in
+    (r .0, s .0, a .0, b .0, b .1)
 
 -- ---- what takes a pair away
 
@@ -100,7 +104,7 @@ module _ (ms : List Mark) (e f : ℕ) where
 
 module _ (names : ℕ) (ms : List Mark) where
   -- a pair is left exactly if both are allowed and they are not separated
-  pub lives-elim : (e f : ℕ) → e < 2 ^ names → f < 2 ^ names → lives ms e f ≡ true
+  pub lives-elim : (e f : ℕ) → may names e ≡ true → may names f ≡ true → lives ms e f ≡ true
       → (allowed names ms e ≡ true) × (allowed names ms f ≡ true) × (separated ms e f ≡ false)
   unfolding separated
   lives-elim e f a b h = (
@@ -125,13 +129,13 @@ module _ (names : ℕ) (ms : List Mark) where
   alone : (e : ℕ) → allowed names ms e ≡ true → lives ms e e ≡ true
   alone e h = lives-intro e e h h (allowed-elim names ms e h .2)
 
-  below-names : (e : ℕ) → allowed names ms e ≡ true → e < 2 ^ names
-  below-names e h = allowed-elim names ms e h .0
+  allowed-may : (e : ℕ) → allowed names ms e ≡ true → may names e ≡ true
+  allowed-may e h = allowed-elim names ms e h .0
 
   -- ---- the marks
 
   served-elim : (m : Mark) → served names ms m ≡ true
-      → (e : ℕ) × (f : ℕ) × (e < 2 ^ names) × (f < 2 ^ names) × (lives ms e f ≡ true) × (serves e f m ≡ true)
+      → (e : ℕ) × (f : ℕ) × (may names e ≡ true) × (may names f ≡ true) × (lives ms e f ≡ true) × (serves e f m ≡ true)
   unfolding served
   served-elim m h =
       let r = pair-elim names (λ e f. lives ms e f && serves e f m) h in
@@ -142,14 +146,14 @@ module _ (names : ℕ) (ms : List Mark) where
       → served names ms m ≡ true
   unfolding served
   served-intro m e f p q s h =
-      pair-intro names (λ e f. lives ms e f && serves e f m) e f (below-names e p) (below-names f q) (and-intro (lives-intro e f p q s) h)
+      pair-intro names (λ e f. lives ms e f && serves e f m) e f (allowed-may e p) (allowed-may f q) (and-intro (lives-intro e f p q s) h)
 
   led : (x y : Term ℕ) (p q : ℕ) → allowed names ms p ≡ true → allowed names ms q ≡ true → separated ms p q ≡ false → at x p ≡ true → at y q ≡ true
       → any (leads names ms x y) (evaluations names) ≡ true
   led x y p q a b s h k =
-      any-intro (leads names ms x y) (below-intro (2 ^ names) p (below-names p a))
+      any-intro (leads names ms x y) (below-intro (2 ^ names) p (allowed-below names ms p a))
       (leads-intro names ms x y p (fills-intro names ms x p a h)
-      (any-intro (partners names ms y p) (below-intro (2 ^ names) q (below-names q b))
+      (any-intro (partners names ms y p) (below-intro (2 ^ names) q (allowed-below names ms q b))
       (partners-intro names ms y p q (fills-intro names ms y q b k) s)))
 
   -- a mark has its witness exactly if it restricts or is served
@@ -192,8 +196,8 @@ module _ (names : ℕ) (ms : List Mark) where
       let r = served-elim (inhabited t) h in
       let l = lives-elim (r .0) (r .1) (r .2) (r .3) (r .4) in
       ⊎-elim
-      (λ k. any-intro (fills names ms t) (below-intro (2 ^ names) (r .0) (r .2)) (fills-intro names ms t (r .0) (l .0) k))
-      (λ k. any-intro (fills names ms t) (below-intro (2 ^ names) (r .1) (r .3)) (fills-intro names ms t (r .1) (l .1) k))
+      (λ k. any-intro (fills names ms t) (below-intro (2 ^ names) (r .0) (may-below names (r .0) (r .2))) (fills-intro names ms t (r .0) (l .0) k))
+      (λ k. any-intro (fills names ms t) (below-intro (2 ^ names) (r .1) (may-below names (r .1) (r .3))) (fills-intro names ms t (r .1) (l .1) k))
       (or-cases (at t (r .0)) (at t (r .1)) (r .5))
 
   -- ---- the check
@@ -205,10 +209,10 @@ module _ (names : ℕ) (ms : List Mark) where
       (λ h. let c = check-elim names ms h in
       let r = any-elim (allowed names ms) (evaluations names) (c .0) in
       and-intro
-      (pair-intro names (lives ms) (r .0) (r .0) (below-names (r .0) (r .2)) (below-names (r .0) (r .2)) (alone (r .0) (r .2)))
+      (pair-intro names (lives ms) (r .0) (r .0) (allowed-may (r .0) (r .2)) (allowed-may (r .0) (r .2)) (alone (r .0) (r .2)))
       (all-intro (λ m. restricts m || served names ms m) ms (λ m i. witnessed-served m (all-elim (witnessed names ms) i (c .1)))))
       (λ h. let c = and-eq-true-iff (somePair names (lives ms)) (all (λ m. restricts m || served names ms m) ms) .0 h in
       let r = pair-elim names (lives ms) (c .0) in
       check-intro names ms
-      (any-intro (allowed names ms) (below-intro (2 ^ names) (r .0) (r .2)) (lives-elim (r .0) (r .1) (r .2) (r .3) (r .4) .0))
+      (any-intro (allowed names ms) (below-intro (2 ^ names) (r .0) (may-below names (r .0) (r .2))) (lives-elim (r .0) (r .1) (r .2) (r .3) (r .4) .0))
       (all-intro (witnessed names ms) ms (λ m i. served-witnessed m (all-elim (λ m. restricts m || served names ms m) i (c .1)))))

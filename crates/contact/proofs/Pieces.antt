@@ -13,7 +13,7 @@ use Rattle.lists.proofs.Search.{in-one, any-intro, any-elim, none-elim, all-int
 use Rattle.lists.proofs.Truth.{clash, cases}
 use Rattle.contact.specs.Plan.{Mark, evaluations, separated, allowed, Linked, start, onward, IsPiece, met, MeetsMarks}
 use Rattle.contact.specs.Pieces.{allowedOnes, grown, grownBy, wholePiece, pieceMeets, checkPieces}
-use Rattle.contact.proofs.Realise.{separated-symmetric, allowed-elim}
+use Rattle.contact.proofs.Realise.{separated-symmetric, allowed-elim, allowed-below}
 
 -- ---- a set that grows
 
@@ -90,7 +90,7 @@ module _ (ms : List Mark) (es : List ℕ) where
 module _ (n : ℕ) (ms : List Mark) where
   -- what is allowed is one of the evaluations
   pub allowed-in : (e : ℕ) → allowed n ms e ≡ true → In e (evaluations n)
-  allowed-in e h = below-intro (2 ^ n) e (allowed-elim n ms e h .0)
+  allowed-in e h = below-intro (2 ^ n) e (allowed-below n ms e h)
 
   pub ones-intro : (e : ℕ) → allowed n ms e ≡ true → In e (allowedOnes n ms)
   unfolding allowedOnes

@@ -9,19 +9,20 @@ use mathlib.Mathlib.Data.Bool.Basic.{and-intro, eq-false-of-not-eq-true, or-inl,
 use Prim.Native.Nat.{ℕ, _^_, _≤_, _<_}
 use native.Mathlib.Omega.{arith}
 use lib.ListN.{length, getD}
-use lib.Dec.{ltb}
-use borrow.Author.Tests.{not-true, not-false, ltb-true, lt-ltb}
+use borrow.Author.Tests.{not-true, not-false}
 use Rattle.formula.specs.Formula.{Term, Atom}
 use Rattle.lists.specs.Search.{In, here, next, any, all, first, collect, below}
 use Rattle.evalset.specs.Bit.{bit}
 use Rattle.lists.proofs.Search.{any-intro, any-elim, none-elim, none-intro, all-elim, all-intro, first-some, first-in, uncons, none-in, place, placed, collect-intro, collect-elim, below-intro, below-elim, or-else-left, or-else-cases, or-else-some}
 use Rattle.lists.proofs.Truth.{clash, or-cases}
 use Rattle.contact.specs.Meaning.{Floor, within, isEmpty, touches, atomOn}
+use Rattle.contact.specs.Question.{Somewhere}
 use Rattle.contact.specs.Numbering.{TermBelow, AtomBelow}
 use Rattle.contact.specs.Row.{Row, is, unknown, PartialRow, Extends, RealisesPart}
-use Rattle.contact.specs.Plan.{at, evaluations, Mark, touching, apart, vacant, inhabited, mark, marksOf, parts, separated, empties, allowed, fills, partners, leads, withPartner, gives, given, met, MeetsMarks}
+use Rattle.contact.specs.Plan.{at, evaluations, Mark, touching, apart, vacant, inhabited, mark, marksOf, parts, separated, empties, may, allowed, fills, partners, leads, withPartner, gives, given, met, MeetsMarks}
 use Rattle.contact.specs.Check.{witnessed, check}
 use Rattle.contact.proofs.Bits.{encode, encode-lt, bit-encode, holds-same}
+use Rattle.contact.proofs.Somewhere.{may-below, may-point}
 
 -- ---- what marks say of a floor
 
@@ -112,21 +113,24 @@ module _ (ms : List Mark) (pts : List ℕ) (some : 0 < length pts) (own : (e : �
 -- ---- the tests, taken apart and put together
 
 abbrev Allowed : ℕ → List Mark → ℕ → Type 0
-Allowed n ms e = (e < 2 ^ n) × (any (empties e) ms ≡ false) × (separated ms e e ≡ false)
+Allowed n ms e = (may n e ≡ true) × (any (empties e) ms ≡ false) × (separated ms e e ≡ false)
 
 module _ (n : ℕ) (ms : List Mark) where
   pub allowed-elim : (e : ℕ) → allowed n ms e ≡ true → Allowed n ms e
   unfolding allowed
   allowed-elim e h =
-      let r = and-eq-true-iff (ltb e (2 ^ n)) (not (any (empties e) ms) && not (separated ms e e)) .0 h in
+      let r = and-eq-true-iff (may n e) (not (any (empties e) ms) && not (separated ms e e)) .0 h in
       let s = and-eq-true-iff (not (any (empties e) ms)) (not (separated ms e e)) .0 (r .1) in
-      (ltb-true e (2 ^ n) (r .0), not-true _ (s .0), not-true _ (s .1))
+      (r .0, not-true _ (s .0), not-true _ (s .1))
 
   pub allowed-intro : (e : ℕ) → Allowed n ms e → allowed n ms e ≡ true
   unfolding allowed
   allowed-intro e h =
-      and-intro (lt-ltb e (2 ^ n) (h .0))
+      and-intro (h .0)
       (and-intro (ap not (h .1)) (ap not (h .2)))
+
+  pub allowed-below : (e : ℕ) → allowed n ms e ≡ true → e < 2 ^ n
+  allowed-below e h = may-below n e (allowed-elim e h .0)
 
   pub fills-elim : (t : Term ℕ) (e : ℕ) → fills n ms t e ≡ true → (allowed n ms e ≡ true) × (at t e ≡ true)
   unfolding fills
@@ -293,7 +297,8 @@ touches-elim F x y h =
 abbrev pub evOf : ℕ → Floor ℕ → ℕ → ℕ
 evOf n F p = encode n (λ i. F .lies i p)
 
-module _ (n : ℕ) (ms : List Mark) (names : (m : Mark) → In m ms → MarkBelow n m) (F : Floor ℕ) (real : RealisesMarks F ms) where
+module _ (n : ℕ) (ms : List Mark) (names : (m : Mark) → In m ms → MarkBelow n m) (F : Floor ℕ) (somewhere : Somewhere (below n) F)
+    (real : RealisesMarks F ms) where
   abbrev ev : ℕ → ℕ
   ev p = evOf n F p
 
@@ -334,7 +339,7 @@ module _ (n : ℕ) (ms : List Mark) (names : (m : Mark) → In m ms → MarkBelo
   pub ev-allowed : (p : ℕ) → p < F .points → allowed n ms (ev p) ≡ true
   ev-allowed p hp =
       allowed-intro n ms (ev p)
-      (encode-lt n (λ i. F .lies i p), none-intro (empties (ev p)) ms (ev-empties p hp), ev-separated p p hp hp (F .reflexive p hp))
+      (may-point n F somewhere p hp, none-intro (empties (ev p)) ms (ev-empties p hp), ev-separated p p hp hp (F .reflexive p hp))
 
   ev-fills : (t : Term ℕ) (p : ℕ) → TermBelow n t → p < F .points → within F t p ≡ true → fills n ms t (ev p) ≡ true
   ev-fills t p o hp h = fills-intro n ms t (ev p) (ev-allowed p hp) (ev-at t p o ∙ h)

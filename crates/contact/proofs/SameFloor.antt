@@ -9,7 +9,8 @@ use Rattle.formula.specs.Formula.{Term, Atom, Formula}
 use Rattle.lists.specs.Search.{any, all, below}
 use Rattle.lists.proofs.Search.{any-same, below-elim}
 use Rattle.contact.specs.Meaning.{Floor, holds, within, isEmpty, touches, partTerm, atomOn, value, meetsAll}
-use Rattle.contact.specs.Question.{Question, plain, building, Way, stay, step, Counts}
+use Rattle.contact.specs.Question.{Question, plain, building, Way, stay, step, Shaped, Counts}
+use Rattle.contact.proofs.Somewhere.{somewhere-same}
 
 -- two floors with the same points, contacts and regions
 pub record SameFloor {N : Type 0} (F G : Floor N) : Type 0 where
@@ -66,8 +67,12 @@ module _ {N : Type 0} (F G : Floor N) (same : SameFloor F G) where
       let hg : q < G .points = omega arith in
       step hg (sym (same .touch p q hp hq) ∙ t) (way-same w hq)
 
-  pub counts-same : (q : Question) → Counts q F → Counts q G
-  counts-same plain h = tt
-  counts-same building h =
+  shaped-same : (q : Question) → Shaped q F → Shaped q G
+  shaped-same plain h = tt
+  shaped-same building h =
       λ p r hp hr. let e : F .points ≡ G .points = same .points in
       way-same (h p r (omega arith) (omega arith)) (omega arith)
+
+  pub counts-same : (q : Question) (names : List N) → Counts q names F → Counts q names G
+  counts-same q names c =
+      record { somewhere = somewhere-same names F G (same .points) (same .lies) (c .somewhere); shaped = shaped-same q (c .shaped) }

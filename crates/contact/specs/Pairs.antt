@@ -6,7 +6,7 @@ use mathlib.Core.List.{List}
 use Prim.Native.Nat.{ℕ}
 use Rattle.formula.specs.Formula.{Term}
 use Rattle.lists.specs.Search.{any, all}
-use Rattle.contact.specs.Plan.{at, evaluations, Mark, touching, apart, vacant, inhabited}
+use Rattle.contact.specs.Plan.{at, evaluations, may, Mark, touching, apart, vacant, inhabited}
 
 -- one of the two is in the first term, and one in the second
 abbrev pub servesContact : Term ℕ → Term ℕ → ℕ → ℕ → Bool
@@ -34,9 +34,9 @@ restricts (inhabited t) = false
 unfoldable pub lives : List Mark → ℕ → ℕ → Bool
 lives ms e f = not (any (λ m. restricts m && serves e f m) ms)
 
--- some pair passes
+-- some pair of evaluations that points may have passes
 abbrev pub somePair : ℕ → (ℕ → ℕ → Bool) → Bool
-somePair names p = any (λ e. any (p e) (evaluations names)) (evaluations names)
+somePair names p = any (λ e. may names e && any (λ f. may names f && p e f) (evaluations names)) (evaluations names)
 
 -- some pair that is left serves the mark's atom
 unfoldable pub served : ℕ → List Mark → Mark → Bool

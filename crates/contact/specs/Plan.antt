@@ -6,7 +6,7 @@ use mathlib.Core.Path.{_≡_}
 use mathlib.Core.Logic.{_↔_}
 use mathlib.Core.List.{List, [], _∷_, map}
 use Prim.Native.Nat.{ℕ, suc, _^_, _≤_, _<_}
-use lib.Dec.{ltb}
+use lib.Dec.{eqb, ltb}
 use Rattle.formula.specs.Formula.{Term, Atom}
 use Rattle.lists.specs.Search.{In, any, first, keep, orElse, collect, below, elem}
 use Rattle.evalset.specs.Bit.{bit}
@@ -75,9 +75,13 @@ empties e (apart x y) = false
 empties e (vacant t) = at t e
 empties e (inhabited t) = false
 
+-- the evaluations that a point may have: "below 2^names", and document 02's, T-07: "Where a name is used, evaluation 0 is not allowed."
+unfoldable pub may : ℕ → ℕ → Bool
+may names e = ltb e (2 ^ names) && (eqb names 0 || not (eqb e 0))
+
 -- "An evaluation is allowed if it is below 2^names, in no true zero term and not separated from itself."
 unfoldable pub allowed : ℕ → List Mark → ℕ → Bool
-allowed names ms e = ltb e (2 ^ names) && (not (any (empties e) ms) && not (separated ms e e))
+allowed names ms e = may names e && (not (any (empties e) ms) && not (separated ms e e))
 
 -- allowed, and in the term
 unfoldable pub fills : ℕ → List Mark → Term ℕ → ℕ → Bool

@@ -9,7 +9,7 @@ use Rattle.formula.specs.Formula.{Atom, Form, Formula, Name}
 use Rattle.lists.specs.Search.{all}
 use Rattle.contact.specs.Meaning.{Floor, atomOn, value}
 use Rattle.contact.specs.Question.{Question, Counts}
-use Rattle.contact.specs.Numbering.{differentAtoms, numberedAtoms}
+use Rattle.contact.specs.Numbering.{namesOf, differentAtoms, numberedAtoms}
 
 -- "A row gives each atom true or false."
 abbrev pub Row : Type 0
@@ -19,9 +19,9 @@ Row = List Bool
 abbrev pub Realises : {N : Type 0} → Floor N → List (Atom N) → Row → Type 0
 Realises F atoms row = map (atomOn F) atoms ≡ row
 
--- some floor that counts gives the atoms these values
-abbrev pub Realisable : {N : Type 0} → Question → List (Atom N) → Row → Type 0
-Realisable {N} q atoms row = ∥ ((F : Floor N) × Counts q F × Realises F atoms row) ∥₁
+-- some floor that counts gives the atoms these values; the names are those that the rules use
+abbrev pub Realisable : {N : Type 0} → Question → List N → List (Atom N) → Row → Type 0
+Realisable {N} q names atoms row = ∥ ((F : Floor N) × Counts q names F × Realises F atoms row) ∥₁
 
 -- a row makes all rules true; they have numbers for atoms
 unfoldable pub rulesTrue : List (Form ℕ) → Row → Bool
@@ -39,9 +39,9 @@ Before (false ∷ r) (false ∷ s) = Before r s
 -- "The answer uses the first realisable row that makes all rules true."; of one building, "Its row is the first that some such plan realises
 -- with all rules true."; "Rows run over the different atoms, numbered by first place."
 pub record IsFirstRow (q : Question) (rules : List (Formula Name)) (row : Row) : Type 0 where
-  pub realisable : Realisable q (differentAtoms rules) row
+  pub realisable : Realisable q (namesOf rules) (differentAtoms rules) row
   pub makes : rulesTrue (numberedAtoms rules) row ≡ true
-  pub earliest : (other : Row) → Realisable q (differentAtoms rules) other → rulesTrue (numberedAtoms rules) other ≡ true → Before other row
+  pub earliest : (other : Row) → Realisable q (namesOf rules) (differentAtoms rules) other → rulesTrue (numberedAtoms rules) other ≡ true → Before other row
       → ⊥
 
 -- ---- partial rows

@@ -1,9 +1,11 @@
 -- What is computed, and for proofs what the private functions ensure: the values of atoms on a plan that arrays hold, and the judgement of
 -- numbered rules whose atoms have given values. Assumes nothing.
 use mathlib.Core.Path.{_≡_}
-use mathlib.Core.Bool.{Bool, true, false, cond}
+use mathlib.Core.Bool.{Bool, true, false, not, _&&_, cond}
 use mathlib.Core.List.{List, [], _∷_}
 use Prim.Native.Nat.{ℕ, suc, _<_}
+use lib.Dec.{eqb}
+use lib.ListN.{getD}
 use Rattle.formula.specs.Formula.{Form}
 use Rattle.formula.specs.Atoms.{atomsOf}
 use Rattle.lists.specs.Search.{In}
@@ -25,6 +27,10 @@ use Rattle.judging.specs.declared.Judged.the-variants.{Yes, Unmet}
 abbrev pub judgedOf : Judgement → Judged
 judgedOf yes = Yes
 judgedOf (unmet k) = Unmet k
+
+-- the plan that the arrays hold has a name, and its first point is at evaluation 0
+unfoldable pub uncoveredOf : PlanArrays → Bool
+uncoveredOf plan = not (eqb (plan .names) 0) && eqb (getD (plan .points) 0 0) 0
 
 -- ---- atoms
 

@@ -1,4 +1,5 @@
-// A plan judged by whole rules (document 01: "Judge answers yes or the lowest unmet rule, from 1").
+// A plan judged by whole rules (document 01: "Judge answers yes or the lowest unmet rule, from 1"), where it is not uncovered (document 02,
+// T-07: "a plan of one name or more with a point at evaluation 0").
 // The plan gives each atom of the chart its value, and the code of each rule is run on these values. What is judged, `judge`, is
 // the plan crate's, on the floor of the plan that the arrays hold. The chart and the code come from our own crates: `judge_plan`
 // requires that they can be run, as the charts and the codes of rules can (`runnable` of solver/proofs/Claims.antt). Assumes nothing.
@@ -8,7 +9,7 @@ ghost use Rattle.evalset.specs.Sets.{mem};
 ghost use Rattle.search.specs.Compiled.{limit};
 ghost use Rattle.solver.specs.Coded.{PartSafe, SafeFrom};
 ghost use Rattle.solver.specs.Tree.{Runnable};
-ghost use Rattle.judging.specs.Values.{atomOf, LeavesSay, RuleSays, UnmetSays};
+ghost use Rattle.judging.specs.Values.{atomOf, LeavesSay, RuleSays, UnmetSays, uncoveredOf};
 ghost use Rattle.judging.specs.Judges.{JudgesSay};
 use evalset::EvalSet;
 use kleene::Two;
@@ -16,10 +17,11 @@ use plan::PlanArrays;
 use search::ATOMS;
 use search::Chart;
 
-// What judging a plan answers: it meets every rule, or the number of the lowest rule that it does not meet, from 1.
+// What judging a plan answers: it meets every rule, or the number of the lowest rule that it does not meet, from 1, or it is uncovered.
 pub enum Judged {
     Yes,
     Unmet(usize),
+    Uncovered,
 }
 
 // The value of an atom on the plan: whether it is a contact, and its sets. Of a zero atom x has the zero term.
@@ -80,12 +82,25 @@ fn first_unmet(code: &[u8], ends: &[usize], atoms: [Two; ATOMS]) -> Judged
     Judged::Yes
 }
 
+// Whether the plan has a name, and a point at evaluation 0: points ascend, so it is the first.
+fn uncovered(plan: PlanArrays) -> bool
+    ensures { λ r. ⌜ r ≡ uncoveredOf plan ⌝ }
+{
+    if plan.names == 0 {
+        return false;
+    }
+    plan.points[0] == 0
+}
+
 // Judges the plan by the rules of this code, whose atoms the chart has. Only our own crates call it: `Runnable` asks that the chart has at
 // most 16 atoms and that each part of the code is safe to run, as the codes of rules of at most 256 signs are (`runnable` of solver).
 pub fn judge_plan(plan: PlanArrays, chart: Chart, code: &[u8], ends: &[usize]) -> Judged
     requires { ⌜ Runnable (now code) (now ends) chart ⌝ }
     ensures { λ r. ⌜ JudgesSay plan chart (now (code .entry)) (now (ends .entry)) r ⌝ }
 {
+    if uncovered(plan) {
+        return Judged::Uncovered;
+    }
     let atoms = leaves(plan, chart);
     first_unmet(code, ends, atoms)
 }

@@ -20,7 +20,7 @@ use Rattle.lists.proofs.Search.{any-same, any-intro, any-elim, none-elim, none-
 use Rattle.lists.proofs.Truth.{clash, cases, or-cases, side}
 use Rattle.evalset.specs.Bit.{bit}
 use Rattle.evalset.proofs.Bits.{bit-xor, bit-or, bit-and, bit-none, bit-above, bit-ones, same-bits}
-use Rattle.contact.specs.Plan.{Mark, mark, rowMarks}
+use Rattle.contact.specs.Plan.{may, Mark, mark, rowMarks}
 use Rattle.contact.specs.Check.{check}
 use Rattle.contact.specs.Pairs.{serves, restricts, lives, somePair, served, pairCheck}
 use Rattle.contact.proofs.Pairs.{pair-intro, pair-elim, check-pairs}
@@ -181,7 +181,7 @@ module _ (names : ℕ) (atoms : List (Atom ℕ)) (k d s b contacts : ℕ) (ws : 
         (λ l. sym (left-bit p l) ∙ within-elim left u u-small left-small h p j) (side p d)
 
     -- the pair is left exactly if its word is within what the row demands
-    module _ (lf : f < 2 ^ names) (lg : g < 2 ^ names) where
+    module _ (lf : may names f ≡ true) (lg : may names g ≡ true) where
       served-bit : (p : ℕ) → p < n → bit u p ≡ serves f g (markAt p)
       served-bit = serves-bit atoms n s row contacts whole c small f g w word
 
@@ -221,7 +221,7 @@ module _ (names : ℕ) (atoms : List (Atom ℕ)) (k d s b contacts : ℕ) (ws : 
       (ap (λ (j : ℕ). bit (entry t j) p) y ∙ filled .bits x p ∙ ap (λ (q : Bool). q || putsAll s left low ws x p) (ap (λ (j : ℕ). bit j p) (zero-is x) ∙ bit-none p)))
 
   entry-elim : (p : ℕ) → bit (entry r at) p ≡ true
-      → (f : ℕ) × (g : ℕ) × (w : ℕ) × (f < 2 ^ names) × (g < 2 ^ names) × (i : IsWord atoms f g w) × Within f g w i × (bit (w / 2 ^ s) p ≡ true)
+      → (f : ℕ) × (g : ℕ) × (w : ℕ) × (may names f ≡ true) × (may names g ≡ true) × (i : IsWord atoms f g w) × Within f g w i × (bit (w / 2 ^ s) p ≡ true)
   unfolding puts putsAll
   entry-elim p h =
       let x = any-elim (λ x. subTo d x at && putsAll s left low ws x p) (below (2 ^ d)) (sym (entry-sum p) ∙ h) in
@@ -249,7 +249,7 @@ module _ (names : ℕ) (atoms : List (Atom ℕ)) (k d s b contacts : ℕ) (ws : 
   test-check : entry r at ≡ T → (lone s ws || not (eqb T 0)) ≡ true → pairCheck names ms ≡ true
   unfolding pairCheck served lone
   test-check q one =
-      let full : (p : ℕ) → bit T p ≡ true → (f : ℕ) × (g : ℕ) × (w : ℕ) × (f < 2 ^ names) × (g < 2 ^ names) × (i : IsWord atoms f g w) × Within f g w i × (bit (w / 2 ^ s) p ≡ true) =
+      let full : (p : ℕ) → bit T p ≡ true → (f : ℕ) × (g : ℕ) × (w : ℕ) × (may names f ≡ true) × (may names g ≡ true) × (i : IsWord atoms f g w) × Within f g w i × (bit (w / 2 ^ s) p ≡ true) =
       λ p on. entry-elim p (ap (λ (x : ℕ). bit x p) q ∙ on) in
       and-intro
       (⊎-elim
@@ -271,7 +271,7 @@ module _ (names : ℕ) (atoms : List (Atom ℕ)) (k d s b contacts : ℕ) (ws : 
       (λ off. or-inl (restricts m) _ (ap restricts (j .2) ∙ restricts-bit atoms n s row contacts whole c small p (j .1) ∙ ap not off))))
     where
       -- something is demanded, and served by a pair that is left
-      some : eqb T 0 ≡ false → ((p : ℕ) → bit T p ≡ true → (f : ℕ) × (g : ℕ) × (w : ℕ) × (f < 2 ^ names) × (g < 2 ^ names) × (i : IsWord atoms f g w) × Within f g w i × (bit (w / 2 ^ s) p ≡ true))
+      some : eqb T 0 ≡ false → ((p : ℕ) → bit T p ≡ true → (f : ℕ) × (g : ℕ) × (w : ℕ) × (may names f ≡ true) × (may names g ≡ true) × (i : IsWord atoms f g w) × Within f g w i × (bit (w / 2 ^ s) p ≡ true))
           → somePair names (lives ms) ≡ true
       some ne full =
           cases (any (bit T) (below n))

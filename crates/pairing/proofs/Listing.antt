@@ -22,13 +22,15 @@ use Rattle.lists.proofs.Below.{collect-more}
 use Rattle.lists.proofs.Truth.{side, clash, or-cases}
 use Rattle.evalset.specs.Bit.{bit}
 use Rattle.evalset.proofs.Bits.{bit-add}
+use Rattle.contact.specs.Plan.{may}
+use Rattle.contact.proofs.Somewhere.{may-below}
 use Rattle.search.specs.declared.Chart.{Chart}
 use Rattle.search.specs.Compiled.{Compiled, contactAt}
 use Rattle.pairing.specs.Sums.{entry}
 use Rattle.pairing.specs.Words.{Spelt, IsWord, Serving}
-use Rattle.pairing.specs.Masks.{MaskIs, MasksAre, Kept, pairWord, pairsOf, allPairs, PairsIn}
+use Rattle.pairing.specs.Masks.{MaskIs, MasksAre, lowestOf, Kept, pairWord, pairsOf, allPairs, PairsIn}
 use Rattle.pairing.specs.Listed.{pairCount, entriesOf, seenAt, Seen, Noted}
-use Rattle.pairing.proofs.Masking.{class-member, class-of}
+use Rattle.pairing.proofs.Masking.{class-member, class-of, lowest-may, may-lowest}
 use Rattle.pairing.proofs.Serving.{pair-spelt, word-turned}
 
 -- ---- one word
@@ -187,7 +189,7 @@ count-grows e top l = ⊎-elim (λ k. omega (arith, count-next e top k)) (λ k. 
 
 module _ (chart : Chart) (atoms : List (Atom ℕ)) (h : Compiled chart atoms) (contacts : ℕ) (few : chart .atoms ≤ 16) (c : Spelt (chart .atoms) (contactAt chart) contacts)
     (masks classes : List ℕ) (n : ℕ) (fits : 2 ^ (chart .names) ≤ length masks) (are : MasksAre (chart .xs) (chart .ys) (chart .atoms) (2 ^ (chart .names)) masks)
-    (kept : Kept (2 ^ (chart .names)) masks classes n) (seen list seen' list' : List ℕ) (r : ℕ) (none : (k : ℕ) → seenAt seen k ≡ false)
+    (kept : Kept (lowestOf (chart .names)) (2 ^ (chart .names)) masks classes n) (seen list seen' list' : List ℕ) (r : ℕ) (none : (k : ℕ) → seenAt seen k ≡ false)
     (noted : Noted (allPairs (65535 - contacts) classes n) seen list 0 seen' list' r) where
   abbrev top : ℕ
   top = 2 ^ (chart .names)
@@ -206,14 +208,23 @@ module _ (chart : Chart) (atoms : List (Atom ℕ)) (h : Compiled chart atoms) (c
   unseen : Seen seen []
   unseen k t = clash t (none k)
 
-  member : (i : ℕ) → i < n → (e : ℕ) × (e < top) × Of e i
-  member = class-member (chart .xs) (chart .ys) (chart .atoms) top masks classes n fits are kept
+  -- a point may have e
+  abbrev May : ℕ → Type 0
+  May e = may (chart .names) e ≡ true
 
-  class : (e : ℕ) → e < top → (i : ℕ) × (i < n) × Of e i
-  class = class-of (chart .xs) (chart .ys) (chart .atoms) top masks classes n fits are kept
+  member : (i : ℕ) → i < n → (e : ℕ) × May e × Of e i
+  member i l =
+      let p = class-member (chart .xs) (chart .ys) (chart .atoms) (lowestOf (chart .names)) top masks classes n fits are kept i l in
+      (p .0, lowest-may (chart .names) (p .0) (p .1) (p .2), p .3)
 
-  spelt : (i j e f : ℕ) → e < top → f < top → Of e i → Of f j → IsWord atoms e f (joint i j)
-  spelt i j e f le lf x y = pair-spelt chart contacts (entry classes i) (entry classes j) e f few c x y atoms h le lf
+  class : (e : ℕ) → May e → (i : ℕ) × (i < n) × Of e i
+  class e k =
+      class-of (chart .xs) (chart .ys) (chart .atoms) (lowestOf (chart .names)) top masks classes n fits are kept e
+      (may-lowest (chart .names) e k) (may-below (chart .names) e k)
+
+  spelt : (i j e f : ℕ) → May e → May f → Of e i → Of f j → IsWord atoms e f (joint i j)
+  spelt i j e f le lf x y =
+      pair-spelt chart contacts (entry classes i) (entry classes j) e f few c x y atoms h (may-below (chart .names) e le) (may-below (chart .names) f lf)
 
   -- a pair with the lesser class second
   listed : (i j : ℕ) → i < n → j ≤ i → In (joint i j) (take r list')
@@ -222,7 +233,7 @@ module _ (chart : Chart) (atoms : List (Atom ℕ)) (h : Compiled chart atoms) (c
       noted .there unseen (inr (collect-intro (λ i. pairsOf zeros classes i (i + 1)) (below-intro n i li)
       (collect-intro (λ j. joint i j ∷ []) (below-intro (i + 1) j (omega arith)) here)))
 
-  pair-of : (w : ℕ) → In w (allPairs zeros classes n) → (e : ℕ) × (f : ℕ) × (e < top) × (f < top) × IsWord atoms e f w
+  pair-of : (w : ℕ) → In w (allPairs zeros classes n) → (e : ℕ) × (f : ℕ) × May e × May f × IsWord atoms e f w
   unfolding pairsOf allPairs
   pair-of w i =
       let a = collect-elim (λ i. pairsOf zeros classes i (i + 1)) (below n) i in

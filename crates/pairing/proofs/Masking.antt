@@ -4,22 +4,23 @@ use mathlib.Core.Bool.{true, false}
 use mathlib.Core.Path.{_≡_, refl, sym, ap, _∙_, subst}
 use mathlib.Core.List.{List, [], _∷_, _++_}
 use mathlib.Core.Logic.{⊎-elim}
-use Prim.Native.Nat.{ℕ, _+_, _/_, _%_, _^_, _≤_, _<_}
+use Prim.Native.Nat.{ℕ, zero, suc, _+_, _/_, _%_, _^_, _≤_, _<_}
 use native.Mathlib.Numerals.{add-one}
 use native.Mathlib.Decide.{ℕ-discrete as decEq}
 use native.Mathlib.Omega.{arith}
 use lib.Pow.{pow-mono}
 use lib.ListN.{length, take, set, length-set, length-take}
 use lib.Seq.{getD-set-same, getD-set-other, getD-take, length-take-le, take-suc-set}
-use Rattle.lists.specs.Search.{In, elem}
-use Rattle.lists.proofs.Lists.{take-next}
-use Rattle.lists.proofs.Search.{in-one, in-left, in-right, in-either, place, placed, elem-intro, elem-elim}
+use Rattle.lists.specs.Search.{In, here, elem}
+use Rattle.lists.proofs.Search.{none-in, in-one, in-left, in-right, in-either, place, placed, elem-intro, elem-elim}
 use Rattle.lists.proofs.Truth.{clash}
 use Rattle.evalset.specs.declared.EvalSet.{EvalSet}
 use Rattle.evalset.specs.Sets.{mem, memAt}
+use Rattle.contact.specs.Plan.{may}
+use Rattle.contact.proofs.Somewhere.{may-some, may-intro}
 use Rattle.pairing.specs.Sums.{entry}
 use Rattle.pairing.specs.Words.{Spelt}
-use Rattle.pairing.specs.Masks.{memberOf, Spare, Marked, MarkedTo, MaskIs, MasksAre, Kept}
+use Rattle.pairing.specs.Masks.{memberOf, Spare, Marked, MarkedTo, MaskIs, MasksAre, lowestOf, Kept}
 use Rattle.pairing.proofs.Words.{spelt-none, spelt-more}
 
 -- ---- the masks
@@ -75,41 +76,55 @@ module _ (xs : List ℕ) (n : ℕ) where
 
 -- ---- the different ones
 
-pub kept-none : (masks : List ℕ) → Kept 0 masks masks 0
-kept-none masks = record { long = refl; few = omega arith; only = λ i. i; there = λ i. i; once = λ i j l k. absurd (omega arith) }
+pub kept-none : (low : ℕ) (masks : List ℕ) → Kept low low masks masks 0
+kept-none low masks =
+    record {
+      long = refl;
+      few = omega arith;
+      only = none-in;
+      there = λ e k l. absurd (omega arith);
+      once = λ i j l k. absurd (omega arith);
+    }
 
-module _ (n : ℕ) (masks masks' : List ℕ) (r : ℕ) (h : Kept n masks masks' r) (l : n < length masks) (same : entry masks' n ≡ entry masks n) where
+module _ (low n : ℕ) (masks masks' : List ℕ) (r : ℕ) (h : Kept low n masks masks' r) (from : low ≤ n) (l : n < length masks)
+    (same : entry masks' n ≡ entry masks n) where
   abbrev m : ℕ
   m = entry masks' n
 
-  next : take (n + 1) masks ≡ take n masks ++ m ∷ []
-  next = take-next masks n 0 l ∙ ap (λ (x : ℕ). take n masks ++ x ∷ []) (sym same)
+  -- one of those before it, or it
+  wider : {x : ℕ} → (e : ℕ) × (low ≤ e) × (e < n) × (entry masks e ≡ x) → (e : ℕ) × (low ≤ e) × (e < n + 1) × (entry masks e ≡ x)
+  wider w = (w .0, w .1, omega (arith, w .2), w .3)
+
+  each : (P : ℕ → Type 0) → ((e : ℕ) → low ≤ e → e < n → P (entry masks e)) → P m → (e : ℕ) → low ≤ e → e < n + 1 → P (entry masks e)
+  each P before it e k b = go (decEq e n)
+    where
+      go : Dec (e ≡ n) → P (entry masks e)
+      go (yes z) = subst P (same ∙ ap (entry masks) (sym z)) it
+      go (no ne) = before e k (omega (arith, ne))
 
   -- it is among those before it
-  pub kept-out : elem m (take r masks') ≡ true → Kept (n + 1) masks masks' r
+  pub kept-out : elem m (take r masks') ≡ true → Kept low (n + 1) masks masks' r
   kept-out t =
       record {
         long = h .long;
         few = omega (arith, h .few);
-        only = λ {m = x} i. subst (In x) (sym next) (in-left (m ∷ []) (h .only i));
-        there = λ {m = x} i.
-            ⊎-elim (h .there) (λ j. subst (λ (y : ℕ). In y (take r masks')) (sym (in-one j)) (elem-elim m (take r masks') t))
-            (in-either (take n masks) (m ∷ []) (subst (In x) next i));
+        only = λ i. wider (h .only i);
+        there = each (λ x. In x (take r masks')) (h .there) (elem-elim m (take r masks') t);
         once = h .once;
       }
 
   -- it is not
-  pub kept-in : elem m (take r masks') ≡ false → Kept (n + 1) masks (set masks' r m) (r + 1)
+  pub kept-in : elem m (take r masks') ≡ false → Kept low (n + 1) masks (set masks' r m) (r + 1)
   kept-in t =
       record {
         long = length-set masks' r m ∙ h .long;
         few = omega (arith, h .few);
         only = λ {m = x} i.
-            subst (In x) (sym next)
-            (⊎-elim (λ j. in-left (m ∷ []) (h .only j)) (in-right (take n masks)) (in-either (take r masks') (m ∷ []) (subst (In x) front i)));
-        there = λ {m = x} i.
-            subst (In x) (sym front)
-            (⊎-elim (λ j. in-left (m ∷ []) (h .there j)) (in-right (take r masks')) (in-either (take n masks) (m ∷ []) (subst (In x) next i)));
+            ⊎-elim (λ j. wider (h .only j)) (λ j. (n, from, omega arith, sym same ∙ sym (in-one j)))
+            (in-either (take r masks') (m ∷ []) (subst (In x) front i));
+        there = each (λ x. In x (take (r + 1) (set masks' r m)))
+            (λ e k b. subst (In (entry masks e)) (sym front) (in-left (m ∷ []) (h .there e k b)))
+            (subst (In m) (sym front) (in-right (take r masks') here));
         once = λ i j li lj z. go i j li lj (decEq j r) (sym (getD-set-other masks' r i m 0 (λ y. omega arith)) ∙ z);
       }
     where
@@ -126,14 +141,32 @@ module _ (n : ℕ) (masks masks' : List ℕ) (r : ℕ) (h : Kept n masks masks' 
       go i j li lj (no ne) z = h .once i j li (omega (arith, ne)) (z ∙ getD-set-other masks' r j m 0 ne)
 
 -- each class has an evaluation, and each evaluation a class
-module _ (xs ys : List EvalSet) (n top : ℕ) (masks classes : List ℕ) (r : ℕ) (fits : top ≤ length masks) (are : MasksAre xs ys n top masks)
-    (kept : Kept top masks classes r) where
-  pub class-member : (i : ℕ) → i < r → (e : ℕ) × (e < top) × MaskIs xs ys n e (entry classes i)
+module _ (xs ys : List EvalSet) (n low top : ℕ) (masks classes : List ℕ) (r : ℕ) (fits : top ≤ length masks) (are : MasksAre xs ys n top masks)
+    (kept : Kept low top masks classes r) where
+  pub class-member : (i : ℕ) → i < r → (e : ℕ) × (low ≤ e) × (e < top) × MaskIs xs ys n e (entry classes i)
   class-member i l =
-      let p = place-of masks top (kept .only (at-place classes r i l (omega (arith, kept .few, kept .long)))) in
-      (p .0, p .1, subst (MaskIs xs ys n (p .0)) (p .2) (are (p .0) (p .1)))
+      let p = kept .only (at-place classes r i l (omega (arith, kept .few, kept .long))) in
+      (p .0, p .1, p .2, subst (MaskIs xs ys n (p .0)) (p .3) (are (p .0) (p .2)))
 
-  pub class-of : (e : ℕ) → e < top → (i : ℕ) × (i < r) × MaskIs xs ys n e (entry classes i)
-  class-of e l =
-      let p = place-of classes r (kept .there (at-place masks top e l fits)) in
+  pub class-of : (e : ℕ) → low ≤ e → e < top → (i : ℕ) × (i < r) × MaskIs xs ys n e (entry classes i)
+  class-of e k l =
+      let p = place-of classes r (kept .there e k l) in
       (p .0, p .1, subst (MaskIs xs ys n e) (sym (p .2)) (are e l))
+
+-- ---- the evaluations that a point may have
+
+pub lowest-may : (names e : ℕ) → lowestOf names ≤ e → e < 2 ^ names → may names e ≡ true
+lowest-may zero e k l = may-intro 0 e l (λ some. absurd (omega arith))
+lowest-may (suc names) e k l = may-intro (suc names) e l (λ some. k)
+
+pub may-lowest : (names e : ℕ) → may names e ≡ true → lowestOf names ≤ e
+may-lowest zero e h = omega arith
+may-lowest (suc names) e h = may-some (suc names) e (omega arith) h
+
+pub lowest-named : (names : ℕ) → 0 < names → lowestOf names ≡ 1
+lowest-named zero l = absurd (omega arith)
+lowest-named (suc names) l = refl
+
+pub lowest-small : (names : ℕ) → lowestOf names ≤ 1
+lowest-small zero = omega arith
+lowest-small (suc names) = omega arith

@@ -56,6 +56,7 @@ pub record Noted (ks seen list : List ℕ) (count : ℕ) (seen' list' : List ℕ
 pub record Listable (chart : Chart) (contacts top : ℕ) (seen list : List ℕ) : Type 0 where
   pub few : chart .atoms ≤ limit
   pub contacts-are : Spelt (chart .atoms) (contactAt chart) contacts
+  pub some : 0 < top
   pub fits : top ≤ room
   pub top-is : chart .names ≤ most → top ≡ 2 ^ (chart .names)
   pub none : (k : ℕ) → seenAt seen k ≡ false

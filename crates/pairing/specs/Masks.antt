@@ -3,7 +3,7 @@
 use mathlib.Core.Bool.{Bool, true, false}
 use mathlib.Core.Path.{_≡_}
 use mathlib.Core.List.{List, [], _∷_}
-use Prim.Native.Nat.{ℕ, _+_, _*_, _/_, _%_, _^_, _≤_, _<_}
+use Prim.Native.Nat.{ℕ, zero, suc, _+_, _*_, _/_, _%_, _^_, _≤_, _<_}
 use lib.Bits.{bitAnd, bitOr}
 use lib.ListN.{length, take}
 use Rattle.lists.specs.Search.{In, collect, below}
@@ -49,12 +49,17 @@ MasksAre xs ys n top masks = (e : ℕ) → e < top → MaskIs xs ys n e (entry m
 
 -- ---- classes
 
--- the first r places have the different ones of the first n masks, each once
-pub record Kept (n : ℕ) (masks masks' : List ℕ) (r : ℕ) : Type 0 where
+-- the least evaluation that a point may have
+abbrev pub lowestOf : ℕ → ℕ
+lowestOf zero = 0
+lowestOf (suc names) = 1
+
+-- the first r places have the different ones of the masks from `low` up to n, each once
+pub record Kept (low n : ℕ) (masks masks' : List ℕ) (r : ℕ) : Type 0 where
   pub long : length masks' ≡ length masks
   pub few : r ≤ n
-  pub only : {m : ℕ} → In m (take r masks') → In m (take n masks)
-  pub there : {m : ℕ} → In m (take n masks) → In m (take r masks')
+  pub only : {m : ℕ} → In m (take r masks') → (e : ℕ) × (low ≤ e) × (e < n) × (entry masks e ≡ m)
+  pub there : (e : ℕ) → low ≤ e → e < n → In (entry masks e) (take r masks')
   pub once : (i j : ℕ) → i < j → j < r → entry masks' i ≡ entry masks' j → ⊥
 
 -- ---- pairs

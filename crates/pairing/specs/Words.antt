@@ -12,7 +12,7 @@ use Rattle.formula.specs.Formula.{Atom}
 use Rattle.formula.specs.Atoms.{isContact}
 use Rattle.lists.specs.Search.{In, any}
 use Rattle.evalset.specs.Bit.{bit}
-use Rattle.contact.specs.Plan.{mark, rowMarks}
+use Rattle.contact.specs.Plan.{may, mark, rowMarks}
 use Rattle.contact.specs.Check.{check}
 use Rattle.contact.specs.Pairs.{serves}
 use Rattle.search.specs.Rows.{rowBits}
@@ -38,10 +38,10 @@ servesAt atoms e f i = serves e f (mark (atomAt atoms i) true)
 abbrev pub IsWord : List (Atom ℕ) → ℕ → ℕ → ℕ → Type 0
 IsWord atoms e f w = Spelt (length atoms) (servesAt atoms e f) w
 
--- the list has the words of the pairs of evaluations over so many names, and no other
+-- the list has the words of the pairs of evaluations that points may have over so many names, and no other
 pub record Serving (names : ℕ) (atoms : List (Atom ℕ)) (ws : List ℕ) : Type 0 where
-  pub each : {w : ℕ} → In w ws → (e : ℕ) × (f : ℕ) × (e < 2 ^ names) × (f < 2 ^ names) × IsWord atoms e f w
-  pub every : (e f : ℕ) → e < 2 ^ names → f < 2 ^ names → (w : ℕ) × In w ws × IsWord atoms e f w
+  pub each : {w : ℕ} → In w ws → (e : ℕ) × (f : ℕ) × (may names e ≡ true) × (may names f ≡ true) × IsWord atoms e f w
+  pub every : (e f : ℕ) → may names e ≡ true → may names f ≡ true → (w : ℕ) × In w ws × IsWord atoms e f w
 
 -- ---- the test of rows
 

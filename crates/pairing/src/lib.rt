@@ -13,7 +13,7 @@ ghost use Rattle.evalset.specs.Sets.{room, mem, dropOf};
 ghost use Rattle.search.specs.Compiled.{limit, contactAt};
 ghost use Rattle.pairing.specs.Sums.{Joined, Sums, entry};
 ghost use Rattle.pairing.specs.Words.{Spelt, lone, rowTest, Judges};
-ghost use Rattle.pairing.specs.Masks.{digit, Spare, Marked, MarkedTo, MasksAre, Kept, PairsIn};
+ghost use Rattle.pairing.specs.Masks.{digit, Spare, Marked, MarkedTo, MasksAre, lowestOf, Kept, PairsIn};
 ghost use Rattle.pairing.specs.Listed.{Small, Noted, entriesOf, Listable, ListSays, Takes, puts, putsAll};
 use evalset::EvalSet;
 use evalset::Found;
@@ -102,13 +102,21 @@ fn among(masks: &[u32; ROOM], count: usize, m: u32) -> bool
     there
 }
 
-// The different ones of the first `top` masks, in the first places, each once; their number is answered.
-fn keep_different(masks: &mut [u32; ROOM], top: usize) -> usize
-    requires { ⌜ (top ≤ room) × (length (now masks) ≡ 64) ⌝ }
-    ensures { λ r. ⌜ Kept top (now (masks .entry)) (now (masks .exit)) r ⌝ }
+// The least evaluation that a point may have: not 0 where there is a name.
+fn lowest(names: usize) -> usize
+    ensures { λ r. ⌜ r ≡ lowestOf names ⌝ }
+{
+    if names == 0 { 0 } else { 1 }
+}
+
+// The different ones of the first `top` masks, but for those of evaluations that no point may have, in the first places, each once; their
+// number is answered.
+fn keep_different(masks: &mut [u32; ROOM], names: usize, top: usize) -> usize
+    requires { ⌜ (0 < top) × (top ≤ room) × (length (now masks) ≡ 64) ⌝ }
+    ensures { λ r. ⌜ Kept (lowestOf names) top (now (masks .entry)) (now (masks .exit)) r ⌝ }
 {
     let mut count: usize = 0;
-    let mut e: usize = 0;
+    let mut e = lowest(names);
     while e < top {
         let m = masks[e];
         e += 1;
@@ -174,8 +182,8 @@ fn note_words(
     noted
 }
 
-// The different words of the pairs of the first `top` evaluations, in the list's first places; their number is answered. One evaluation
-// of each class is paired, with itself too.
+// The different words of the pairs of the evaluations that points may have, of the first `top`, in the list's first places; their number
+// is answered. One evaluation of each class is paired, with itself too.
 pub fn words_of(
     chart: Chart,
     contacts: u32,
@@ -189,7 +197,7 @@ pub fn words_of(
     let xs = chart.xs;
     let ys = chart.ys;
     let mut masks = masks_of(xs, ys, chart.atoms, top);
-    let classes = keep_different(&mut masks, top);
+    let classes = keep_different(&mut masks, chart.names, top);
     let zeros = 65535 - contacts;
     let mut words = [0u32; ROOM];
     let mut count: usize = 0;

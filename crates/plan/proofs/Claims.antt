@@ -1,6 +1,6 @@
 -- What this crate promises, claim by claim; each holds by the file named in its comment. Assumes nothing.
 use mathlib.Core.Path.{_≡_, sym, ap, _∙_, subst}
-use mathlib.Core.Bool.{true}
+use mathlib.Core.Bool.{true, false}
 use mathlib.Core.Logic.{_↔_}
 use mathlib.Core.List.{List, [], _∷_}
 use Prim.Native.Nat.{ℕ, _^_, _≤_, _<_}
@@ -14,6 +14,7 @@ use Rattle.contact.specs.Meaning.{Floor, atomOn, meetsAll}
 use Rattle.contact.specs.Question.{Question, plain, Counts, NoFloor}
 use Rattle.contact.specs.Numbering.{namesOf, differentAtoms}
 use Rattle.contact.specs.Row.{Row, Realises}
+use Rattle.lists.specs.Search.{In}
 use Rattle.contact.specs.Plan.{Means}
 use Rattle.contact.specs.Check.{firstRowOf}
 use Rattle.plan.specs.declared.PlanArrays.{PlanArrays}
@@ -21,7 +22,7 @@ use Rattle.plan.specs.declared.PlanAnswer.the-variants as answer-is
 use Rattle.plan.specs.declared.PlanRead.{PlanRead}
 use Rattle.plan.specs.Words.{Plan, Ascends, IsPlan, wordsOf, Refusal}
 use Rattle.plan.specs.Floor.{touching, planFloor, namedFloor}
-use Rattle.plan.specs.Judging.{yes, unmet, judge}
+use Rattle.plan.specs.Judging.{yes, unmet, judge, uncovered}
 use Rattle.plan.specs.Reader.{Reading, plan, refused, readOf, ReadingSays}
 use Rattle.plan.specs.Arrays.{answerOf, planIn, Reads, countOf, planBy, touchesOf, vacantOf}
 use Rattle.plan.specs.Stored.{Stored}
@@ -34,6 +35,7 @@ use Rattle.plan.proofs.SameArrays.{InRange, reads-once}
 use Rattle.plan.proofs.Judged.{touches-meant, vacant-meant}
 use Rattle.plan.proofs.Given
 use Rattle.plan.proofs.Unmet.{yes-exactly, unmet-exactly}
+use Rattle.plan.proofs.Covered
 use Rattle.plan.specs.Meant.{FirstUnmet, IsGiven}
 
 -- what is read is a plan whose words these are (Sound, Exact)
@@ -88,6 +90,15 @@ pub vacant-judged : (p : Plan) (h : IsPlan p) (r : PlanArrays) → Stored r p �
     → Means (p .names) (mem x) t → vacantOf r (mem x) ≡ atomOn (planFloor p h) (Atom.empty t)
 vacant-judged p h r k x t f = vacant-meant p h r k (mem x) t f
 
+-- a plan is uncovered exactly if it has a name, and a point at evaluation 0 (Covered)
+pub uncovered-exactly : (p : Plan) → (uncovered p ≡ true) ↔ ((0 < p .names) × In 0 (p .points))
+uncovered-exactly = Covered.uncovered-exactly
+
+-- and covered exactly if its floor, over the names of rules of as many, counts for the plain question (Covered)
+pub covered-exactly : (rules : List (Formula Name)) (p : Plan) (h : IsPlan p) → p .names ≡ length (namesOf rules)
+    → (uncovered p ≡ false) ↔ Counts plain (namesOf rules) (namedFloor rules p h)
+covered-exactly rules p h named = (Covered.covered-counts rules p h named, Covered.counts-covered rules p h named)
+
 -- "Judge answers yes" exactly if every rule is met (Unmet)
 pub judge-yes : {N : Type 0} (F : Floor N) (rules : List (Formula N))
     → (judge F rules ≡ yes → meetsAll F rules ≡ true) × (meetsAll F rules ≡ true → judge F rules ≡ yes)
@@ -108,10 +119,10 @@ pub row-plan-exactly : (q : Question) (rules : List (Formula Name)) (row : Row) 
     → (p ≡ rowPlan q rules row) ↔ IsRowPlan q rules row p
 row-plan-exactly = Given.row-plan-exactly
 
--- its floor counts: that of a building hangs together (Given)
+-- its floor counts: each point lies in a name where one is used, and that of a building hangs together (Given)
 pub given-counts : (q : Question) (rules : List (Formula Name)) (row : Row)
     → firstRowOf q rules ≡ row ∷ [] → (h : IsPlan (rowPlan q rules row))
-    → Counts q (namedFloor rules (rowPlan q rules row) h)
+    → Counts q (namesOf rules) (namedFloor rules (rowPlan q rules row) h)
 given-counts = Given.given-counts
 
 -- gives the rules' atoms this row (Given)
@@ -153,12 +164,12 @@ pub given-words : (rules : List (Formula Name)) → length (differentAtoms rules
     → length (wordsOf p) ≤ 530
 given-words = Given.given-words
 
--- any plan, also that of one building, has at most 64 points for at most six names (Given)
+-- any plan, also that of one building, has at most 63 points for at most six names (Given)
 pub room-points : (q : Question) (rules : List (Formula Name)) (p : Plan) → plansOf q rules ≡ p ∷ [] → length (namesOf rules) ≤ most
-    → length (p .points) ≤ 64
+    → length (p .points) ≤ 63
 room-points = Given.room-points
 
--- so "Such a plan may have 64 points, and 2,082 words" (Given)
+-- so "a one-building plan now has at most 63 points and 2,018 words" (Given)
 pub room-words : (q : Question) (rules : List (Formula Name)) (p : Plan) → plansOf q rules ≡ p ∷ [] → length (namesOf rules) ≤ most
-    → length (wordsOf p) ≤ 2082
+    → length (wordsOf p) ≤ 2018
 room-words = Given.room-words

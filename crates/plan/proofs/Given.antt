@@ -15,7 +15,7 @@ use Rattle.lists.proofs.Search.{first-short}
 use Rattle.lists.proofs.Truth.{side}
 use Rattle.lists.proofs.Lists.{map-one}
 use Rattle.formula.specs.Formula.{Formula, Name}
-use Rattle.lists.specs.Search.{keep, collect, from, elem}
+use Rattle.lists.specs.Search.{keep, collect, from, below, elem}
 use Rattle.contact.specs.Meaning.{Floor, meetsAll}
 use Rattle.contact.specs.Question.{Question, plain, Counts, NoFloor}
 use Rattle.contact.specs.Numbering.{namesOf, mapAtom, differentAtoms, numberedAtoms, rowAtoms, numberOf}
@@ -24,8 +24,8 @@ use Rattle.contact.specs.Plan.{Mark, rowMarks, separated}
 use Rattle.contact.specs.Check.{passes, givenBy, pointsFor, rows, good, firstRow, firstRowOf}
 use Rattle.contact.proofs.Floors.{marksFloor, points-some, plan-points, plan-touch, plan-lies, points-exactly}
 use Rattle.contact.proofs.Answer.{first-good, rowFloor, row-counts, plan-gives-row}
-use Rattle.contact.proofs.Naming.{counts-renamed, numbers-row, row-meets, first-row-named, first-row-only-named, no-plan-named}
-use Rattle.contact.proofs.Count.{points-at-most, points-room}
+use Rattle.contact.proofs.Naming.{numbers-count, numbers-row, row-meets, first-row-named, first-row-only-named, no-plan-named}
+use Rattle.contact.proofs.Count.{points-at-most, points-room, points-room-named}
 use Rattle.contact.proofs.SameFloor.{SameFloor, same-back, row-same, counts-same}
 use Rattle.plan.specs.Words.{Plan, Ascends, IsPlan, lastWord, before, wordsOf}
 use Rattle.evalset.specs.Most.{most}
@@ -128,10 +128,10 @@ module _ (q : Question) (rules : List (Formula Name)) (row : Row) (found : first
     same = marks-same q (length (namesOf rules)) marks checked h
 
     -- counts
-    pub given-counts : Counts q (namedFloor rules (rowPlan q rules row) h)
+    pub given-counts : Counts q (namesOf rules) (namedFloor rules (rowPlan q rules row) h)
     given-counts =
-        counts-renamed (numberOf rules) q (planFloor (rowPlan q rules row) h)
-        (counts-same floorFound (planFloor (rowPlan q rules row) h) (same-back (planFloor (rowPlan q rules row) h) floorFound same) q
+        numbers-count rules q (planFloor (rowPlan q rules row) h)
+        (counts-same floorFound (planFloor (rowPlan q rules row) h) (same-back (planFloor (rowPlan q rules row) h) floorFound same) q (below (length (namesOf rules)))
         (row-counts q (length (namesOf rules)) (rowAtoms rules) (numberedAtoms rules) row found))
 
     -- gives the atoms the row
@@ -223,12 +223,17 @@ words-at-most p h =
     let pairs : p * (p - 1) ≤ 32 * 31 = mul-le-mul h low in
     omega arith
 
--- and 64 points, 2,082 words
-words-room : (p : ℕ) → p ≤ 64 → 1 + p + p * (p - 1) / 2 + 1 ≤ 2082
+-- and 63 points, 2,018 words
+words-room : (p : ℕ) → p ≤ 63 → 1 + p + p * (p - 1) / 2 + 1 ≤ 2018
 words-room p h =
-    let low : p - 1 ≤ 63 = omega arith in
-    let pairs : p * (p - 1) ≤ 64 * 63 = mul-le-mul h low in
+    let low : p - 1 ≤ 62 = omega arith in
+    let pairs : p * (p - 1) ≤ 63 * 62 = mul-le-mul h low in
     omega arith
+
+-- six names, 63 points: with no names there is one
+points-most : (q : Question) (n : ℕ) (ms : List Mark) → n ≤ most → length (pointsFor q n ms) ≤ 63
+points-most q zero ms few = omega (arith, points-room q 0 ms)
+points-most q (suc n) ms few = omega (arith, points-room-named q (suc n) ms (omega arith), pow-mono few)
 
 module _ (q : Question) (rules : List (Formula Name)) (p : Plan) (e : plansOf q rules ≡ p ∷ []) where
   -- the plan is that of a row
@@ -245,15 +250,13 @@ module _ (q : Question) (rules : List (Formula Name)) (p : Plan) (e : plansOf q 
   unfolding wordsOf
   words-count = omega (arith, length-append (before p) (lastWord (length (before p)) ∷ []), before-length p, given-contacts)
 
-  -- six names, 64 points
-  pub room-points : length (namesOf rules) ≤ most → length (p .points) ≤ 64
+  -- "a one-building plan now has at most 63 points and 2,018 words"
+  pub room-points : length (namesOf rules) ≤ most → length (p .points) ≤ 63
   unfolding rowPlan givenPlan
   room-points few =
-      of-row (λ r. length (r .points) ≤ 64)
-      (λ row. omega (arith, points-room q (length (namesOf rules)) (rowMarks (rowAtoms rules) row), pow-mono few))
+      of-row (λ r. length (r .points) ≤ 63) (λ row. points-most q (length (namesOf rules)) (rowMarks (rowAtoms rules) row) few)
 
-  -- "Such a plan may have 64 points, and 2,082 words."
-  pub room-words : length (namesOf rules) ≤ most → length (wordsOf p) ≤ 2082
+  pub room-words : length (namesOf rules) ≤ most → length (wordsOf p) ≤ 2018
   room-words few = omega (arith, words-count, words-room (length (p .points)) (room-points few))
 
 module _ (rules : List (Formula Name)) (few : length (differentAtoms rules) ≤ 16) (p : Plan) (e : plansOf plain rules ≡ p ∷ []) where

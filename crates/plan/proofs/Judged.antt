@@ -25,7 +25,7 @@ use Rattle.plan.proofs.Complete.{ascends-room}
 pub few-points : (p : Plan) → IsPlan p → length (p .points) ≤ 64
 few-points p h = omega (arith, ascends-room 0 (2 ^ (p .names)) (p .points) (omega arith) (h .ascend), pow-mono (h .few))
 
-ascends-at : (low high : ℕ) (es : List ℕ) (a : ℕ) → Ascends low high es → a < length es → getD es a 0 < high
+pub ascends-at : (low high : ℕ) (es : List ℕ) (a : ℕ) → Ascends low high es → a < length es → getD es a 0 < high
 ascends-at low high [] a h l = absurd (omega arith)
 ascends-at low high (e ∷ es) zero h l = h .1
 ascends-at low high (e ∷ es) (suc a) h l = ascends-at (suc e) high es a (h .2) (omega arith)

@@ -11,6 +11,7 @@ pub mod Writing
 pub mod Positions
 pub mod Judged
 pub mod Unmet
+pub mod Covered
 pub mod SamePlan
 pub mod Given
 pub mod SameArrays

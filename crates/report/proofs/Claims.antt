@@ -52,7 +52,7 @@ why-only = Printing.why-only
 
 -- the line PLAN EXISTS, exactly if the sheet is loaded and some finite floor meets its rules
 pub plan-exists-printed : (file : Text) → (whyOf file ≡ ended (bytes "PLAN EXISTS"))
-    ↔ (LoadRow file Outcome.Done × (fs : List (Formula Name)) × AreRules (filled (linesOf file)) fs × (F : Floor Name) × Counts plain F × (meetsAll F fs ≡ true))
+    ↔ (LoadRow file Outcome.Done × (fs : List (Formula Name)) × AreRules (filled (linesOf file)) fs × (F : Floor Name) × Counts plain (namesOf fs) F × (meetsAll F fs ≡ true))
 plan-exists-printed file =
     (Printing.some-floor file (whyOf file) (why file), λ r. sym (why-only file _ (Why.exists (r .0) (r .2) (r .3) (r .4) (r .5))))
 
@@ -80,5 +80,5 @@ three-lines = Examples.three-lines .0
 
 -- and for one building
 pub three-lines-building : outputOf building (bytes "~C(raw,cooked)\n~raw=0\n~cooked=0\n")
-    ≡ bytes "PLAN names=2 points=3\npoint 0: -\npoint 1: raw\npoint 2: cooked\ncontact 0 1\ncontact 0 2\n"
+    ≡ bytes "NO PLAN\n"
 three-lines-building = Examples.three-lines .1

@@ -17,7 +17,7 @@ use Rattle.syntax.specs.Rule.{ruleOf, meaningOf}
 use Rattle.evalset.specs.Bit.{bit}
 use Rattle.contact.specs.Question.{plain, building}
 use Rattle.contact.specs.Row.{rulesTrue}
-use Rattle.contact.specs.Plan.{separated, allowed, fills, given}
+use Rattle.contact.specs.Plan.{separated, may, allowed, fills, given}
 use Rattle.contact.specs.Pieces.{allowedOnes, grown, grownBy, wholePiece, pieceMeets, checkPieces, pieceGiven}
 use Rattle.contact.specs.Check.{check, pointsFor, good, firstRow}
 use Rattle.names.specs.Gather.{ruleTokens, withName, namesAfter, gatheredOf, gathered}
@@ -46,12 +46,12 @@ pub texts-computed : map (λ t. t .0) texts ≡ map (λ t. bytes (t .1)) texts
 unfolding digits decimal headLine pointNames namesOrNone pointLine pointLines contactLine planText refusedText bit
 texts-computed = refl
 
--- P3, from its rule texts, by each question. For one building: raw and cooked are separated, so evaluation 3, in both, is not allowed; 0, 1 and 2
--- are, and 0 touches the other two
+-- P3, from its rule texts, by each question. For one building: raw and cooked are separated, so evaluation 3, in both, is not allowed, and 0 is
+-- not, since names are used; 1 and 2 are, each a piece of its own, and neither piece has both regions
 abbrev threeLines : List ℕ
 threeLines = bytes "~C(raw,cooked)\n~raw=0\n~cooked=0\n"
 
 pub three-lines : (outputOf plain threeLines ≡ bytes "PLAN names=2 points=2\npoint 0: raw\npoint 1: cooked\n")
-    × (outputOf building threeLines ≡ bytes "PLAN names=2 points=3\npoint 0: -\npoint 1: raw\npoint 2: cooked\ncontact 0 1\ncontact 0 2\n")
-unfolding classOf isBlank isAlphanumeric isSign signs starts constantKind longest signPiece runLength runPiece pieceOf cutFrom lexed runMachine reading puts ruleOf meaningOf decide ℕ-discrete name-discrete equalAtom sameAtom bit rulesTrue separated allowed fills check given allowedOnes grown grownBy wholePiece pieceMeets checkPieces pieceGiven pointsFor good firstRow placesOf ruleTokens withName namesAfter gatheredOf gathered pairOf rowTo linksTo givenPlan rowPlan plansOf onFirst linesOf blankByte blankLine filled namesIn atomsIn judgeNames judgeAtoms judgeRoom judgeText judgeAdd judgeLines judgeLoad digits decimal headLine pointNames namesOrNone pointLine pointLines contactLine planText rulesText sheetText
+    × (outputOf building threeLines ≡ bytes "NO PLAN\n")
+unfolding classOf isBlank isAlphanumeric isSign signs starts constantKind longest signPiece runLength runPiece pieceOf cutFrom lexed runMachine reading puts ruleOf meaningOf decide ℕ-discrete name-discrete equalAtom sameAtom bit rulesTrue separated may allowed fills check given allowedOnes grown grownBy wholePiece pieceMeets checkPieces pieceGiven pointsFor good firstRow placesOf ruleTokens withName namesAfter gatheredOf gathered pairOf rowTo linksTo givenPlan rowPlan plansOf onFirst linesOf blankByte blankLine filled namesIn atomsIn judgeNames judgeAtoms judgeRoom judgeText judgeAdd judgeLines judgeLoad digits decimal headLine pointNames namesOrNone pointLine pointLines contactLine planText rulesText sheetText
 three-lines = (refl, refl)

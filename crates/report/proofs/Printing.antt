@@ -108,7 +108,7 @@ module _ (file : Text) where
 
   -- the line PLAN EXISTS: no tree's text and no refusal's begins as it does
   pub some-floor : (out : List ℕ) → Why file out → out ≡ ended (bytes "PLAN EXISTS")
-      → LoadRow file Outcome.Done × (fs : List (Formula Name)) × AreRules (filled (linesOf file)) fs × (F : Floor Name) × Counts plain F × (meetsAll F fs ≡ true)
+      → LoadRow file Outcome.Done × (fs : List (Formula Name)) × AreRules (filled (linesOf file)) fs × (F : Floor Name) × Counts plain (namesOf fs) F × (meetsAll F fs ≡ true)
   unfolding refusedText margin indented
   some-floor out (Why.reasons {fs} t done are w) e = absurd (go t w e)
     where

@@ -120,7 +120,7 @@ module _ {q : Question} {t : Table} {buffer : List ℕ} {r : AskResult} {exit : 
 
       go : (k : Question) → plansOf k rules ≡ p ∷ [] → length (planText (namesOf rules) p) ≤ textRoom k
       go plain e = few 32 496 (omega arith) (given-points rules few-atoms p e) (given-words rules few-atoms p e)
-      go building e = few 64 2016 (omega arith) (room-points building rules p e few-names) (room-words building rules p e few-names)
+      go building e = few 63 1953 (omega arith) (room-points building rules p e few-names) (room-words building rules p e few-names)
 
   row : AskRow q (rulesOf t) (length buffer) (askOutcome (r .answer))
   unfolding asked

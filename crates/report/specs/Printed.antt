@@ -1,7 +1,8 @@
 -- What is meant: what the program floorplan prints for a sheet (document 01, 'Worked sheets', the last paragraph), what building prints
 -- (document 02, T-04), what asread does (T-02), and what why does (T-06); the lines themselves are in Lines. No algorithm: a sheet is refused by its row of the
 -- table of calls (`LoadRow`), its rules are the formulas fs that the grammar derives (`AreRules`), the plan is the one that the documents
--- define for the question (`IsGiven`): for floorplan a floor is any finite floor, for building one that hangs together. Assumes nothing.
+-- define for the question (`IsGiven`): for floorplan a floor is any finite floor whose points lie in names, where a name is used, for building
+-- one that hangs together as well. Assumes nothing.
 use mathlib.Core.Path.{_≡_}
 use mathlib.Core.Bool.{true}
 use mathlib.Core.List.{List}
@@ -31,7 +32,7 @@ pub data Printed (q : Question) (file : Text) : List ℕ → Type 0 where
       → Printed q file (planText (namesOf fs) p)
   -- "Otherwise the one line is "NO PLAN"": it is loaded, and no finite floor that counts, of any number of points, meets its rules
   no-plan-line : {fs : List (Formula Name)} → LoadRow file Outcome.Done → AreRules (filled (linesOf file)) fs
-      → ((F : Floor Name) → Counts q F → meetsAll F fs ≡ true → ⊥)
+      → ((F : Floor Name) → Counts q (namesOf fs) F → meetsAll F fs ≡ true → ⊥)
       → Printed q file (ended (bytes "NO PLAN"))
   -- "or "refused 1 line 0 at 0" (number, line, place)"
   refused-line : {number line place : ℕ} → LoadRow file (Outcome.RefusedLine number line place) → Printed q file (refusedText number line place)
@@ -49,7 +50,7 @@ pub data Why (file : Text) : List ℕ → Type 0 where
   reasons : {fs : List (Formula Name)} (t : Tree) → LoadRow file Outcome.Done → AreRules (filled (linesOf file)) fs → IsWrittenTree fs t
       → Why file (reasonLines (atomTextOf fs) 0 t)
   -- or some finite floor that counts meets its rules
-  exists : {fs : List (Formula Name)} → LoadRow file Outcome.Done → AreRules (filled (linesOf file)) fs → (F : Floor Name) → Counts plain F
+  exists : {fs : List (Formula Name)} → LoadRow file Outcome.Done → AreRules (filled (linesOf file)) fs → (F : Floor Name) → Counts plain (namesOf fs) F
       → meetsAll F fs ≡ true → Why file (ended (bytes "PLAN EXISTS"))
   -- the line that floorplan has for a refused one
   refused : {number line place : ℕ} → LoadRow file (Outcome.RefusedLine number line place) → Why file (refusedText number line place)

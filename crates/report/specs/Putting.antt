@@ -8,15 +8,15 @@ use Rattle.contact.specs.Question.{Question, plain, building}
 use Rattle.plan.specs.Private.{written}
 use Rattle.plan.specs.Words.{over}
 
--- "an answered plan takes at most 530 words"; T-04: "Such a plan may have 64 points, and 2,082 words."
+-- "an answered plan takes at most 530 words"; T-07: "a one-building plan now has at most 63 points and 2,018 words"
 abbrev pub wordRoom : Question → ℕ
 wordRoom plain = 530
-wordRoom building = 2082
+wordRoom building = 2018
 
--- the text of the plan: a first line of 23 bytes, then 32 points of 112 and 496 contacts of 14, and for one building 64 and 2,016 of them
+-- the text of the plan: a first line of 23 bytes, then 32 points of 112 and 496 contacts of 14, and for one building 63 and 1,953 of them
 abbrev pub textRoom : Question → ℕ
 textRoom plain = 10551
-textRoom building = 35415
+textRoom building = 34421
 
 -- there was room for the text, and it was put there; the other bytes keep their values
 pub record Puts (at : ℕ) (text buffer exit : List ℕ) (end : ℕ) : Type 0 where

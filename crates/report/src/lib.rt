@@ -41,7 +41,7 @@ use table::Table;
 // The bytes of the buffer: the text of a plan has 10,551 at most.
 pub const ROOM: usize = 16384;
 
-// The bytes of that for one building: the text of its plan has 35,415 at most.
+// The bytes of that for one building: the text of its plan has 34,421 at most.
 pub const BUILDING_ROOM: usize = 36864;
 
 // Some bytes.
@@ -340,10 +340,10 @@ pub fn no_building_text() -> [u8; BUILDING_ROOM]
     [0u8; BUILDING_ROOM]
 }
 
-fn no_building_words() -> [u32; 2082]
-    ensures { λ r. ⌜ length r ≡ 2082 ⌝ }
+fn no_building_words() -> [u32; 2018]
+    ensures { λ r. ⌜ length r ≡ 2018 ⌝ }
 {
-    [0u32; 2082]
+    [0u32; 2018]
 }
 
 // The text by the question of one building, in the same form.

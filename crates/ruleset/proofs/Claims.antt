@@ -35,11 +35,8 @@ use Rattle.plan.specs.Given.{givenPlan}
 use Rattle.plan.specs.Plans.{rowPlan, plansOf}
 use Rattle.plan.proofs.SamePlan.{plan-again}
 use Rattle.plan.proofs.Claims.{given-is-plan}
-use Rattle.plan.specs.Judging.{judge}
-use Rattle.plan.specs.Floor.{namedFloor}
 use Rattle.judging.specs.declared.Judged.{Judged}
-use Rattle.judging.specs.Values.{judgedOf}
-use Rattle.judging.specs.Judges.{JudgesSay}
+use Rattle.judging.specs.Judges.{judgedPlan, JudgesSay}
 use Rattle.judging.proofs.Claims as judging
 use Rattle.trees.specs.declared.Verdict.{Verdict}
 use Rattle.trees.specs.Branch.{CheckSays}
@@ -162,12 +159,12 @@ module _ (rules : List (Formula Name)) (c : Compiling) (kept code : List ℕ) (h
 
   module _ (arrays : PlanArrays) (r : Judged) (p : Plan) (is : IsPlan p) (named : p .names ≡ length (namesOf rules)) (stored : Stored arrays p) where
     -- what `judge_plan` answers is the judgement of the rules as read
-    pub answer-judged : JudgesSay arrays chart code ends r → r ≡ judgedOf (judge (namedFloor rules p is) rules)
+    pub answer-judged : JudgesSay arrays chart code ends r → r ≡ judgedPlan rules p is
     answer-judged says =
         judging.answer-is arrays chart code ends r says rules comes-from p is (named ∙ sym (h .known .names-counted)) stored
 
     -- and so is the answer of `judged`
-    pub judged-is : JudgedIs c code arrays r → r ≡ judgedOf (judge (namedFloor rules p is) rules)
+    pub judged-is : JudgedIs c code arrays r → r ≡ judgedPlan rules p is
     unfolding JudgedIs
     judged-is says = says rules kept h p is named stored
 

@@ -27,10 +27,8 @@ use Rattle.plan.specs.declared.PlanArrays.{PlanArrays}
 use Rattle.plan.specs.Words.{Plan, IsPlan}
 use Rattle.plan.specs.Stored.{Stored}
 use Rattle.plan.specs.Plans.{rowPlan}
-use Rattle.plan.specs.Judging.{judge}
-use Rattle.plan.specs.Floor.{namedFloor}
 use Rattle.judging.specs.declared.Judged.{Judged}
-use Rattle.judging.specs.Values.{judgedOf}
+use Rattle.judging.specs.Judges.{judgedPlan}
 use Rattle.trees.specs.declared.Verdict.{Verdict}
 use Rattle.trees.specs.Checker.{checkedOf, treesOf}
 use Rattle.explaining.specs.declared.Explanation.{Explanation}
@@ -153,11 +151,11 @@ unfoldable pub RowPlanIs : Question → Compiling → ℕ → PlanArrays → Typ
 RowPlanIs q c row r =
     (rules : List (Formula Name)) (kept code : List ℕ) → CompiledRules rules c kept code → Stored r (rowPlan q rules (rowBits (c .known .atoms .chart .atoms) row))
 
--- the answer is the judgement of the rules that are compiled on the floor of the plan that the arrays hold
+-- the answer is the judgement, by the rules that are compiled, of the plan that the arrays hold
 unfoldable pub JudgedIs : Compiling → List ℕ → PlanArrays → Judged → Type 0
 JudgedIs c code arrays r =
     (rules : List (Formula Name)) (kept : List ℕ) → CompiledRules rules c kept code → (p : Plan) (h : IsPlan p) → p .names ≡ length (namesOf rules)
-    → Stored arrays p → r ≡ judgedOf (judge (namedFloor rules p h) rules)
+    → Stored arrays p → r ≡ judgedPlan rules p h
 
 -- the verdict is that of the checker on the words, against the rules that are compiled
 unfoldable pub VerdictIs : Compiling → List ℕ → List ℕ → Verdict → Type 0

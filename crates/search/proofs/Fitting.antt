@@ -1,23 +1,25 @@
 -- The state carries what the marks say. A mark more forbids and separates what its atom's sets say, so a step keeps the state that of
 -- the marks; and the tests on the state are those on the marks, as nothing from 2 ^ names up is allowed. Assumes nothing.
-use mathlib.Core.Bool.{Bool, true, false, not, _&&_, _||_, and-comm, and-true, or-self, or-false}
+use mathlib.Core.Bool.{Bool, true, false, not, _&&_, _||_, and-comm, and-true, and-eq-true-iff, or-self, or-false}
 use mathlib.Core.Path.{_≡_, sym, ap, ap₂, _∙_, fun-ext}
 use mathlib.Core.Logic.{⊎-elim}
 use mathlib.Core.List.{List, [], _∷_, _++_}
-use mathlib.Mathlib.Data.Bool.Basic.{eq-false-of-not-eq-true}
+use mathlib.Mathlib.Data.Bool.Basic.{and-intro, eq-false-of-not-eq-true, partialOrderLaws}
 use mathlib.Mathlib.Logic.Function.Defs.{congr-fun}
 use Prim.Native.Nat.{ℕ, _^_, _≤_, _<_}
 use native.Mathlib.Omega.{arith}
-use lib.Dec.{ltb}
+use lib.Dec.{eqb, ltb}
+use borrow.Author.Tests.{not-true, lt-ltb, ltb-true, eqb-false, ne-eqb}
 use Rattle.lists.proofs.Truth.{side, regroup, guarded}
 use Rattle.formula.specs.Formula.{Term, Atom}
 use Rattle.lists.specs.Search.{any, below}
-use Rattle.evalset.specs.Sets.{room, mem, memAt, belowOf, meetOf, minusOf}
+use Rattle.evalset.specs.Sets.{room, mem, memAt, belowOf, meetOf, minusOf, dropOf}
 use Rattle.evalset.specs.Most.{most}
 use Rattle.evalset.proofs.Members.{names-room, below-few, any-names}
 use Rattle.contact.specs.Meaning.{partTerm}
-use Rattle.contact.specs.Plan.{at, Means, Mark, zeroMark, mark, parts, separated, empties, allowed, fills, partners, leads}
-use Rattle.contact.proofs.Realise.{allowed-elim, fills-elim, partners-elim, leads-elim}
+use Rattle.contact.specs.Plan.{at, Means, Mark, zeroMark, mark, parts, separated, empties, may, allowed, fills, partners, leads}
+use Rattle.contact.proofs.Somewhere.{may-below, may-some, may-intro}
+use Rattle.contact.proofs.Realise.{allowed-below, fills-elim, partners-elim, leads-elim}
 use Rattle.search.specs.declared.State.{State}
 use Rattle.search.specs.Tests.{crossed, lessOf, partOf, startsOf}
 use Rattle.search.specs.Compiled.{AtomIs, Fit, Follows}
@@ -27,7 +29,7 @@ use Rattle.lists.proofs.Search.{any-last}
 
 module _ (n : ℕ) (ms : List Mark) where
   pub allowed-low : (e : ℕ) → allowed n ms e ≡ true → e < 2 ^ n
-  allowed-low e h = allowed-elim n ms e h .0
+  allowed-low = allowed-below n ms
 
   pub fills-low : (t : Term ℕ) (e : ℕ) → fills n ms t e ≡ true → e < 2 ^ n
   fills-low t e h = allowed-low e (fills-elim n ms t e h .0)
@@ -44,19 +46,36 @@ module _ (n : ℕ) (ms : List Mark) where
   fills-out : (t : Term ℕ) (e : ℕ) → 2 ^ n ≤ e → fills n ms t e ≡ false
   fills-out t e l = eq-false-of-not-eq-true (λ h. omega (arith, fills-low t e h))
 
+-- ---- the evaluations that a point may have
+
+-- all below 2 ^ n where there is no name
+pub possible-all : (n : ℕ) (a : ℕ → Bool) → n ≡ 0 → a ≡ belowOf n → n ≤ most → a ≡ may n
+possible-all n a z h l =
+    h ∙ fun-ext (λ e. below-few n l e
+    ∙ partialOrderLaws .le-antisymm (ltb e (2 ^ n)) (may n e) (λ k. may-intro n e (ltb-true e (2 ^ n) k) (λ p. absurd (omega arith)))
+    (λ k. lt-ltb e (2 ^ n) (may-below n e k)))
+
+-- and all but 0 where there is one
+pub possible-less : (n : ℕ) (a b : ℕ → Bool) → 0 < n → a ≡ belowOf n → b ≡ dropOf a 0 → n ≤ most → b ≡ may n
+possible-less n a b some h g l =
+    g ∙ ap (λ (x : ℕ → Bool). dropOf x 0) h
+    ∙ fun-ext (λ e. ap (λ (c : Bool). c && not (eqb e 0)) (below-few n l e)
+    ∙ partialOrderLaws .le-antisymm (ltb e (2 ^ n) && not (eqb e 0)) (may n e)
+    (λ k. let r = and-eq-true-iff (ltb e (2 ^ n)) (not (eqb e 0)) .0 k in
+    let ne : e ≡ 0 → ⊥ = eqb-false e 0 (not-true _ (r .1)) in
+    may-intro n e (ltb-true e (2 ^ n) (r .0)) (λ p. omega (arith, ne)))
+    (λ k. let p : 0 < e = may-some n e some k in
+    and-intro (lt-ltb e (2 ^ n) (may-below n e k)) (ap not (ne-eqb e 0 (omega arith)))))
+
 -- ---- no marks
 
-pub fit-start : (n : ℕ) (s : State) → mem (s .allowed) ≡ belowOf n → ((p q : ℕ) → memAt (s .rows) p q ≡ false)
-    → (mem (s .allowed) ≡ belowOf n) × ((p q : ℕ) → memAt (s .rows) p q ≡ false) × (n ≤ most → Fit n s [])
+pub fit-start : (n : ℕ) (s : State) → (n ≤ most → mem (s .allowed) ≡ may n) → ((p q : ℕ) → memAt (s .rows) p q ≡ false) → n ≤ most → Fit n s []
 unfolding allowed separated
-fit-start n s h g = (
-  h,
-  g,
-  λ l. record {
-    allowed-is = h ∙ fun-ext (λ e. below-few n l e ∙ sym (and-true (ltb e (2 ^ n))));
-    rows-are = λ p q lp lq. g p q;
-  },
-)
+fit-start n s h g l =
+    record {
+      allowed-is = h l ∙ fun-ext (λ e. sym (and-true (may n e)));
+      rows-are = λ p q lp lq. g p q;
+    }
 
 -- ---- one mark more
 
@@ -97,8 +116,8 @@ module _ (n : ℕ) (l : n ≤ most) (contact value : Bool) (x y : ℕ → Bool) 
       low : e < 2 ^ n → minusOf (allowed n ms) (lessOf contact value x y) e ≡ allowed n (ms ++ mark a value ∷ []) e
       low b =
           ap (λ (c : Bool). allowed n ms e && not c) (less-is n contact x y value a h e b)
-          ∙ regroup (ltb e (2 ^ n)) (any (empties e) ms) (any (parts e e) ms) (empties e (mark a value)) (parts e e (mark a value))
-          ∙ sym (ap₂ (λ (c d : Bool). ltb e (2 ^ n) && (not c && not d)) (any-last (empties e) ms (mark a value))
+          ∙ regroup (may n e) (any (empties e) ms) (any (parts e e) ms) (empties e (mark a value)) (parts e e (mark a value))
+          ∙ sym (ap₂ (λ (c d : Bool). may n e && (not c && not d)) (any-last (empties e) ms (mark a value))
           (any-last (parts e e) ms (mark a value)))
 
       high : 2 ^ n ≤ e → minusOf (allowed n ms) (lessOf contact value x y) e ≡ allowed n (ms ++ mark a value ∷ []) e

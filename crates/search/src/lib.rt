@@ -9,8 +9,9 @@ ghost use Prim.Native.Nat.{ℕ, _≤_, _<_};
 ghost use lib.ListN.{length, getD};
 ghost use Rattle.lists.specs.Padded.{pad};
 ghost use Rattle.lists.specs.Search.{first, keep, below, elem};
-ghost use Rattle.evalset.specs.Sets.{room, mem, memAt, belowOf, addOf};
+ghost use Rattle.evalset.specs.Sets.{room, mem, memAt, addOf};
 ghost use Rattle.evalset.specs.Most.{most};
+ghost use Rattle.contact.specs.Plan.{may};
 ghost use Rattle.search.specs.Rows.{rowBits};
 ghost use Rattle.search.specs.Tests.{Separates, Parts, pairOf, givesOf, rowOf, rowsOf, Filled};
 ghost use Rattle.search.specs.Compiled.{limit, Fit, Follows, StepSays};
@@ -126,14 +127,26 @@ fn decided(s: State, contact: bool, x: EvalSet, y: EvalSet, value: bool) -> Stat
     }
 }
 
-// The state before any atom is decided: the evaluations below 2 ^ names, all of them from NAMES up, and none separated.
+// The evaluations that a point may have: those below 2 ^ names, and not 0 where there is a name.
+fn possible(names: usize) -> EvalSet
+    ensures { λ r. ⌜ (names ≤ most → mem r ≡ may names) ⌝ }
+{
+    let all = evalset::below(names);
+    if names == 0 {
+        all
+    } else {
+        evalset::without(all, 0)
+    }
+}
+
+// The state before any atom is decided: the evaluations that a point may have, and none separated.
 fn start(names: usize) -> State
-    ensures { λ r. ⌜ (mem (r .allowed) ≡ belowOf names) × ((p q : ℕ) → memAt (r .rows) p q ≡ false) × (names ≤ most → Fit names r []) ⌝ }
+    ensures { λ r. ⌜ (names ≤ most → Fit names r []) ⌝ }
 {
     let none = evalset::empty();
     let rows = [none; ROOM];
     State {
-        allowed: evalset::below(names),
+        allowed: possible(names),
         rows,
     }
 }

@@ -6,7 +6,7 @@ use mathlib.Core.List.{List, []}
 use Prim.Native.Nat.{ℕ, zero, suc, _+_, _-_, _*_, _/_, _%_, _^_, _≤_, min}
 use native.Mathlib.Omega.{arith}
 use lib.ListN.{length, replicate, take, length-replicate}
-use lib.Pow.{pow-mono}
+use lib.Pow.{pow-mono, pow-pos}
 use Rattle.formula.specs.Atoms.{isContact}
 use Rattle.formula.specs.Formula.{Atom}
 use Rattle.lists.specs.Search.{first}
@@ -56,6 +56,7 @@ listable chart contacts top seen list few spelt z h =
     record {
       few = few;
       contacts-are = spelt;
+      some = omega (arith, z, pow-pos (min (chart .names) 6));
       fits = omega (arith, z, pow-mono {i = min (chart .names) 6} {j = 6} (omega arith));
       top-is = λ l. let y : min (chart .names) 6 ≡ chart .names = omega arith in z ∙ ap (λ (x : ℕ). 2 ^ x) y;
       none = h .unseen .none;

@@ -18,10 +18,10 @@ use Rattle.contact.specs.Numbering.{namesOf, numberOf}
 use Rattle.plan.specs.Words.{Plan, IsPlan, wordsOf, Refusal}
 use Rattle.plan.specs.Reader.{Reading, plan, refused, readOf, ReadingSays}
 use Rattle.plan.specs.Plans.{plansOf}
-use Rattle.plan.specs.Judging.{Judgement, judge}
+use Rattle.plan.specs.Judging.{Judgement, judge, uncovered}
 use Rattle.plan.proofs.Exact.{exact}
 use Rattle.plan.specs.Floor.{planFloor, namedFloor}
-use Rattle.plan.proofs.Claims.{plan-is-read, refused-exactly, judge-yes, judge-unmet, no-plan-given, given-exactly, given-at-most-one}
+use Rattle.plan.proofs.Claims.{plan-is-read, refused-exactly, uncovered-exactly, covered-exactly, judge-yes, judge-unmet, no-plan-given, given-exactly, given-at-most-one}
 use Rattle.table.specs.declared.AskAnswer.{AskAnswer}
 use Rattle.table.specs.declared.AskAnswer.the-variants as AskAnswer
 use Rattle.table.specs.declared.JudgeAnswer.{JudgeAnswer}
@@ -29,7 +29,7 @@ use Rattle.table.specs.declared.JudgeAnswer.the-variants as JudgeAnswer
 use Rattle.table.specs.Sheet.{Text}
 use Rattle.table.specs.Rules.{AreRules}
 use Rattle.table.specs.Calls.{formulasOf}
-use Rattle.table.specs.Asking.{planAnswer, foundAnswer, askAnswer, judgementAnswer, judgePlan, judgeReading, judgeAnswer}
+use Rattle.table.specs.Asking.{planAnswer, foundAnswer, askAnswer, judgementAnswer, judgeDecoded, judgePlan, judgeReading, judgeAnswer}
 use Rattle.plan.specs.declared.PlanRead.{PlanRead}
 use Rattle.plan.specs.Arrays.{answerOf, Reads}
 use Rattle.table.specs.declared.Outcome.{Outcome}
@@ -85,19 +85,21 @@ module _ (words : List ℕ) where
   -- rules that stand, and their formulas
   module _ (rs : List Text) (fs : List (Formula Name)) (some : SomeStand rs) (are : AreRules rs fs) where
     -- where the words are a plan of as many names, its floor decides
-    met-row : (p : Plan) (d : Decodes fs words p) (j : Judgement) → judge (floorOf d) fs ≡ j → JudgeRow rs words (judgeOutcome (judgementAnswer j))
-    met-row p d Judgement.yes e = JudgeRow.met some are d (judge-yes (floorOf d) fs .0 e)
-    met-row p d (Judgement.unmet k) e = JudgeRow.unmet some are d (judge-unmet (floorOf d) fs k .0 e)
+    met-row : (p : Plan) (d : Decodes fs words p) (b : Bool) → uncovered p ≡ b → (j : Judgement) → judge (floorOf d) fs ≡ j
+        → JudgeRow rs words (judgeOutcome (cond b JudgeAnswer.Uncovered (judgementAnswer j)))
+    met-row p d true u j e = let w = uncovered-exactly p .0 u in JudgeRow.uncovered some are d (w .0) (w .1)
+    met-row p d false u Judgement.yes e = JudgeRow.met some are d (covered-exactly fs p (d .is) (d .named) .0 u) (judge-yes (floorOf d) fs .0 e)
+    met-row p d false u (Judgement.unmet k) e = JudgeRow.unmet some are d (covered-exactly fs p (d .is) (d .named) .0 u) (judge-unmet (floorOf d) fs k .0 e)
 
     plan-row : (p : Plan) (h : IsPlan p) → wordsOf p ≡ words → JudgeRow rs words (judgeOutcome (judgePlan fs p h))
     plan-row p h w = go (decEq (p .names) (length (namesOf fs)))
       where
         answer : Bool → JudgeAnswer
-        answer b = cond b (judgementAnswer (judge (namedFloor fs p h) fs)) (JudgeAnswer.NamesDiffer (p .names))
+        answer b = cond b (judgeDecoded fs p h) (JudgeAnswer.NamesDiffer (p .names))
 
         go : Dec (p .names ≡ length (namesOf fs)) → JudgeRow rs words (judgeOutcome (answer (eqb (p .names) (length (namesOf fs)))))
         go (yes e) = subst (λ (b : Bool). JudgeRow rs words (judgeOutcome (answer b))) (sym (eq-eqb (p .names) (length (namesOf fs)) e))
-            (met-row p (record { is = h; words-are = w; named = e }) (judge (namedFloor fs p h) fs) refl)
+            (met-row p (record { is = h; words-are = w; named = e }) (uncovered p) refl (judge (namedFloor fs p h) fs) refl)
         go (no e) = subst (λ (b : Bool). JudgeRow rs words (judgeOutcome (answer b))) (sym (ne-eqb (p .names) (length (namesOf fs)) e)) (JudgeRow.differ some are h w e)
 
     reading-row : (r : Reading) (h : ReadingSays words r) → JudgeRow rs words (judgeOutcome (judgeReading fs words r h))
@@ -118,7 +120,8 @@ module _ (words : List ℕ) where
   same-plan rules q p e a =
       subst (λ (x : Plan). (b : IsPlan x) → judgePlan rules q a ≡ judgePlan rules x b) e
       (λ b. ap
-      (λ (F : Floor ℕ). cond (eqb (q .names) (length (namesOf rules))) (judgementAnswer (judge (renamed (numberOf rules) F) rules)) (JudgeAnswer.NamesDiffer (q .names)))
+      (λ (F : Floor ℕ). cond (eqb (q .names) (length (namesOf rules)))
+      (cond (uncovered q) JudgeAnswer.Uncovered (judgementAnswer (judge (renamed (numberOf rules) F) rules))) (JudgeAnswer.NamesDiffer (q .names)))
       (same-floor q a b))
 
   judged-plan : (rs : List Text) → SomeStand rs → (p : Plan) (h : IsPlan p) → wordsOf p ≡ words → judgeAnswer rs words ≡ judgePlan (formulasOf rs) p h
@@ -130,15 +133,18 @@ module _ (words : List ℕ) where
       go (refused j) s e = absurd (let z : _≡_ {A = ℕ} 0 1 = cc in omega arith)
 
   by-names : (fs : List (Formula Name)) (p : Plan) (h : IsPlan p) (b : Bool) → eqb (p .names) (length (namesOf fs)) ≡ b
-      → judgePlan fs p h ≡ cond b (judgementAnswer (judge (namedFloor fs p h) fs)) (JudgeAnswer.NamesDiffer (p .names))
-  by-names fs p h b e = ap (λ (t : Bool). cond t (judgementAnswer (judge (namedFloor fs p h) fs)) (JudgeAnswer.NamesDiffer (p .names))) e
+      → judgePlan fs p h ≡ cond b (judgeDecoded fs p h) (JudgeAnswer.NamesDiffer (p .names))
+  by-names fs p h b e = ap (λ (t : Bool). cond t (judgeDecoded fs p h) (JudgeAnswer.NamesDiffer (p .names))) e
 
   module _ (rs : List Text) (fs : List (Formula Name)) (some : SomeStand rs) (are : AreRules rs fs) where
     judged-as : (p : Plan) (h : IsPlan p) → wordsOf p ≡ words → judgeAnswer rs words ≡ judgePlan fs p h
     judged-as p h w = judged-plan rs some p h w ∙ ap (λ (gs : List (Formula Name)). judgePlan gs p h) (sym (are-formulas rs fs are))
 
-    decoded-judged : (p : Plan) (d : Decodes fs words p) → judgeAnswer rs words ≡ judgementAnswer (judge (floorOf d) fs)
-    decoded-judged p d = judged-as p (d .is) (d .words-are) ∙ by-names fs p (d .is) true (eq-eqb (p .names) (length (namesOf fs)) (d .named))
+    decoded-judged : (p : Plan) (d : Decodes fs words p) (b : Bool) → uncovered p ≡ b
+        → judgeAnswer rs words ≡ cond b JudgeAnswer.Uncovered (judgementAnswer (judge (floorOf d) fs))
+    decoded-judged p d b u =
+        judged-as p (d .is) (d .words-are) ∙ by-names fs p (d .is) true (eq-eqb (p .names) (length (namesOf fs)) (d .named))
+        ∙ ap (λ (t : Bool). cond t JudgeAnswer.Uncovered (judgementAnswer (judge (floorOf d) fs))) u
 
   pub judge-row-only : (rs : List Text) (o : Outcome) → JudgeRow rs words o → o ≡ judgeOutcome (judgeAnswer rs words)
   unfolding judgeAnswer
@@ -150,10 +156,13 @@ module _ (words : List ℕ) where
       go (refused i) s e = let z : i ≡ j = cc in ap JudgeAnswer.NotAPlan z
   judge-row-only rs o (JudgeRow.differ {fs} {p} some are h w n) =
       sym (ap judgeOutcome (judged-as rs fs some are p h w ∙ by-names fs p h false (ne-eqb (p .names) (length (namesOf fs)) n)))
-  judge-row-only rs o (JudgeRow.met {fs} {p} some are d m) =
-      sym (ap judgeOutcome (decoded-judged rs fs some are p d ∙ ap judgementAnswer (judge-yes (floorOf d) fs .1 m)))
-  judge-row-only rs o (JudgeRow.unmet {fs} {p} {k} some are d u) =
-      sym (ap judgeOutcome (decoded-judged rs fs some are p d ∙ ap judgementAnswer (judge-unmet (floorOf d) fs k .1 u)))
+  judge-row-only rs o (JudgeRow.uncovered {fs} {p} some are d l i) = sym (ap judgeOutcome (decoded-judged rs fs some are p d true (uncovered-exactly p .1 (l, i))))
+  judge-row-only rs o (JudgeRow.met {fs} {p} some are d c m) =
+      let u = covered-exactly fs p (d .is) (d .named) .1 c in
+      sym (ap judgeOutcome (decoded-judged rs fs some are p d false u ∙ ap judgementAnswer (judge-yes (floorOf d) fs .1 m)))
+  judge-row-only rs o (JudgeRow.unmet {fs} {p} {k} some are d c n) =
+      let u = covered-exactly fs p (d .is) (d .named) .1 c in
+      sym (ap judgeOutcome (decoded-judged rs fs some are p d false u ∙ ap judgementAnswer (judge-unmet (floorOf d) fs k .1 n)))
 
 -- ---- plan words alone
 

@@ -22,11 +22,12 @@ use Rattle.plan.specs.Reader.{Reading, plan, refused, readOf, ReadingSays}
 use Rattle.plan.specs.Arrays.{answerOf, planIn, Reads, planBy, Writes}
 use Rattle.plan.specs.Stored.{Stored}
 use Rattle.plan.specs.Plans.{plansOf}
-use Rattle.plan.specs.Judging.{Judgement, yes, unmet, judge}
+use Rattle.plan.specs.Judging.{Judgement, yes, unmet, judge, uncovered}
 use Rattle.plan.proofs.Claims.{given-exactly}
 use Rattle.plan.proofs.Exact.{exact}
 use Rattle.plan.specs.Floor.{namedFloor}
 use Rattle.judging.specs.declared.Judged.{Judged}
+use Rattle.judging.specs.declared.Judged.the-variants as Judged
 use Rattle.judging.specs.Values.{judgedOf}
 use Rattle.ruleset.specs.declared.Compiling.{Compiling}
 use Rattle.ruleset.specs.Texts.{CompiledRules, JudgedIs}
@@ -40,7 +41,7 @@ use Rattle.table.specs.declared.JudgeResult.{JudgeResult}
 use Rattle.table.specs.Store.{rulesOf}
 use Rattle.table.specs.Sheet.{Text}
 use Rattle.table.specs.Calls.{formulasOf, FromUs}
-use Rattle.table.specs.Asking.{foundAnswer, askAnswer, foundWords, askWords, asked, Asks, judgementAnswer, judgePlan, judgeReading, judgeAnswer, judged, Judges}
+use Rattle.table.specs.Asking.{foundAnswer, askAnswer, foundWords, askWords, asked, Asks, judgementAnswer, judgeDecoded, judgePlan, judgeReading, judgeAnswer, judged, Judges}
 use Rattle.table.specs.Steps.{judgedAnswer}
 use Rattle.table.specs.Rows.{SomeStand}
 use Rattle.table.proofs.Lines.{count-is, none-stand}
@@ -132,10 +133,11 @@ wrote-plan arrays buffer w exit h =
 abbrev judgeResult : Table → JudgeAnswer → JudgeResult
 judgeResult t a = record { table = t; answer = a }
 
--- both enums have the judgement's cases
-same-judgement : (j : Judgement) → judgedAnswer (judgedOf j) ≡ judgementAnswer j
-same-judgement yes = refl
-same-judgement (unmet k) = refl
+-- both enums have the judgement's cases, and that of an uncovered plan
+same-judgement : (b : Bool) (j : Judgement) → judgedAnswer (cond b Judged.Uncovered (judgedOf j)) ≡ cond b JudgeAnswer.Uncovered (judgementAnswer j)
+same-judgement true j = refl
+same-judgement false yes = refl
+same-judgement false (unmet k) = refl
 
 -- how a plan that arrays hold is judged by the rules, from an answer
 abbrev SaysOf : List (Formula Name) → PlanArrays → JudgeAnswer → Type 0
@@ -145,15 +147,15 @@ module _ (rules : List (Formula Name)) (c : Compiling) (kept code : List ℕ) (a
   pub judge-differs : (arrays .names ≡ c .known .atoms .chart .names → ⊥) → SaysOf rules arrays (JudgeAnswer.NamesDiffer (arrays .names))
   judge-differs differ p h stored =
       ap JudgeAnswer.NamesDiffer (stored .names)
-      ∙ sym (ap (λ (b : Bool). cond b (judgementAnswer (judge (namedFloor rules p h) rules)) (JudgeAnswer.NamesDiffer (p .names)))
+      ∙ sym (ap (λ (b : Bool). cond b (judgeDecoded rules p h) (JudgeAnswer.NamesDiffer (p .names)))
       (ne-eqb (p .names) (length (namesOf rules)) (λ e. differ (stored .names ∙ e ∙ sym (compiled .known .names-counted)))))
 
   pub judge-equal : arrays .names ≡ c .known .atoms .chart .names → (j : Judged) → JudgedIs c code arrays j → (a : JudgeAnswer) → a ≡ judgedAnswer j → SaysOf rules arrays a
   unfolding JudgedIs
   judge-equal e j says a f p h stored =
       let named : p .names ≡ length (namesOf rules) = sym (stored .names) ∙ e ∙ compiled .known .names-counted in
-      f ∙ ap judgedAnswer (says rules kept compiled p h named stored) ∙ same-judgement (judge (namedFloor rules p h) rules)
-      ∙ sym (ap (λ (b : Bool). cond b (judgementAnswer (judge (namedFloor rules p h) rules)) (JudgeAnswer.NamesDiffer (p .names)))
+      f ∙ ap judgedAnswer (says rules kept compiled p h named stored) ∙ same-judgement (uncovered p) (judge (namedFloor rules p h) rules)
+      ∙ sym (ap (λ (b : Bool). cond b (judgeDecoded rules p h) (JudgeAnswer.NamesDiffer (p .names)))
       (eq-eqb (p .names) (length (namesOf rules)) named))
 
 module _ (t : Table) (v : FromUs t) (words : List ℕ) where

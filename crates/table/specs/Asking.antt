@@ -12,7 +12,7 @@ use Rattle.contact.specs.Numbering.{namesOf}
 use Rattle.plan.specs.Words.{Plan, IsPlan, wordsOf, over}
 use Rattle.plan.specs.Reader.{Reading, plan, refused, readOf, ReadingSays}
 use Rattle.plan.specs.Plans.{plansOf}
-use Rattle.plan.specs.Judging.{Judgement, yes, unmet, judge}
+use Rattle.plan.specs.Judging.{Judgement, yes, unmet, judge, uncovered}
 use Rattle.plan.proofs.Exact.{exact}
 use Rattle.plan.specs.Floor.{namedFloor}
 use Rattle.table.specs.declared.Table.{Table}
@@ -68,10 +68,14 @@ abbrev pub judgementAnswer : Judgement → JudgeAnswer
 judgementAnswer yes = JudgeAnswer.Yes
 judgementAnswer (unmet k) = JudgeAnswer.Unmet k
 
--- a plan, as a floor over the rules' names in their numbering; refusal 14: "names differ in number | plan's names"
+-- a plan, as a floor over the rules' names in their numbering; document 02, T-07: "judging a plan of one name or more with a point at
+-- evaluation 0 answers 0, after the refusals and ahead of any rule"
+abbrev pub judgeDecoded : List (Formula Name) → (p : Plan) → IsPlan p → JudgeAnswer
+judgeDecoded rules p h = cond (uncovered p) JudgeAnswer.Uncovered (judgementAnswer (judge (namedFloor rules p h) rules))
+
+-- refusal 14: "names differ in number | plan's names"
 abbrev pub judgePlan : List (Formula Name) → (p : Plan) → IsPlan p → JudgeAnswer
-judgePlan rules p h =
-    cond (eqb (p .names) (length (namesOf rules))) (judgementAnswer (judge (namedFloor rules p h) rules)) (JudgeAnswer.NamesDiffer (p .names))
+judgePlan rules p h = cond (eqb (p .names) (length (namesOf rules))) (judgeDecoded rules p h) (JudgeAnswer.NamesDiffer (p .names))
 
 -- refusal 13: "words up to here begin no plan, or end early | word index, or the length"; what is read is a plan (`exact`)
 abbrev pub judgeReading : List (Formula Name) → (words : List ℕ) → (r : Reading) → ReadingSays words r → JudgeAnswer

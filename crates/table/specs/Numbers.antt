@@ -73,6 +73,8 @@ askOutcome (AskAnswer.ShortBuffer n) = Outcome.Refused 12 n
 abbrev pub judgeOutcome : JudgeAnswer → Outcome
 judgeOutcome JudgeAnswer.Yes = Outcome.Yes
 judgeOutcome (JudgeAnswer.Unmet k) = Outcome.Unmet k
+-- "answers 0"
+judgeOutcome JudgeAnswer.Uncovered = Outcome.Unmet 0
 judgeOutcome JudgeAnswer.NoRule = Outcome.Refused 11 0
 judgeOutcome (JudgeAnswer.NotAPlan i) = Outcome.Refused 13 i
 judgeOutcome (JudgeAnswer.NamesDiffer n) = Outcome.Refused 14 n

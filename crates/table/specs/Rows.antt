@@ -11,7 +11,7 @@ use Rattle.formula.specs.Formula.{Formula, Name}
 use Rattle.formula.specs.Names.{atomNames}
 use Rattle.syntax.specs.RuleText.{IsRule, Answers}
 use Rattle.syntax.specs.declared.RuleAnswer.the-variants as RuleAnswer
-use Rattle.lists.specs.Search.{collect}
+use Rattle.lists.specs.Search.{In, collect}
 use Rattle.contact.specs.Numbering.{allAtoms, namesOf, differentAtoms}
 use Rattle.contact.specs.Meaning.{Floor, meetsAll}
 use Rattle.contact.specs.Question.{Question, plain, Counts, NoFloor}
@@ -119,10 +119,14 @@ pub data JudgeRow (rs : List Text) (words : List ℕ) : Outcome → Type 0 where
   -- 14: "names differ in number", with the "plan's names"
   differ : {fs : List (Formula Name)} {p : Plan} → SomeStand rs → AreRules rs fs → IsPlan p → wordsOf p ≡ words → (p .names ≡ length (namesOf fs) → ⊥)
       → JudgeRow rs words (Outcome.Refused 14 (p .names))
-  -- "Judge answers yes"
-  met : {fs : List (Formula Name)} {p : Plan} → SomeStand rs → AreRules rs fs → (d : Decodes fs words p) → meetsAll (floorOf d) fs ≡ true → JudgeRow rs words Outcome.Yes
+  -- document 02, T-07: "judging a plan of one name or more with a point at evaluation 0 answers 0, after the refusals and ahead of any rule"
+  uncovered : {fs : List (Formula Name)} {p : Plan} → SomeStand rs → AreRules rs fs → Decodes fs words p → 0 < p .names → In 0 (p .points) → JudgeRow rs words (Outcome.Unmet 0)
+  -- "Judge answers yes": the plan's floor counts, and meets every rule
+  met : {fs : List (Formula Name)} {p : Plan} → SomeStand rs → AreRules rs fs → (d : Decodes fs words p) → Counts plain (namesOf fs) (floorOf d) → meetsAll (floorOf d) fs ≡ true
+      → JudgeRow rs words Outcome.Yes
   -- "or the lowest unmet rule, from 1"
-  unmet : {fs : List (Formula Name)} {p : Plan} {k : ℕ} → SomeStand rs → AreRules rs fs → (d : Decodes fs words p) → FirstUnmet (floorOf d) 1 fs k → JudgeRow rs words (Outcome.Unmet k)
+  unmet : {fs : List (Formula Name)} {p : Plan} {k : ℕ} → SomeStand rs → AreRules rs fs → (d : Decodes fs words p) → Counts plain (namesOf fs) (floorOf d) → FirstUnmet (floorOf d) 1 fs k
+      → JudgeRow rs words (Outcome.Unmet k)
 
 -- print k, with a buffer of so many bytes: document 02, T-02
 pub data PrintRow (rs : List Text) (k room : ℕ) : Outcome → Type 0 where
@@ -138,7 +142,7 @@ pub data ExplainRow (rs : List Text) (room : ℕ) : Outcome → Type 0 where
   -- "both calls start with 11"
   none : rs ≡ [] → ExplainRow rs room (Outcome.Refused 11 0)
   -- "17 in the writer, carrying 0, where a plan exists"
-  plan : {fs : List (Formula Name)} → SomeStand rs → AreRules rs fs → (F : Floor Name) → Counts plain F → meetsAll F fs ≡ true → ExplainRow rs room (Outcome.Refused 17 0)
+  plan : {fs : List (Formula Name)} → SomeStand rs → AreRules rs fs → (F : Floor Name) → Counts plain (namesOf fs) F → meetsAll F fs ≡ true → ExplainRow rs room (Outcome.Refused 17 0)
   -- "then 12 in the writer, with the words needed"
   short : {fs : List (Formula Name)} (t : Tree) → SomeStand rs → AreRules rs fs → IsWrittenTree fs t → room < length (treeWords t) → ExplainRow rs room (Outcome.Refused 12 (length (treeWords t)))
   -- "A new call writes a closed tree as words"

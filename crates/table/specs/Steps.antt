@@ -90,3 +90,4 @@ loadResult t a = record { table = t; answer = a }
 abbrev pub judgedAnswer : Judged → JudgeAnswer
 judgedAnswer Judged.Yes = JudgeAnswer.Yes
 judgedAnswer (Judged.Unmet k) = JudgeAnswer.Unmet k
+judgedAnswer Judged.Uncovered = JudgeAnswer.Uncovered

@@ -117,11 +117,13 @@ pub struct AskResult {
     pub answer: AskAnswer,
 }
 
-// How judge answers: the plan meets every rule, or the lowest that it does not meet, from 1, or why neither is said. Words that
-// are no plan carry the index, and a plan of another number of names carries that number.
+// How judge answers: the plan meets every rule, or the lowest that it does not meet, from 1, or it is uncovered, having a name and a point
+// that lies in none, or why nothing of these is said. Words that are no plan carry the index, and a plan of another number of names carries
+// that number.
 pub enum JudgeAnswer {
     Yes,
     Unmet(usize),
+    Uncovered,
     NoRule,
     NotAPlan(usize),
     NamesDiffer(usize),
@@ -368,6 +370,7 @@ fn judged_answer(j: Judged) -> JudgeAnswer
     match j {
         Judged::Yes => JudgeAnswer::Yes,
         Judged::Unmet(k) => JudgeAnswer::Unmet(k),
+        Judged::Uncovered => JudgeAnswer::Uncovered,
     }
 }
 
@@ -448,6 +451,7 @@ pub fn judge_outcome(answer: JudgeAnswer) -> Outcome
     match answer {
         JudgeAnswer::Yes => Outcome::Yes,
         JudgeAnswer::Unmet(k) => Outcome::Unmet(k),
+        JudgeAnswer::Uncovered => Outcome::Unmet(0),
         JudgeAnswer::NoRule => Outcome::Refused(11, 0),
         JudgeAnswer::NotAPlan(i) => Outcome::Refused(13, i),
         JudgeAnswer::NamesDiffer(n) => Outcome::Refused(14, n),
@@ -712,7 +716,7 @@ impl Table {
         self.answered(Asked::Plain, buffer)
     }
 
-    // The same for one building: a plan in which every point can be reached from every other through contacts, of up to 2,082 words, or
+    // The same for one building: a plan in which every point can be reached from every other through contacts, of up to 2,018 words, or
     // that no finite floor that hangs together meets the rules.
     pub fn ask_building(self, buffer: &mut [u32]) -> AskResult
         requires { ⌜ FromUs self ⌝ }
@@ -721,9 +725,9 @@ impl Table {
         self.answered(Asked::Building, buffer)
     }
 
-    // The judgement of a plan that is read from words, by the standing rules: yes, or the lowest rule that it does not meet. Where no
-    // rule stands, where the words are no plan, or where it has another number of names than the rules, the answer says so.
-    // The table comes back as it was.
+    // The judgement of a plan that is read from words, by the standing rules: yes, or the lowest rule that it does not meet; ahead of any
+    // rule, that it has a name and a point at evaluation 0. Where no rule stands, where the words are no plan, or where it has another
+    // number of names than the rules, the answer says so. The table comes back as it was.
     pub fn judge(self, words: &[u32]) -> JudgeResult
         requires { ⌜ FromUs self ⌝ }
         ensures { λ r. ⌜ Judges self (now (words .entry)) r ⌝ }

@@ -13,8 +13,8 @@
 // In a text `/` is byte 10, a backslash and two hexadecimal digits are that byte, and `{N:PART}` is N times PART. A refusal has
 // document 01's number and what it carries. `same`: the table has as many rules as before the call, and gives the same plans, also
 // while they are withdrawn one by one. `kept`: the words lent to a question have their old values, those past the plan or the tree or,
-// for another answer, all. A plan that is given is judged at once, and a tree is checked. The file `stdout` has the lines that documents
-// 01 and 02 ask for.
+// for another answer, all. A plan that is given is judged at once, and a tree is checked. `unmet rule 0` is judge's answer 0, a point in no
+// name (document 02, T-07). The file `stdout` has the lines that documents 01 and 02 ask for.
 ghost use mathlib.Core.Path.{_≡_};
 ghost use Prim.Native.Nat.{_≤_, _<_};
 ghost use lib.ListN.{length};
@@ -728,22 +728,47 @@ fn fourth_withdrawn() -> Table
     w.table
 }
 
-// The largest building, held to the plan over six names that has every point and every contact, also in the word past it.
+// The plan over six names that has every point that is in one, 63, and every contact: that on the first 63 evaluations, with each of them
+// one more.
+fn every_somewhere() -> [u32; 2083]
+    ensures { λ r. ⌜ length r ≡ 2083 ⌝ }
+{
+    let mut words = marked();
+    put_every(&mut words, 6, 63);
+    let mut e: usize = 1;
+    while e < 64 {
+        words[e] = 0x2000_0000 + e as u32;
+        e += 1;
+    }
+    words
+}
+
+// Writes whether the words of a building are those of this plan, also past it, and how it is judged.
+fn write_held(t: Table, words: [u32; 2083])
+    requires { ⌜ FromUs t ⌝ }
+{
+    let every = every_somewhere();
+    if same_words(&words, &every) {
+        write_bytes(b"; every point in a name and every contact; judged ");
+    } else {
+        write_bytes(b"; other words; judged ");
+    }
+    let r = t.judge(&words[0..2018]);
+    let answer = r.answer;
+    write_outcome(b"", table::judge_outcome(answer));
+    write_bytes(b"\n");
+}
+
+// The largest building, with as many words lent as it has.
 fn write_largest() {
     let t = Table::empty();
     let a = t.add(b"<=(a+b+c+d+e+f,1)");
     let t = a.table;
     let mut words = marked();
-    let r = t.ask_building(&mut words);
+    let r = t.ask_building(&mut words[0..2018]);
     let answer = r.answer;
     write_outcome(b"", table::ask_outcome(answer));
-    let mut every = marked();
-    put_every(&mut every, 6, 64);
-    if same_words(&words, &every) {
-        write_bytes(b"; every point and every contact\n");
-    } else {
-        write_bytes(b"; other words\n");
-    }
+    write_held(t, words);
 }
 
 fn main() {
@@ -753,6 +778,6 @@ fn main() {
     write_bytes(b"\n# P5 by calls in the code\n");
     let t = fourth_withdrawn();
     run_line(t, b"ask 530");
-    write_bytes(b"\n# One building of 64 points, by calls in the code\n");
+    write_bytes(b"\n# One building of 63 points, by calls in the code\n");
     write_largest();
 }

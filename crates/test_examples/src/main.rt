@@ -1,6 +1,6 @@
 // The test program of the output: the text for each sheet of the folder examples, for a contact, for no plan, for each refusal that
 // a sheet can get, and for the longest sheets; then some sheets as they were read, some for one building, and why some have no plan. The file
-// `stdout` has the texts that document 01 asks for, and T-02, T-03, T-04 and T-06 of document 02, worked out by hand.
+// `stdout` has the texts that document 01 asks for, and T-02, T-03, T-04, T-06 and T-07 of document 02, worked out by hand.
 use report::WhyAnswer;
 use test_kit::put_byte;
 use test_kit::put_bytes;
@@ -74,7 +74,7 @@ fn examples() {
     );
     show(b"empty", b"");
     show(b"struck out", b"C(raw,cooked)\n\n~raw=0\n");
-    show(b"nothing there", b"wash=0\n");
+    show(b"nothing there", b"wash=0\n~raw=0\n");
     show(b"unfinished", b"C(raw,cooked)\nC(raw,\n");
     show(b"office", b"~C(raw,cooked)\r\n~raw=0\r\n~cooked=0\r\n");
 }
@@ -87,6 +87,7 @@ fn others() {
         b"C(raw,cooked)\nC(cooked,raw)\n~C(-cooked,-raw)\n",
     );
     show(b"no floor at all", b"1=0");
+    show(b"an empty region alone", b"wash=0\n");
     show(b"refusal 1, blank lines", b"\n \t\n");
     show(b"refusal 1, office line ends", b"\r\n\r\n");
     show(b"refusal 3", b"T\na$b=0");
@@ -100,7 +101,7 @@ fn others() {
     );
     show(
         b"sixteen atoms, and two of them again",
-        b"a=0&b=0&c=0&a*b=0&b*a=0&a*c=0&c*a=0&b*c=0\nC(a,b)|C(a,c)|C(b,c)|C(a,a)|<=(a,b)|<=(b,a)|--a=0|-a=0\nT\na = 0|C(c,b)",
+        b"a=0&b=0&~c=0&a*b=0&b*a=0&a*c=0&c*a=0&b*c=0\nC(a,b)|C(a,c)|C(b,c)|C(a,a)|<=(a,b)|<=(b,a)|--a=0|-a=0\nT\na = 0|C(c,b)",
     );
     show(
         b"refusal 9",
@@ -140,9 +141,9 @@ fn read_back() {
 
 // ---- one building
 
-// Sheets of the folder examples. In the two halls' plan, the sheet P3, raw and cooked are separated, so no point is in both, and the floor
-// in neither is what they hang together by: it touches both. The lock's plan has such a floor too, though it would not need it: the
-// points are the whole piece. Where there is no such floor, since all is raw or cooked, each hall is a piece by itself, and none has both.
+// Sheets of the folder examples. In the two halls' plan, the sheet P3, raw and cooked are separated, so no point is in both, and none is in
+// neither, since every point lies in a region: each hall is a piece by itself, and none has both. A rule that all is raw or cooked says no
+// more. An air lock touches both halls, and they hang together by it.
 fn buildings() {
     show_building(
         b"halls, one building",
@@ -214,9 +215,9 @@ fn put_names(text: &mut [u8], at: usize, e: usize) -> usize {
     put_three(text, end, e / 8, b"def")
 }
 
-// The line of a point whose position is its evaluation.
-fn put_point(text: &mut [u8], at: usize, e: usize) -> usize {
-    let end = put_labelled(text, at, b"point ", e);
+// The line of a point: its position, and the names of its evaluation.
+fn put_point(text: &mut [u8], at: usize, i: usize, e: usize) -> usize {
+    let end = put_labelled(text, at, b"point ", i);
     let end = put_names(text, end, e);
     put_byte(text, end, b'\n')
 }
@@ -231,13 +232,13 @@ fn put_pair(text: &mut [u8], at: usize, i: usize, j: usize) -> usize {
     put_byte(text, end, b'\n')
 }
 
-// The lines of the points that lie in some name.
+// The lines of the points: each lies in some name, so that the first one has evaluation 1.
 fn put_points(text: &mut [u8], at: usize) -> usize {
     let mut end = at;
-    let mut e: usize = 1;
-    while e < 64 {
-        end = put_point(text, end, e);
-        e += 1;
+    let mut i: usize = 0;
+    while i < 63 {
+        end = put_point(text, end, i, i + 1);
+        i += 1;
     }
     end
 }
@@ -246,16 +247,16 @@ fn put_points(text: &mut [u8], at: usize) -> usize {
 fn put_pairs(text: &mut [u8], at: usize) -> usize {
     let mut end = at;
     let mut k: usize = 0;
-    while k < 4096 {
-        end = put_pair(text, end, k / 64, k % 64);
+    while k < 3969 {
+        end = put_pair(text, end, k / 63, k % 63);
         k += 1;
     }
     end
 }
 
-// The plan of all 64 evaluations of six names, each in contact with each.
+// The plan of all evaluations of six names but 0, each in contact with each.
 fn put_every(text: &mut [u8]) -> usize {
-    let end = put_bytes(text, 0, b"PLAN names=6 points=64\npoint 0: -\n");
+    let end = put_bytes(text, 0, b"PLAN names=6 points=63\n");
     let end = put_points(text, end);
     put_pairs(text, end)
 }
@@ -268,11 +269,11 @@ fn is_every(text: &[u8; report::BUILDING_ROOM]) -> bool {
 }
 
 // A rule over six names that rules nothing out, so that this is its plan: the length of its text, and whether it is the one that is put
-// together here. The first line has 23 bytes. The positions have 10 + 2 * 54 = 118 digits, and each name stands at 32 points, behind a
-// blank: the point lines have 64 * 8 + 118 + 6 * 32 * 2 bytes and the two of " -", 1,016. Each position is in 63 pairs: the contact lines
-// have 2,016 * 10 + 63 * 118 bytes, 27,594. In all 28,633.
+// together here. The first line has 23 bytes. The positions have 10 + 2 * 53 = 116 digits, and each name stands at 32 points, behind a
+// blank: the point lines have 63 * 8 + 116 + 6 * 32 * 2 bytes, 1,004. Each position is in 62 pairs: the contact lines have
+// 1,953 * 10 + 62 * 116 bytes, 26,722. In all 27,749.
 fn every_point() {
-    show_title(b"64 points, one building");
+    show_title(b"63 points, one building");
     let mut text = report::no_building_text();
     let len = report::report_building(b"<=(a+b+c+d+e+f,1)", &mut text);
     write_labelled(b"bytes ", len);

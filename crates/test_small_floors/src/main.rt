@@ -8,7 +8,8 @@
 // for its row. Atoms that are the same count as one, as document 02, T-03, says: now and then a sheet repeats an atom, a contact also
 // with its terms exchanged, the form's atoms are compared here sign by sign, and a sheet is refused exactly if more than 16 of them
 // differ. Every sheet is asked for one building as well, document 02, T-04, and that answer is held to the same floors as far as they
-// hang together. Merged points leave a floor that hangs together, so that for up to two names these are all such floors, too.
+// hang together. Merged points leave a floor that hangs together, so that for up to two names these are all such floors, too. A floor with
+// a point in no name counts only where a sheet has no name, document 02, T-07, and no plan of a sheet with one may have such a point.
 // Every sheet is explained as well, document 02, T-06: one without a plan has a tree, which the checker takes; one with a plan has none, and
 // the checker does not take that there is no floor.
 // A sheet that disagrees is written, and why. The file `stdout` has the documents' answers to P1 to P12 and the counts that separate
@@ -65,6 +66,8 @@ const EXACTLY_IF: u8 = 15;
 const NAME: u8 = 16;
 
 const SECOND: u8 = 17;
+
+const THIRD: u8 = 18;
 
 const RULE: u8 = 19;
 
@@ -931,6 +934,22 @@ fn name_set(name: u8) -> u8 {
     }
 }
 
+// "Where a table uses at least one name, each point of a plan must lie in at least one of them; with no names the old meaning stays."
+// The evaluations of points that do.
+fn somewhere(names: usize) -> u8 {
+    match names {
+        0 => 1,
+        1 => name_set(NAME),
+        2 => name_set(NAME) | name_set(SECOND),
+        _ => name_set(NAME) | name_set(SECOND) | name_set(THIRD),
+    }
+}
+
+// Whether all points do.
+fn stand_somewhere(points: u8, names: usize) -> bool {
+    points & (255 - somewhere(names)) == 0
+}
+
 // A floor whose points are in contact with themselves alone.
 fn apart(points: u8) -> Floor {
     Floor {
@@ -970,8 +989,11 @@ fn floor_of(points: u8, contacts: usize) -> Floor {
     floor
 }
 
-// How many floors have these points, of which there are at most four; of more none is gone through.
-fn floors_on(points: u8) -> usize {
+// How many floors have these points, of which there are at most four; of more none is gone through, nor where one is in no name.
+fn floors_on(points: u8, names: usize) -> usize {
+    if !stand_somewhere(points, names) {
+        return 0;
+    }
     match position(points, 8) {
         1 => 1,
         2 => 2,
@@ -1219,8 +1241,8 @@ fn with_floor_for_both(found: Both, floor: Floor, m: Machine) -> Both {
 }
 
 // What is found, with the floors of these points.
-fn with_floors(found: Both, code: &[u8], numbers: Numbers, points: u8) -> Both {
-    let floors = floors_on(points);
+fn with_floors(found: Both, code: &[u8], numbers: Numbers, names: usize, points: u8) -> Both {
+    let floors = floors_on(points, names);
     let mut next = found;
     let mut contacts: usize = 0;
     while contacts < floors {
@@ -1241,7 +1263,7 @@ fn search(code: &[u8], numbers: Numbers, names: usize) -> Both {
     let mut points: u8 = 0;
     while points < all {
         points += 1;
-        found = with_floors(found, code, numbers, points);
+        found = with_floors(found, code, numbers, names, points);
     }
     found
 }
@@ -1370,9 +1392,13 @@ fn separated(atoms: Atoms, e: usize, f: usize) -> bool {
     false
 }
 
-// "An evaluation is allowed if it is below 2^names, in no true zero term and not separated from itself."
+// "An evaluation is allowed if it is below 2^names, in no true zero term and not separated from itself." And "Where a name is used,
+// evaluation 0 is not allowed."
 fn allowed(atoms: Atoms, e: usize) -> bool {
-    has(evaluations(atoms.names), e) && !has(atoms.vacant, e) && !separated(atoms, e, e)
+    has(evaluations(atoms.names), e)
+        && (atoms.names == 0 || e != 0)
+        && !has(atoms.vacant, e)
+        && !separated(atoms, e, e)
 }
 
 // Whether an evaluation is in a set, and allowed.
@@ -1883,6 +1909,9 @@ fn check_plan(
     }
     let floor = floor_in(words, n);
     let building = found.building;
+    if !stand_somewhere(floor.points, names) {
+        return disagree(b"a point of the plan is in no name");
+    }
     if !is_asked_for(floor, building) {
         return disagree(b"the plan does not hang together");
     }

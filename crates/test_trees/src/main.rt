@@ -9,6 +9,7 @@
 //
 // The other checker works by the definitions: rules are read by Kleene's tables, and whether a floor gives the decided atoms their values
 // is found by going through the floors on the four evaluations, with all contacts; alike points can be merged, so these are all floors.
+// Where a sheet has a name, those with a point in none do not count (document 02, T-07).
 // What disagrees is written. The file `stdout` has the counts that a separate computation gave.
 ghost use mathlib.Core.Path.{_≡_};
 ghost use Prim.Native.Nat.{_≤_};
@@ -78,14 +79,22 @@ fn rule_value(sign: u8, a: u8, b: u8, branch: usize) -> u8 {
     }
 }
 
+// The evaluations in a name, bit e for evaluation e; another sign has none.
+fn name_points(sign: u8) -> u8 {
+    match sign {
+        b'a' => 0xA,
+        b'b' => 0xC,
+        _ => 0,
+    }
+}
+
 // The points of a term, the value of an atom, or that of a rule, from those of its parts.
 fn value_of(sign: u8, a: u8, b: u8, floor: usize, branch: usize) -> u8 {
     let points = (floor / 64 % 16) as u8;
     match sign {
         b'0' => 0,
         b'1' => points,
-        b'a' => points & 0xA,
-        b'b' => points & 0xC,
+        b'a' | b'b' => points & name_points(sign),
         b'-' => points & (255 - a),
         b'*' => a & b,
         b'+' => a | b,
@@ -186,12 +195,34 @@ fn agrees(branch: usize, row: usize, atom: usize) -> bool {
     value == UNKNOWN || value as usize == (row >> (atom % 3)) % 2
 }
 
+// The evaluations in the names that a form has; without a name all four: "Where a table uses at least one name, each
+// point of a plan must lie in at least one of them; with no names the old meaning stays."
+fn somewhere(form: &[u8]) -> u8 {
+    let mut points: u8 = 0;
+    let mut i: usize = 0;
+    while i < form.len() {
+        points = points | name_points(form[i]);
+        i += 1;
+    }
+    if points == 0 { 15 } else { points }
+}
+
+// Whether a floor has no other points than these.
+fn is_within(floor: usize, points: u8) -> bool {
+    (floor / 64 % 16) as u8 & (255 - points) == 0
+}
+
 // "no finite plan gives the decided atoms their values"
 fn floorless(form: &[u8], branch: usize) -> bool {
+    let points = somewhere(form);
     let mut floor: usize = 64;
     while floor < 1024 {
         let r = read_on(form, floor, branch);
-        if agrees(branch, r.row, 0) && agrees(branch, r.row, 1) && agrees(branch, r.row, 2) {
+        if is_within(floor, points)
+            && agrees(branch, r.row, 0)
+            && agrees(branch, r.row, 1)
+            && agrees(branch, r.row, 2)
+        {
             return false;
         }
         floor += 1;

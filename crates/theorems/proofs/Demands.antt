@@ -1,7 +1,7 @@
 -- The three demands. The table after a list of calls is that of the standing rules, and each call answers by a function of these rules and
 -- of what is passed: its row applies first, its plan is the first row's, and the run that adds only the standing rules gets the
 -- same. Assumes nothing.
-use Prim.Native.Nat.{ℕ, _≤_}
+use Prim.Native.Nat.{ℕ, _≤_, _<_}
 use mathlib.Core.Path.{_≡_, refl, sym, ap, _∙_, subst}
 use mathlib.Core.Logic.{_↔_}
 use mathlib.Core.Bool.{true}
@@ -56,7 +56,7 @@ use Rattle.table.proofs.Explaining.{explains-of, checks-of}
 use Rattle.table.proofs.TreeRows.{had-tree, tree-written, first-tree, tree-kept}
 use Rattle.table.proofs.Asking.{asks-of, judges-of, words-none, words-written, words-short, first-words}
 use Rattle.table.proofs.Claims as table
-use Rattle.theorems.specs.Demands.{Called, Leaves, Exactly, Answered, Met, NotMet, Given, Meant, Same, Reasons}
+use Rattle.theorems.specs.Demands.{Called, Leaves, Exactly, Answered, Met, NotMet, Nowhere, Given, Meant, Same, Reasons}
 use Rattle.plan.specs.Meant.{IsGiven, FirstUnmet}
 
 -- ---- calls of the code leave the table of the run
@@ -131,7 +131,7 @@ without-plan q rs room o (AskRow.short some are g l) f = absurd (let z : _≡_ {
 without-plan q rs room o (AskRow.given some are g l) f = absurd (let z : _≡_ {A = ℕ} 0 1 = cc in omega arith)
 
 -- where some floor that counts meets the rules there is a plan
-plan-found : (q : Question) (rules : List (Formula Name)) (F : Floor Name) → Counts q F → meetsAll F rules ≡ true → (p : Plan) × IsGiven q rules p
+plan-found : (q : Question) (rules : List (Formula Name)) (F : Floor Name) → Counts q (namesOf rules) F → meetsAll F rules ≡ true → (p : Plan) × IsGiven q rules p
 plan-found q rules F counts m = go (plansOf q rules) refl (given-at-most-one q rules)
   where
     go : (ps : List Plan) → plansOf q rules ≡ ps → length ps ≤ 1 → (p : Plan) × IsGiven q rules p
@@ -145,7 +145,7 @@ unfolding rowPlan givenPlan
 row-given q rs fs some are few row found =
     let is = given-is-plan q fs few row found in
     record {
-      met = record { some = some; formulas = fs; rules = are; plan = rowPlan q fs row; decodes = record { is = is; words-are = refl; named = refl }; meets = given-meets q fs row found is };
+      met = record { some = some; formulas = fs; rules = are; plan = rowPlan q fs row; decodes = record { is = is; words-are = refl; named = refl }; covered = record { somewhere = given-counts q fs row found is .somewhere; shaped = tt }; meets = given-meets q fs row found is };
       counts = given-counts q fs row found is;
       is = record { row = row; first = first-row-named q fs row found; is = row-plan-exactly q fs row found (rowPlan q fs row) .0 refl };
       back = written-read (rowPlan q fs row) is;
@@ -296,25 +296,62 @@ module _ (cs : List Call) where
           subst (Given q (standing cs)) (sym w) (plan-given q some p g)
 
   -- what judge says of the words
-  judged-so : (words : List ℕ) (o : Outcome) → JudgeRow (standing cs) words o → (o ≡ Outcome.Yes → Met (standing cs) words) × ((k : ℕ) → o ≡ Outcome.Unmet k → NotMet (standing cs) words k)
-  judged-so words o (JudgeRow.none z) = (λ f. absurd (let z : _≡_ {A = ℕ} 0 1 = cc in omega arith), λ k f. absurd (let z : _≡_ {A = ℕ} 0 1 = cc in omega arith))
-  judged-so words o (JudgeRow.unread some z) = (λ f. absurd (let z : _≡_ {A = ℕ} 0 1 = cc in omega arith), λ k f. absurd (let z : _≡_ {A = ℕ} 0 1 = cc in omega arith))
-  judged-so words o (JudgeRow.differ some rules i w z) = (λ f. absurd (let z : _≡_ {A = ℕ} 0 1 = cc in omega arith), λ k f. absurd (let z : _≡_ {A = ℕ} 0 1 = cc in omega arith))
-  judged-so words o (JudgeRow.met {fs = gs} {p = p} some rules d m) = (λ f. record { some = some; formulas = gs; rules = rules; plan = p; decodes = d; meets = m }, λ k f. absurd (let z : _≡_ {A = ℕ} 0 1 = cc in omega arith))
-  judged-so words o (JudgeRow.unmet {fs = gs} {p = p} {k = j} some rules d u) = (
-    λ f. absurd (let z : _≡_ {A = ℕ} 0 1 = cc in omega arith),
-    λ k f. let z : j ≡ k = cc in record { some = some; formulas = gs; rules = rules; plan = p; decodes = d; lowest = subst (λ (i : ℕ). FirstUnmet (floorOf d) 1 gs i) z u },
-  )
+  record Judged (words : List ℕ) (o : Outcome) : Type 0 where
+    yes : o ≡ Outcome.Yes → Met (standing cs) words
+    unmet : (k : ℕ) → 0 < k → o ≡ Outcome.Unmet k → NotMet (standing cs) words k
+    nowhere : o ≡ Outcome.Unmet 0 → Nowhere (standing cs) words
+
+  -- nothing, where it is another answer
+  not-judged : (words : List ℕ) (number carries : ℕ) → Judged words (Outcome.Refused number carries)
+  not-judged words number carries =
+      record {
+        yes = λ f. absurd (let z : _≡_ {A = ℕ} 0 1 = cc in omega arith);
+        unmet = λ k l f. absurd (let z : _≡_ {A = ℕ} 0 1 = cc in omega arith);
+        nowhere = λ f. absurd (let z : _≡_ {A = ℕ} 0 1 = cc in omega arith);
+      }
+
+  judged-so : (words : List ℕ) (o : Outcome) → JudgeRow (standing cs) words o → Judged words o
+  judged-so words o (JudgeRow.none z) = not-judged words 11 0
+  judged-so words o (JudgeRow.unread {j} some z) = not-judged words 13 j
+  judged-so words o (JudgeRow.differ {p = p} some rules i w z) = not-judged words 14 (p .names)
+  judged-so words o (JudgeRow.uncovered {fs = gs} {p = p} some rules d l i) =
+      record {
+        yes = λ f. absurd (let z : _≡_ {A = ℕ} 0 1 = cc in omega arith);
+        unmet = λ k l f. let z : 0 ≡ k = cc in absurd (omega arith);
+        nowhere = λ f. record { some = some; formulas = gs; rules = rules; plan = p; decodes = d; named = l; point = i };
+      }
+  judged-so words o (JudgeRow.met {fs = gs} {p = p} some rules d c m) =
+      record {
+        yes = λ f. record { some = some; formulas = gs; rules = rules; plan = p; decodes = d; covered = c; meets = m };
+        unmet = λ k l f. absurd (let z : _≡_ {A = ℕ} 0 1 = cc in omega arith);
+        nowhere = λ f. absurd (let z : _≡_ {A = ℕ} 0 1 = cc in omega arith);
+      }
+  judged-so words o (JudgeRow.unmet {fs = gs} {p = p} {k = j} some rules d c u) =
+      record {
+        yes = λ f. absurd (let z : _≡_ {A = ℕ} 0 1 = cc in omega arith);
+        unmet = λ k l f. let z : j ≡ k = cc in
+            record { some = some; formulas = gs; rules = rules; plan = p; decodes = d; covered = c; lowest = subst (λ (i : ℕ). FirstUnmet (floorOf d) 1 gs i) z u };
+        nowhere = λ f. let z : j ≡ 0 = cc in absurd (omega (arith, u .number));
+      }
 
   judged-yes : (words : List ℕ) (r : JudgeResult) → Judges (run cs) words r → (judgeOutcome (r .answer) ≡ Outcome.Yes) ↔ Met (standing cs) words
   judged-yes words r h =
       let row = judge-exactly words r h in
-      (judged-so words (judgeOutcome (r .answer)) (row .row) .0, λ m. sym (row .only Outcome.Yes (JudgeRow.met (m .some) (m .rules) (m .decodes) (m .meets))))
+      (judged-so words (judgeOutcome (r .answer)) (row .row) .yes, λ m. sym (row .only Outcome.Yes (JudgeRow.met (m .some) (m .rules) (m .decodes) (m .covered) (m .meets))))
 
-  judged-unmet : (words : List ℕ) (r : JudgeResult) → Judges (run cs) words r → (k : ℕ) → (judgeOutcome (r .answer) ≡ Outcome.Unmet k) ↔ NotMet (standing cs) words k
-  judged-unmet words r h k =
-      let row = judge-exactly words r h in
-      (judged-so words (judgeOutcome (r .answer)) (row .row) .1 k, λ m. sym (row .only (Outcome.Unmet k) (JudgeRow.unmet (m .some) (m .rules) (m .decodes) (m .lowest))))
+  judged-unmet : (words : List ℕ) (r : JudgeResult) → Judges (run cs) words r → (k : ℕ) → 0 < k → (judgeOutcome (r .answer) ≡ Outcome.Unmet k) ↔ NotMet (standing cs) words k
+  judged-unmet words r h k l =
+      let row = judge-exactly words r h in (
+        judged-so words (judgeOutcome (r .answer)) (row .row) .unmet k l,
+        λ m. sym (row .only (Outcome.Unmet k) (JudgeRow.unmet (m .some) (m .rules) (m .decodes) (m .covered) (m .lowest))),
+      )
+
+  judged-nowhere : (words : List ℕ) (r : JudgeResult) → Judges (run cs) words r → (judgeOutcome (r .answer) ≡ Outcome.Unmet 0) ↔ Nowhere (standing cs) words
+  judged-nowhere words r h =
+      let row = judge-exactly words r h in (
+        judged-so words (judgeOutcome (r .answer)) (row .row) .nowhere,
+        λ m. sym (row .only (Outcome.Unmet 0) (JudgeRow.uncovered (m .some) (m .rules) (m .decodes) (m .named) (m .point))),
+      )
 
   meant : Meant (standing cs) (run cs)
   meant =
@@ -325,6 +362,7 @@ module _ (cs : List Call) where
         given = given;
         yes = judged-yes;
         unmet = judged-unmet;
+        nowhere = judged-nowhere;
       }
 
   -- ---- demand 3
@@ -396,7 +434,7 @@ module _ (cs : List Call) where
     where
       go : (o : Outcome) → ExplainRow (standing cs) (length buffer) o → o ≡ Outcome.Refused 17 0 → NoFloor plain fs → ⊥
       go o (ExplainRow.none z) f none = absurd (some z)
-      go o (ExplainRow.plan {fs = gs} also rules F counts meets) f none = none F counts (of-computed (standing cs) gs rules (λ hs. meetsAll F hs ≡ true) meets)
+      go o (ExplainRow.plan {fs = gs} also rules F counts meets) f none = none F (of-computed (standing cs) gs rules (λ hs. Counts plain (namesOf hs) F) counts) (of-computed (standing cs) gs rules (λ hs. meetsAll F hs ≡ true) meets)
       go o (ExplainRow.short t also rules w l) f none = absurd (let z : _≡_ {A = ℕ} 12 17 = cc in omega arith)
       go o (ExplainRow.tree t also rules w l) f none = absurd (let z : _≡_ {A = ℕ} 0 1 = cc in omega arith)
 

@@ -22,7 +22,7 @@ use Rattle.lists.proofs.Truth.{clash}
 use Rattle.lists.proofs.Lists.{map-same}
 use Rattle.contact.specs.Row.{rulesTrue}
 use Rattle.contact.specs.Question.{plain}
-use Rattle.contact.specs.Plan.{separated, allowed, fills, partners, leads, given}
+use Rattle.contact.specs.Plan.{separated, may, allowed, fills, partners, leads, given}
 use Rattle.contact.specs.Check.{check, pointsFor, good, firstRow}
 use Rattle.names.specs.Gather.{ruleTokens, withName, namesAfter, gatheredOf, gathered}
 use Rattle.names.specs.Seventh.{placesOf}
@@ -71,7 +71,7 @@ abbrev written : WorkedSheet → Computed
 written row = record { rules = row .rules; none = false; plans = plansIn (row .answer) }
 
 sheets-computed : map computed workedSheets ≡ map written workedSheets
-unfolding classOf isBlank isAlphanumeric isSign signs starts constantKind longest signPiece runLength runPiece pieceOf cutFrom lexed runMachine reading puts ruleOf meaningOf decide ℕ-discrete name-discrete equalAtom sameAtom bit rulesTrue separated allowed fills partners leads check given pointsFor good firstRow placesOf ruleTokens withName namesAfter gatheredOf gathered pairOf rowTo linksTo before wordsOf givenPlan rowPlan plansOf namesIn atomsIn judgeNames judgeAtoms judgeRoom judgeText judgeAdd addRules judgeWithdraw without withdrawRules after standingFrom standing adds
+unfolding classOf isBlank isAlphanumeric isSign signs starts constantKind longest signPiece runLength runPiece pieceOf cutFrom lexed runMachine reading puts ruleOf meaningOf decide ℕ-discrete name-discrete equalAtom sameAtom bit rulesTrue separated may allowed fills partners leads check given pointsFor good firstRow placesOf ruleTokens withName namesAfter gatheredOf gathered pairOf rowTo linksTo before wordsOf givenPlan rowPlan plansOf namesIn atomsIn judgeNames judgeAtoms judgeRoom judgeText judgeAdd addRules judgeWithdraw without withdrawRules after standingFrom standing adds
 sheets-computed = refl
 
 -- ---- asked

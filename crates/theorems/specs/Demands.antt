@@ -10,9 +10,11 @@ use mathlib.Core.Bool.{true}
 use mathlib.Core.List.{List, [], _∷_, _++_}
 use lib.ListN.{length, take}
 use Rattle.formula.specs.Formula.{Formula, Name}
+use Rattle.lists.specs.Search.{In}
 use Rattle.syntax.specs.RuleText.{IsRule}
 use Rattle.contact.specs.Meaning.{Floor, meetsAll}
 use Rattle.contact.specs.Question.{Question, plain, Counts, NoFloor}
+use Rattle.contact.specs.Numbering.{namesOf}
 use Rattle.plan.specs.declared.PlanAnswer.the-variants as PlanAnswer
 use Rattle.plan.specs.declared.PlanRead.{PlanRead}
 use Rattle.plan.specs.Words.{Plan, wordsOf, over}
@@ -108,29 +110,42 @@ pub record Answered (rs : List Text) (t : Table) : Type 0 where
 -- ---- demand 2: "Rule text is read as the grammar of document 01 has it, and a plan given meets every standing rule .. Plan words read
 -- back give the plan that was written, and a stranger's plan is judged by the same definition."
 
--- the words are those of a plan whose floor, over the rules' names in their numbering, meets the rules
+-- the words are those of a plan whose floor, over the rules' names in their numbering, counts (document 02, T-07: "each point of a plan must
+-- lie in at least one of them") and meets the rules
 pub record Met (rs : List Text) (words : List ℕ) : Type 0 where
   pub some : SomeStand rs
   pub formulas : List (Formula Name)
   pub rules : AreRules rs formulas
   pub plan : Plan
   pub decodes : Decodes formulas words plan
+  pub covered : Counts plain (namesOf formulas) (floorOf decodes)
   pub meets : meetsAll (floorOf decodes) formulas ≡ true
 
--- they are those of a plan of which rule k, from 1, is the lowest that it does not meet
+-- they are those of such a plan of which rule k, from 1, is the lowest that it does not meet
 pub record NotMet (rs : List Text) (words : List ℕ) (k : ℕ) : Type 0 where
   pub some : SomeStand rs
   pub formulas : List (Formula Name)
   pub rules : AreRules rs formulas
   pub plan : Plan
   pub decodes : Decodes formulas words plan
+  pub covered : Counts plain (namesOf formulas) (floorOf decodes)
   pub lowest : FirstUnmet (floorOf decodes) 1 formulas k
+
+-- they are those of "a plan of one name or more with a point at evaluation 0"
+pub record Nowhere (rs : List Text) (words : List ℕ) : Type 0 where
+  pub some : SomeStand rs
+  pub formulas : List (Formula Name)
+  pub rules : AreRules rs formulas
+  pub plan : Plan
+  pub decodes : Decodes formulas words plan
+  pub named : 0 < plan .names
+  pub point : In 0 (plan .points)
 
 -- the words of the plan that the papers define for the question; its floor counts and meets the rules, and what is read from the words is
 -- the plan. Of one building: "a plan in which every point can be reached from every other through contacts"
 pub record Given (q : Question) (rs : List Text) (words : List ℕ) : Type 0 where
   pub met : Met rs words
-  pub counts : Counts q (floorOf (met .decodes))
+  pub counts : Counts q (namesOf (met .formulas)) (floorOf (met .decodes))
   pub is : IsGiven q (met .formulas) (met .plan)
   pub back : (r : PlanRead) → Reads words r → (r .answer ≡ PlanAnswer.Plan) × Stored (r .plan) (met .plan)
 
@@ -142,7 +157,9 @@ pub record Meant (rs : List Text) (t : Table) : Type 0 where
   pub given : (q : Question) (buffer : List ℕ) (r : AskResult) (exit : List ℕ) → Asks q t buffer r exit → (n : ℕ) → askOutcome (r .answer) ≡ Outcome.Plan n → Given q rs (take n exit)
   -- "Judge answers yes or the lowest unmet rule, from 1"
   pub yes : (words : List ℕ) (r : JudgeResult) → Judges t words r → (judgeOutcome (r .answer) ≡ Outcome.Yes) ↔ Met rs words
-  pub unmet : (words : List ℕ) (r : JudgeResult) → Judges t words r → (k : ℕ) → (judgeOutcome (r .answer) ≡ Outcome.Unmet k) ↔ NotMet rs words k
+  pub unmet : (words : List ℕ) (r : JudgeResult) → Judges t words r → (k : ℕ) → 0 < k → (judgeOutcome (r .answer) ≡ Outcome.Unmet k) ↔ NotMet rs words k
+  -- document 02, T-07: it "answers 0, after the refusals and ahead of any rule"
+  pub nowhere : (words : List ℕ) (r : JudgeResult) → Judges t words r → (judgeOutcome (r .answer) ≡ Outcome.Unmet 0) ↔ Nowhere rs words
 
 -- ---- demand 3
 
@@ -161,7 +178,7 @@ pub record Same (q : Question) (rs : List Text) (t : Table) (buffer : List ℕ) 
       → (askOutcome (r .answer) ≡ Outcome.Plan (length (wordsOf p))) × (exit ≡ over (wordsOf p) buffer)
   pub short : SomeStand rs → (p : Plan) → IsGiven q formulas p → length buffer < length (wordsOf p)
       → (askOutcome (r .answer) ≡ Outcome.Refused 12 (length (wordsOf p))) × (exit ≡ buffer)
-  pub otherwise : (F : Floor Name) → Counts q F → meetsAll F formulas ≡ true → (p : Plan) × IsGiven q formulas p
+  pub otherwise : (F : Floor Name) → Counts q (namesOf formulas) F → meetsAll F formulas ≡ true → (p : Plan) × IsGiven q formulas p
   -- "the table after the list .. equal to what comes from an empty table to which only the standing rules are added, in their order":
   -- "none of these adds is refused"
   pub table : (u : Table) → Leaves (adds rs) u → t ≡ u

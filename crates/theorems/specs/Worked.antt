@@ -1,4 +1,4 @@
--- What is meant: document 01, 'Worked sheets': the rows P1 to P12 as that paper has them, and what a row says of the calls of the code, which
+-- What is meant: document 01, 'Worked sheets': the rows P1 to P12 as that paper has them, P9 as document 02 has it, and what a row says of the calls of the code, which
 -- come in by their contracts as in Demands. Assumes nothing.
 use mathlib.Core.Path.{_≡_}
 use mathlib.Core.List.{List, [], _∷_, _++_}
@@ -61,8 +61,9 @@ P7 = sheet (bytes "1=0" ∷ []) noPlan
 abbrev pub P8 : WorkedSheet
 P8 = sheet (bytes "C(1,1)" ∷ []) (P1 .answer)
 
+-- document 02, T-07: "Sheet P9 now gives 10000101 20000001 40000002."
 abbrev pub P9 : WorkedSheet
-P9 = sheet (bytes "a=0 | ~a=0" ∷ []) (words (0x10000101 ∷ 0x20000000 ∷ 0x40000002 ∷ []))
+P9 = sheet (bytes "a=0 | ~a=0" ∷ []) (words (0x10000101 ∷ 0x20000001 ∷ 0x40000002 ∷ []))
 
 abbrev pub P10 : WorkedSheet
 P10 = sheet (bytes "~(C(a,b) <-> C(b,a))" ∷ []) noPlan

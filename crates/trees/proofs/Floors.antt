@@ -21,7 +21,7 @@ use Rattle.lists.proofs.Truth.{clash, cases, or-cases, side}
 use Rattle.evalset.specs.Bit.{bit}
 use Rattle.evalset.proofs.Bits.{bit-xor, bit-or, bit-and, bit-not, bit-none, bit-above, bit-add, bit-minus}
 use Rattle.contact.specs.Row.{Three, is, unknown, PartialRow}
-use Rattle.contact.specs.Plan.{Mark, mark, marksOf}
+use Rattle.contact.specs.Plan.{may, Mark, mark, marksOf}
 use Rattle.contact.specs.Check.{check}
 use Rattle.contact.specs.Pairs.{serves, restricts, lives, somePair, served, pairCheck}
 use Rattle.contact.proofs.Pairs.{pair-intro, pair-elim, check-pairs}
@@ -200,7 +200,7 @@ module _ (names : ℕ) (atoms : List (Atom ℕ)) (few : length atoms ≤ 16) (co
   module _ (S : ℕ) (S-small : S < 4294967296) (S-is : (p : ℕ) → bit S p ≡ servedBy left ws p) where
     -- a word that is left, with a wanted bit
     wanted-word : within S wanted ≡ true → (p : ℕ) → bit wanted p ≡ true
-        → (e : ℕ) × (f : ℕ) × (e < 2 ^ names) × (f < 2 ^ names) × (lives ms e f ≡ true) × ((w : ℕ) × IsWord atoms e f w × ((bit w p || eqb p 16) ≡ true))
+        → (e : ℕ) × (f : ℕ) × (may names e ≡ true) × (may names f ≡ true) × (lives ms e f ≡ true) × ((w : ℕ) × IsWord atoms e f w × ((bit w p || eqb p 16) ≡ true))
     unfolding servedBy
     wanted-word k p on =
         let x = any-elim (λ w. within left w && (bit w p || eqb p 16)) ws (sym (S-is p) ∙ within-elim S wanted wanted-small S-small k p on) in
@@ -236,7 +236,7 @@ module _ (names : ℕ) (atoms : List (Atom ℕ)) (few : length atoms ≤ 16) (co
         (and-intro (x .4) (ap (serves (x .0) (x .1)) z ∙ sym (served-bit (x .0) (x .1) (x .5 .0) (x .5 .1) p lp u) ∙ bit-on))))))
 
     -- a pair that is left, and serves a bit
-    pair-word : (p e f : ℕ) → e < 2 ^ names → f < 2 ^ names → lives ms e f ≡ true
+    pair-word : (p e f : ℕ) → may names e ≡ true → may names f ≡ true → lives ms e f ≡ true
         → ((w : ℕ) → IsWord atoms e f w → (bit w p || eqb p 16) ≡ true) → bit S p ≡ true
     unfolding servedBy
     pair-word p e f le lf k on =

@@ -6,6 +6,7 @@ use Prim.Native.Nat.{ℕ, _*_, _^_, _≤_, _<_}
 use native.Mathlib.Omega.{arith}
 use lib.ListN.{length, length-map}
 use Rattle.formula.specs.Formula.{Formula, Name}
+use Rattle.lists.specs.Search.{below}
 use Rattle.contact.specs.Meaning.{renamed}
 use Rattle.contact.specs.Question.{plain, NoFloor}
 use Rattle.contact.specs.Numbering.{namesOf, mapAtom, differentAtoms, numberedAtoms, rowAtoms, numberOf, nameOf}
@@ -13,7 +14,7 @@ use Rattle.contact.specs.Row.{Row, PartialRow, Extends}
 use Rattle.contact.specs.Check.{firstRowOf}
 use Rattle.contact.specs.Tableau.{closes, search}
 use Rattle.contact.proofs.Claims as contact
-use Rattle.contact.proofs.Naming.{names-row, numbers-row, counts-renamed}
+use Rattle.contact.proofs.Naming.{names-row, numbers-row, names-count, numbers-count}
 use Rattle.trees.specs.declared.Verdict.the-variants.{Accepts, Refuses}
 use Rattle.trees.specs.Trees.{Tree, wordsOf}
 use Rattle.trees.specs.Closed.{Unrealised, root}
@@ -27,10 +28,10 @@ use Rattle.trees.proofs.Writing.{Ends, Ends.tree, Ends.found}
 
 module _ (fs : List (Formula Name)) where
   -- a floor over numbers gives the decided atoms their values exactly if one over names does
-  unrealised-named : (part : PartialRow) → Unrealised plain (rowAtoms fs) part ↔ NoPlanFor fs part
+  unrealised-named : (part : PartialRow) → Unrealised plain (below (length (namesOf fs))) (rowAtoms fs) part ↔ NoPlanFor fs part
   unrealised-named part = (
-    λ none F c e. none (renamed (nameOf fs) F) (counts-renamed (nameOf fs) plain F c) (subst (λ (row : Row). Extends row part) (sym (names-row fs F)) e),
-    λ none F c e. none (renamed (numberOf fs) F) (counts-renamed (numberOf fs) plain F c) (subst (λ (row : Row). Extends row part) (sym (numbers-row fs F)) e),
+    λ none F c e. none (renamed (nameOf fs) F) (names-count fs plain F c) (subst (λ (row : Row). Extends row part) (sym (names-row fs F)) e),
+    λ none F c e. none (renamed (numberOf fs) F) (numbers-count fs plain F c) (subst (λ (row : Row). Extends row part) (sym (numbers-row fs F)) e),
   )
 
   as-many : length (rowAtoms fs) ≡ length (differentAtoms fs)
@@ -74,7 +75,7 @@ module _ (fs : List (Formula Name)) where
   -- "What it accepts has no plan"
   pub closed-no-plan : (t : Tree) → IsClosedTree fs t → NoFloor plain fs
   closed-no-plan t c F counts meets =
-      Sound.closed-no-floor plain (differentAtoms fs) (numberedAtoms fs) t c F counts (contact.numbered-faithful fs F ∙ meets)
+      Sound.closed-no-floor plain (namesOf fs) (differentAtoms fs) (numberedAtoms fs) t c F counts (contact.numbered-faithful fs F ∙ meets)
 
   pub written-closed : (t : Tree) → IsWrittenTree fs t → IsClosedTree fs t
   written-closed t w = Writing.written-closed (length (differentAtoms fs)) (numberedAtoms fs) (NoPlanFor fs) t w

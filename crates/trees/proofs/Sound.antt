@@ -9,7 +9,7 @@ use native.Mathlib.Omega.{arith}
 use lib.ListN.{length, getD, length-map}
 use borrow.Author.Tests.{not-true}
 use Rattle.formula.specs.Formula.{Atom, Form}
-use Rattle.lists.specs.Search.{In}
+use Rattle.lists.specs.Search.{In, below}
 use Rattle.lists.proofs.Search.{any-intro, placed}
 use Rattle.lists.proofs.Truth.{clash, cases}
 use Rattle.contact.specs.Meaning.{Floor, atomOn}
@@ -46,18 +46,18 @@ module _ (many : ℕ) (rules : List (Form ℕ)) (NoPlan : PartialRow → Type 0)
   closed-excludes missing part w h e = absurd w
 
 -- so no floor that counts makes the rules true
-pub closed-no-floor : {N : Type 0} (q : Question) (atoms : List (Atom N)) (rules : List (Form ℕ)) (t : Tree)
-    → Closed (length atoms) rules (Unrealised q atoms) root t → (F : Floor N) → Counts q F → rulesTrue rules (map (atomOn F) atoms) ≡ true → ⊥
-closed-no-floor q atoms rules t c F counts makes =
-    closed-excludes (length atoms) rules (Unrealised q atoms) (map (atomOn F) atoms) (length-map atoms (atomOn F))
+pub closed-no-floor : {N : Type 0} (q : Question) (names : List N) (atoms : List (Atom N)) (rules : List (Form ℕ)) (t : Tree)
+    → Closed (length atoms) rules (Unrealised q names atoms) root t → (F : Floor N) → Counts q names F → rulesTrue rules (map (atomOn F) atoms) ≡ true → ⊥
+closed-no-floor q names atoms rules t c F counts makes =
+    closed-excludes (length atoms) rules (Unrealised q names atoms) (map (atomOn F) atoms) (length-map atoms (atomOn F))
     (λ part none e. none F counts e) makes t root (c .whole) (c .right) tt
 
 -- the check of the decided atoms is the test that there is no floor
 pub floor-tests : (q : Question) (names : ℕ) (atoms : List (Atom ℕ)) → ((a : Atom ℕ) → In a atoms → AtomBelow names a)
-    → Tests (length atoms) (noFloor q names atoms) (Unrealised q atoms)
+    → Tests (length atoms) (noFloor q names atoms) (Unrealised q (below names) atoms)
 unfolding noFloor
-floor-tests q names atoms below part short =
-    let x = check-exactly q names atoms part below short in (
+floor-tests q names atoms named part short =
+    let x = check-exactly q names atoms part named short in (
       (λ h F counts real. clash (x .1 ∣ (F, counts, real) ∣₁) (not-true _ h)),
       (λ none. cases (passes q names (marksOf atoms part))
           (λ h. absurd (∥∥₁-elim (x .0 h) ⊥-prop (λ f. none (f .0) (f .1) (f .2)))) (λ h. ap not h)),

@@ -6,7 +6,7 @@ use Prim.Native.Nat.{ℕ, _<_}
 use native.Mathlib.Omega.{arith}
 use lib.ListN.{length}
 use Rattle.formula.specs.Formula.{Atom, Form}
-use Rattle.lists.specs.Search.{In}
+use Rattle.lists.specs.Search.{In, below}
 use Rattle.contact.specs.Question.{Question}
 use Rattle.contact.specs.Numbering.{allAtoms, AtomsBelow}
 use Rattle.contact.specs.Row.{Row}
@@ -27,15 +27,15 @@ module _ (q : Question) (names : ℕ) (atoms : List (Atom ℕ)) (rules : List (F
 
   pub writes : AtomsBelow names atoms → ((i : ℕ) → In i (allAtoms rules) → i < length atoms) → Writes
   unfolding closes noFloor firstRow
-  writes below numbers =
-      go (Writing.ends (length atoms) rules (Unrealised q atoms) (noFloor q names atoms) (Sound.floor-tests q names atoms below) (length atoms) [] (omega arith))
+  writes named numbers =
+      go (Writing.ends (length atoms) rules (Unrealised q (below names) atoms) (noFloor q names atoms) (Sound.floor-tests q names atoms named) (length atoms) [] (omega arith))
     where
-      answers : search (Writing.shuts (length atoms) rules (Unrealised q atoms) (noFloor q names atoms) (Sound.floor-tests q names atoms below)) (length atoms) []
+      answers : search (Writing.shuts (length atoms) rules (Unrealised q (below names) atoms) (noFloor q names atoms) (Sound.floor-tests q names atoms named)) (length atoms) []
           ≡ firstRow q names atoms rules
       answers =
           contact.search-first (length atoms) (good q names atoms rules) (closes q names atoms rules) (contact.closes-sound q names atoms rules)
           (contact.closes-exact q names atoms rules numbers)
 
-      go : Ends (length atoms) rules (Unrealised q atoms) (noFloor q names atoms) (Sound.floor-tests q names atoms below) (length atoms) [] → Writes
+      go : Ends (length atoms) rules (Unrealised q (below names) atoms) (noFloor q names atoms) (Sound.floor-tests q names atoms named) (length atoms) [] → Writes
       go (Ends.tree t e w s) = Writes.told t e (sym answers ∙ s)
       go (Ends.found r e s) = Writes.exists r e (sym answers ∙ s)

@@ -13,9 +13,9 @@ use Rattle.contact.specs.Row.{Three, is, unknown, PartialRow, RealisesPart}
 use Rattle.contact.specs.Tableau.{kleeneValue}
 use Rattle.trees.specs.Trees.{Tree, split, rule, floorless, missing, Whole}
 
--- "no finite plan gives the decided atoms their values"
-abbrev pub Unrealised : {N : Type 0} → Question → List (Atom N) → PartialRow → Type 0
-Unrealised {N} q atoms part = (F : Floor N) → Counts q F → RealisesPart F atoms part → ⊥
+-- "no finite plan gives the decided atoms their values"; the names are those that the rules use
+abbrev pub Unrealised : {N : Type 0} → Question → List N → List (Atom N) → PartialRow → Type 0
+Unrealised {N} q names atoms part = (F : Floor N) → Counts q names F → RealisesPart F atoms part → ⊥
 
 -- ---- branches: partial rows of any pattern; at the root nothing is decided
 

@@ -4,7 +4,7 @@ use mathlib.Core.List.{List}
 use Prim.Native.Nat.{ℕ}
 use lib.ListN.{length}
 use Rattle.formula.specs.Formula.{Formula, Name}
-use Rattle.contact.specs.Numbering.{differentAtoms, numberedAtoms}
+use Rattle.contact.specs.Numbering.{namesOf, differentAtoms, numberedAtoms}
 use Rattle.contact.specs.Question.{plain}
 use Rattle.contact.specs.Row.{PartialRow}
 use Rattle.trees.specs.Trees.{Tree}
@@ -14,7 +14,7 @@ use Rattle.trees.specs.Written.{Written}
 
 -- kind 7's reason
 abbrev pub NoPlanFor : List (Formula Name) → PartialRow → Type 0
-NoPlanFor rules part = Unrealised plain (differentAtoms rules) part
+NoPlanFor rules part = Unrealised plain (namesOf rules) (differentAtoms rules) part
 
 -- one of "the closed trees of these rules that split on no atom twice in a branch"
 abbrev pub IsClosedTree : List (Formula Name) → Tree → Type 0

@@ -1,8 +1,16 @@
--- `judging::judge_plan` meets its contract: the atoms have their values, and the rules are judged by them. Assumes nothing.
+-- `judging::judge_plan` meets its contract: an uncovered plan is not judged by rules; of another the atoms have their values, and the rules
+-- are judged by them. Assumes nothing.
 use borrow.Author.Needs.{needs}
-use Rattle.judging.proofs.Judging.{judges}
+use mathlib.Core.Path.{sym, _∙_}
+use Rattle.judging.proofs.Judging.{judges-uncovered, judges}
 use Rattle.judging.proofs.judge_plan.Statement.{statement}
 use Rattle.judging.proofs.judge_plan.Tie as tie
+
+uncovered-requires : tie.Need-uncovered-requires
+uncovered-requires c κs = search needs
+
+returns : tie.Need-returns
+returns c = judges-uncovered _ _ _ _ (sym (c .before .uncovered .ensures) ∙ c .if1 .taken)
 
 leaves-requires : tie.Need-leaves-requires
 leaves-requires c κs = search needs
@@ -10,8 +18,8 @@ leaves-requires c κs = search needs
 first-unmet-requires : tie.Need-first-unmet-requires
 first-unmet-requires c κs = search needs
 
-returns : tie.Need-returns
-returns c = judges _ _ _ _ _ _ (c .before .leaves .ensures) (c .first-unmet .ensures)
+returns-2 : tie.Need-returns-2
+returns-2 c = judges _ _ _ _ _ _ (sym (c .before .before .before .uncovered .ensures) ∙ c .before .before .if1 .left) (c .before .leaves .ensures) (c .first-unmet .ensures)
 
 pub judge-plan-spec : {M : Type 1} → statement M
-judge-plan-spec = tie.close (tie.spec leaves-requires first-unmet-requires returns)
+judge-plan-spec = tie.close (tie.spec uncovered-requires returns leaves-requires first-unmet-requires returns-2)

@@ -6,7 +6,7 @@ use lib.ListN.{length}
 use lib.Pow.{pow-mono}
 use Rattle.evalset.specs.Sets.{room}
 use Rattle.pairing.specs.Sums.{entry}
-use Rattle.pairing.specs.Masks.{MasksAre, Kept, allPairs}
+use Rattle.pairing.specs.Masks.{MasksAre, lowestOf, Kept, allPairs}
 use Rattle.pairing.specs.Listed.{pairCount, Noted}
 use Rattle.pairing.proofs.Words.{spelt-few}
 use Rattle.pairing.proofs.Masking.{class-member}
@@ -26,7 +26,8 @@ masks-of-requires : tie.Need-masks-of-requires Inv-loop μ-loop
 masks-of-requires c κs = let s = c .before .before .before .before in (s .pre .few, s .pre .fits)
 
 keep-different-requires : tie.Need-keep-different-requires Inv-loop μ-loop
-keep-different-requires c κs = (c .before .before .before .before .before .before .pre .fits, c .before .masks-of .ensures .0)
+keep-different-requires c κs =
+    let s = c .before .before .before .before .before .before in (s .pre .some, s .pre .fits, c .before .masks-of .ensures .0)
 
 sub-zeros : tie.Need-sub-zeros Inv-loop μ-loop
 sub-zeros c =
@@ -54,7 +55,7 @@ note-words-requires c κs =
     let few = spelt-few _ (chart .atoms) (s .args .contacts) (s .pre .contacts-are) (s .pre .few) in
     let e = k .loop .e in
     let words = c .before .before .before .pair-words .ensures in
-    let member = class-member _ _ (chart .atoms) (s .args .top) (masks .result) (kept .last .0) (kept .result)
+    let member = class-member _ _ (chart .atoms) (lowestOf (chart .names)) (s .args .top) (masks .result) (kept .last .0) (kept .result)
     (omega (arith, masks .ensures .0, s .pre .fits)) (masks .ensures .1) (kept .ensures) in (
       omega (arith, s .pre .fits, kept .ensures .few),
       omega (
@@ -69,7 +70,7 @@ note-words-requires c κs =
       λ f l.
           let a = member e (omega arith) in
           let b = member f (omega arith) in
-          let small = pair-small (chart .atoms) (s .args .contacts) (entry (kept .last .0) e) (entry (kept .last .0) f) few (a .2 .first-is .small) (b .2 .first-is .small) in
+          let small = pair-small (chart .atoms) (s .args .contacts) (entry (kept .last .0) e) (entry (kept .last .0) f) few (a .3 .first-is .small) (b .3 .first-is .small) in
           let is = words .are f (omega arith) in
           (omega (arith, is, small, pow-mono {i = chart .atoms} {j = 16} (s .pre .few)), omega (arith, is, small, s .pre .bits, k .loop .inv .2 .long-seen)),
     )
@@ -124,7 +125,7 @@ returns c =
           list-serves (a .chart) atoms h (a .contacts) (s .pre .few) (s .pre .contacts-are) (masks .result) classes (kept .result)
           (omega (arith, top, masks .ensures .0, s .pre .fits))
           (subst (λ (x : ℕ). MasksAre (a .chart .xs) (a .chart .ys) (a .chart .atoms) x (masks .result)) top (masks .ensures .1))
-          (subst (λ (x : ℕ). Kept x (masks .result) classes (kept .result)) top (kept .ensures)) (a .seen .now) (a .list .now) (k .loop .seen) (k .loop .list) (k .loop .count)
+          (subst (λ (x : ℕ). Kept (lowestOf (a .chart .names)) x (masks .result) classes (kept .result)) top (kept .ensures)) (a .seen .now) (a .list .now) (k .loop .seen) (k .loop .list) (k .loop .count)
           (s .pre .none) (subst (λ (x : ℕ). Noted (allPairs zeros classes x) (a .seen .now) (a .list .now) 0 (k .loop .seen) (k .loop .list) (k .loop .count)) z (k .loop .inv .2));
     }
 

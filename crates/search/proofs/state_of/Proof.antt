@@ -28,7 +28,7 @@ start-requires : tie.Need-start-requires Inv-loop μ-loop
 start-requires c κs = search needs
 
 loop-holds : tie.Need-loop-holds Inv-loop μ-loop
-loop-holds c = (omega arith, refl, λ atoms h. subst (Fit _ _) (sym (no-marks atoms)) (c .start .ensures .2 (h .few)))
+loop-holds c = (omega arith, refl, λ atoms h. subst (Fit _ _) (sym (no-marks atoms)) (c .start .ensures (h .few)))
 
 value-in-requires : tie.Need-value-in-requires Inv-loop μ-loop
 value-in-requires c κs = search needs

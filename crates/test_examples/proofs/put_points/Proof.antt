@@ -7,19 +7,22 @@ use Rattle.test_examples.proofs.put_points.Statement.{statement}
 use Rattle.test_examples.proofs.put_points.Tie as tie
 
 abbrev Inv-loop : tie.InvT-loop
-Inv-loop text₀ at end₀ e₀ text end e = length text ≡ length text₀
+Inv-loop text₀ at end₀ i₀ text end i = length text ≡ length text₀
 
 abbrev μ-loop : tie.MeasureT-loop
-μ-loop text₀ at end₀ e₀ text end e = 64 - e
+μ-loop text₀ at end₀ i₀ text end i = 63 - i
 
 loop-holds : tie.Need-loop-holds Inv-loop μ-loop
 loop-holds c = search needs
 
+add-put-point : tie.Need-add-put-point Inv-loop μ-loop
+add-put-point c = search needs
+
 put-point-requires : tie.Need-put-point-requires Inv-loop μ-loop
 put-point-requires c κs = search needs
 
-add-e : tie.Need-add-e Inv-loop μ-loop
-add-e c = search needs
+add-i : tie.Need-add-i Inv-loop μ-loop
+add-i c = search needs
 
 loop-less : tie.Need-loop-less Inv-loop μ-loop
 loop-less c = search needs
@@ -40,8 +43,9 @@ put-points-spec =
     Inv-loop
     μ-loop
     loop-holds
+    add-put-point
     put-point-requires
-    add-e
+    add-i
     loop-less
     loop-again
     same-length

@@ -5,10 +5,10 @@ use Rattle.test_small_floors.proofs.with_floors.Statement.{statement}
 use Rattle.test_small_floors.proofs.with_floors.Tie as tie
 
 abbrev Inv-loop : tie.InvT-loop
-Inv-loop code numbers points floors next₀ contacts₀ next contacts = Unit {0}
+Inv-loop code numbers names points floors next₀ contacts₀ next contacts = Unit {0}
 
 abbrev μ-loop : tie.MeasureT-loop
-μ-loop code numbers points floors next₀ contacts₀ next contacts = floors - contacts
+μ-loop code numbers names points floors next₀ contacts₀ next contacts = floors - contacts
 
 floors-on-requires : tie.Need-floors-on-requires Inv-loop μ-loop
 floors-on-requires c κs = search needs

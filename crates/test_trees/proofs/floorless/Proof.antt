@@ -5,16 +5,22 @@ use Rattle.test_trees.proofs.floorless.Statement.{statement}
 use Rattle.test_trees.proofs.floorless.Tie as tie
 
 abbrev Inv-loop : tie.InvT-loop
-Inv-loop form branch floor₀ floor = Unit {0}
+Inv-loop form branch points floor₀ floor = Unit {0}
 
 abbrev μ-loop : tie.MeasureT-loop
-μ-loop form branch floor₀ floor = 1024 - floor
+μ-loop form branch points floor₀ floor = 1024 - floor
+
+somewhere-requires : tie.Need-somewhere-requires Inv-loop μ-loop
+somewhere-requires c κs = search needs
 
 loop-holds : tie.Need-loop-holds Inv-loop μ-loop
 loop-holds c = search needs
 
 read-on-requires : tie.Need-read-on-requires Inv-loop μ-loop
 read-on-requires c κs = search needs
+
+is-within-requires : tie.Need-is-within-requires Inv-loop μ-loop
+is-within-requires c κs = search needs
 
 agrees-requires : tie.Need-agrees-requires Inv-loop μ-loop
 agrees-requires c κs = search needs
@@ -46,8 +52,10 @@ floorless-spec =
     (tie.spec
     Inv-loop
     μ-loop
+    somewhere-requires
     loop-holds
     read-on-requires
+    is-within-requires
     agrees-requires
     agrees-requires-2
     agrees-requires-3
