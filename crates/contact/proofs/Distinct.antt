@@ -10,7 +10,7 @@ use Prim.Native.Nat.{ℕ, suc, _≤_, _<_}
 use native.Mathlib.Omega.{arith}
 use lib.ListN.{length, getD, length-append}
 use borrow.Author.Tests.{not-true}
-use Rattle.lists.specs.Search.{In, here, next, any, keep, from, below}
+use Rattle.lists.specs.Search.{In, here, next, keep, below}
 use Rattle.lists.proofs.Lists.{map-agree}
 use Rattle.lists.proofs.Search.{none-in, uncons, at-head, any-intro, any-elim, in-right, keep-elim, keep-append, keep-shorter, map-from}
 use Rattle.lists.proofs.Truth.{clash, cases, of-cond}

@@ -3,7 +3,7 @@
 use mathlib.Core.Bool.{true, _||_, or-comm}
 use mathlib.Core.HLevel.{Discrete}
 use mathlib.Core.Path.{_≡_, refl, sym, ap, _∙_}
-use mathlib.Core.Logic.{_⊎_, inl, inr, ⊎-elim}
+use mathlib.Core.Logic.{inl, inr, ⊎-elim}
 use mathlib.Mathlib.Data.Bool.Basic.{eq-false-of-not-eq-true}
 use Rattle.formula.specs.Formula.{Term, Atom}
 use Rattle.formula.specs.Same.{exchanged, equalAtom, sameAtom}

@@ -223,13 +223,6 @@ marks-extend (c ∷ row) (unknown ∷ part) (a ∷ atoms) h m i = next (marks-ex
 marks-extend (c ∷ row) (is b ∷ part) (a ∷ atoms) h m i =
     ⊎-elim (λ q. at-head (q ∙ ap (mark a) (sym (h .0)))) (λ j. next (marks-extend row part atoms (h .1) m j)) (uncons i)
 
--- a row that passes the check passes it without its last atoms
-pub check-prefix : (q : Question) (n : ℕ) (atoms : List (Atom ℕ)) (row ext : Row)
-    → passes q n (rowMarks atoms (row ++ ext)) ≡ true → passes q n (rowMarks atoms row) ≡ true
-check-prefix q n atoms row ext h =
-    passes-fewer n (rowMarks atoms (row ++ ext)) (rowMarks atoms row)
-    (marks-extend (row ++ ext) (map is row) atoms (extends-prefix row ext)) q h
-
 module _ (q : Question) (n : ℕ) (atoms : List (Atom ℕ)) (nums : List (Form ℕ)) where
   -- no row that makes the rules true and passes the check extends what is closed
   pub closes-sound : Sound (good q n atoms nums) (closes q n atoms nums)

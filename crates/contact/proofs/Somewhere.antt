@@ -1,15 +1,15 @@
 -- Which evaluations a point may have, against what is asked of the points of a floor: the laws of `may` and `Somewhere`, and the only ones
 -- that see into them. A point lies in some name exactly if its evaluation is not 0. For any number of names and of points. Assumes nothing.
-use mathlib.Core.Bool.{Bool, true, false, not, _||_, and-eq-true-iff}
-use mathlib.Core.Path.{_≡_, refl, sym, ap, _∙_}
+use mathlib.Core.Bool.{Bool, true, not, _||_, and-eq-true-iff}
+use mathlib.Core.Path.{_≡_, sym, ap, _∙_}
 use mathlib.Core.Logic.{⊎-elim}
 use mathlib.Core.List.{List, []}
 use mathlib.Mathlib.Data.Bool.Basic.{and-intro, or-inl, or-inr}
-use Prim.Native.Nat.{ℕ, _^_, _≤_, _<_}
+use Prim.Native.Nat.{ℕ, _^_, _<_}
 use native.Mathlib.Omega.{arith}
 use lib.Dec.{eqb, ltb}
 use borrow.Author.Tests.{not-true, not-false, ltb-true, lt-ltb, eqb-true, eqb-false, ne-eqb}
-use Rattle.lists.specs.Search.{In, any, below}
+use Rattle.lists.specs.Search.{In, below}
 use Rattle.lists.proofs.Search.{none-in, any-intro, any-elim, any-same, below-intro, below-elim}
 use Rattle.lists.proofs.Truth.{clash, cases, or-cases}
 use Rattle.evalset.specs.Bit.{bit}

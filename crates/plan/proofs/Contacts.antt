@@ -1,6 +1,6 @@
 -- The contacts that rows give are their pairs, one after the other. They rise strictly, whatever the rows are: row after row, and in
 -- a row position after position. So arrays whose points ascend hold a plan. Assumes nothing.
-use mathlib.Core.Path.{_≡_, refl, sym, ap, _∙_, subst}
+use mathlib.Core.Path.{_≡_, refl, sym, _∙_, subst}
 use mathlib.Core.Bool.{Bool, true, false, _&&_, cond, and-eq-true-iff}
 use mathlib.Core.List.{List, [], _∷_, _++_, append-assoc}
 use Prim.Native.Nat.{ℕ, zero, suc, _+_, _*_, _^_, _/_, _%_, _≤_, _<_}
@@ -9,8 +9,7 @@ use lib.Dec.{ltb}
 use lib.ListN.{length, take, length-take}
 use borrow.Author.Tests.{ltb-true, lt-ltb, le-ltb}
 use Rattle.lists.proofs.Below.{collect-more, collect-within, collect-small}
-use Rattle.lists.specs.Search.{collect, from, below}
-use Rattle.lists.proofs.Search.{below-elim, collect-same}
+use Rattle.lists.specs.Search.{collect, from}
 use Rattle.evalset.specs.Sets.{memAt}
 use Rattle.evalset.specs.Most.{most}
 use Rattle.plan.specs.declared.PlanArrays.{PlanArrays}
@@ -63,14 +62,6 @@ links-none n t = refl
 pub links-more : (i n : ℕ) (t : ℕ → ℕ → Bool) → linksTo i n t ++ rowTo n i (t i) ≡ linksTo (i + 1) n t
 unfolding linksTo
 links-more i n t = collect-more (λ a. rowTo n a (t a)) i
-
--- rows that agree below n have the same contacts there
-pub links-same : (n : ℕ) (s t : ℕ → ℕ → Bool) → ((i j : ℕ) → i < n → j < n → s i j ≡ t i j) → linksTo n n s ≡ linksTo n n t
-unfolding linksTo rowTo pairOf
-links-same n s t h =
-    collect-same (λ i. rowTo n i (s i)) (λ i. rowTo n i (t i)) (below n)
-    (λ i a. collect-same (λ j. pairOf i j (s i)) (λ j. pairOf i j (t i)) (below n)
-    (λ j b. ap (λ (x : Bool). cond (ltb i j && x) ((i * 256 + j) ∷ []) []) (h i j (below-elim n i a) (below-elim n j b))))
 
 pub links-within : (i m n : ℕ) (t : ℕ → ℕ → Bool) → i ≤ m → length (linksTo i n t) ≤ length (linksTo m n t)
 unfolding linksTo

@@ -1,7 +1,7 @@
 -- A plan has no point at evaluation 0, or no name, exactly if its floor counts for rules of as many names: a point lies in a name exactly if
 -- its evaluation is not 0. The points ascend, so the first one decides. Assumes nothing.
 use mathlib.Core.Path.{_≡_, refl, sym, ap, subst}
-use mathlib.Core.Bool.{Bool, true, false, not, _&&_, and-eq-true-iff}
+use mathlib.Core.Bool.{true, false, not, and-eq-true-iff}
 use mathlib.Core.Logic.{_↔_, ⊎-elim}
 use mathlib.Core.List.{List, [], _∷_}
 use mathlib.Mathlib.Data.Bool.Basic.{and-intro, eq-false-of-not-eq-true, partialOrderLaws}

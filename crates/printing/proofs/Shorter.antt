@@ -2,7 +2,7 @@
 -- printed for it at that level take no more bytes. By induction on how the tokens are derived: a pair that is printed is one that the
 -- derivation has too, since only a parenthesis raises the level. Assumes nothing.
 use mathlib.Core.List.{List, [], _∷_, _++_}
-use Prim.Native.Nat.{ℕ, suc, _+_, _≤_}
+use Prim.Native.Nat.{ℕ, suc, _≤_}
 use native.Mathlib.Omega.{arith}
 use Rattle.formula.specs.Formula.{Term, Formula, Name}
 use Rattle.formula.specs.declared.Sign.{Sign}

@@ -18,7 +18,6 @@ use Rattle.table.specs.Rules.{AreRules}
 use Rattle.table.specs.Calls.{formulasOf, judgeLoad, ifLoaded}
 use Rattle.table.specs.Rows.{LoadRow}
 use Rattle.table.specs.declared.LoadAnswer.{LoadAnswer}
-use Rattle.table.specs.declared.LoadAnswer.the-variants as LoadAnswer
 use Rattle.table.specs.declared.Outcome.{Outcome}
 use Rattle.table.specs.declared.Outcome.the-variants as Outcome
 use Rattle.table.specs.Numbers.{loadOutcome}

@@ -5,7 +5,7 @@ use Prim.Native.Nat.{ℕ, suc, _+_, _≤_, _<_}
 use native.Mathlib.Numerals.{add-one}
 use native.Mathlib.Omega.{arith}
 use mathlib.Core.Path.{_≡_, refl, sym, ap, _∙_}
-use mathlib.Core.List.{List, [], _∷_, _++_, tail, map-append}
+use mathlib.Core.List.{List, [], _∷_, _++_, tail}
 use mathlib.Core.Bool.{Bool, true, false, Bool·beq}
 use mathlib.Mathlib.Data.Bool.Basic.{eq-false-of-not-eq-true}
 use lib.Dec.{eqb}
@@ -36,10 +36,6 @@ kind-on (x ∷ xs) (suc p) = kind-on xs p
 pub length-codes : (xs : List Sym) → length (codes xs) ≡ length xs
 unfolding codes
 length-codes xs = length-map xs code
-
-pub codes-append : (a b : List Sym) → codes (a ++ b) ≡ codes a ++ codes b
-unfolding codes
-codes-append a b = map-append code a b
 
 pub code-at : (xs : List Sym) (i : ℕ) → i < length xs → getD (codes xs) i 0 ≡ code (getD xs i opening)
 unfolding codes

@@ -1,6 +1,6 @@
 -- The rules that stand by the rows of the table of calls are those that are computed, so that every list of calls has exactly one such
 -- list: each call is judged by its row alone, and the list before it can stand. Assumes nothing.
-use Prim.Native.Nat.{ℕ, _+_, _-_, _≤_, _<_}
+use Prim.Native.Nat.{ℕ, _-_, _≤_, _<_}
 use mathlib.Core.Path.{_≡_, refl, sym, ap, subst, _∙_}
 use mathlib.Core.Logic.{_⊎_, inl, inr, ⊎-elim}
 use mathlib.Core.List.{List, [], _∷_, _++_}

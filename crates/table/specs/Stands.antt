@@ -1,6 +1,6 @@
 -- What is meant: lists of calls, and the standing rules, "a list made by the calls that were not refused", from the calls and the list
 -- alone. A call is refused where its row of the table of calls (Rows) has another outcome than Done. Assumes nothing.
-use Prim.Native.Nat.{ℕ, _+_}
+use Prim.Native.Nat.{ℕ}
 use mathlib.Core.Path.{_≡_}
 use mathlib.Core.List.{List, [], _∷_, _++_, map}
 use Rattle.contact.specs.Question.{Question}

@@ -1,5 +1,4 @@
 -- `report::why` meets its contract: the sheet is loaded or refused, and each has its text (Reporting.antt). Assumes nothing.
-use native.Mathlib.Omega.{arith}
 use Rattle.report.specs.Output.{reasonsText}
 use Rattle.report.specs.Pieces.{Answers}
 use Rattle.report.proofs.Putting.{puts-text}
