@@ -50,7 +50,7 @@ why = Printing.why
 pub why-only : (file : Text) (out : List ℕ) → Why file out → out ≡ whyOf file
 why-only = Printing.why-only
 
--- the line PLAN EXISTS, exactly if the sheet is loaded and some finite floor meets its rules
+-- the line PLAN EXISTS, exactly if the sheet is loaded and some finite floor that counts meets its rules
 pub plan-exists-printed : (file : Text) → (whyOf file ≡ ended (bytes "PLAN EXISTS"))
     ↔ (LoadRow file Outcome.Done × (fs : List (Formula Name)) × AreRules (filled (linesOf file)) fs × (F : Floor Name) × Counts plain (namesOf fs) F × (meetsAll F fs ≡ true))
 plan-exists-printed file =

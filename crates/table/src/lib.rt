@@ -708,7 +708,8 @@ impl Table {
         }
     }
 
-    // The plan of the standing rules, or that no finite floor meets them (`answered`).
+    // The plan of the standing rules, or that no finite floor meets them (`answered`): where a rule uses a name, none whose points all lie in
+    // the names that the rules use.
     pub fn ask(self, buffer: &mut [u32]) -> AskResult
         requires { ⌜ FromUs self ⌝ }
         ensures { λ r. ⌜ Asks plain self (now (buffer .entry)) r (now (buffer .exit)) ⌝ }
@@ -717,7 +718,7 @@ impl Table {
     }
 
     // The same for one building: a plan in which every point can be reached from every other through contacts, of up to 2,018 words, or
-    // that no finite floor that hangs together meets the rules.
+    // that no such floor that hangs together meets the rules.
     pub fn ask_building(self, buffer: &mut [u32]) -> AskResult
         requires { ⌜ FromUs self ⌝ }
         ensures { λ r. ⌜ Asks building self (now (buffer .entry)) r (now (buffer .exit)) ⌝ }
