@@ -562,7 +562,7 @@ impl Table {
         AddResult { table, answer }
     }
 
-    // The table without its k-th rule, from 1: later rules move down and the freed line is cleared. Where
+    // The table without its k-th rule, from 1: the last line, which is freed, is cleared, and later rules move down. Where
     // there is no such rule the table comes back as it was, and the answer carries k.
     pub fn withdraw(self, k: usize) -> WithdrawResult
         requires { ⌜ FromUs self ⌝ }
@@ -581,15 +581,16 @@ impl Table {
                 answer: WithdrawAnswer::NoSuchRule(k),
             };
         }
-        let mut table = self;
+        let none = no_line();
+        let mut freed = self;
+        freed.lines[count - 1] = none;
+        let mut table = freed;
         let mut i = k;
         while i < count {
             let line = self.lines[i];
             table.lines[i - 1] = line;
             i += 1;
         }
-        let none = no_line();
-        table.lines[count - 1] = none;
         table.count = count - 1;
         let answer = WithdrawAnswer::Withdrawn;
         WithdrawResult { table, answer }
