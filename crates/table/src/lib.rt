@@ -402,21 +402,13 @@ pub fn withdraw_outcome(answer: WithdrawAnswer) -> Outcome
     }
 }
 
-// A refusal on a line.
+// A refusal on a line. What is no refusal, or has its line, stays as it is.
 fn on_line(line: usize, said: Outcome) -> Outcome
     ensures { λ r. ⌜ r ≡ onLine line said ⌝ }
 {
     match said {
-        Outcome::Done => Outcome::Done,
-        Outcome::Plan(n) => Outcome::Plan(n),
-        Outcome::NoPlan => Outcome::NoPlan,
-        Outcome::Yes => Outcome::Yes,
-        Outcome::Unmet(k) => Outcome::Unmet(k),
-        Outcome::Text(n) => Outcome::Text(n),
-        Outcome::Tree(n) => Outcome::Tree(n),
-        Outcome::Closed => Outcome::Closed,
         Outcome::Refused(number, place) => Outcome::RefusedLine(number, line, place),
-        Outcome::RefusedLine(number, at, place) => Outcome::RefusedLine(number, at, place),
+        _ => said,
     }
 }
 
