@@ -1,0 +1,2 @@
+-- The bounds that the crate's contracts state.
+pub mod Bounds
