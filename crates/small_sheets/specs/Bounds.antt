@@ -1,4 +1,4 @@
--- The bounds of a sheet and of the numbers of a form's atoms, by which callers stay within the arrays.
+-- For proofs: the bounds of a sheet and of the numbers of a form's atoms, by which callers stay within the arrays. Assumes nothing.
 use Prim.Native.Nat.{_≤_}
 use lib.ListN.{length}
 use Rattle.small_sheets.specs.declared.Sheet.{Sheet}

@@ -1,2 +1,1 @@
--- The bounds that the crate's contracts state.
 pub mod Bounds

@@ -689,6 +689,7 @@ fn generated_sheet(k: u64) -> Sheet
 
 // ---- document 01's sheets
 
+// Bytes of text, as they are.
 fn put_lines(m: Maker, text: &mut [u8; 1100], lines: &[u8]) -> Maker {
     let mut next = m;
     let mut i: usize = 0;
@@ -699,6 +700,7 @@ fn put_lines(m: Maker, text: &mut [u8; 1100], lines: &[u8]) -> Maker {
     next
 }
 
+// Signs of the form, as they are.
 fn put_signs(m: Maker, form: &mut [u8; 512], signs: &[u8]) -> Maker {
     let mut next = m;
     let mut i: usize = 0;
@@ -753,7 +755,7 @@ fn apart_sheet(k: u64) -> Sheet
     }
 }
 
-// P6, P9 and P10, with names.
+// P2, P6, P9 and P10, with names.
 fn named_sheet(k: u64) -> Sheet
     ensures { λ r. ⌜ Bounded r ⌝ }
 {
@@ -790,7 +792,7 @@ fn named_sheet(k: u64) -> Sheet
     }
 }
 
-// P1, P7, P8, P11 and P12, without.
+// P1, P7, P8, P11 and P12, with none.
 fn nameless_sheet(k: u64) -> Sheet
     ensures { λ r. ⌜ Bounded r ⌝ }
 {

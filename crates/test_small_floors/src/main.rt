@@ -12,6 +12,7 @@
 // computations gave, those of a program in Python: it makes each sheet's text again, reads it by a reader of its own, and takes the first row
 // by the documents' words, with floors sought on all evaluations that a branch leaves; for up to two names it tries all floors on distinct
 // evaluations as well.
+ghost use Rattle.small_sheets.specs.Bounds.{Bounded};
 ghost use Rattle.table.specs.Calls.{FromUs};
 use small_sheets::ALL;
 use small_sheets::AND;
@@ -31,6 +32,7 @@ use small_sheets::REST;
 use small_sheets::RULE;
 use small_sheets::SECOND;
 use small_sheets::SPACED_EMPTY;
+use small_sheets::Sheet;
 use small_sheets::THIRD;
 use small_sheets::TRUE;
 use small_sheets::WORKED;
@@ -550,6 +552,18 @@ fn with_atom(atoms: Atoms, number: usize, kind: u8, first: u8, second: u8) -> At
     next
 }
 
+// An atom of the form as the row's bit, with the machine before it.
+fn with_row_atom(atoms: Atoms, m: Machine, sign: u8, row: u32) -> Atoms {
+    if !is_atom(sign) {
+        return atoms;
+    }
+    let x = operand(m, 0);
+    let y = operand(m, 1);
+    let number = coming(m);
+    let kind = kind_of(sign, row & weight(number) != 0);
+    with_atom(atoms, number, kind, first_term(sign, x, y), y)
+}
+
 // The different atoms of a form as the row's bits: terms are evaluated on the floor of all evaluations. Atoms are taken from the last
 // to the first, so that of those that are the same the first stays: "The witness of an exchanged contact is taken from its first
 // writing".
@@ -560,15 +574,9 @@ fn atoms_of(code: &[u8], numbers: Numbers, names: usize, row: u32) -> Atoms {
     let mut i: usize = 0;
     while i < code.len() {
         let sign = code[code.len() - 1 - i];
-        if is_atom(sign) {
-            let x = operand(m, 0);
-            let y = operand(m, 1);
-            let number = coming(m);
-            let kind = kind_of(sign, row & weight(number) != 0);
-            atoms = with_atom(atoms, number, kind, first_term(sign, x, y), y);
-        }
-        m = step(m, sign, floor);
         i += 1;
+        atoms = with_row_atom(atoms, m, sign, row);
+        m = step(m, sign, floor);
     }
     atoms
 }
@@ -1031,6 +1039,36 @@ fn check_words(atoms: Atoms, building: bool, n: usize, words: &[u32; 530]) -> Fi
     disagree(b"the words are not the documents'")
 }
 
+// The floor of a plan's words, held to the rules: it must meet them, its row be the first, and the words the documents'.
+fn check_row(
+    code: &[u8],
+    numbers: Numbers,
+    names: usize,
+    found: Found,
+    floor: Floor,
+    n: usize,
+    words: &[u32; 530],
+) -> Finding {
+    let m = on_floor(code, numbers, floor);
+    if !m.met {
+        return disagree(b"the plan does not meet the rules");
+    }
+    if is_late(names, m.row, found.row) {
+        return disagree(b"the plan's row is not the first");
+    }
+    check_words(
+        atoms_of(code, numbers, names, m.row),
+        found.building,
+        n,
+        words,
+    )
+}
+
+// Whether a plan is given though there is no floor: for three names there are floors that are not searched.
+fn is_unfounded(names: usize, some: bool) -> bool {
+    names < 3 && !some
+}
+
 fn check_plan(
     code: &[u8],
     numbers: Numbers,
@@ -1039,27 +1077,17 @@ fn check_plan(
     n: usize,
     words: &[u32; 530],
 ) -> Finding {
-    if names < 3 {
-        if !found.some {
-            return disagree(b"a plan, but no floor is found");
-        }
-    }
     let floor = floor_in(words, n);
-    let building = found.building;
+    if is_unfounded(names, found.some) {
+        return disagree(b"a plan, but no floor is found");
+    }
     if !stand_somewhere(floor.points, names) {
         return disagree(b"a point of the plan is in no name");
     }
-    if !is_asked_for(floor, building) {
+    if !is_asked_for(floor, found.building) {
         return disagree(b"the plan does not hang together");
     }
-    let m = on_floor(code, numbers, floor);
-    if !m.met {
-        return disagree(b"the plan does not meet the rules");
-    }
-    if is_late(names, m.row, found.row) {
-        return disagree(b"the plan's row is not the first");
-    }
-    check_words(atoms_of(code, numbers, names, m.row), building, n, words)
+    check_row(code, numbers, names, found, floor, n, words)
 }
 
 fn check_no_plan(found: Found, words: &[u32; 530]) -> Finding {
@@ -1266,17 +1294,13 @@ fn test(
     );
 }
 
-fn test_sheet(counts: &mut [usize; 10], k: u64) {
-    let sheet = sheet_at(k);
+fn test_made(counts: &mut [usize; 10], k: u64, sheet: Sheet)
+    requires { ⌜ Bounded sheet ⌝ }
+{
     let text = sheet.text;
     let end = sheet.end;
     let form = sheet.form;
     let last = sheet.last;
-    raise(counts, 0, 1);
-    if !sheet.whole {
-        count_finding(counts, PLANS, disagree(b"a sheet is not made"), b"");
-        return;
-    }
     test(
         counts,
         k,
@@ -1285,6 +1309,16 @@ fn test_sheet(counts: &mut [usize; 10], k: u64) {
         &form[0..last],
         sheet.names,
     );
+}
+
+fn test_sheet(counts: &mut [usize; 10], k: u64) {
+    let sheet = sheet_at(k);
+    raise(counts, 0, 1);
+    if sheet.whole {
+        test_made(counts, k, sheet);
+        return;
+    }
+    count_finding(counts, PLANS, disagree(b"a sheet is not made"), b"");
 }
 
 // How many sheets are tested: document 01's own and 3,000 generated ones.
