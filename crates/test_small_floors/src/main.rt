@@ -492,12 +492,16 @@ const TRUE_ZERO: u8 = 3;
 
 const FALSE_ZERO: u8 = 4;
 
-// The atoms in a row: for a contact its two terms, for a zero atom its term, each as the evaluations in which it holds; and the
-// evaluations in true zero terms.
+// An atom in a row: for a contact its two terms, for a zero atom its term, each as the evaluations in which it holds.
+struct RowAtom {
+    kind: u8,
+    first: u8,
+    second: u8,
+}
+
+// The atoms in a row, and the evaluations in true zero terms.
 struct Atoms {
-    kinds: [u8; 16],
-    first: [u8; 16],
-    second: [u8; 16],
+    list: [RowAtom; 16],
     names: usize,
     vacant: u8,
 }
@@ -516,13 +520,14 @@ struct Reading {
 }
 
 fn no_atoms(names: usize) -> Atoms {
-    let kinds = [NO_ATOM; 16];
-    let first = [0u8; 16];
-    let second = [0u8; 16];
+    let none = RowAtom {
+        kind: NO_ATOM,
+        first: 0,
+        second: 0,
+    };
+    let list = [none; 16];
     Atoms {
-        kinds,
-        first,
-        second,
+        list,
         names,
         vacant: 0,
     }
@@ -541,14 +546,12 @@ fn first_term(sign: u8, x: u8, y: u8) -> u8 {
 }
 
 // An atom with its number, in the place of one that has the number already.
-fn with_atom(atoms: Atoms, number: usize, kind: u8, first: u8, second: u8) -> Atoms {
+fn with_atom(atoms: Atoms, number: usize, atom: RowAtom) -> Atoms {
     let mut next = atoms;
-    if kind == TRUE_ZERO {
-        next.vacant = atoms.vacant | first;
+    if atom.kind == TRUE_ZERO {
+        next.vacant = atoms.vacant | atom.first;
     }
-    next.kinds[number % 16] = kind;
-    next.first[number % 16] = first;
-    next.second[number % 16] = second;
+    next.list[number % 16] = atom;
     next
 }
 
@@ -560,8 +563,12 @@ fn with_row_atom(atoms: Atoms, m: Machine, sign: u8, row: u32) -> Atoms {
     let x = operand(m, 0);
     let y = operand(m, 1);
     let number = coming(m);
-    let kind = kind_of(sign, row & weight(number) != 0);
-    with_atom(atoms, number, kind, first_term(sign, x, y), y)
+    let atom = RowAtom {
+        kind: kind_of(sign, row & weight(number) != 0),
+        first: first_term(sign, x, y),
+        second: y,
+    };
+    with_atom(atoms, number, atom)
 }
 
 // The different atoms of a form as the row's bits: terms are evaluated on the floor of all evaluations. Atoms are taken from the last
@@ -586,17 +593,18 @@ fn crossing(x: u8, y: u8, e: usize, f: usize) -> bool {
     has(x, e) && has(y, f) || has(x, f) && has(y, e)
 }
 
+// Whether an atom separates e and f.
+fn separates(atom: RowAtom, e: usize, f: usize) -> bool {
+    atom.kind == FALSE_CONTACT && crossing(atom.first, atom.second, e, f)
+}
+
 // "Two evaluations are separated if a false contact has one in its first term and the other in its second, either way round."
 fn separated(atoms: Atoms, e: usize, f: usize) -> bool {
-    let kinds = atoms.kinds;
-    let first = atoms.first;
-    let second = atoms.second;
+    let list = atoms.list;
     let mut i: usize = 0;
     while i < 16 {
-        if kinds[i] == FALSE_CONTACT {
-            if crossing(first[i], second[i], e, f) {
-                return true;
-            }
+        if separates(list[i], e, f) {
+            return true;
         }
         i += 1;
     }
@@ -668,23 +676,22 @@ fn with_pair(atoms: Atoms, points: u8, x: u8, y: u8) -> u8 {
 }
 
 // The points with those that an atom gives.
-fn with_witnesses(atoms: Atoms, points: u8, kind: u8, x: u8, y: u8) -> u8 {
+fn with_witnesses(atoms: Atoms, points: u8, atom: RowAtom) -> u8 {
+    let kind = atom.kind;
     match kind {
-        TRUE_CONTACT => with_pair(atoms, points, x, y),
-        FALSE_ZERO => with_point(points, least(atoms, x)),
+        TRUE_CONTACT => with_pair(atoms, points, atom.first, atom.second),
+        FALSE_ZERO => with_point(points, least(atoms, atom.first)),
         _ => points,
     }
 }
 
 // "The points are these evaluations, ascending, each once; if there are none, the least allowed evaluation."
 fn points_of(atoms: Atoms) -> u8 {
-    let kinds = atoms.kinds;
-    let first = atoms.first;
-    let second = atoms.second;
+    let list = atoms.list;
     let mut points: u8 = 0;
     let mut i: usize = 0;
     while i < 16 {
-        points = with_witnesses(atoms, points, kinds[i], first[i], second[i]);
+        points = with_witnesses(atoms, points, list[i]);
         i += 1;
     }
     if points == 0 {
@@ -708,22 +715,21 @@ fn widest(atoms: Atoms) -> Floor {
 }
 
 // Whether a piece has what an atom needs.
-fn has_witness(piece: u8, touch: [u8; 8], kind: u8, x: u8, y: u8) -> bool {
+fn has_witness(piece: u8, touch: [u8; 8], atom: RowAtom) -> bool {
+    let kind = atom.kind;
     match kind {
-        TRUE_CONTACT => touching(piece & x, piece & y, touch),
-        FALSE_ZERO => piece & x != 0,
+        TRUE_CONTACT => touching(piece & atom.first, piece & atom.second, touch),
+        FALSE_ZERO => piece & atom.first != 0,
         _ => true,
     }
 }
 
 // "the whole piece that meets the row's true contacts and false zero atoms".
 fn meets_row(atoms: Atoms, piece: u8, touch: [u8; 8]) -> bool {
-    let kinds = atoms.kinds;
-    let first = atoms.first;
-    let second = atoms.second;
+    let list = atoms.list;
     let mut i: usize = 0;
     while i < 16 {
-        if !has_witness(piece, touch, kinds[i], first[i], second[i]) {
+        if !has_witness(piece, touch, list[i]) {
             return false;
         }
         i += 1;
