@@ -4,6 +4,7 @@
 // place after it. The buffer has room for the text of every sheet, but for that of a tree, which is given in pieces (specs/Pieces.antt).
 // Assumes nothing.
 ghost use mathlib.Core.Path.{_≡_};
+ghost use mathlib.Core.List.{[], _∷_};
 ghost use Prim.Native.Nat.{_+_, _*_, _≤_, _<_};
 ghost use lib.ListN.{length, getD, replicate, take, drop};
 ghost use Rattle.contact.specs.Question.{plain, building};
@@ -57,6 +58,15 @@ fn put_text(text: &[u8], out: &mut [u8], at: usize) -> usize
     at + i
 }
 
+// One byte.
+fn put_byte(b: u8, out: &mut [u8], at: usize) -> usize
+    requires { ⌜ at + 1 ≤ length (now out) ⌝ }
+    ensures { λ r. ⌜ Puts at (b ∷ []) (now (out .entry)) (now (out .exit)) r ⌝ }
+{
+    out[at] = b;
+    at + 1
+}
+
 // A number.
 fn put_number(n: usize, out: &mut [u8], at: usize) -> usize
     requires { ⌜ at + length (decimal n) ≤ length (now out) ⌝ }
@@ -88,7 +98,7 @@ fn put_head(names: u8, points: usize, out: &mut [u8], at: usize) -> usize
 {
     let end = put_labelled(b"PLAN names=", names as usize, out, at);
     let end = put_labelled(b" points=", points, out, end);
-    put_text(b"\n", out, end)
+    put_byte(b'\n', out, end)
 }
 
 // Whether the point with this evaluation lies in name i.
@@ -104,7 +114,7 @@ fn put_name(name: KeptName, out: &mut [u8], at: usize) -> usize
     requires { ⌜ (name .len ≡ length (bytesIn name)) × (at + length (blanked (bytesIn name)) ≤ length (now out)) ⌝ }
     ensures { λ r. ⌜ Puts at (blanked (bytesIn name)) (now (out .entry)) (now (out .exit)) r ⌝ }
 {
-    let end = put_text(b" ", out, at);
+    let end = put_byte(b' ', out, at);
     let bytes = name.bytes;
     let len = name.len as usize;
     put_text(&bytes[..len], out, end)
@@ -158,9 +168,9 @@ fn put_point(names: Names, i: usize, e: u8, out: &mut [u8], at: usize) -> usize
     ensures { λ r. ⌜ Puts at (pointLine (knownOf names) i e) (now (out .entry)) (now (out .exit)) r ⌝ }
 {
     let end = put_labelled(b"point ", i, out, at);
-    let end = put_text(b":", out, end);
+    let end = put_byte(b':', out, end);
     let end = put_point_names(names, e, out, end);
-    put_text(b"\n", out, end)
+    put_byte(b'\n', out, end)
 }
 
 // The lines of the first n points.
@@ -184,7 +194,7 @@ fn put_contact(i: usize, j: usize, out: &mut [u8], at: usize) -> usize
 {
     let end = put_labelled(b"contact ", i, out, at);
     let end = put_labelled(b" ", j, out, end);
-    put_text(b"\n", out, end)
+    put_byte(b'\n', out, end)
 }
 
 // The line of positions i and j, if j is later and in i's row.
@@ -252,7 +262,7 @@ fn put_refused(number: usize, line: usize, place: usize, out: &mut [u8], at: usi
     let end = put_labelled(b"refused ", number, out, at);
     let end = put_labelled(b" line ", line, out, end);
     let end = put_labelled(b" at ", place, out, end);
-    put_text(b"\n", out, end)
+    put_byte(b'\n', out, end)
 }
 
 // What a load's answer says: nothing where it is loaded.
@@ -364,7 +374,7 @@ fn put_line(table: Table, i: usize, out: &mut [u8], at: usize) -> usize
     let PrintAnswer::Text(n) = answer else {
         return at;
     };
-    put_text(b"\n", out, at + n)
+    put_byte(b'\n', out, at + n)
 }
 
 // The lines of the rules that stand: at most 16 of at most 257 bytes.
@@ -510,7 +520,7 @@ fn put_reason(word: u32, depth: u8, atoms: [AtomText; 16], out: &mut [u8], at: u
 {
     let end = put_margin(depth, out, at);
     let end = put_saying(word, atoms, out, end);
-    put_text(b"\n", out, end)
+    put_byte(b'\n', out, end)
 }
 
 // The word at an index, and its depth; 0 past the last.

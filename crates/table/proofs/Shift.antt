@@ -1,4 +1,4 @@
--- Withdraw's loop and the table that it leaves: each line takes the place before it, and the last one is cleared. Assumes nothing.
+-- Withdraw's loop and the table that it leaves: the last line is cleared, and each other takes the place before it. Assumes nothing.
 use Prim.Native.Nat.{ℕ, suc, _+_, _-_, _≤_, _<_}
 use mathlib.Core.Path.{_≡_, refl, sym, ap, _∙_}
 use mathlib.Core.List.{List, [], _∷_, _++_, map, map-append}
@@ -17,7 +17,7 @@ use Rattle.table.proofs.Lines.{count-is, lines-are, linesWith, tableWit
 abbrev pub moved : List Line → ℕ → ℕ → List Line
 moved ls k i = paste ls (k - 1) (drop k ls) (i - k)
 
-pub moved-next : (ls : List Line) (k i : ℕ) (d : Line) → 1 ≤ k → k ≤ i → i < length ls → set (moved ls k i) (i - 1) (getD ls i d) ≡ moved ls k (i + 1)
+moved-next : (ls : List Line) (k i : ℕ) (d : Line) → 1 ≤ k → k ≤ i → i < length ls → set (moved ls k i) (i - 1) (getD ls i d) ≡ moved ls k (i + 1)
 moved-next ls k i d pos low h =
     let e : i ≡ k + (i - k) = omega arith in
     let a : i - 1 ≡ k - 1 + (i - k) = omega arith in
@@ -31,6 +31,20 @@ pub moved-none : (ls : List Line) (k : ℕ) → ls ≡ moved ls k k
 moved-none ls k =
     let e : 0 ≡ k - k = omega arith in
     paste-zero ls (k - 1) (drop k ls) ∙ ap (λ (n : ℕ). paste ls (k - 1) (drop k ls) n) e
+
+-- two places are written in either order
+swapped : (ls : List Line) (i j : ℕ) (a b : Line) → i < j → set (set ls j a) i b ≡ set (set ls i b) j a
+swapped [] i j a b h = refl
+swapped (l ∷ ls) i ℕ.zero a b h = absurd (omega arith)
+swapped (l ∷ ls) ℕ.zero (suc j) a b h = refl
+swapped (l ∷ ls) (suc i) (suc j) a b h = ap {B = List Line} (λ (k : List Line). l ∷ k) (swapped ls i j a b (omega arith))
+
+-- the same where the last line has been cleared before
+pub moved-cleared : (ls : List Line) (k i n : ℕ) (d : Line) → 1 ≤ k → k ≤ i → i < n → n ≤ length ls
+    → set (set (moved ls k i) (n - 1) (keptLine [])) (i - 1) (getD ls i d) ≡ set (moved ls k (i + 1)) (n - 1) (keptLine [])
+moved-cleared ls k i n d pos low h high =
+    swapped (moved ls k i) (i - 1) (n - 1) (keptLine []) (getD ls i d) (omega arith)
+    ∙ ap (λ (l : List Line). set l (n - 1) (keptLine [])) (moved-next ls k i d pos low (omega arith))
 
 module _ (rs : List Text) (k : ℕ) (pos : 1 ≤ k) (high : k ≤ length rs) (few : length rs ≤ 16) where
   left-length : length (without rs (k - 1)) ≡ length rs - 1

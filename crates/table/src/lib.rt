@@ -402,21 +402,13 @@ pub fn withdraw_outcome(answer: WithdrawAnswer) -> Outcome
     }
 }
 
-// A refusal on a line.
+// A refusal on a line. What is no refusal, or has its line, stays as it is.
 fn on_line(line: usize, said: Outcome) -> Outcome
     ensures { λ r. ⌜ r ≡ onLine line said ⌝ }
 {
     match said {
-        Outcome::Done => Outcome::Done,
-        Outcome::Plan(n) => Outcome::Plan(n),
-        Outcome::NoPlan => Outcome::NoPlan,
-        Outcome::Yes => Outcome::Yes,
-        Outcome::Unmet(k) => Outcome::Unmet(k),
-        Outcome::Text(n) => Outcome::Text(n),
-        Outcome::Tree(n) => Outcome::Tree(n),
-        Outcome::Closed => Outcome::Closed,
         Outcome::Refused(number, place) => Outcome::RefusedLine(number, line, place),
-        Outcome::RefusedLine(number, at, place) => Outcome::RefusedLine(number, at, place),
+        _ => said,
     }
 }
 
@@ -562,7 +554,7 @@ impl Table {
         AddResult { table, answer }
     }
 
-    // The table without its k-th rule, from 1: later rules move down and the freed line is cleared. Where
+    // The table without its k-th rule, from 1: the last line, which is freed, is cleared, and later rules move down. Where
     // there is no such rule the table comes back as it was, and the answer carries k.
     pub fn withdraw(self, k: usize) -> WithdrawResult
         requires { ⌜ FromUs self ⌝ }
@@ -581,15 +573,16 @@ impl Table {
                 answer: WithdrawAnswer::NoSuchRule(k),
             };
         }
-        let mut table = self;
+        let none = no_line();
+        let mut freed = self;
+        freed.lines[count - 1] = none;
+        let mut table = freed;
         let mut i = k;
         while i < count {
             let line = self.lines[i];
             table.lines[i - 1] = line;
             i += 1;
         }
-        let none = no_line();
-        table.lines[count - 1] = none;
         table.count = count - 1;
         let answer = WithdrawAnswer::Withdrawn;
         WithdrawResult { table, answer }

@@ -28,20 +28,17 @@ slice-aggregate-put-labelled-2 c = search needs
 put-labelled-requires-2 : tie.Need-put-labelled-requires-2
 put-labelled-requires-2 c κs = fits-next (c .before .before .before .before .put-labelled .ensures) _ (simp length-append (omega (arith, simp length-append at (fits (c .before .before .before .before .before .before .before .before)))))
 
-slice-aggregate-put-text : tie.Need-slice-aggregate-put-text
-slice-aggregate-put-text c = search needs
-
-put-text-requires : tie.Need-put-text-requires
-put-text-requires c κs = fits-next (puts-more (c .before .before .before .before .before .before .before .before .before .put-labelled .ensures) (c .before .before .before .before .put-labelled2 .ensures)) _ (simp length-append (omega (arith, simp length-append at (fits (c .before .before .before .before .before .before .before .before .before .before .before .before .before)))))
+put-byte-requires : tie.Need-put-byte-requires
+put-byte-requires c κs = fits-next (puts-more (c .before .before .before .before .before .before .before .before .put-labelled .ensures) (c .before .before .before .put-labelled2 .ensures)) _ (simp length-append (omega (arith, simp length-append at (fits (c .before .before .before .before .before .before .before .before .before .before .before .before)))))
 
 same-length : tie.Need-same-length
 same-length c = search needs
 
 returns : tie.Need-returns
 returns c =
-    let s = c .before .before .before .before .before .before .before .before .before .before .before .before .before .before .before .before in
+    let s = c .before .before .before .before .before .before .before .before .before .before .before .before .before .before .before in
     puts-text (sym (contact-text (s .args .i) (s .args .j) (s .pre .0)))
-    (puts-more (puts-more (c .before .before .before .before .before .before .before .before .before .before .before .before .put-labelled .ensures) (c .before .before .before .before .before .before .before .put-labelled2 .ensures)) (c .before .before .put-text .ensures))
+    (puts-more (puts-more (c .before .before .before .before .before .before .before .before .before .before .before .put-labelled .ensures) (c .before .before .before .before .before .before .put-labelled2 .ensures)) (c .before .before .put-byte .ensures))
 
 pub put-contact-spec : {M : Type 1} → statement M
 put-contact-spec =
@@ -51,7 +48,6 @@ put-contact-spec =
     put-labelled-requires
     slice-aggregate-put-labelled-2
     put-labelled-requires-2
-    slice-aggregate-put-text
-    put-text-requires
+    put-byte-requires
     same-length
     returns)

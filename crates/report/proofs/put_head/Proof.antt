@@ -21,19 +21,16 @@ put-labelled-requires-2 : tie.Need-put-labelled-requires-2
 unfolding headLine
 put-labelled-requires-2 c κs = fits-next (c .before .before .before .before .put-labelled .ensures) _ (simp length-append (omega (arith, simp length-append at (c .before .before .before .before .before .before .before .before .pre))))
 
-slice-aggregate-put-text : tie.Need-slice-aggregate-put-text
-slice-aggregate-put-text c = search needs
-
-put-text-requires : tie.Need-put-text-requires
+put-byte-requires : tie.Need-put-byte-requires
 unfolding headLine
-put-text-requires c κs = fits-next (puts-more (c .before .before .before .before .before .before .before .before .before .put-labelled .ensures) (c .before .before .before .before .put-labelled2 .ensures)) _ (simp length-append (omega (arith, simp length-append at (c .before .before .before .before .before .before .before .before .before .before .before .before .before .pre))))
+put-byte-requires c κs = fits-next (puts-more (c .before .before .before .before .before .before .before .before .put-labelled .ensures) (c .before .before .before .put-labelled2 .ensures)) _ (simp length-append (omega (arith, simp length-append at (c .before .before .before .before .before .before .before .before .before .before .before .before .pre))))
 
 same-length : tie.Need-same-length
 same-length c = search needs
 
 returns : tie.Need-returns
 unfolding headLine
-returns c = puts-more (puts-more (c .before .before .before .before .before .before .before .before .before .before .before .before .put-labelled .ensures) (c .before .before .before .before .before .before .before .put-labelled2 .ensures)) (c .before .before .put-text .ensures)
+returns c = puts-more (puts-more (c .before .before .before .before .before .before .before .before .before .before .before .put-labelled .ensures) (c .before .before .before .before .before .before .put-labelled2 .ensures)) (c .before .before .put-byte .ensures)
 
 pub put-head-spec : {M : Type 1} → statement M
 put-head-spec =
@@ -43,7 +40,6 @@ put-head-spec =
     put-labelled-requires
     slice-aggregate-put-labelled-2
     put-labelled-requires-2
-    slice-aggregate-put-text
-    put-text-requires
+    put-byte-requires
     same-length
     returns)

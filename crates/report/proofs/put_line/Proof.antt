@@ -40,22 +40,19 @@ same-length c = search needs
 returns : tie.Need-returns
 returns c = no-line (printing (c .before .before .before)) (told-no-text _ (c .match .keys2))
 
-slice-aggregate-put-text : tie.Need-slice-aggregate-put-text
-slice-aggregate-put-text c = search needs
+add-put-byte : tie.Need-add-put-byte
+add-put-byte c = let w = wrote (c .before .before) in omega (arith, w .few, w .puts .place)
 
-add-put-text : tie.Need-add-put-text
-add-put-text c = let w = wrote (c .before .before .before) in omega (arith, w .few, w .puts .place)
-
-put-text-requires : tie.Need-put-text-requires
-put-text-requires c κs = let w = wrote (c .before .before .before) in fits-next (w .puts) 1 (w .few)
+put-byte-requires : tie.Need-put-byte-requires
+put-byte-requires c κs = let w = wrote (c .before .before) in fits-next (w .puts) 1 (w .few)
 
 same-length-2 : tie.Need-same-length-2
 same-length-2 c = search needs
 
 returns-2 : tie.Need-returns-2
 returns-2 c =
-    let w = wrote (c .before .before .before .before .before .before) in
-    puts-text (w .line) (puts-more (w .puts) (c .before .before .put-text .ensures))
+    let w = wrote (c .before .before .before .before .before) in
+    puts-text (w .line) (puts-more (w .puts) (c .before .before .put-byte .ensures))
 
 pub put-line-spec : {M : Type 1} → statement M
 put-line-spec =
@@ -69,8 +66,7 @@ put-line-spec =
     enum-known-answer
     same-length
     returns
-    slice-aggregate-put-text
-    add-put-text
-    put-text-requires
+    add-put-byte
+    put-byte-requires
     same-length-2
     returns-2)

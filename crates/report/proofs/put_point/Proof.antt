@@ -14,26 +14,20 @@ put-labelled-requires : tie.Need-put-labelled-requires
 unfolding pointLine
 put-labelled-requires c κs = simp length-append (omega (arith, simp length-append at (c .before .before .before .pre .1)))
 
-slice-aggregate-put-text : tie.Need-slice-aggregate-put-text
-slice-aggregate-put-text c = search needs
-
-put-text-requires : tie.Need-put-text-requires
+put-byte-requires : tie.Need-put-byte-requires
 unfolding pointLine
-put-text-requires c κs = fits-next (c .before .before .before .before .put-labelled .ensures) _ (simp length-append (omega (arith, simp length-append at (c .before .before .before .before .before .before .before .before .pre .1))))
+put-byte-requires c κs = fits-next (c .before .before .before .put-labelled .ensures) _ (simp length-append (omega (arith, simp length-append at (c .before .before .before .before .before .before .before .pre .1))))
 
 put-point-names-requires : tie.Need-put-point-names-requires
 unfolding pointLine
 put-point-names-requires c κs =
-    let s = c .before .before .before .before .before .before .before .before .before .before .before .before in
-    (s .pre .0, fits-next (puts-more (c .before .before .before .before .before .before .before .before .put-labelled .ensures) (c .before .before .before .put-text .ensures)) _ (simp length-append (omega (arith, simp length-append at (s .pre .1)))))
+    let s = c .before .before .before .before .before .before .before .before .before .before .before in
+    (s .pre .0, fits-next (puts-more (c .before .before .before .before .before .before .before .put-labelled .ensures) (c .before .before .before .put-byte .ensures)) _ (simp length-append (omega (arith, simp length-append at (s .pre .1)))))
 
-slice-aggregate-put-text-2 : tie.Need-slice-aggregate-put-text-2
-slice-aggregate-put-text-2 c = search needs
-
-put-text-requires-2 : tie.Need-put-text-requires-2
+put-byte-requires-2 : tie.Need-put-byte-requires-2
 unfolding pointLine
-put-text-requires-2 c κs =
-    fits-next (puts-more (puts-more (c .before .before .before .before .before .before .before .before .before .before .before .before .before .put-labelled .ensures) (c .before .before .before .before .before .before .before .before .put-text .ensures)) (c .before .before .before .before .put-point-names .ensures)) _ (simp length-append (omega (arith, simp length-append at (c .before .before .before .before .before .before .before .before .before .before .before .before .before .before .before .before .before .pre .1))))
+put-byte-requires-2 c κs =
+    fits-next (puts-more (puts-more (c .before .before .before .before .before .before .before .before .before .before .before .put-labelled .ensures) (c .before .before .before .before .before .before .before .put-byte .ensures)) (c .before .before .before .put-point-names .ensures)) _ (simp length-append (omega (arith, simp length-append at (c .before .before .before .before .before .before .before .before .before .before .before .before .before .before .before .pre .1))))
 
 same-length : tie.Need-same-length
 same-length c = search needs
@@ -41,7 +35,7 @@ same-length c = search needs
 returns : tie.Need-returns
 unfolding pointLine
 returns c =
-    puts-more (puts-more (puts-more (c .before .before .before .before .before .before .before .before .before .before .before .before .before .before .before .before .put-labelled .ensures) (c .before .before .before .before .before .before .before .before .before .before .before .put-text .ensures)) (c .before .before .before .before .before .before .before .put-point-names .ensures)) (c .before .before .put-text2 .ensures)
+    puts-more (puts-more (puts-more (c .before .before .before .before .before .before .before .before .before .before .before .before .before .before .put-labelled .ensures) (c .before .before .before .before .before .before .before .before .before .before .put-byte .ensures)) (c .before .before .before .before .before .before .put-point-names .ensures)) (c .before .before .put-byte2 .ensures)
 
 pub put-point-spec : {M : Type 1} → statement M
 put-point-spec =
@@ -49,10 +43,8 @@ put-point-spec =
     (tie.spec
     slice-aggregate-put-labelled
     put-labelled-requires
-    slice-aggregate-put-text
-    put-text-requires
+    put-byte-requires
     put-point-names-requires
-    slice-aggregate-put-text-2
-    put-text-requires-2
+    put-byte-requires-2
     same-length
     returns)

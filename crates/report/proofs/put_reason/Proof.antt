@@ -13,20 +13,17 @@ put-margin-requires c κs = omega (arith, margin-few (c .before .before .args .d
 put-saying-requires : tie.Need-put-saying-requires
 put-saying-requires c κs = let s = c .before .before .before .before .before .before in fits-next (c .before .before .before .put-margin .ensures) 266 (omega (arith, s .pre, margin-few (s .args .depth)))
 
-slice-aggregate-put-text : tie.Need-slice-aggregate-put-text
-slice-aggregate-put-text c = search needs
-
-put-text-requires : tie.Need-put-text-requires
-put-text-requires c κs =
-    let s = c .before .before .before .before .before .before .before .before .before .before .before in
-    omega (arith, s .pre, margin-few (s .args .depth), c .before .before .before .before .before .before .before .before .put-margin .ensures .place, puts-length (c .before .before .before .before .before .before .before .before .put-margin .ensures), c .before .before .before .before .put-saying .ensures .1, puts-length (c .before .before .before .before .put-saying .ensures .0))
+put-byte-requires : tie.Need-put-byte-requires
+put-byte-requires c κs =
+    let s = c .before .before .before .before .before .before .before .before .before .before in
+    omega (arith, s .pre, margin-few (s .args .depth), c .before .before .before .before .before .before .before .put-margin .ensures .place, puts-length (c .before .before .before .before .before .before .before .put-margin .ensures), c .before .before .before .put-saying .ensures .1, puts-length (c .before .before .before .put-saying .ensures .0))
 
 same-length : tie.Need-same-length
 same-length c = search needs
 
 returns : tie.Need-returns
 unfolding indented
-returns c = puts-more (c .before .before .before .before .before .before .before .before .before .before .before .put-margin .ensures) (puts-more (c .before .before .before .before .before .before .before .put-saying .ensures .0) (c .before .before .put-text .ensures))
+returns c = puts-more (c .before .before .before .before .before .before .before .before .before .before .put-margin .ensures) (puts-more (c .before .before .before .before .before .before .put-saying .ensures .0) (c .before .before .put-byte .ensures))
 
 pub put-reason-spec : {M : Type 1} → statement M
 put-reason-spec =
@@ -34,7 +31,6 @@ put-reason-spec =
     (tie.spec
     put-margin-requires
     put-saying-requires
-    slice-aggregate-put-text
-    put-text-requires
+    put-byte-requires
     same-length
     returns)

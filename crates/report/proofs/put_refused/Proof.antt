@@ -36,13 +36,10 @@ unfolding refusedText
 put-labelled-requires-3 c κs =
     fits-next (puts-more (c .before .before .before .before .before .before .before .before .before .put-labelled .ensures) (c .before .before .before .before .put-labelled2 .ensures)) _ (simp length-append (omega (arith, simp length-append at (fits (c .before .before .before .before .before .before .before .before .before .before .before .before .before)))))
 
-slice-aggregate-put-text : tie.Need-slice-aggregate-put-text
-slice-aggregate-put-text c = search needs
-
-put-text-requires : tie.Need-put-text-requires
+put-byte-requires : tie.Need-put-byte-requires
 unfolding refusedText
-put-text-requires c κs =
-    fits-next (puts-more (puts-more (c .before .before .before .before .before .before .before .before .before .before .before .before .before .before .put-labelled .ensures) (c .before .before .before .before .before .before .before .before .before .put-labelled2 .ensures)) (c .before .before .before .before .put-labelled3 .ensures)) _ (simp length-append (omega (arith, simp length-append at (fits (c .before .before .before .before .before .before .before .before .before .before .before .before .before .before .before .before .before .before)))))
+put-byte-requires c κs =
+    fits-next (puts-more (puts-more (c .before .before .before .before .before .before .before .before .before .before .before .before .before .put-labelled .ensures) (c .before .before .before .before .before .before .before .before .put-labelled2 .ensures)) (c .before .before .before .put-labelled3 .ensures)) _ (simp length-append (omega (arith, simp length-append at (fits (c .before .before .before .before .before .before .before .before .before .before .before .before .before .before .before .before .before)))))
 
 same-length : tie.Need-same-length
 same-length c = search needs
@@ -50,7 +47,7 @@ same-length c = search needs
 returns : tie.Need-returns
 unfolding refusedText
 returns c =
-    puts-more (puts-more (puts-more (c .before .before .before .before .before .before .before .before .before .before .before .before .before .before .before .before .before .put-labelled .ensures) (c .before .before .before .before .before .before .before .before .before .before .before .before .put-labelled2 .ensures)) (c .before .before .before .before .before .before .before .put-labelled3 .ensures)) (c .before .before .put-text .ensures)
+    puts-more (puts-more (puts-more (c .before .before .before .before .before .before .before .before .before .before .before .before .before .before .before .before .put-labelled .ensures) (c .before .before .before .before .before .before .before .before .before .before .before .put-labelled2 .ensures)) (c .before .before .before .before .before .before .put-labelled3 .ensures)) (c .before .before .put-byte .ensures)
 
 pub put-refused-spec : {M : Type 1} → statement M
 put-refused-spec =
@@ -62,7 +59,6 @@ put-refused-spec =
     put-labelled-requires-2
     slice-aggregate-put-labelled-3
     put-labelled-requires-3
-    slice-aggregate-put-text
-    put-text-requires
+    put-byte-requires
     same-length
     returns)

@@ -35,35 +35,14 @@ sub-sign-2 c = search needs
 shared-slice-read-sign : tie.Need-shared-slice-read-sign Inv-loop μ-loop
 shared-slice-read-sign c = search needs
 
-is-atom-requires : tie.Need-is-atom-requires Inv-loop μ-loop
-is-atom-requires c κs = search needs
+add-i : tie.Need-add-i Inv-loop μ-loop
+add-i c = search needs
 
-operand-requires : tie.Need-operand-requires Inv-loop μ-loop
-operand-requires c κs = search needs
-
-operand-requires-2 : tie.Need-operand-requires-2 Inv-loop μ-loop
-operand-requires-2 c κs = search needs
-
-coming-requires : tie.Need-coming-requires Inv-loop μ-loop
-coming-requires c κs = search needs
-
-weight-requires : tie.Need-weight-requires Inv-loop μ-loop
-weight-requires c κs = search needs
-
-kind-of-requires : tie.Need-kind-of-requires Inv-loop μ-loop
-kind-of-requires c κs = search needs
-
-first-term-requires : tie.Need-first-term-requires Inv-loop μ-loop
-first-term-requires c κs = search needs
-
-with-atom-requires : tie.Need-with-atom-requires Inv-loop μ-loop
-with-atom-requires c κs = search needs
+with-row-atom-requires : tie.Need-with-row-atom-requires Inv-loop μ-loop
+with-row-atom-requires c κs = search needs
 
 step-requires : tie.Need-step-requires Inv-loop μ-loop
 step-requires c κs = search needs
-
-add-i : tie.Need-add-i Inv-loop μ-loop
-add-i c = search needs
 
 loop-less : tie.Need-loop-less Inv-loop μ-loop
 loop-less c = search needs
@@ -88,16 +67,9 @@ atoms-of-spec =
     sub-sign
     sub-sign-2
     shared-slice-read-sign
-    is-atom-requires
-    operand-requires
-    operand-requires-2
-    coming-requires
-    weight-requires
-    kind-of-requires
-    first-term-requires
-    with-atom-requires
-    step-requires
     add-i
+    with-row-atom-requires
+    step-requires
     loop-less
     loop-again
     returns)

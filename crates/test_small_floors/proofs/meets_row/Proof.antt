@@ -1,26 +1,23 @@
--- `test_small_floors::meets_row` is safe and ends: each atom read is one of the 16, and the atoms left fall. Assumes nothing.
+-- `test_small_floors::meets_row` is safe and ends: each atom read is one of the sixteen, and those left fall. Assumes nothing.
 use borrow.Author.Needs.{needs}
 use Prim.Native.Nat.{_-_}
 use Rattle.test_small_floors.proofs.meets_row.Statement.{statement}
 use Rattle.test_small_floors.proofs.meets_row.Tie as tie
 
 abbrev Inv-loop : tie.InvT-loop
-Inv-loop piece touch kinds first second i₀ i = Unit {0}
+Inv-loop piece touch list i₀ i = Unit {0}
 
 abbrev μ-loop : tie.MeasureT-loop
-μ-loop piece touch kinds first second i₀ i = 16 - i
+μ-loop piece touch list i₀ i = 16 - i
 
 loop-holds : tie.Need-loop-holds Inv-loop μ-loop
 loop-holds c = search needs
 
-array-read-has-witness : tie.Need-array-read-has-witness Inv-loop μ-loop
-array-read-has-witness c = search needs
+mul-has-witness : tie.Need-mul-has-witness Inv-loop μ-loop
+mul-has-witness c = search needs
 
-array-read-has-witness-2 : tie.Need-array-read-has-witness-2 Inv-loop μ-loop
-array-read-has-witness-2 c = search needs
-
-array-read-has-witness-3 : tie.Need-array-read-has-witness-3 Inv-loop μ-loop
-array-read-has-witness-3 c = search needs
+array-copy-out-has-witness : tie.Need-array-copy-out-has-witness Inv-loop μ-loop
+array-copy-out-has-witness c = search needs
 
 has-witness-requires : tie.Need-has-witness-requires Inv-loop μ-loop
 has-witness-requires c κs = search needs
@@ -47,9 +44,8 @@ meets-row-spec =
     Inv-loop
     μ-loop
     loop-holds
-    array-read-has-witness
-    array-read-has-witness-2
-    array-read-has-witness-3
+    mul-has-witness
+    array-copy-out-has-witness
     has-witness-requires
     returns
     add-i

@@ -1,26 +1,23 @@
--- `test_small_floors::points_of` is safe and ends: each atom read is one of the 16, and the atoms left fall. Assumes nothing.
+-- `test_small_floors::points_of` is safe and ends: each atom read is one of the sixteen, and those left fall. Assumes nothing.
 use borrow.Author.Needs.{needs}
 use Prim.Native.Nat.{_-_}
 use Rattle.test_small_floors.proofs.points_of.Statement.{statement}
 use Rattle.test_small_floors.proofs.points_of.Tie as tie
 
 abbrev Inv-loop : tie.InvT-loop
-Inv-loop atoms kinds first second points₀ i₀ points i = Unit {0}
+Inv-loop atoms list points₀ i₀ points i = Unit {0}
 
 abbrev μ-loop : tie.MeasureT-loop
-μ-loop atoms kinds first second points₀ i₀ points i = 16 - i
+μ-loop atoms list points₀ i₀ points i = 16 - i
 
 loop-holds : tie.Need-loop-holds Inv-loop μ-loop
 loop-holds c = search needs
 
-array-read-with-witnesses : tie.Need-array-read-with-witnesses Inv-loop μ-loop
-array-read-with-witnesses c = search needs
+mul-with-witnesses : tie.Need-mul-with-witnesses Inv-loop μ-loop
+mul-with-witnesses c = search needs
 
-array-read-with-witnesses-2 : tie.Need-array-read-with-witnesses-2 Inv-loop μ-loop
-array-read-with-witnesses-2 c = search needs
-
-array-read-with-witnesses-3 : tie.Need-array-read-with-witnesses-3 Inv-loop μ-loop
-array-read-with-witnesses-3 c = search needs
+array-copy-out-with-witnesses : tie.Need-array-copy-out-with-witnesses Inv-loop μ-loop
+array-copy-out-with-witnesses c = search needs
 
 with-witnesses-requires : tie.Need-with-witnesses-requires Inv-loop μ-loop
 with-witnesses-requires c κs = search needs
@@ -53,9 +50,8 @@ points-of-spec =
     Inv-loop
     μ-loop
     loop-holds
-    array-read-with-witnesses
-    array-read-with-witnesses-2
-    array-read-with-witnesses-3
+    mul-with-witnesses
+    array-copy-out-with-witnesses
     with-witnesses-requires
     add-i
     loop-less

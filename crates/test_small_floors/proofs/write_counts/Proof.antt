@@ -1,4 +1,4 @@
--- `test_small_floors::write_counts` is safe and ends: each count read is one of the 43, and the counts left fall. Assumes nothing.
+-- `test_small_floors::write_counts` is safe and ends: each count read is one of the 10, and the counts left fall. Assumes nothing.
 use borrow.Author.Needs.{needs}
 use Prim.Native.Nat.{_-_}
 use Rattle.test_small_floors.proofs.write_counts.Statement.{statement}
@@ -8,7 +8,7 @@ abbrev Inv-loop : tie.InvT-loop
 Inv-loop counts i₀ t4 i = Unit {0}
 
 abbrev μ-loop : tie.MeasureT-loop
-μ-loop counts i₀ t4 i = 43 - i
+μ-loop counts i₀ t4 i = 10 - i
 
 loop-holds : tie.Need-loop-holds Inv-loop μ-loop
 loop-holds c = search needs

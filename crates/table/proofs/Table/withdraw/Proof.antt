@@ -1,20 +1,20 @@
--- `table::Table::withdraw` meets its contract: so far the lines from k up to i have moved down by one place, and the freed line is cleared last. Assumes nothing.
+-- `table::Table::withdraw` meets its contract: the freed line is cleared first, and so far the lines from k up to i have moved down by one place. Assumes nothing.
 use borrow.Author.Needs.{needs}
 use Prim.Native.Nat.{ℕ, _-_, _≤_, _<_}
-use mathlib.Core.Path.{_≡_, ap, _∙_}
-use mathlib.Core.List.{List}
+use mathlib.Core.Path.{_≡_, refl, ap, _∙_}
+use mathlib.Core.List.{List, []}
 use lib.ListN.{length, getD, set}
 use Rattle.table.specs.declared.Line.{Line}
-use Rattle.table.specs.Store.{rulesOf}
+use Rattle.table.specs.Store.{rulesOf, keptLine}
 use Rattle.table.proofs.Results.{withdraw-zero, withdraw-high, withdraw-good, withdrawn-by}
 use Rattle.table.proofs.Lines.{none, count-is, count-few, tableWith}
-use Rattle.table.proofs.Shift.{moved, moved-none, moved-next, left-table, lines-length}
+use Rattle.table.proofs.Shift.{moved, moved-none, moved-cleared, left-table, lines-length}
 use native.Mathlib.Omega.{arith}
 use Rattle.table.proofs.Table.withdraw.Statement.{statement}
 use Rattle.table.proofs.Table.withdraw.Tie as tie
 
 abbrev Inv-loop : tie.InvT-loop
-Inv-loop k self count table₀ i₀ table i = (k ≤ i) × (i ≤ count) × (table .lines ≡ moved (table₀ .lines) k i)
+Inv-loop k self count table₀ i₀ table i = (k ≤ i) × (i ≤ count) × (table .lines ≡ set (moved (self .lines) k i) (count - 1) (keptLine []))
 
 abbrev μ-loop : tie.MeasureT-loop
 μ-loop k self count table₀ i₀ table i = count - i
@@ -30,42 +30,6 @@ returns-2 c =
     let t = c .before .before .args .t1 in
     withdrawn-by t _ _ _ (c .before .before .pre) (withdraw-high (rulesOf t) _ (c .before .if1 .left) (omega (arith, count-is t (c .before .before .pre)))) (c .before .before .pre .same)
 
-loop-holds : tie.Need-loop-holds Inv-loop μ-loop
-loop-holds c = (omega arith, omega arith, moved-none (c .before .before .args .t1 .lines) (c .before .before .args .k))
-
-mul-line : tie.Need-mul-line Inv-loop μ-loop
-mul-line c = omega (arith, few (c .before .before))
-
-element-copy-out-line : tie.Need-element-copy-out-line Inv-loop μ-loop
-element-copy-out-line c = omega (arith, few (c .before .before))
-
-sub-line : tie.Need-sub-line Inv-loop μ-loop
-sub-line c = omega arith
-
-mul-line-2 : tie.Need-mul-line-2 Inv-loop μ-loop
-mul-line-2 c = omega (arith, few (c .before .before .before))
-
-element-set-from-line : tie.Need-element-set-from-line Inv-loop μ-loop
-element-set-from-line c = omega (arith, few (c .before .before .before))
-
-add-i : tie.Need-add-i Inv-loop μ-loop
-add-i c = omega (arith, few (c .before .before .before))
-
-loop-less : tie.Need-loop-less Inv-loop μ-loop
-loop-less c = omega arith
-
-loop-again : tie.Need-loop-again Inv-loop μ-loop
-loop-again c =
-    let t = c .before .before .before .before .before .args .t1 in
-    let k = c .before .before .before .before .before .args .k in
-    let i = c .before .before .loop .i in
-    let inv = c .before .before .loop .inv in
-    let h : i < length (t .lines) = omega (arith, lines-length t (c .before .before .before .before .before .pre), few (c .before .before .before)) in (
-      omega arith,
-      omega arith,
-      ap (λ (ls : List Line). set ls (i - 1) (getD (t .lines) i none)) (inv .2) ∙ moved-next (t .lines) k i none (omega arith) (inv .0) h,
-    )
-
 no-line-requires : tie.Need-no-line-requires Inv-loop μ-loop
 no-line-requires c κs = search needs
 
@@ -73,10 +37,52 @@ sub-none : tie.Need-sub-none Inv-loop μ-loop
 sub-none c = omega arith
 
 mul-none : tie.Need-mul-none Inv-loop μ-loop
-mul-none c = omega (arith, few (c .before .before .before))
+mul-none c = omega (arith, few (c .before))
 
 element-set-from-none : tie.Need-element-set-from-none Inv-loop μ-loop
-element-set-from-none c = omega (arith, few (c .before .before .before))
+element-set-from-none c = omega (arith, few (c .before))
+
+loop-holds : tie.Need-loop-holds Inv-loop μ-loop
+loop-holds c =
+    let t = c .before .before .before .args .t1 in (
+      omega arith,
+      omega arith,
+      ap (λ (l : Line). set (t .lines) (t .count - 1) l) (c .no-line .ensures)
+          ∙ ap (λ (ls : List Line). set ls (t .count - 1) (keptLine [])) (moved-none (t .lines) (c .before .before .before .args .k)),
+    )
+
+mul-line : tie.Need-mul-line Inv-loop μ-loop
+mul-line c = omega (arith, few (c .before .before .before))
+
+element-copy-out-line : tie.Need-element-copy-out-line Inv-loop μ-loop
+element-copy-out-line c = omega (arith, few (c .before .before .before))
+
+sub-line : tie.Need-sub-line Inv-loop μ-loop
+sub-line c = omega arith
+
+mul-line-2 : tie.Need-mul-line-2 Inv-loop μ-loop
+mul-line-2 c = omega (arith, few (c .before .before .before .before))
+
+element-set-from-line : tie.Need-element-set-from-line Inv-loop μ-loop
+element-set-from-line c = omega (arith, few (c .before .before .before .before))
+
+add-i : tie.Need-add-i Inv-loop μ-loop
+add-i c = omega (arith, few (c .before .before .before .before))
+
+loop-less : tie.Need-loop-less Inv-loop μ-loop
+loop-less c = omega arith
+
+loop-again : tie.Need-loop-again Inv-loop μ-loop
+loop-again c =
+    let t = c .before .before .before .before .before .before .args .t1 in
+    let i = c .before .before .loop .i in
+    let inv = c .before .before .loop .inv in
+    let h : t .count ≤ length (t .lines) = omega (arith, lines-length t (c .before .before .before .before .before .before .pre), few (c .before .before .before .before)) in (
+      omega arith,
+      omega arith,
+      ap (λ (ls : List Line). set ls (i - 1) (getD (t .lines) i none)) (inv .2)
+          ∙ moved-cleared (t .lines) (c .before .before .before .before .before .before .args .k) i (t .count) none (omega arith) (inv .0) (omega arith) h,
+    )
 
 sub-table : tie.Need-sub-table Inv-loop μ-loop
 sub-table c = omega arith
@@ -86,13 +92,10 @@ returns-3 c =
     let t = c .before .before .before .before .before .args .t1 in
     let k = c .before .before .before .before .before .args .k in
     let v = c .before .before .before .before .before .pre in
-    let inv = c .before .before .loop .inv in
-    let ls = c .before .before .loop .table .lines in
-    let e : c .before .before .loop .i ≡ t .count = omega arith in
-    let high : k ≤ t .count = omega arith in
+    let e : c .before .loop .i ≡ t .count = omega arith in
     withdrawn-by t _ k _ v (withdraw-good (rulesOf t) k (omega arith) (omega (arith, count-is t v)))
-    (ap (λ (l : Line). tableWith (set ls (t .count - 1) l) (t .count - 1)) (c .no-line .ensures)
-    ∙ left-table t k ls v (omega arith) high (inv .2 ∙ ap (λ (n : ℕ). moved (t .lines) k n) e))
+    (ap (λ (ls : List Line). tableWith ls (t .count - 1)) (c .before .loop .inv .2 ∙ ap (λ (n : ℕ). set (moved (t .lines) k n) (t .count - 1) (keptLine [])) e)
+    ∙ left-table t k (moved (t .lines) k (t .count)) v (omega arith) (omega arith) refl)
 
 pub withdraw-spec : {M : Type 1} → statement M
 withdraw-spec =
@@ -102,6 +105,10 @@ withdraw-spec =
     μ-loop
     returns
     returns-2
+    no-line-requires
+    sub-none
+    mul-none
+    element-set-from-none
     loop-holds
     mul-line
     element-copy-out-line
@@ -111,9 +118,5 @@ withdraw-spec =
     add-i
     loop-less
     loop-again
-    no-line-requires
-    sub-none
-    mul-none
-    element-set-from-none
     sub-table
     returns-3)

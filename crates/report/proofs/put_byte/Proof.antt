@@ -1,0 +1,21 @@
+-- `report::put_byte` meets its contract: a byte put behind nothing. Assumes nothing.
+use native.Mathlib.Omega.{arith}
+use borrow.Author.Needs.{needs}
+use Rattle.report.proofs.Putting.{puts-none, puts-byte}
+use Rattle.report.proofs.put_byte.Statement.{statement}
+use Rattle.report.proofs.put_byte.Tie as tie
+
+slice-write-out : tie.Need-slice-write-out
+slice-write-out c = search needs
+
+add-result : tie.Need-add-result
+add-result c = search needs
+
+same-length : tie.Need-same-length
+same-length c = search needs
+
+returns : tie.Need-returns
+returns c = puts-byte (puts-none (c .args .at) (c .args .out .now) (omega arith)) (c .args .b) (c .pre)
+
+pub put-byte-spec : {M : Type 1} → statement M
+put-byte-spec = tie.close (tie.spec slice-write-out add-result same-length returns)
