@@ -1,6 +1,6 @@
 -- The members of a set are evaluations, so below room. What a definition says of numbers out of range folds away where they are in range.
 -- Where the members are below 2 ^ n, a search below room is one below 2 ^ n. Assumes nothing.
-use mathlib.Core.Path.{_≡_, refl, sym, ap, _∙_, fun-ext}
+use mathlib.Core.Path.{_≡_, refl, sym, ap, _∙_, subst, fun-ext}
 use mathlib.Core.Bool.{Bool, true, false, not, _&&_, _||_, and-true, and-false, or-false}
 use mathlib.Core.Logic.{⊎-elim}
 use mathlib.Mathlib.Logic.Function.Defs.{congr-fun}
@@ -13,23 +13,61 @@ use Rattle.lists.proofs.Below.{any-cut, first-cut, keep-cut}
 use Rattle.evalset.specs.declared.EvalSet.{EvalSet}
 use Rattle.evalset.specs.Bit.{bit}
 use Rattle.lists.specs.Search.{any, first, keep, below}
-use Rattle.evalset.specs.Sets.{room, mem, noneOf, fullOf, nameSet, belowOf, dropOf, addOf, shiftOf}
+use Rattle.evalset.specs.Sets.{room, mem, noneOf, nameIn, belowIn, fullOf, nameSet, belowOf, dropOf, addOf, shiftOf}
 use Rattle.evalset.specs.Most.{most}
 use Rattle.lists.proofs.Truth.{clash, side}
 use Rattle.evalset.proofs.Bits.{bit-above, same-bits}
 
+-- ---- numbers below a size that is 2 ^ levels, as those of a word and those of a set are
+module _ (size levels : ℕ) (is : size ≡ 2 ^ levels) (n : ℕ) where
+  fits : n ≤ levels → 2 ^ n ≤ size
+  fits l = subst (λ (x : ℕ). 2 ^ n ≤ x) (sym is) (pow-mono l)
+
+  exceeds : levels ≤ n → size ≤ 2 ^ n
+  exceeds l = subst (λ (x : ℕ). x ≤ 2 ^ n) (sym is) (pow-mono l)
+
+  pub below-in-few : n ≤ levels → (e : ℕ) → belowIn size n e ≡ ltb e (2 ^ n)
+  below-in-few l e = ⊎-elim low high (side e (2 ^ n))
+    where
+      low : e < 2 ^ n → belowIn size n e ≡ ltb e (2 ^ n)
+      low k = ap (λ (b : Bool). b && ltb e (2 ^ n)) (lt-ltb e size (omega (arith, fits l)))
+
+      high : 2 ^ n ≤ e → belowIn size n e ≡ ltb e (2 ^ n)
+      high k = ap (λ (b : Bool). ltb e size && b) (le-ltb e (2 ^ n) k) ∙ and-false (ltb e size) ∙ sym (le-ltb e (2 ^ n) k)
+
+  pub below-in-all : levels ≤ n → (e : ℕ) → belowIn size n e ≡ ltb e size
+  below-in-all l e = ⊎-elim low high (side e size)
+    where
+      low : e < size → belowIn size n e ≡ ltb e size
+      low k = ap (λ (b : Bool). ltb e size && b) (lt-ltb e (2 ^ n) (omega (arith, exceeds l))) ∙ and-true (ltb e size)
+
+      high : size ≤ e → belowIn size n e ≡ ltb e size
+      high k = ap (λ (b : Bool). b && ltb e (2 ^ n)) (le-ltb e size k) ∙ sym (le-ltb e size k)
+
+  pub name-in-none : levels ≤ n → nameIn size n ≡ noneOf
+  name-in-none l = fun-ext (λ e. ⊎-elim (low e) (high e) (side e size))
+    where
+      low : (e : ℕ) → e < size → nameIn size n e ≡ false
+      low e k =
+          ap (λ (b : Bool). ltb e size && b) (bit-above n e n (omega (arith, exceeds l)) (omega arith)) ∙ and-false (ltb e size)
+
+      high : (e : ℕ) → size ≤ e → nameIn size n e ≡ false
+      high e k = ap (λ (b : Bool). b && bit e n) (le-ltb e size k)
+
 -- ---- room is 2 ^ most
-pub names-room : (n : ℕ) → n ≤ most → 2 ^ n ≤ room
+room-is : room ≡ 2 ^ most
 unfolding room
-names-room n l = pow-mono l
+room-is = refl
+
+pub names-room : (n : ℕ) → n ≤ most → 2 ^ n ≤ room
+names-room n l = fits room most room-is n l
 
 pub names-place : (n : ℕ) → n < most → 2 ^ n < room
 unfolding room
 names-place n l = pow-lt l
 
 room-names : (n : ℕ) → most ≤ n → room ≤ 2 ^ n
-unfolding room
-room-names n l = pow-mono l
+room-names n l = exceeds room most room-is n l
 
 -- ---- a set's word has no bit from room up
 module _ (s : EvalSet) (w : s .bits < 2 ^ room) where
@@ -49,33 +87,13 @@ same-members s t v w h =
 -- ---- what is in range, and what is not
 module _ (n : ℕ) where
   pub below-few : n ≤ most → (e : ℕ) → belowOf n e ≡ ltb e (2 ^ n)
-  below-few l e = ⊎-elim low high (side e (2 ^ n))
-    where
-      low : e < 2 ^ n → belowOf n e ≡ ltb e (2 ^ n)
-      low k = ap (λ (b : Bool). b && ltb e (2 ^ n)) (lt-ltb e room (omega (arith, names-room n l)))
-
-      high : 2 ^ n ≤ e → belowOf n e ≡ ltb e (2 ^ n)
-      high k = ap (λ (b : Bool). ltb e room && b) (le-ltb e (2 ^ n) k) ∙ and-false (ltb e room) ∙ sym (le-ltb e (2 ^ n) k)
+  below-few = below-in-few room most room-is n
 
   pub below-full : most ≤ n → belowOf n ≡ fullOf
-  below-full l = fun-ext (λ e. ⊎-elim (low e) (high e) (side e room))
-    where
-      low : (e : ℕ) → e < room → belowOf n e ≡ fullOf e
-      low e k = ap (λ (b : Bool). ltb e room && b) (lt-ltb e (2 ^ n) (omega (arith, room-names n l))) ∙ and-true (ltb e room)
-
-      high : (e : ℕ) → room ≤ e → belowOf n e ≡ fullOf e
-      high e k = ap (λ (b : Bool). b && ltb e (2 ^ n)) (le-ltb e room k) ∙ sym (le-ltb e room k)
+  below-full l = fun-ext (below-in-all room most room-is n l)
 
   pub name-none : most ≤ n → nameSet n ≡ noneOf
-  name-none l = fun-ext (λ e. ⊎-elim (low e) (high e) (side e room))
-    where
-      low : (e : ℕ) → e < room → nameSet n e ≡ false
-      low e k =
-          ap (λ (b : Bool). ltb e room && b) (bit-above n e n (omega (arith, room-names n l)) (omega arith))
-          ∙ and-false (ltb e room)
-
-      high : (e : ℕ) → room ≤ e → nameSet n e ≡ false
-      high e k = ap (λ (b : Bool). b && bit e n) (le-ltb e room k)
+  name-none = name-in-none room most room-is n
 
 module _ (a : ℕ → Bool) (i : ℕ) where
   pub add-in : i < room → (e : ℕ) → addOf a i e ≡ (a e || eqb e i)

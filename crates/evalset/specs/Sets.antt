@@ -25,17 +25,25 @@ memAt xs i = mem (getD xs i (record { bits = 0 }))
 abbrev pub noneOf : ℕ → Bool
 noneOf e = false
 
+-- the numbers below n in which bit i is set
+abbrev pub nameIn : ℕ → ℕ → ℕ → Bool
+nameIn n i e = ltb e n && bit e i
+
+-- the numbers below n and below 2 ^ d
+abbrev pub belowIn : ℕ → ℕ → ℕ → Bool
+belowIn n d e = ltb e n && ltb e (2 ^ d)
+
 -- every evaluation
 abbrev pub fullOf : ℕ → Bool
 fullOf e = ltb e room
 
 -- the evaluations in which name i holds; none where i is most or more
 abbrev pub nameSet : ℕ → ℕ → Bool
-nameSet i e = ltb e room && bit e i
+nameSet = nameIn room
 
 -- the evaluations below 2 ^ names; every one where names is most or more
 abbrev pub belowOf : ℕ → ℕ → Bool
-belowOf names e = ltb e room && ltb e (2 ^ names)
+belowOf = belowIn room
 
 -- in both
 abbrev pub meetOf : (ℕ → Bool) → (ℕ → Bool) → ℕ → Bool

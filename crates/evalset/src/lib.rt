@@ -6,8 +6,8 @@ ghost use mathlib.Core.Path.{_≡_};
 ghost use mathlib.Core.Bool.{not};
 ghost use Prim.Native.Nat.{ℕ, _<_};
 ghost use Rattle.lists.specs.Search.{any, first, below};
-ghost use Rattle.evalset.specs.Bit.{bit};
-ghost use Rattle.evalset.specs.Sets.{room, mem, noneOf, fullOf, nameSet, belowOf, meetOf, joinOf, minusOf, dropOf, addOf, shiftOf, foundOf};
+ghost use Rattle.evalset.specs.Bit.{wordBits, bit};
+ghost use Rattle.evalset.specs.Sets.{room, mem, noneOf, nameIn, belowIn, fullOf, nameSet, belowOf, meetOf, joinOf, minusOf, dropOf, addOf, shiftOf, foundOf};
 
 // Evaluations are below this.
 pub const ROOM: usize = 64;
@@ -35,6 +35,54 @@ const MASKS: [u64; 6] = [
     0xFFFF_0000_FFFF_0000,
     0xFFFF_FFFF_0000_0000,
 ];
+
+// ---- words of 64 bits: rows of the search, or the evaluations of a set's word
+
+// The bits of a word in whose number bit i is set: none from 6 up.
+pub fn word_mask(i: usize) -> u64
+    ensures { λ r. ⌜ bit r ≡ nameIn wordBits i ⌝ }
+{
+    if i < 6 { MASKS[i] } else { 0 }
+}
+
+// The bits of a word below 2 ^ d: every one from 6 up.
+pub fn word_below(d: usize) -> u64
+    ensures { λ r. ⌜ bit r ≡ belowIn wordBits d ⌝ }
+{
+    if d < 6 {
+        let one: usize = 1;
+        let word: u64 = 1;
+        (word << (one << d)) - 1
+    } else {
+        0xFFFF_FFFF_FFFF_FFFF
+    }
+}
+
+// The lowest set bit of a word.
+pub fn word_least(w: u64) -> Found
+    ensures { λ r. ⌜ r ≡ foundOf (first (bit w) (below wordBits)) ⌝ }
+{
+    if w == 0 {
+        Found::Nothing
+    } else {
+        let e = u64::trailing_zeros(w) as usize;
+        Found::At(e)
+    }
+}
+
+// The word less bit e: the word itself where the bit is not set, so too from 64 up.
+pub fn word_without(w: u64, e: usize) -> u64
+    ensures { λ r. ⌜ bit r ≡ dropOf (bit w) e ⌝ }
+{
+    if e < 64 {
+        let one: u64 = 1;
+        w & !(one << e)
+    } else {
+        w
+    }
+}
+
+// ---- sets
 
 // No evaluation.
 pub fn empty() -> EvalSet

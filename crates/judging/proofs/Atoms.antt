@@ -5,14 +5,13 @@ use mathlib.Core.Path.{_≡_, sym, ap, _∙_, subst}
 use mathlib.Core.List.{List}
 use Prim.Native.Nat.{ℕ, _+_, _<_}
 use native.Mathlib.Omega.{arith}
-use lib.ListN.{length, set}
+use lib.ListN.{length, getD, set}
+use lib.Seq.{getD-set-same, getD-set-other}
 use borrow.Author.Count.{below-none, below-more}
 use Rattle.formula.specs.Formula.{Atom}
+use Rattle.evalset.specs.Bit.{bit}
 use Rattle.evalset.specs.Sets.{memAt}
 use Rattle.contact.specs.Meaning.{partTerm, atomOn}
-use Rattle.kleene.specs.declared.Two.{Two}
-use Rattle.kleene.specs.Rails.{sure, duoAt, leafAt}
-use Rattle.kleene.proofs.Turns.{two-same, two-other}
 use Rattle.search.specs.declared.Chart.{Chart}
 use Rattle.search.specs.Compiled.{AtomIs, atomAt, contactAt, Compiled}
 use Rattle.plan.specs.declared.PlanArrays.{PlanArrays}
@@ -42,13 +41,13 @@ value-is p h r s chart atoms c q i l =
 
 -- ---- one value more
 
-pub sure-none : (leaves : List Two) (w : ℕ → Bool) → Sure leaves 0 w
+pub sure-none : (leaves : List ℕ) (w : ℕ → Bool) → Sure leaves 0 w
 unfolding Sure
-sure-none leaves w = below-none (λ i. leafAt leaves 0 i ≡ sure (w i))
+sure-none leaves w = below-none (λ i. bit (getD leaves i 0) 0 ≡ w i)
 
-pub sure-more : (leaves : List Two) (n : ℕ) (w : ℕ → Bool) (r : Two) → n < length leaves → Sure leaves n w → duoAt r 0 ≡ sure (w n)
+pub sure-more : (leaves : List ℕ) (n : ℕ) (w : ℕ → Bool) (r : ℕ) → n < length leaves → Sure leaves n w → bit r 0 ≡ w n
     → Sure (set leaves n r) (n + 1) w
 unfolding Sure
 sure-more leaves n w r l h e =
-    below-more (λ i. leafAt (set leaves n r) 0 i ≡ sure (w i)) n
-    (λ i k. two-other leaves n i r 0 (λ q. omega arith) ∙ h i k) (two-same leaves n r 0 l ∙ e)
+    below-more (λ i. bit (getD (set leaves n r) i 0) 0 ≡ w i) n
+    (λ i k. ap (λ (x : ℕ). bit x 0) (getD-set-other leaves n i r 0 (λ q. omega arith)) ∙ h i k) (ap (λ (x : ℕ). bit x 0) (getD-set-same leaves n r 0 l) ∙ e)

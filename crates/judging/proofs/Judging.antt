@@ -15,7 +15,6 @@ use Rattle.contact.specs.Meaning.{atomOn}
 use Rattle.contact.specs.Numbering.{mapAtom, numberOf, differentAtoms, atomNumber, numberedAtoms, rowAtoms}
 use Rattle.contact.proofs.Naming.{atom-map}
 use Rattle.contact.proofs.Numbered.{values-agree}
-use Rattle.kleene.specs.declared.Two.{Two}
 use Rattle.search.specs.declared.Chart.{Chart}
 use Rattle.search.specs.Compiled.{noAtom}
 use Rattle.plan.specs.declared.PlanArrays.{PlanArrays}
@@ -52,7 +51,7 @@ unfolding JudgesSay
 judges-uncovered plan chart code ends t = λ rules h p is q s.
     sym (ap (λ (b : Bool). cond b Uncovered (judgedOf (judge (namedFloor rules p is) rules))) (sym (uncovered-is plan p is s) ∙ t))
 
-pub judges : (plan : PlanArrays) (chart : Chart) (code ends : List ℕ) (leaves : List Two) (r : Judged) → uncoveredOf plan ≡ false
+pub judges : (plan : PlanArrays) (chart : Chart) (code ends : List ℕ) (leaves : List ℕ) (r : Judged) → uncoveredOf plan ≡ false
     → LeavesSay plan chart leaves → UnmetSays code ends leaves r → JudgesSay plan chart code ends r
 unfolding LeavesSay UnmetSays JudgesSay
 judges plan chart code ends leaves r t values says = λ rules h p is q s.

@@ -10,7 +10,6 @@ use lib.ListN.{length, getD, drop, drop-of-length-le}
 use lib.Seq.{drop-cons}
 use Rattle.formula.specs.Formula.{Form}
 use Rattle.contact.specs.Meaning.{value}
-use Rattle.kleene.specs.declared.Two.{Two}
 use Rattle.plan.specs.Judging.{yes, unmet}
 use Rattle.solver.specs.Coded.{PartSafe, SafeFrom, PartIs, CodedFrom, Coded}
 use Rattle.judging.specs.declared.Judged.the-variants.{Yes, Unmet}
@@ -23,19 +22,19 @@ pub record Rest (many : ℕ) (code : List ℕ) (from : ℕ) (ends : List ℕ) (i
   pub same : judgeNumbers 1 w rules ≡ judgeNumbers (suc i) w left
 
 -- whatever rules the code is of
-pub record Going (code ends : List ℕ) (leaves : List Two) (from i : ℕ) : Type 0 where
+pub record Going (code ends : List ℕ) (leaves : List ℕ) (from i : ℕ) : Type 0 where
   pub within : i ≤ length ends
   pub safe : SafeFrom code from (drop i ends)
   pub rest : (many : ℕ) (rules : List (Form ℕ)) → Coded many code ends rules → (w : ℕ → Bool) → Sure leaves many w
       → Rest many code from (drop i ends) i w rules
 
-pub begins : (code ends : List ℕ) (leaves : List Two) → SafeFrom code 0 ends → Going code ends leaves 0 0
+pub begins : (code ends : List ℕ) (leaves : List ℕ) → SafeFrom code 0 ends → Going code ends leaves 0 0
 begins code ends leaves s =
     record { within = omega arith; safe = s; rest = λ many rules h w v. record { left = rules; coded = h; same = refl } }
 
 -- ---- one rule
 
-module _ {code : List ℕ} {from end : ℕ} (leaves : List Two) {r : Bool} (says : RuleSays code from end leaves r) where
+module _ {code : List ℕ} {from end : ℕ} (leaves : List ℕ) {r : Bool} (says : RuleSays code from end leaves r) where
   rule-is : (many : ℕ) (rule : Form ℕ) → PartIs many code from end rule → (w : ℕ → Bool) → Sure leaves many w → r ≡ value w rule
   unfolding RuleSays Sure
   rule-is many rule h w s = says rule (h .is-code) w (λ i k. s i (h .atoms-below i k))
@@ -79,7 +78,7 @@ rest-none many code from i w rules rest = go (rest .left) (rest .coded) (rest .s
 
 -- ---- the loop
 
-module _ {code ends : List ℕ} {leaves : List Two} {from i : ℕ} (g : Going code ends leaves from i) where
+module _ {code ends : List ℕ} {leaves : List ℕ} {from i : ℕ} (g : Going code ends leaves from i) where
   module _ (l : i < length ends) where
     safe-next : PartSafe code from (getD ends i 0) × SafeFrom code (getD ends i 0) (drop (suc i) ends)
     safe-next = subst (SafeFrom code from) (drop-cons ends i 0 l) (g .safe)

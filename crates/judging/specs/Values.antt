@@ -9,11 +9,10 @@ use lib.ListN.{getD}
 use Rattle.formula.specs.Formula.{Form}
 use Rattle.formula.specs.Atoms.{atomsOf}
 use Rattle.lists.specs.Search.{In}
+use Rattle.evalset.specs.Bit.{bit}
 use Rattle.evalset.specs.Sets.{memAt}
 use Rattle.contact.specs.Meaning.{value}
-use Rattle.kleene.specs.declared.Two.{Two}
 use Rattle.kleene.specs.Code.{postfix}
-use Rattle.kleene.specs.Rails.{sure, leafAt}
 use Rattle.search.specs.declared.Chart.{Chart}
 use Rattle.search.specs.Compiled.{contactAt}
 use Rattle.plan.specs.declared.PlanArrays.{PlanArrays}
@@ -43,20 +42,20 @@ atomOf plan false x y = vacantOf plan x
 unfoldable pub valueOf : PlanArrays → Chart → ℕ → Bool
 valueOf plan chart i = atomOf plan (contactAt chart i) (memAt (chart .xs) i) (memAt (chart .ys) i)
 
--- at evaluation 0, by which rules are judged, the atoms below n are surely what w says
-unfoldable pub Sure : List Two → ℕ → (ℕ → Bool) → Type 0
-Sure leaves n w = (i : ℕ) → i < n → leafAt leaves 0 i ≡ sure (w i)
+-- in row 0, by which rules are judged, the atoms below n are what w says
+unfoldable pub Sure : List ℕ → ℕ → (ℕ → Bool) → Type 0
+Sure leaves n w = (i : ℕ) → i < n → bit (getD leaves i 0) 0 ≡ w i
 
 -- the atoms of the chart have their values on the plan
-unfoldable pub LeavesSay : PlanArrays → Chart → List Two → Type 0
+unfoldable pub LeavesSay : PlanArrays → Chart → List ℕ → Type 0
 LeavesSay plan chart leaves = Sure leaves (chart .atoms) (valueOf plan chart)
 
 -- ---- rules
 
 -- the value of the rule whose code this part is
-unfoldable pub RuleSays : List ℕ → ℕ → ℕ → List Two → Bool → Type 0
+unfoldable pub RuleSays : List ℕ → ℕ → ℕ → List ℕ → Bool → Type 0
 RuleSays code from end leaves r =
-    (rule : Form ℕ) → part code from end ≡ postfix rule → (w : ℕ → Bool) → ((i : ℕ) → In i (atomsOf rule) → leafAt leaves 0 i ≡ sure (w i))
+    (rule : Form ℕ) → part code from end ≡ postfix rule → (w : ℕ → Bool) → ((i : ℕ) → In i (atomsOf rule) → bit (getD leaves i 0) 0 ≡ w i)
     → r ≡ value w rule
 
 -- numbered rules judged by the values of their atoms; the first has number k
@@ -65,7 +64,7 @@ judgeNumbers k w [] = yes
 judgeNumbers k w (f ∷ rules) = let r = judgeNumbers (suc k) w rules in cond (value w f) r (unmet k)
 
 -- the judgement of the rules of this code
-unfoldable pub UnmetSays : List ℕ → List ℕ → List Two → Judged → Type 0
+unfoldable pub UnmetSays : List ℕ → List ℕ → List ℕ → Judged → Type 0
 UnmetSays code ends leaves r =
     (many : ℕ) (rules : List (Form ℕ)) → Coded many code ends rules → (w : ℕ → Bool) → Sure leaves many w
     → r ≡ judgedOf (judgeNumbers 1 w rules)

@@ -4,15 +4,16 @@
 // the plan crate's, on the floor of the plan that the arrays hold. The chart and the code come from our own crates: `judge_plan`
 // requires that they can be run, as the charts and the codes of rules can (`runnable` of solver/proofs/Claims.antt). Assumes nothing.
 ghost use mathlib.Core.Path.{_≡_};
-ghost use Prim.Native.Nat.{_≤_};
+ghost use Prim.Native.Nat.{ℕ, _≤_, _<_};
+ghost use Rattle.evalset.specs.Bit.{bit};
 ghost use Rattle.evalset.specs.Sets.{mem};
+ghost use Rattle.kleene.specs.Rails.{wordRows};
 ghost use Rattle.search.specs.Compiled.{limit};
 ghost use Rattle.solver.specs.Coded.{PartSafe, SafeFrom};
 ghost use Rattle.solver.specs.Tree.{Runnable};
 ghost use Rattle.judging.specs.Values.{atomOf, LeavesSay, RuleSays, UnmetSays, uncoveredOf};
 ghost use Rattle.judging.specs.Judges.{JudgesSay};
 use evalset::EvalSet;
-use kleene::Two;
 use plan::PlanArrays;
 use search::ATOMS;
 use search::Chart;
@@ -35,37 +36,43 @@ fn atom_value(plan: PlanArrays, contact: bool, x: EvalSet, y: EvalSet) -> bool
     }
 }
 
+// A value in every row of a word.
+fn settled(value: bool) -> u64
+    ensures { λ r. ⌜ ((e : ℕ) → e < wordRows → bit r e ≡ value) ⌝ }
+{
+    if value { 0xFFFF_FFFF_FFFF_FFFF } else { 0 }
+}
+
 // The values of the chart's atoms on the plan.
-fn leaves(plan: PlanArrays, chart: Chart) -> [Two; ATOMS]
+fn leaves(plan: PlanArrays, chart: Chart) -> [u64; ATOMS]
     requires { ⌜ chart .atoms ≤ limit ⌝ }
     ensures { λ r. ⌜ LeavesSay plan chart r ⌝ }
 {
     let n = chart.atoms;
-    let none = kleene::settled(false);
-    let mut out = [none; ATOMS];
+    let mut out = [0u64; ATOMS];
     let mut i: usize = 0;
     while i < n {
         let contact = chart.contact[i];
         let x = chart.xs[i];
         let y = chart.ys[i];
-        out[i] = kleene::settled(atom_value(plan, contact, x, y));
+        out[i] = settled(atom_value(plan, contact, x, y));
         i += 1;
     }
     out
 }
 
-// The value of the rule whose code stands from `from` to `end`. Every evaluation has the same one, so evaluation 0 decides.
-fn rule_value(code: &[u8], from: usize, end: usize, atoms: [Two; ATOMS]) -> bool
+// The value of the rule whose code stands from `from` to `end`. Every row has the same one, so row 0 decides.
+fn rule_value(code: &[u8], from: usize, end: usize, atoms: [u64; ATOMS]) -> bool
     requires { ⌜ PartSafe (now code) from end ⌝ }
     ensures { λ r. ⌜ RuleSays (now (code .entry)) from end atoms r ⌝ }
 {
-    let value = kleene::run(&code[from..end], atoms);
-    let yes = value.yes;
-    evalset::contains(yes, 0)
+    let mut stack = [0u64; 128];
+    let value = kleene::run_whole(&code[from..end], &atoms, &mut stack);
+    value % 2 == 1
 }
 
 // The first rule whose value is not true, by its number from 1.
-fn first_unmet(code: &[u8], ends: &[usize], atoms: [Two; ATOMS]) -> Judged
+fn first_unmet(code: &[u8], ends: &[usize], atoms: [u64; ATOMS]) -> Judged
     requires { ⌜ SafeFrom (now code) 0 (now ends) ⌝ }
     ensures { λ r. ⌜ UnmetSays (now (code .entry)) (now (ends .entry)) atoms r ⌝ }
 {

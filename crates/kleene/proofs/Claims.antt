@@ -9,13 +9,11 @@ use Rattle.formula.specs.Formula.{Form}
 use Rattle.formula.specs.Atoms.{atomsOf}
 use Rattle.lists.specs.Search.{In}
 use Rattle.evalset.specs.Bit.{bit}
-use Rattle.evalset.specs.Sets.{mem}
 use Rattle.contact.specs.Meaning.{value}
 use Rattle.contact.specs.Row.{Three, is}
 use Rattle.contact.specs.Tableau.{kleeneValue, refuted}
-use Rattle.kleene.specs.declared.Two.{Two}
 use Rattle.kleene.specs.Code.{postfix, Safe}
-use Rattle.kleene.specs.Rails.{Duo, duo, noOf, sure, duoOf, valueD, exec, duoAt, leafAt, wholeAt, railsAt}
+use Rattle.kleene.specs.Rails.{Duo, duo, noOf, sure, duoOf, valueD, exec, wholeAt, railsAt}
 use Rattle.kleene.proofs.Formed
 use Rattle.kleene.proofs.Three
 
@@ -25,7 +23,7 @@ use Rattle.kleene.proofs.Three
 pub exec-postfix : (v : ℕ → Duo) (f : Form ℕ) (st : List Duo) → exec v (postfix f) st ≡ valueD v f ∷ st
 exec-postfix = Formed.exec-postfix
 
--- `run` may be called with the code of a formula of at most 16 atoms and 256 signs
+-- the runs may be called with the code of a formula of at most 16 atoms and 256 signs
 pub safe-postfix : (f : Form ℕ) → ((i : ℕ) → In i (atomsOf f) → i < 16) → length (postfix f) ≤ 256 → Safe 128 16 (postfix f) 0
 safe-postfix = Formed.safe-postfix
 
@@ -46,24 +44,17 @@ pub value-sure : (v : ℕ → Duo) (w : ℕ → Bool) (f : Form ℕ) → ((i : �
     → valueD v f ≡ sure (value w f)
 value-sure = Three.value-sure
 
--- ---- what a run gives (Three), where r is its result for the code of f, at an evaluation that gives the atoms the values w
-
--- the evaluations on its second rail are those that refute the formula
-pub run-refuted : (f : Form ℕ) (leaves : List Two) (e : ℕ) (r : Two) (w : ℕ → Three)
-    → exec (leafAt leaves e) (postfix f) [] ≡ duoAt r e ∷ [] → ((i : ℕ) → In i (atomsOf f) → leafAt leaves e i ≡ duoOf (w i))
-    → mem (r .no) e ≡ refuted (kleeneValue w f)
-run-refuted = Three.run-refuted
-
--- and those on its first rail, where every atom is decided, make it true
-pub run-value : (f : Form ℕ) (leaves : List Two) (e : ℕ) (r : Two) (w : ℕ → Bool)
-    → exec (leafAt leaves e) (postfix f) [] ≡ duoAt r e ∷ [] → ((i : ℕ) → In i (atomsOf f) → leafAt leaves e i ≡ sure (w i))
-    → mem (r .yes) e ≡ value w f
-run-value = Three.run-value
+-- ---- what a run gives (Three), where r is its result for the code of f, in a row that gives the atoms the values w
 
 -- where every atom is decided, the rows that are not in the result of `run_whole` refute the formula
 pub whole-refuted : (f : Form ℕ) (leaves : List ℕ) (e r : ℕ) (w : ℕ → Three) → exec (wholeAt leaves e) (postfix f) [] ≡ sure (bit r e) ∷ []
     → ((i : ℕ) → In i (atomsOf f) → is (bit (getD leaves i 0) e) ≡ w i) → not (bit r e) ≡ refuted (kleeneValue w f)
 whole-refuted = Three.whole-refuted
+
+-- and those that are in it make it true
+pub whole-value : (f : Form ℕ) (leaves : List ℕ) (e r : ℕ) (w : ℕ → Bool) → exec (wholeAt leaves e) (postfix f) [] ≡ sure (bit r e) ∷ []
+    → ((i : ℕ) → In i (atomsOf f) → bit (getD leaves i 0) e ≡ w i) → bit r e ≡ value w f
+whole-value = Three.whole-value
 
 -- on two rails of words, the rows on the second rail of the result of `run_rails` refute the formula
 pub rails-refuted : (f : Form ℕ) (ts fs : List ℕ) (e y n : ℕ) (w : ℕ → Three) → exec (railsAt ts fs e) (postfix f) [] ≡ duo (bit y e) (bit n e) ∷ []

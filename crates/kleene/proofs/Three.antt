@@ -9,14 +9,12 @@ use Rattle.formula.specs.Formula.{Form}
 use Rattle.formula.specs.Atoms.{atomsOf}
 use Rattle.lists.specs.Search.{In, here}
 use Rattle.evalset.specs.Bit.{bit}
-use Rattle.evalset.specs.Sets.{mem}
 use Rattle.lists.proofs.Search.{in-left, in-right}
 use Rattle.contact.specs.Meaning.{value}
 use Rattle.contact.specs.Row.{Three, is, unknown}
 use Rattle.contact.specs.Tableau.{kleeneNot, kleeneAnd, kleeneOr, kleeneIff, kleeneValue, refuted}
-use Rattle.kleene.specs.declared.Two.{Two}
 use Rattle.kleene.specs.Code.{postfix}
-use Rattle.kleene.specs.Rails.{Duo, duo, noOf, yesOf, sure, duoOf, notD, andD, orD, impliesD, iffD, valueD, exec, duoAt, leafAt, wholeAt, railsAt}
+use Rattle.kleene.specs.Rails.{Duo, duo, noOf, yesOf, sure, duoOf, notD, andD, orD, impliesD, iffD, valueD, exec, wholeAt, railsAt}
 use Rattle.kleene.proofs.Formed.{exec-postfix}
 use Rattle.contact.proofs.Searching.{value-known}
 
@@ -109,22 +107,16 @@ value-sure v w f h = value-three v (λ i. is (w i)) f h ∙ ap duoOf (value-know
 result : (f : Form ℕ) (v : ℕ → Duo) (d : Duo) → exec v (postfix f) [] ≡ d ∷ [] → d ≡ valueD v f
 result f v d h = head-eq-of-cons-eq (sym h ∙ exec-postfix v f [])
 
-module _ (f : Form ℕ) (leaves : List Two) (e : ℕ) (r : Two) where
-  pub run-refuted : (w : ℕ → Three) → exec (leafAt leaves e) (postfix f) [] ≡ duoAt r e ∷ []
-      → ((i : ℕ) → In i (atomsOf f) → leafAt leaves e i ≡ duoOf (w i)) → mem (r .no) e ≡ refuted (kleeneValue w f)
-  unfolding duoAt
-  run-refuted w h k = ap noOf (result f (leafAt leaves e) (duoAt r e) h) ∙ refuted-three (leafAt leaves e) w f k
-
-  pub run-value : (w : ℕ → Bool) → exec (leafAt leaves e) (postfix f) [] ≡ duoAt r e ∷ []
-      → ((i : ℕ) → In i (atomsOf f) → leafAt leaves e i ≡ sure (w i)) → mem (r .yes) e ≡ value w f
-  unfolding duoAt
-  run-value w h k = ap yesOf (result f (leafAt leaves e) (duoAt r e) h ∙ value-sure (leafAt leaves e) w f k)
-
 -- on one rail
 pub whole-refuted : (f : Form ℕ) (leaves : List ℕ) (e r : ℕ) (w : ℕ → Three) → exec (wholeAt leaves e) (postfix f) [] ≡ sure (bit r e) ∷ []
     → ((i : ℕ) → In i (atomsOf f) → is (bit (getD leaves i 0) e) ≡ w i) → not (bit r e) ≡ refuted (kleeneValue w f)
 whole-refuted f leaves e r w h k =
     ap noOf (result f (wholeAt leaves e) (sure (bit r e)) h) ∙ refuted-three (wholeAt leaves e) w f (λ i j. ap duoOf (k i j))
+
+pub whole-value : (f : Form ℕ) (leaves : List ℕ) (e r : ℕ) (w : ℕ → Bool) → exec (wholeAt leaves e) (postfix f) [] ≡ sure (bit r e) ∷ []
+    → ((i : ℕ) → In i (atomsOf f) → bit (getD leaves i 0) e ≡ w i) → bit r e ≡ value w f
+whole-value f leaves e r w h k =
+    ap yesOf (result f (wholeAt leaves e) (sure (bit r e)) h ∙ value-sure (wholeAt leaves e) w f (λ i j. ap sure (k i j)))
 
 -- on two rails of words
 pub rails-refuted : (f : Form ℕ) (ts fs : List ℕ) (e y n : ℕ) (w : ℕ → Three) → exec (railsAt ts fs e) (postfix f) [] ≡ duo (bit y e) (bit n e) ∷ []

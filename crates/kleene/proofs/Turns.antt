@@ -1,21 +1,16 @@
 -- A turn of the machine keeps what is still to be run: in each row the rest of the code, run on the column of the stack, gives
 -- what the whole code gives. A turn changes the column at its top alone. What lies on the stack is known by its value in a row, so
--- that these laws serve both runs; the rows of `run` are its evaluations. Assumes nothing.
+-- that these laws serve both runs. Assumes nothing.
 use mathlib.Core.Path.{_≡_, refl, sym, ap, ap₂, _∙_, subst}
-use mathlib.Core.Bool.{Bool}
 use mathlib.Core.List.{List, [], _∷_}
-use mathlib.Mathlib.Logic.Function.Defs.{congr-fun}
 use Prim.Native.Nat.{ℕ, zero, suc, _+_, _-_, _≤_, _<_}
 use native.Mathlib.Omega.{arith}
 use native.Mathlib.Numerals.{add-one}
 use lib.ListN.{length, getD, set, drop, drop-of-length-le}
 use lib.Seq.{getD-set-same, getD-set-other}
 use Rattle.lists.proofs.Lists.{rest}
-use Rattle.evalset.specs.declared.EvalSet.{EvalSet}
-use Rattle.evalset.specs.Sets.{mem}
-use Rattle.kleene.specs.declared.Two.{Two}
 use Rattle.kleene.specs.Code.{Class, turns, joins, pushes, classOf, after, Takes, Safe}
-use Rattle.kleene.specs.Rails.{Duo, duo, notD, tableOf, pushOf, turned, joined, stepBy, step, exec, duoAt, twoAt, leafAt}
+use Rattle.kleene.specs.Rails.{Duo, duo, notD, tableOf, pushOf, turned, joined, stepBy, step, exec}
 
 -- ---- classes
 
@@ -44,24 +39,6 @@ push-atom v c l =
     let z : c ≡ suc (suc (suc (suc (suc (suc (suc (c - 7))))))) = omega arith in
     ap (pushOf v) z
 
--- ---- rails
-
--- the value that has these rails, which have these members
-pub rails-at : {r : Two} {yes no : EvalSet} → (r .yes ≡ yes) × (r .no ≡ no) → {p q : ℕ → Bool} → mem yes ≡ p → mem no ≡ q → (e : ℕ)
-    → duoAt r e ≡ duo (p e) (q e)
-unfolding duoAt
-rails-at h y n e = ap₂ duo (congr-fun (ap mem (h .0) ∙ y) e) (congr-fun (ap mem (h .1) ∙ n) e)
-
--- ---- an array of rails
-
-pub two-same : (st : List Two) (n : ℕ) (r : Two) (e : ℕ) → n < length st → twoAt (set st n r) n e ≡ duoAt r e
-unfolding twoAt
-two-same st n r e l = ap (λ (s : Two). duoAt s e) (getD-set-same st n r _ l)
-
-pub two-other : (st : List Two) (m n : ℕ) (r : Two) (e : ℕ) → (n ≡ m → ⊥) → twoAt (set st m r) n e ≡ twoAt st n e
-unfolding twoAt
-two-other st m n r e l = ap (λ (s : Two). duoAt s e) (getD-set-other st m n r _ l)
-
 -- ---- columns of the stack
 
 -- the n lowest values of a stack that has the value p k at place k, the top first
@@ -83,14 +60,6 @@ column-puts : {rows n : ℕ} {p q : ℕ → ℕ → Duo} {x : ℕ → Duo} → P
     → column (q e) (suc n) ≡ x e ∷ column (p e) n
 unfolding column
 column-puts {n = n} {p = p} {q = q} h e l = ap₂ _∷_ (h .top e l) (column-same (p e) (q e) n (h .under e l))
-
--- a store puts
-pub two-puts : {rows : ℕ} (st : List Two) (n : ℕ) (r : Two) {x : ℕ → Duo} → n < length st → ((e : ℕ) → e < rows → duoAt r e ≡ x e)
-    → Puts rows n (leafAt st) (leafAt (set st n r)) x
-two-puts st n r l h = record {
-  top = λ e b. two-same st n r e l ∙ h e b;
-  under = λ e b k m. two-other st n k r e (λ q. omega arith);
-}
 
 -- ---- a turn
 

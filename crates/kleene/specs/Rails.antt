@@ -6,9 +6,7 @@ use Prim.Native.Nat.{ℕ, zero, suc}
 use lib.ListN.{getD}
 use Rattle.formula.specs.Formula.{Form}
 use Rattle.evalset.specs.Bit.{bit}
-use Rattle.evalset.specs.Sets.{mem}
 use Rattle.contact.specs.Row.{Three, is, unknown}
-use Rattle.kleene.specs.declared.Two.{Two}
 use Rattle.kleene.specs.Code.{Class, turns, joins, pushes, classOf}
 
 -- surely true, and surely false
@@ -100,20 +98,6 @@ step v c st = stepBy (classOf c) v c st
 unfoldable pub exec : (ℕ → Duo) → List ℕ → List Duo → List Duo
 exec v [] st = st
 exec v (c ∷ cs) st = exec v cs (step v c st)
-
--- ---- machine words: a value for each evaluation
-
--- the value at evaluation e
-unfoldable pub duoAt : Two → ℕ → Duo
-duoAt t e = duo (mem (t .yes) e) (mem (t .no) e)
-
--- that of the i-th of an array; past its end, undecided
-unfoldable pub twoAt : List Two → ℕ → ℕ → Duo
-twoAt xs i = duoAt (getD xs i (record { yes = record { bits = 0 }; no = record { bits = 0 } }))
-
--- the atoms' values at evaluation e
-abbrev pub leafAt : List Two → ℕ → ℕ → Duo
-leafAt leaves e i = twoAt leaves i e
 
 -- ---- machine words on one rail: a value for each row, where every atom is decided
 

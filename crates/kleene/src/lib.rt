@@ -1,134 +1,24 @@
-// Kleene's strong three values on two rails of sets, surely true and surely false, for the postfix code of one rule over
-// atom numbers: a run gives a value for each evaluation of a set, so ROOM rows at once. What is on neither rail is undecided.
-// Values are pairs, `Duo` of specs/Rails.antt, and each contract says the pair at each evaluation. Where every atom is decided one
-// rail is enough: `run_whole` has a word for it, with 64 rows. `run_rails` has a word for each rail, and 64 partial rows. The code comes
-// from our own compiler: the runs require that it is safe, as that of a formula is (proofs/Formed.antt). Assumes nothing.
+// Kleene's strong three values on two rails, surely true and surely false, for the postfix code of one rule over atom numbers: a
+// word for each rail has a value for each of 64 rows (`run_rails`). What is on neither rail is undecided. Values are pairs, `Duo` of
+// specs/Rails.antt, and each contract says the pair in each row. Where every atom is decided one rail is enough (`run_whole`). The code
+// comes from our own compiler: the runs require that it is safe, as that of a formula is (proofs/Formed.antt). Assumes nothing.
 ghost use mathlib.Core.Path.{_≡_};
 ghost use mathlib.Core.Bool.{not};
 ghost use mathlib.Core.List.{List, [], _∷_};
 ghost use Prim.Native.Nat.{ℕ, _≤_, _<_};
 ghost use lib.ListN.{length};
 ghost use Rattle.evalset.specs.Bit.{bit};
-ghost use Rattle.evalset.specs.Sets.{room};
 ghost use Rattle.kleene.specs.Code.{Safe};
-ghost use Rattle.kleene.specs.Rails.{Duo, duo, noOf, sure, notD, tableOf, pushOf, exec, duoAt, leafAt, wordRows, wholeAt, railsAt};
-use evalset::EvalSet;
+ghost use Rattle.kleene.specs.Rails.{duo, noOf, sure, pushOf, exec, wordRows, wholeAt, railsAt};
 
-// A value for each evaluation: where it is surely true, and where surely false.
-pub struct Two {
-    pub yes: EvalSet,
-    pub no: EvalSet,
-}
-
-// The same in words: a value for each row.
+// A value for each row: where it is surely true, and where surely false.
 pub struct Words {
     pub yes: u64,
     pub no: u64,
 }
 
-// The value with these rails.
-pub fn rails(yes: EvalSet, no: EvalSet) -> Two
-    ensures { λ r. ⌜ (r .yes ≡ yes) × (r .no ≡ no) ⌝ }
-{
-    Two { yes, no }
-}
-
-// A value that is the same at every evaluation.
-pub fn settled(value: bool) -> Two
-    ensures { λ r. ⌜ ((e : ℕ) → e < room → duoAt r e ≡ sure value) ⌝ }
-{
-    if value {
-        rails(evalset::full(), evalset::empty())
-    } else {
-        rails(evalset::empty(), evalset::full())
-    }
-}
-
-// The negation: the rails change places.
-fn swapped(a: Two) -> Two
-    ensures { λ r. ⌜ ((e : ℕ) → duoAt r e ≡ notD (duoAt a e)) ⌝ }
-{
-    let yes = a.yes;
-    let no = a.no;
-    Two { yes: no, no: yes }
-}
-
-// Two values under the sign c: 1 is &, 2 is |, 3 is -> and 4 is <->.
-fn combined(c: u8, a: Two, b: Two) -> Two
-    requires { ⌜ (1 ≤ c) × (c < 5) ⌝ }
-    ensures { λ r. ⌜ ((e : ℕ) → duoAt r e ≡ tableOf c (duoAt a e) (duoAt b e)) ⌝ }
-{
-    let y = a.yes;
-    let n = a.no;
-    let z = b.yes;
-    let m = b.no;
-    if c == 1 {
-        rails(evalset::meet(y, z), evalset::join(n, m))
-    } else if c == 2 {
-        rails(evalset::join(y, z), evalset::meet(n, m))
-    } else if c == 3 {
-        rails(evalset::join(n, z), evalset::meet(y, m))
-    } else {
-        rails(
-            evalset::join(evalset::meet(y, z), evalset::meet(n, m)),
-            evalset::join(evalset::meet(y, m), evalset::meet(n, z)),
-        )
-    }
-}
-
-// What the sign c of a constant pushes: 5 is F and 6 is T.
-fn constant(c: u8) -> Two
-    requires { ⌜ (5 ≤ c) × (c < 7) ⌝ }
-    ensures { λ r. ⌜ ((v : ℕ → Duo) (e : ℕ) → e < room → duoAt r e ≡ pushOf v c) ⌝ }
-{
-    if c == 5 {
-        settled(false)
-    } else {
-        settled(true)
-    }
-}
-
-// The code of a formula run on its atoms' values: the formula's value at each evaluation. Only our own crates call it, with
-// code of at most 256 signs that they compiled from a rule, so that the stack never overflows.
-pub fn run(code: &[u8], leaves: [Two; 16]) -> Two
-    requires { ⌜ Safe 128 16 (now code) 0 ⌝ }
-    ensures { λ r. ⌜ ((e : ℕ) → e < room → exec (leafAt leaves e) (now (code .entry)) [] ≡ (duoAt r e ∷ [])) ⌝ }
-{
-    let none = evalset::empty();
-    let nil = rails(none, none);
-    let mut stack = [nil; 128];
-    let mut height: usize = 0;
-    let mut i: usize = 0;
-    while i < code.len() {
-        let c = code[i];
-        i += 1;
-        if c == 0 {
-            let a = stack[height - 1];
-            stack[height - 1] = swapped(a);
-            continue;
-        }
-        if c < 5 {
-            let a = stack[height - 2];
-            let b = stack[height - 1];
-            stack[height - 2] = combined(c, a, b);
-            height -= 1;
-            continue;
-        }
-        if c < 7 {
-            stack[height] = constant(c);
-            height += 1;
-            continue;
-        }
-        let k = (c - 7) as usize;
-        let leaf = leaves[k];
-        stack[height] = leaf;
-        height += 1;
-    }
-    stack[0]
-}
-
 // The word with every bit turned round.
-fn flipped(a: u64) -> u64
+pub fn flipped(a: u64) -> u64
     ensures { λ r. ⌜ ((e : ℕ) → e < wordRows → bit r e ≡ not (bit a e)) ⌝ }
 {
     !a

@@ -9,7 +9,8 @@ ghost use Prim.Native.Nat.{ℕ, _+_, _*_, _/_, _-_, _^_, _≤_, _<_};
 ghost use lib.ListN.{length, take};
 ghost use mathlib.Core.List.{[], _∷_};
 ghost use Rattle.lists.specs.Search.{elem};
-ghost use Rattle.evalset.specs.Sets.{room, mem, dropOf};
+ghost use Rattle.evalset.specs.Bit.{bit};
+ghost use Rattle.evalset.specs.Sets.{room, dropOf};
 ghost use Rattle.search.specs.Compiled.{limit, contactAt};
 ghost use Rattle.pairing.specs.Sums.{Joined, Sums, entry};
 ghost use Rattle.pairing.specs.Words.{Spelt, lone, rowTest, Judges};
@@ -436,34 +437,34 @@ pub fn passes(table: &[u16; PLACES], lone: bool, contacts: u32, low: u32, row: u
     }
 }
 
-// The set, less e unless it is kept.
-fn unless_kept(keep: bool, s: EvalSet, e: usize) -> EvalSet
-    ensures { λ r. ⌜ mem r ≡ cond keep (mem s) (dropOf (mem s) e) ⌝ }
+// The word of rows, less row e unless it is kept.
+fn unless_kept(keep: bool, w: u64, e: usize) -> u64
+    ensures { λ r. ⌜ bit r ≡ cond keep (bit w) (dropOf (bit w) e) ⌝ }
 {
-    if keep { s } else { evalset::without(s, e) }
+    if keep { w } else { evalset::word_without(w, e) }
 }
 
-// Of the rows from `start` on that are in the set, those that pass the table's test.
+// Of the rows from `start` on that are in the word, those that pass the table's test.
 pub fn tested(
     table: &[u16; PLACES],
     lone: bool,
     contacts: u32,
     low: u32,
     start: usize,
-    set: EvalSet,
-) -> EvalSet
+    set: u64,
+) -> u64
     requires { ⌜ (low < 1024) × (start < 4294967232) ⌝ }
-    ensures { λ r. ⌜ ((e : ℕ) → mem r e ≡ (mem set e && rowTest (now (table .entry)) lone contacts low (start + e))) ⌝ }
+    ensures { λ r. ⌜ ((e : ℕ) → bit r e ≡ (bit set e && rowTest (now (table .entry)) lone contacts low (start + e))) ⌝ }
 {
     let mut out = set;
     let mut rest = set;
     let mut at: usize = 0;
-    while at < ROOM {
-        let Found::At(e) = evalset::least(rest) else {
+    while at < 64 {
+        let Found::At(e) = evalset::word_least(rest) else {
             return out;
         };
         out = unless_kept(passes(table, lone, contacts, low, start + e), out, e);
-        rest = evalset::without(rest, e);
+        rest = evalset::word_without(rest, e);
         at = e + 1;
     }
     out

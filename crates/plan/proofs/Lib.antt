@@ -3,7 +3,6 @@ pub mod Sound
 pub mod Complete
 pub mod Exact
 pub mod Squares
-pub mod Steps
 pub mod ReadLoop
 pub mod Buffer
 pub mod Contacts

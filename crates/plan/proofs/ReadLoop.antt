@@ -1,88 +1,439 @@
--- The loop that reads word after word: what is left, read from the state so far, gives what all words give. Assumes nothing.
-use mathlib.Core.Path.{_≡_, refl, sym, ap, _∙_, subst}
-use mathlib.Core.List.{List, [], _∷_}
-use Prim.Native.Nat.{ℕ, suc, _+_, _≤_, _<_}
+-- The code's reader follows the machine: what it says of a word is what the machine does with it, and what is left, read from the state so
+-- far, gives what all words give. Assumes nothing.
+use mathlib.Core.Path.{_≡_, refl, sym, ap, ap₂, _∙_, subst}
+use mathlib.Core.Bool.{Bool, true, false, _&&_, cond, and-false, and-eq-true-iff}
+use mathlib.Core.List.{List, [], _∷_, _++_}
+use Prim.Native.Nat.{ℕ, zero, suc, _+_, _-_, _*_, _^_, _≤_, _<_}
 use native.Mathlib.Omega.{arith}
 use native.Mathlib.Numerals.{add-one}
-use lib.ListN.{length, drop, getD}
+use native.Mathlib.Decide.{ℕ-discrete as decEq}
+use lib.Dec.{ltb, leb}
+use lib.ListN.{length, length-append, drop, getD, set}
 use lib.Seq.{drop-cons, drop-length}
-use types.Run.{OneOf}
+use lib.Pow.{pow-mono}
+use types.Run.{OneOf, miss}
 use denote.Enum.Declared.{tagOf}
-use Rattle.plan.proofs.Phase.{the-type}
-use Rattle.plan.specs.declared.PlanArrays.{PlanArrays}
-use Rattle.plan.specs.declared.Phase.the-variants as phase
-use Rattle.plan.specs.declared.Progress.{Progress}
+use borrow.Author.Tests.{leb-true, ltb-true, le-leb, lt-leb, le-ltb, lt-ltb, eq-eqb, ne-eqb}
+use Rattle.lists.specs.Padded.{pad}
+use Rattle.lists.proofs.Padded.{pad-set}
+use Rattle.evalset.specs.declared.EvalSet.{EvalSet}
+use Rattle.evalset.specs.Sets.{memAt}
+use Rattle.evalset.specs.Most.{most}
+use Rattle.plan.proofs.Word as word-type
+use Rattle.plan.specs.declared.Word.{Word}
+use Rattle.plan.specs.declared.Word.the-variants.{First, Point, Contact, Last, Other}
+use Rattle.plan.specs.declared.Opening.{Opening}
+use Rattle.plan.specs.declared.Opening.the-variants as opening
+use Rattle.plan.specs.declared.Pointing.{Pointing}
+use Rattle.plan.specs.declared.Pointing.the-variants as pointing-is
+use Rattle.plan.specs.declared.PointsAnswer.{PointsAnswer}
+use Rattle.plan.specs.declared.PointsAnswer.the-variants as points-are
+use Rattle.plan.specs.declared.Linking.{Linking}
+use Rattle.plan.specs.declared.Linking.the-variants as linking-is
+use Rattle.plan.specs.declared.PlanAnswer.{PlanAnswer}
 use Rattle.plan.specs.declared.PlanAnswer.the-variants as answer-is
 use Rattle.plan.specs.declared.PlanRead.{PlanRead}
 use Rattle.plan.specs.Words.{Plan}
-use Rattle.plan.specs.Reader.{kindOf, State, start, pointing, linking, whole, dead, step, Reading, plan, refused, ended, unless, readFrom, readOf}
+use Rattle.plan.specs.Reader.{kindOf, State, start, pointing, linking, whole, dead, opened, went, pointed, linked, step, Reading, plan, refused, ended, unless, readFrom, readOf}
 use Rattle.plan.specs.Arrays.{answerOf, planIn, Reads}
 use Rattle.plan.specs.Stored.{Stored}
-use Rattle.plan.specs.Private.{planOf, Holds, SomeState}
+use Rattle.plan.specs.Private.{planOf, joinedOf, selfOf, wanting, OpensTo, pointingOf, PointsCome, PointsHeld, PointsSay, lastOf, linkingOf, LinksCome, LinksHeld, LinksSay}
 use Rattle.plan.proofs.Exact.{IsDead}
-use Rattle.plan.proofs.Steps.{other-phase}
+use Rattle.plan.proofs.Complete.{open-by, link-by, last-by}
+use Rattle.plan.proofs.Squares.{self-square, square-link}
 
-pub record Going (ws : List ℕ) (at : ℕ) (p : Progress) : Type 0 where
-  pub within : at ≤ length ws
-  pub s : State
-  pub live : IsDead s → ⊥
-  pub held : Holds at p s
-  pub rest : readFrom at s (drop at ws) ≡ readOf ws
+-- ---- one word more, and no word more
+module _ (ws : List ℕ) (at : ℕ) (s : State) (rest : readFrom at s (drop at ws) ≡ readOf ws) where
+  module _ (h : at < length ws) where
+    after : unless (step s (kindOf (getD ws at 0))) at
+        (readFrom (suc at) (step s (kindOf (getD ws at 0))) (drop (suc at) ws)) ≡ readOf ws
+    unfolding readFrom
+    after = sym (ap (readFrom at s) (drop-cons ws at 0 h)) ∙ rest
 
-pub going-start : (ws : List ℕ) (p : Progress) → p .phase ≡ phase.Start → Going ws 0 p
-unfolding readOf
-going-start ws p h = record { within = omega arith; s = start; live = λ x. x; held = (h, refl); rest = go ws }
-  where
-    go : (ws : List ℕ) → readFrom 0 start (drop 0 ws) ≡ readFrom 0 start ws
-    go [] = refl
-    go (w ∷ ws) = refl
+    by : (t : State) → step s (kindOf (getD ws at 0)) ≡ t → unless t at (readFrom (suc at) t (drop (suc at) ws)) ≡ readOf ws
+    by t e = subst (λ (t : State). unless t at (readFrom (suc at) t (drop (suc at) ws)) ≡ readOf ws) e after
 
-pub going-some : (ws : List ℕ) (at : ℕ) (p : Progress) → Going ws at p → SomeState at p
-going-some ws at p g = record { s = g .s; held = g .held }
+    pub word-dead : step s (kindOf (getD ws at 0)) ≡ dead → readOf ws ≡ refused at
+    word-dead e = sym (by dead e)
 
--- one word more
-module _ (ws : List ℕ) (at : ℕ) (p r : Progress) (g : Going ws at p) (h : at < length ws)
-    (f : (s : State) → Holds at p s → Holds (at + 1) r (step s (kindOf (getD ws at 0)))) where
-  after : unless (step (g .s) (kindOf (getD ws at 0))) at
-      (readFrom (suc at) (step (g .s) (kindOf (getD ws at 0))) (drop (suc at) ws)) ≡ readOf ws
+    pub word-live : (t : State) → (IsDead t → ⊥) → step s (kindOf (getD ws at 0)) ≡ t → readFrom (at + 1) t (drop (at + 1) ws) ≡ readOf ws
+    word-live t live e = ap (λ (x : ℕ). readFrom x t (drop x ws)) (add-one at) ∙ go t live (by t e)
+      where
+        go : (t : State) → (IsDead t → ⊥) → unless t at (readFrom (suc at) t (drop (suc at) ws)) ≡ readOf ws
+            → readFrom (suc at) t (drop (suc at) ws) ≡ readOf ws
+        go start l q = q
+        go (pointing n m pts low) l q = q
+        go (linking n pts ks low) l q = q
+        go (whole d) l q = q
+        go dead l q = absurd (l tt)
+
+  pub words-end : at ≡ length ws → ended at s ≡ readOf ws
   unfolding readFrom
-  after = sym (ap (readFrom at (g .s)) (drop-cons ws at 0 h)) ∙ g .rest
+  words-end e = sym (ap (readFrom at s) (ap (λ (x : ℕ). drop x ws) e ∙ drop-length ws)) ∙ rest
 
-  pub going-dead : r .phase ≡ phase.Dead → readOf ws ≡ refused at
-  going-dead e = go (step (g .s) (kindOf (getD ws at 0))) (f (g .s) (g .held)) after
+pub from-start : (ws : List ℕ) → readFrom 0 start (drop 0 ws) ≡ readOf ws
+unfolding readOf
+from-start [] = refl
+from-start (w ∷ ws) = refl
+
+pub words-none : (ws : List ℕ) → 0 ≡ length ws → readOf ws ≡ refused 0
+words-none ws e = sym (words-end ws 0 start (from-start ws) e)
+
+-- ---- the first word
+pub not-first : (w : Word) → OneOf (1 ∷ 2 ∷ 3 ∷ 4 ∷ []) (tagOf word-type.the-type w) → opened w ≡ dead
+not-first (First n c) h = absurd (miss (1 ∷ 2 ∷ 3 ∷ 4 ∷ []) 0 tt h)
+not-first (Point e) h = refl
+not-first (Contact i j) h = refl
+not-first (Last c) h = refl
+not-first Other h = refl
+
+module _ (w : Word) (n c : ℕ) (e : w ≡ First n c) where
+  pub open-many : 6 < n → opened w ≡ dead
+  open-many h = ap opened e ∙ rw (lt-leb n 6 h)
+
+  pub open-none : n ≤ 6 → c < 1 → opened w ≡ dead
+  open-none h k = ap opened e ∙ rw (le-leb n 6 h, lt-leb 1 c k)
+
+  pub open-over : n ≤ 6 → 1 ≤ c → 2 ^ n < c → opened w ≡ dead
+  open-over h k l = ap opened e ∙ rw (le-leb n 6 h, le-leb 1 c k, lt-leb c (2 ^ n) l)
+
+  pub open-good : n ≤ 6 → 1 ≤ c → c ≤ 2 ^ n → OpensTo w (opening.Plan n c)
+  open-good h k l = (h, k, l, ap opened e ∙ open-by n c h k l ∙ go c k)
     where
-      o : OneOf (4 ∷ []) (tagOf the-type (r .phase))
-      o = ap (tagOf the-type) e
+      go : (c : ℕ) → 1 ≤ c → pointing n (c - 1) [] 0 ≡ wanting n c [] 0
+      go zero k = absurd (omega arith)
+      go (suc m) k = let q : suc m - 1 ≡ m = omega arith in ap (λ (x : ℕ). pointing n x [] 0) q
 
-      go : (t : State) → Holds (at + 1) r t → unless t at (readFrom (suc at) t (drop (suc at) ws)) ≡ readOf ws
-          → readOf ws ≡ refused at
-      go start k q = other-phase (at + 1) r start (4 ∷ []) o k tt
-      go (pointing n m pts low) k q = other-phase (at + 1) r (pointing n m pts low) (4 ∷ []) o k tt
-      go (linking n pts ks low) k q = other-phase (at + 1) r (linking n pts ks low) (4 ∷ []) o k tt
-      go (whole d) k q = other-phase (at + 1) r (whole d) (4 ∷ []) o k tt
-      go dead k q = sym q
+-- the points come after a good first word
+module _ (ws : List ℕ) (w : Word) (said : w ≡ kindOf (getD ws 0 0)) (h : 0 < length ws) where
+  pub opens-wrong : (r : Opening) → OpensTo w r → r ≡ opening.Wrong → readOf ws ≡ refused 0
+  opens-wrong r o e =
+      word-dead ws 0 start (from-start ws) h (sym (ap opened said) ∙ subst (OpensTo w) e o)
 
-  pub going-on : OneOf (0 ∷ 1 ∷ 2 ∷ 3 ∷ []) (tagOf the-type (r .phase)) → Going ws (at + 1) r
-  going-on o = go (step (g .s) (kindOf (getD ws at 0))) (f (g .s) (g .held)) after
-    where
-      on : (t : State) → (IsDead t → ⊥) → Holds (at + 1) r t → readFrom (suc at) t (drop (suc at) ws) ≡ readOf ws
-          → Going ws (at + 1) r
-      on t a k q = record {
-        within = omega arith;
-        s = t;
-        live = a;
-        held = k;
-        rest = ap (λ (x : ℕ). readFrom x t (drop x ws))
-            (add-one at) ∙ q;
+  pub opens-points : (r : Opening) → OpensTo w r → (n c : ℕ) → r ≡ opening.Plan n c → PointsCome ws n c
+  opens-points r o n c e =
+      let t = subst (OpensTo w) e o in
+      record {
+        few = t .0;
+        some = t .1;
+        room = t .2;
+        within = h;
+        rest = word-live ws 0 start (from-start ws) h (wanting n c [] 0) (live c) (sym (ap opened said) ∙ t .3);
       }
+    where
+      live : (c : ℕ) → IsDead (wanting n c [] 0) → ⊥
+      live zero d = d
+      live (suc m) d = d
 
-      go : (t : State) → Holds (at + 1) r t → unless t at (readFrom (suc at) t (drop (suc at) ws)) ≡ readOf ws → Going ws (at + 1) r
-      go start k q = on start (λ x. x) k q
-      go (pointing n m pts low) k q = on (pointing n m pts low) (λ x. x) k q
-      go (linking n pts ks low) k q = on (linking n pts ks low) (λ x. x) k q
-      go (whole d) k q = on (whole d) (λ x. x) k q
-      go dead k q = other-phase (at + 1) r dead (0 ∷ 1 ∷ 2 ∷ 3 ∷ []) o k tt
+-- ---- a point
+pub not-point : (low left top : ℕ) (w : Word) → OneOf (0 ∷ 2 ∷ 3 ∷ 4 ∷ []) (tagOf word-type.the-type w)
+    → pointing-is.Wrong ≡ pointingOf low left top w
+not-point low left top (First i c) h = refl
+not-point low left top (Point e) h = absurd (miss (0 ∷ 2 ∷ 3 ∷ 4 ∷ []) 1 tt h)
+not-point low left top (Contact i j) h = refl
+not-point low left top (Last c) h = refl
+not-point low left top Other h = refl
 
+module _ (low left top : ℕ) (w : Word) (e : ℕ) (q : w ≡ Point e) where
+  pub point-low : e < low → pointing-is.Wrong ≡ pointingOf low left top w
+  point-low l = sym (ap (pointingOf low left top) q ∙ rw (lt-leb low e l))
+
+  pub point-room : top ≤ e + left → pointing-is.Wrong ≡ pointingOf low left top w
+  point-room l = sym (ap (pointingOf low left top) q ∙ rw (le-ltb (e + left) top l) (go (leb low e)))
+    where
+      go : (b : Bool) → cond (b && false) (pointing-is.Evaluation e) pointing-is.Wrong ≡ pointing-is.Wrong
+      go true = refl
+      go false = refl
+
+  pub point-taken : low ≤ e → e + left < top → pointing-is.Evaluation e ≡ pointingOf low left top w
+  point-taken l m = sym (ap (pointingOf low left top) q ∙ rw (le-leb low e l, lt-ltb (e + left) top m))
+
+-- an evaluation that is taken leaves room
+pub taken-room : (low left top e : ℕ) (w : Word) → pointing-is.Evaluation e ≡ pointingOf low left top w → e + left < top
+taken-room low left top e (First i c) q = absurd (let z : _≡_ {A = ℕ} 0 1 = cc in omega arith)
+taken-room low left top e (Point x) q = go (leb low x && ltb (x + left) top) refl q
+  where
+    go : (b : Bool) → (leb low x && ltb (x + left) top) ≡ b
+        → pointing-is.Evaluation e ≡ cond b (pointing-is.Evaluation x) pointing-is.Wrong → e + left < top
+    go true h q =
+        let z : e ≡ x = cc in
+        let l : x + left < top = ltb-true (x + left) top (and-eq-true-iff (leb low x) (ltb (x + left) top) .0 h .1) in
+        omega arith
+    go false h q = absurd (let z : _≡_ {A = ℕ} 0 1 = cc in omega arith)
+taken-room low left top e (Contact i j) q = absurd (let z : _≡_ {A = ℕ} 0 1 = cc in omega arith)
+taken-room low left top e (Last c) q = absurd (let z : _≡_ {A = ℕ} 0 1 = cc in omega arith)
+taken-room low left top e Other q = absurd (let z : _≡_ {A = ℕ} 0 1 = cc in omega arith)
+
+-- what the machine does by it
+abbrev pointedBy : ℕ → ℕ → List ℕ → Pointing → State
+pointedBy n m pts (pointing-is.Evaluation e) = wanting n m (pts ++ (e ∷ [])) (suc e)
+pointedBy n m pts pointing-is.Wrong = dead
+
+went-on : (n m : ℕ) (pts : List ℕ) (e : ℕ) → went n m pts e ≡ wanting n m pts (suc e)
+went-on n zero pts e = refl
+went-on n (suc m) pts e = refl
+
+pointed-by : (n m : ℕ) (pts : List ℕ) (low : ℕ) (w : Word) → pointed n m pts low w ≡ pointedBy n m pts (pointingOf low m (2 ^ n) w)
+pointed-by n m pts low (First i c) = refl
+pointed-by n m pts low (Point e) = go (leb low e && ltb (e + m) (2 ^ n))
+  where
+    go : (b : Bool) → cond b (went n m (pts ++ (e ∷ [])) e) dead ≡ pointedBy n m pts (cond b (pointing-is.Evaluation e) pointing-is.Wrong)
+    go true = went-on n m (pts ++ (e ∷ [])) e
+    go false = refl
+pointed-by n m pts low (Contact i j) = refl
+pointed-by n m pts low (Last c) = refl
+pointed-by n m pts low Other = refl
+
+pub points-start : (ws : List ℕ) (n c : ℕ) (points : List ℕ) → PointsCome ws n c → points ≡ pad 64 [] → PointsHeld ws n c 0 0 points
+points-start ws n c points h e =
+    let q : c ≡ c - 0 = omega arith in
+    record {
+      done = omega arith;
+      within = h .within;
+      lowest = omega arith;
+      pts = [];
+      size = refl;
+      stored = e;
+      rest = sym (ap (λ (x : ℕ). readFrom 1 (wanting n x [] 0) (drop 1 ws)) q) ∙ h .rest;
+    }
+
+module _ (ws : List ℕ) (n c i low : ℕ) (points : List ℕ) (h : PointsHeld ws n c i low points) (more : i < c) where
+  -- the state before the point
+  before-point : readFrom (1 + i) (pointing n (c - (1 + i)) (h .pts) low) (drop (1 + i) ws) ≡ readOf ws
+  before-point = go (c - i) refl
+    where
+      go : (m : ℕ) → c - i ≡ m → readFrom (1 + i) (pointing n (c - (1 + i)) (h .pts) low) (drop (1 + i) ws) ≡ readOf ws
+      go zero e = absurd (omega arith)
+      go (suc m) e =
+          let q : m ≡ c - (1 + i) = omega arith in
+          sym (ap (λ (x : ℕ). readFrom (1 + i) (pointing n x (h .pts) low) (drop (1 + i) ws)) q)
+          ∙ sym (ap (λ (x : ℕ). readFrom (1 + i) (wanting n x (h .pts) low) (drop (1 + i) ws)) e) ∙ h .rest
+
+  pub points-short : length ws ≤ 1 + i → readOf ws ≡ refused (1 + i)
+  points-short l = let w = h .within in
+      sym (words-end ws (1 + i) (pointing n (c - (1 + i)) (h .pts) low) before-point (omega arith))
+
+  module _ (l : 1 + i < length ws) (top : ℕ) (t : top ≡ 2 ^ n) (w : Word) (k : w ≡ kindOf (getD ws (1 + i) 0)) (said : Pointing)
+      (q : said ≡ pointingOf low (c - (1 + i)) top w) where
+    steps : step (pointing n (c - (1 + i)) (h .pts) low) (kindOf (getD ws (1 + i) 0)) ≡ pointedBy n (c - (1 + i)) (h .pts) said
+    steps =
+        ap (pointed n (c - (1 + i)) (h .pts) low) (sym k)
+        ∙ pointed-by n (c - (1 + i)) (h .pts) low w
+        ∙ ap (pointedBy n (c - (1 + i)) (h .pts)) (ap (λ (x : ℕ). pointingOf low (c - (1 + i)) x w) (sym t) ∙ sym q)
+
+    pub points-wrong : said ≡ pointing-is.Wrong → readOf ws ≡ refused (1 + i)
+    points-wrong e =
+        word-dead ws (1 + i) (pointing n (c - (1 + i)) (h .pts) low) before-point l
+        (steps ∙ ap (pointedBy n (c - (1 + i)) (h .pts)) e)
+
+    pub points-next : (e : ℕ) → said ≡ pointing-is.Evaluation e → n ≤ most → i < 64 → PointsHeld ws n c (i + 1) (e + 1) (set points i e)
+    points-next e s few fits =
+        let room : e + (c - (1 + i)) < top = taken-room low (c - (1 + i)) top e w (sym s ∙ q) in
+        let high : top ≤ 64 = omega (arith, t, pow-mono few) in
+        let left : c - (1 + i) ≡ c - (i + 1) = omega arith in
+        let place : 1 + i + 1 ≡ 1 + (i + 1) = omega arith in
+        record {
+          done = omega arith;
+          within = omega arith;
+          lowest = omega arith;
+          pts = h .pts ++ (e ∷ []);
+          size = length-append (h .pts) (e ∷ []) ∙ ap (λ (x : ℕ). x + 1) (h .size);
+          stored = ap (λ (l : List ℕ). set l i e) (h .stored) ∙ pad-set 64 (h .pts) i e (h .size) fits;
+          rest = ap (λ (x : ℕ). readFrom x (wanting n (c - (i + 1)) (h .pts ++ (e ∷ [])) (e + 1)) (drop x ws)) (sym place)
+              ∙ ap₂ (λ (x y : ℕ). readFrom (1 + i + 1) (wanting n x (h .pts ++ (e ∷ [])) y) (drop (1 + i + 1) ws)) (sym left) (add-one e)
+              ∙ word-live ws (1 + i) (pointing n (c - (1 + i)) (h .pts) low) before-point l
+              (wanting n (c - (1 + i)) (h .pts ++ (e ∷ [])) (suc e)) (live (c - (1 + i)))
+              (steps ∙ ap (pointedBy n (c - (1 + i)) (h .pts)) s);
+        }
+      where
+        live : (m : ℕ) → IsDead (wanting n m (h .pts ++ (e ∷ [])) (suc e)) → ⊥
+        live zero d = d
+        live (suc m) d = d
+
+-- all points are there
+pub points-all : (ws : List ℕ) (n c i low : ℕ) (points : List ℕ) → PointsHeld ws n c i low points → c ≤ i
+    → PointsSay ws n c points-are.All points
+points-all ws n c i low points h l =
+    let d = h .done in
+    let e : i ≡ c = omega arith in
+    (low, subst (λ (x : ℕ). PointsHeld ws n c x low points) e h)
+
+pub points-passed : (ws : List ℕ) (n c : ℕ) (a : PointsAnswer) (points : List ℕ) → PointsSay ws n c a points → a ≡ points-are.All
+    → PointsSay ws n c points-are.All points
+points-passed ws n c a points s e = subst (λ (x : PointsAnswer). PointsSay ws n c x points) e s
+
+pub points-refused : (ws : List ℕ) (n c : ℕ) (a : PointsAnswer) (points : List ℕ) → PointsSay ws n c a points
+    → (at : ℕ) → a ≡ points-are.Refused at → readOf ws ≡ refused at
+points-refused ws n c a points s at e = subst (λ (x : PointsAnswer). PointsSay ws n c x points) e s
+
+-- the contacts come after the points, each of which is in contact with itself
+pub links-come : (ws : List ℕ) (n c low : ℕ) (points : List ℕ) (h : PointsHeld ws n c c low points) (rows : List EvalSet)
+    → memAt rows ≡ selfOf c → LinksCome ws c rows n (h .pts)
+links-come ws n c low points h rows e =
+    let none : c - c ≡ 0 = omega arith in
+    record {
+      size = h .size;
+      alone = e ∙ ap selfOf (sym (h .size)) ∙ self-square n (h .pts);
+      rest = sym (ap (λ (x : ℕ). readFrom (1 + c) (wanting n x (h .pts) low) (drop (1 + c) ws)) none) ∙ h .rest;
+    }
+
+-- ---- a contact, and the last word
+pub not-link : (count low at len : ℕ) (w : Word) → OneOf (0 ∷ 1 ∷ 4 ∷ []) (tagOf word-type.the-type w)
+    → linking-is.Over (answer-is.Refused at) ≡ linkingOf count low at len w
+not-link count low at len (First i c) h = refl
+not-link count low at len (Point e) h = refl
+not-link count low at len (Contact i j) h = absurd (miss (0 ∷ 1 ∷ 4 ∷ []) 2 tt h)
+not-link count low at len (Last c) h = absurd (miss (0 ∷ 1 ∷ 4 ∷ []) 3 tt h)
+not-link count low at len Other h = refl
+
+module _ (count low at len : ℕ) (w : Word) (i j : ℕ) (q : w ≡ Contact i j) where
+  -- one test that fails is enough
+  refuses : (a b c : Bool) → (a && (b && c)) ≡ false
+      → cond (a && (b && c)) (linking-is.Pair i j) (linking-is.Over (answer-is.Refused at)) ≡ linking-is.Over (answer-is.Refused at)
+  refuses a b c e = ap (λ (t : Bool). cond t (linking-is.Pair i j) (linking-is.Over (answer-is.Refused at))) e
+
+  pub link-equal : j ≤ i → linking-is.Over (answer-is.Refused at) ≡ linkingOf count low at len w
+  link-equal l = sym (ap (linkingOf count low at len) q
+      ∙ refuses (leb low (i * 256 + j)) (ltb i j) (ltb j count)
+      (ap (λ (t : Bool). leb low (i * 256 + j) && (t && ltb j count)) (le-ltb i j l) ∙ and-false (leb low (i * 256 + j))))
+
+  pub link-far : count ≤ j → linking-is.Over (answer-is.Refused at) ≡ linkingOf count low at len w
+  link-far l = sym (ap (linkingOf count low at len) q
+      ∙ refuses (leb low (i * 256 + j)) (ltb i j) (ltb j count)
+      (ap (λ (t : Bool). leb low (i * 256 + j) && (ltb i j && t)) (le-ltb j count l)
+      ∙ ap (λ (t : Bool). leb low (i * 256 + j) && t) (and-false (ltb i j)) ∙ and-false (leb low (i * 256 + j))))
+
+  pub link-late : i * 256 + j < low → linking-is.Over (answer-is.Refused at) ≡ linkingOf count low at len w
+  link-late l = sym (ap (linkingOf count low at len) q ∙ rw (lt-leb low (i * 256 + j) l))
+
+  pub link-taken : i < j → j < count → low ≤ i * 256 + j → linking-is.Pair i j ≡ linkingOf count low at len w
+  link-taken a b l = sym (ap (linkingOf count low at len) q ∙ rw (le-leb low (i * 256 + j) l, lt-ltb i j a, lt-ltb j count b))
+
+-- a contact that is taken
+pub record Pairs (count low i j : ℕ) (w : Word) : Type 0 where
+  pub is : w ≡ Contact i j
+  pub later : i < j
+  pub within : j < count
+  pub least : low ≤ i * 256 + j
+
+pub taken-pair : (count low at len i j : ℕ) (w : Word) → linking-is.Pair i j ≡ linkingOf count low at len w → Pairs count low i j w
+taken-pair count low at len i j (First n c) q = absurd (let z : _≡_ {A = ℕ} 0 1 = cc in omega arith)
+taken-pair count low at len i j (Point e) q = absurd (let z : _≡_ {A = ℕ} 0 1 = cc in omega arith)
+taken-pair count low at len i j (Contact a b) q = go (leb low (a * 256 + b) && (ltb a b && ltb b count)) refl q
+  where
+    go : (t : Bool) → (leb low (a * 256 + b) && (ltb a b && ltb b count)) ≡ t
+        → linking-is.Pair i j ≡ cond t (linking-is.Pair a b) (linking-is.Over (answer-is.Refused at))
+        → Pairs count low i j (Contact a b)
+    go true h q =
+        let y : i ≡ a = cc in
+        let z : j ≡ b = cc in
+        let u = and-eq-true-iff (leb low (a * 256 + b)) (ltb a b && ltb b count) .0 h in
+        let v = and-eq-true-iff (ltb a b) (ltb b count) .0 (u .1) in
+        let l : low ≤ a * 256 + b = leb-true low (a * 256 + b) (u .0) in
+        let m : a < b = ltb-true a b (v .0) in
+        let o : b < count = ltb-true b count (v .1) in
+        record { is = ap₂ Contact (sym y) (sym z); later = omega arith; within = omega arith; least = omega arith }
+    go false h q = absurd (let z : _≡_ {A = ℕ} 0 1 = cc in omega arith)
+taken-pair count low at len i j (Last c) q = absurd (let z : _≡_ {A = ℕ} 0 1 = cc in omega arith)
+taken-pair count low at len i j Other q = absurd (let z : _≡_ {A = ℕ} 0 1 = cc in omega arith)
+
+pub pair-within : (count low at len i j : ℕ) (w : Word) (said : Linking) → said ≡ linking-is.Pair i j
+    → said ≡ linkingOf count low at len w → (high : ℕ) → count ≤ high → (i < high) × (j < high)
+pair-within count low at len i j w said s q high h =
+    let p = taken-pair count low at len i j w (sym s ∙ q) in
+    let a = p .later in
+    let b = p .within in
+    (omega arith, omega arith)
+
+pub links-start : (ws : List ℕ) (count : ℕ) (rows : List EvalSet) (n : ℕ) (pts : List ℕ) → LinksCome ws count rows n pts
+    → LinksHeld ws n pts (1 + count) 0 rows
+links-start ws count rows n pts h =
+    let s = h .size in
+    record { ks = []; words = omega arith; joined = h .alone; rest = h .rest }
+
+module _ (ws : List ℕ) (count : ℕ) (n : ℕ) (pts : List ℕ) (size : length pts ≡ count) (at low : ℕ) (rows : List EvalSet)
+    (h : LinksHeld ws n pts at low rows) where
+  pub links-short : at ≡ length ws → readOf ws ≡ refused at
+  links-short e = sym (words-end ws at (linking n pts (h .ks) low) (h .rest) e)
+
+  module _ (l : at < length ws) (w : Word) (k : w ≡ kindOf (getD ws at 0)) (said : Linking)
+      (q : said ≡ linkingOf count low at (length ws) w) where
+    pub links-next : (i j : ℕ) → said ≡ linking-is.Pair i j → count ≤ 256 → (more : List EvalSet)
+        → memAt more ≡ joinedOf (memAt rows) i j → LinksHeld ws n pts (at + 1) (i * 256 + j + 1) more
+    links-next i j s few more e =
+        let p = taken-pair count low at (length ws) i j w (sym s ∙ q) in
+        let a = p .later in
+        let b = p .within in
+        let x = h .words in
+        let m : j < length pts = omega arith in
+        let longer : length (h .ks ++ ((i * 256 + j) ∷ [])) ≡ length (h .ks) + 1 = length-append (h .ks) ((i * 256 + j) ∷ []) in
+        record {
+          ks = h .ks ++ ((i * 256 + j) ∷ []);
+          words = omega arith;
+          joined = e ∙ ap (λ (t : ℕ → ℕ → Bool). joinedOf t i j) (h .joined) ∙ square-link n pts (h .ks) i j a m (omega arith);
+          rest = ap (λ (x : ℕ). readFrom (at + 1) (linking n pts (h .ks ++ ((i * 256 + j) ∷ [])) x) (drop (at + 1) ws)) (add-one (i * 256 + j))
+              ∙ word-live ws at (linking n pts (h .ks) low) (h .rest) l
+              (linking n pts (h .ks ++ ((i * 256 + j) ∷ [])) (suc (i * 256 + j))) (λ d. d)
+              (ap (linked n pts (h .ks) low) (sym k ∙ p .is) ∙ link-by n pts (h .ks) low i j (p .least) a m);
+        }
+
+    -- the words that are refused here
+    wrong : linked n pts (h .ks) low w ≡ dead → readOf ws ≡ refused at
+    wrong d = word-dead ws at (linking n pts (h .ks) low) (h .rest) l (ap (linked n pts (h .ks) low) (sym k) ∙ d)
+
+    -- by the last word
+    ends : (c : ℕ) → w ≡ Last c → LinksSay ws n pts (lastOf c at (length ws)) rows
+    ends c z = go (decEq c at) (decEq (at + 1) (length ws))
+      where
+        x : at ≡ 1 + (length pts + length (h .ks))
+        x = h .words
+
+        all : c ≡ at → readFrom (at + 1) (whole (planOf n pts (h .ks))) (drop (at + 1) ws) ≡ readOf ws
+        all e = word-live ws at (linking n pts (h .ks) low) (h .rest) l (whole (planOf n pts (h .ks))) (λ d. d)
+            (ap (linked n pts (h .ks) low) (sym k ∙ z) ∙ last-by n pts (h .ks) low c (e ∙ x))
+
+        go : Dec (c ≡ at) → Dec (at + 1 ≡ length ws) → LinksSay ws n pts (lastOf c at (length ws)) rows
+        go (yes e) (yes f) =
+            let z : lastOf c at (length ws) ≡ answer-is.Plan = rw (eq-eqb c at e, eq-eqb (at + 1) (length ws) f) in
+            subst (λ (a : PlanAnswer). LinksSay ws n pts a rows) (sym z)
+            (h .ks, sym (words-end ws (at + 1) (whole (planOf n pts (h .ks))) (all e) f), h .joined)
+        go (yes e) (no f) =
+            let z : lastOf c at (length ws) ≡ answer-is.Refused (at + 1) = rw (eq-eqb c at e, ne-eqb (at + 1) (length ws) f) in
+            subst (λ (a : PlanAnswer). LinksSay ws n pts a rows) (sym z)
+            (word-dead ws (at + 1) (whole (planOf n pts (h .ks))) (all e) (omega (arith, f)) refl)
+        go (no e) f =
+            let r : lastOf c at (length ws) ≡ answer-is.Refused at = rw (ne-eqb c at e) in
+            subst (λ (a : PlanAnswer). LinksSay ws n pts a rows) (sym r)
+            (wrong (ap (linked n pts (h .ks) low) z ∙ rw (ne-eqb c (1 + (length pts + length (h .ks))) (λ y. e (y ∙ sym x)))))
+
+    pub links-over : (r : PlanAnswer) → said ≡ linking-is.Over r → LinksSay ws n pts r rows
+    links-over r s = go w refl (sym s ∙ q)
+      where
+        say : (x : PlanAnswer) → linking-is.Over r ≡ linking-is.Over x → LinksSay ws n pts x rows → LinksSay ws n pts r rows
+        say x e t = let z : x ≡ r = cc in subst (λ (a : PlanAnswer). LinksSay ws n pts a rows) z t
+
+        go : (v : Word) → w ≡ v → linking-is.Over r ≡ linkingOf count low at (length ws) v → LinksSay ws n pts r rows
+        go (First i c) z e = say (answer-is.Refused at) e (wrong (ap (linked n pts (h .ks) low) z))
+        go (Point x) z e = say (answer-is.Refused at) e (wrong (ap (linked n pts (h .ks) low) z))
+        go (Contact i j) z e = pick (leb low (i * 256 + j) && (ltb i j && ltb j count)) refl e
+          where
+            same : (leb low (i * 256 + j) && (ltb i j && ltb j count)) ≡ (leb low (i * 256 + j) && (ltb i j && ltb j (length pts)))
+            same = ap (λ (x : ℕ). leb low (i * 256 + j) && (ltb i j && ltb j x)) (sym size)
+
+            pick : (t : Bool) → (leb low (i * 256 + j) && (ltb i j && ltb j count)) ≡ t
+                → linking-is.Over r ≡ cond t (linking-is.Pair i j) (linking-is.Over (answer-is.Refused at)) → LinksSay ws n pts r rows
+            pick true b e = absurd (let z : _≡_ {A = ℕ} 0 1 = cc in omega arith)
+            pick false b e = say (answer-is.Refused at) e
+                (wrong (ap (linked n pts (h .ks) low) z
+                ∙ ap (λ (t : Bool). cond t (linking n pts (h .ks ++ ((i * 256 + j) ∷ [])) (suc (i * 256 + j))) dead) (sym same ∙ b)))
+        go (Last c) z e = say (lastOf c at (length ws)) e (ends c z)
+        go Other z e = say (answer-is.Refused at) e (wrong (ap (linked n pts (h .ks) low) z))
+
+pub links-refused : (ws : List ℕ) (n : ℕ) (pts : List ℕ) (a : PlanAnswer) (rows : List EvalSet) → LinksSay ws n pts a rows
+    → (at : ℕ) → a ≡ answer-is.Refused at → readOf ws ≡ refused at
+links-refused ws n pts a rows s at e = subst (λ (x : PlanAnswer). LinksSay ws n pts x rows) e s
+
+-- ---- what is read
 pub reads-refused : (ws : List ℕ) (at : ℕ) (r : PlanRead) → readOf ws ≡ refused at
     → (r .answer ≡ answer-is.Refused at) × Stored (r .plan) (planOf 0 [] []) → Reads ws r
 reads-refused ws at r e h = record {
@@ -90,40 +441,15 @@ reads-refused ws at r e h = record {
   plan = subst (λ (x : Reading). Stored (r .plan) (planIn x)) (sym e) (h .1);
 }
 
--- the words end
-module _ (ws : List ℕ) (at : ℕ) (p : Progress) (g : Going ws at p) (h : length ws ≤ at) where
-  over : ended at (g .s) ≡ readOf ws
-  unfolding readFrom
-  over =
-      let e : at ≡ length ws = omega (arith, g .within) in
-      sym (ap (readFrom at (g .s)) (ap (λ (x : ℕ). drop x ws) e ∙ drop-length ws)) ∙ g .rest
-
-  pub ends-early : OneOf (0 ∷ 1 ∷ 2 ∷ 4 ∷ []) (tagOf the-type (p .phase)) → readOf ws ≡ refused at
-  ends-early o = go (g .s) (g .held) over
-    where
-      go : (t : State) → Holds at p t → ended at t ≡ readOf ws → readOf ws ≡ refused at
-      go start k q = sym q
-      go (pointing n m pts low) k q = sym q
-      go (linking n pts ks low) k q = sym q
-      go (whole d) k q = other-phase at p (whole d) (0 ∷ 1 ∷ 2 ∷ 4 ∷ []) o k tt
-      go dead k q = sym q
-
-  pub reads-whole : (r : PlanRead) → p .phase ≡ phase.Whole → r .answer ≡ answer-is.Plan → r .plan ≡ p .plan → Reads ws r
-  reads-whole r e v l = go (g .s) (g .held) over
-    where
-      o : OneOf (3 ∷ []) (tagOf the-type (p .phase))
-      o = ap (tagOf the-type) e
-
-      made : (x : Reading) (d : Plan) → x ≡ plan d → Stored (p .plan) d → x ≡ readOf ws → Reads ws r
-      made x d y k q = record {
-        answer = v ∙ ap answerOf (sym y ∙ q);
-        plan = subst (λ (z : PlanArrays). Stored z (planIn (readOf ws))) (sym l)
-            (subst (λ (z : Reading). Stored (p .plan) (planIn z)) (sym y ∙ q) k);
-      }
-
-      go : (t : State) → Holds at p t → ended at t ≡ readOf ws → Reads ws r
-      go start k q = other-phase at p start (3 ∷ []) o k tt
-      go (pointing n m pts low) k q = other-phase at p (pointing n m pts low) (3 ∷ []) o k tt
-      go (linking n pts ks low) k q = other-phase at p (linking n pts ks low) (3 ∷ []) o k tt
-      go (whole d) k q = made (plan d) d refl (k .1) q
-      go dead k q = other-phase at p dead (3 ∷ []) o k tt
+pub reads-plan : (ws : List ℕ) (n c low : ℕ) (points : List ℕ) (h : PointsHeld ws n c c low points) (a : PlanAnswer) (rows : List EvalSet)
+    → LinksSay ws n (h .pts) a rows → a ≡ answer-is.Plan
+    → Reads ws (record { answer = answer-is.Plan; plan = record { names = n; count = c; points = points; rows = rows } })
+reads-plan ws n c low points h a rows s e =
+    let t = subst (λ (x : PlanAnswer). LinksSay ws n (h .pts) x rows) e s in
+    let p : Plan = planOf n (h .pts) (t .0) in
+    let stored : Stored (record { names = n; count = c; points = points; rows = rows }) p =
+    record { names = refl; count = sym (h .size); points = h .stored; rows = t .2 } in
+    record {
+      answer = ap answerOf (sym (t .1));
+      plan = subst (λ (x : Reading). Stored (record { names = n; count = c; points = points; rows = rows }) (planIn x)) (sym (t .1)) stored;
+    }

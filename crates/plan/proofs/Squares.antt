@@ -9,7 +9,7 @@ use Prim.Native.Nat.{ℕ, _+_, _*_, _≤_, _<_}
 use native.Mathlib.Omega.{arith}
 use native.Mathlib.Decide.{ℕ-discrete as decEq}
 use lib.Dec.{eqb, ltb}
-use lib.ListN.{length, set, replicate, length-append}
+use lib.ListN.{length, set, replicate, length-set}
 use borrow.Author.Tests.{eqb-true, eq-eqb, ne-eqb, ltb-true, lt-ltb}
 use Rattle.evalset.specs.declared.EvalSet.{EvalSet}
 use Rattle.lists.specs.Search.{any}
@@ -19,7 +19,7 @@ use Rattle.evalset.proofs.Arrays.{empty-rows, mem-at-same, mem-at-other}
 use Rattle.plan.specs.Words.{Plan}
 use Rattle.plan.specs.Floor.{between, touching}
 use Rattle.plan.specs.Stored.{square}
-use Rattle.plan.specs.Private.{planOf, addAt, joinedOf}
+use Rattle.plan.specs.Private.{planOf, addAt, joinedOf, selfOf}
 use Rattle.lists.proofs.Search.{any-last}
 use Rattle.lists.proofs.Truth.{or-cases}
 
@@ -80,12 +80,6 @@ module _ (t : ℕ → ℕ → Bool) (i j a b : ℕ) where
   joined-other p q = add-new (addAt t i j) j i a b p q
 
 -- ---- rows of sets
-pub rows-none : (n names : ℕ) (none : EvalSet) → mem none ≡ noneOf → memAt (replicate n none) ≡ square (planOf names [] [])
-rows-none n names none h =
-    fun-ext (λ a. fun-ext (λ b.
-    empty-rows n a b none h
-    ∙ sym (eq-false-of-not-eq-true (λ e. let l = square-elim (planOf names [] []) a b e .left in omega arith))))
-
 pub row-set : (rows : List EvalSet) (i j : ℕ) (v : EvalSet) → i < length rows → j < room → mem v ≡ addOf (memAt rows i) j
     → memAt (set rows i v) ≡ addAt (memAt rows) i j
 row-set rows i j v h l e = fun-ext (λ a. fun-ext (λ b. go a b (decEq a i)))
@@ -100,40 +94,65 @@ row-set rows i j v h l e = fun-ext (λ a. fun-ext (λ b. go a b (decEq a i)))
         congr-fun (mem-at-other rows i a v q) b ∙ sym (or-false (memAt rows a b))
         ∙ ap (λ (t : Bool). memAt rows a b || (t && eqb b j)) (sym (ne-eqb a i q))
 
--- ---- one point more
-module _ (n : ℕ) (pts : List ℕ) (e : ℕ) where
-  pub square-point : joinedOf (square (planOf n pts [])) (length pts) (length pts) ≡ square (planOf n (pts ++ (e ∷ [])) [])
-  square-point = fun-ext (λ a. fun-ext (λ b. partialOrderLaws .le-antisymm _ _ (there a b) (back a b (decEq a (length pts)))))
-    where
-      size : length (pts ++ (e ∷ [])) ≡ length pts + 1
-      size = length-append pts (e ∷ [])
+-- a contact stored, both ways round
+pub rows-joined : (rows : List EvalSet) (i j : ℕ) (v u : EvalSet) → i < length rows → j < length rows → i < room → j < room
+    → mem v ≡ addOf (memAt rows i) j → mem u ≡ addOf (memAt (set rows i v) j) i
+    → memAt (set (set rows i v) j u) ≡ joinedOf (memAt rows) i j
+unfolding joinedOf
+rows-joined rows i j v u a b c d e f =
+    row-set (set rows i v) j i u (omega (arith, length-set rows i v)) c f
+    ∙ ap (λ (t : ℕ → ℕ → Bool). addAt t j i) (row-set rows i j v a d e)
 
-      there : (a b : ℕ) → joinedOf (square (planOf n pts [])) (length pts) (length pts) a b ≡ true
-          → square (planOf n (pts ++ (e ∷ [])) []) a b ≡ true
-      there a b q =
-          square-intro (planOf n (pts ++ (e ∷ [])) []) a b
-          (⊎-elim
-          (λ x. let r = square-elim (planOf n pts []) a b x in
-          record { left = omega (arith, size, r .left); right = omega (arith, size, r .right); how = r .how })
-          (λ x. let z : (a ≡ length pts) × (b ≡ length pts) = ⊎-elim (λ y. y) (λ y. y) x in
-          record { left = omega (arith, size, z .0); right = omega (arith, size, z .1); how = inl (z .0 ∙ sym (z .1)) })
-          (joined-elim (square (planOf n pts [])) (length pts) (length pts) a b q))
+-- ---- points that are in contact with themselves alone
+self-elim : (n a b : ℕ) → selfOf n a b ≡ true → (a < n) × (a ≡ b)
+unfolding selfOf
+self-elim n a b e = let u = and-eq-true-iff (ltb a n) (eqb a b) .0 e in (ltb-true a n (u .0), eqb-true a b (u .1))
 
-      back : (a b : ℕ) → Dec (a ≡ length pts) → square (planOf n (pts ++ (e ∷ [])) []) a b ≡ true
-          → joinedOf (square (planOf n pts [])) (length pts) (length pts) a b ≡ true
-      back a b d q = go d (square-elim (planOf n (pts ++ (e ∷ [])) []) a b q)
-        where
-          equal : Related (planOf n (pts ++ (e ∷ [])) []) a b → a ≡ b
-          equal r = ⊎-elim (λ z. z) (λ z. absurd (let w : _≡_ {A = ℕ} 0 1 = cc in omega arith)) (r .how)
+self-intro : (n a b : ℕ) → a < n → a ≡ b → selfOf n a b ≡ true
+unfolding selfOf
+self-intro n a b l e = and-intro (lt-ltb a n l) (eq-eqb a b e)
 
-          go : Dec (a ≡ length pts) → Related (planOf n (pts ++ (e ∷ [])) []) a b
-              → joinedOf (square (planOf n pts [])) (length pts) (length pts) a b ≡ true
-          go (yes z) r = joined-one (square (planOf n pts [])) (length pts) (length pts) a b z (sym (equal r) ∙ z)
-          go (no z) r =
-              let q : a ≡ b = equal r in
-              joined-old (square (planOf n pts [])) (length pts) (length pts) a b
-              (square-intro (planOf n pts []) a b
-              (record { left = omega (arith, size, r .left, z); right = omega (arith, size, r .left, z); how = inl q }))
+pub self-none : (n : ℕ) (none : EvalSet) → mem none ≡ noneOf → memAt (replicate n none) ≡ selfOf 0
+self-none n none h =
+    fun-ext (λ a. fun-ext (λ b.
+    empty-rows n a b none h ∙ sym (eq-false-of-not-eq-true (λ e. let l = self-elim 0 a b e .0 in omega arith))))
+
+pub self-more : (rows : List EvalSet) (i : ℕ) (none v : EvalSet) → i < length rows → i < room → mem none ≡ noneOf
+    → mem v ≡ addOf (mem none) i → memAt rows ≡ selfOf i → memAt (set rows i v) ≡ selfOf (i + 1)
+self-more rows i none v h l z e s =
+    row-set rows i i v h l (e ∙ ap (λ (t : ℕ → Bool). addOf t i) (z ∙ sym blank))
+    ∙ ap (λ (t : ℕ → ℕ → Bool). addAt t i i) s
+    ∙ fun-ext (λ a. fun-ext (λ b. partialOrderLaws .le-antisymm _ _ (there a b) (back a b (decEq a i))))
+  where
+    blank : memAt rows i ≡ noneOf
+    blank = ap (λ (t : ℕ → ℕ → Bool). t i) s
+        ∙ fun-ext (λ b. eq-false-of-not-eq-true (λ q. let l = self-elim i i b q .0 in omega arith))
+
+    there : (a b : ℕ) → addAt (selfOf i) i i a b ≡ true → selfOf (i + 1) a b ≡ true
+    there a b q =
+        ⊎-elim (λ x. let u = self-elim i a b x in self-intro (i + 1) a b (omega (arith, u .0)) (u .1))
+        (λ x. self-intro (i + 1) a b (omega (arith, x .0)) (x .0 ∙ sym (x .1)))
+        (add-elim (selfOf i) i i a b q)
+
+    back : (a b : ℕ) → Dec (a ≡ i) → selfOf (i + 1) a b ≡ true → addAt (selfOf i) i i a b ≡ true
+    back a b (yes y) q = let u = self-elim (i + 1) a b q in add-new (selfOf i) i i a b y (sym (u .1) ∙ y)
+    back a b (no y) q = let u = self-elim (i + 1) a b q in
+        add-old (selfOf i) i i a b (self-intro i a b (omega (arith, u .0, y)) (u .1))
+
+-- they are the square of a plan of so many points, without contacts
+pub self-square : (n : ℕ) (pts : List ℕ) → selfOf (length pts) ≡ square (planOf n pts [])
+self-square n pts = fun-ext (λ a. fun-ext (λ b. partialOrderLaws .le-antisymm _ _ (there a b) (back a b)))
+  where
+    there : (a b : ℕ) → selfOf (length pts) a b ≡ true → square (planOf n pts []) a b ≡ true
+    there a b q =
+        let u = self-elim (length pts) a b q in
+        square-intro (planOf n pts []) a b (record { left = u .0; right = omega (arith, u .0, u .1); how = inl (u .1) })
+
+    back : (a b : ℕ) → square (planOf n pts []) a b ≡ true → selfOf (length pts) a b ≡ true
+    back a b q =
+        let r = square-elim (planOf n pts []) a b q in
+        self-intro (length pts) a b (r .left)
+        (⊎-elim (λ z. z) (λ z. absurd (let w : _≡_ {A = ℕ} 0 1 = cc in omega arith)) (r .how))
 
 -- ---- one contact more
 module _ (n : ℕ) (pts ks : List ℕ) (i j : ℕ) (later : i < j) (within : j < length pts) (few : length pts ≤ 256) where

@@ -1,21 +1,31 @@
--- For proofs: what the private functions' values hold: how far words have been read, what has been written over a buffer so far, and what
--- has been found of a row. Assumes nothing.
+-- For proofs: what the private functions' values hold: what a word says where it stands, what has been read when the points and when the
+-- contacts are, what has been written over a buffer so far, and what has been found of a row. Assumes nothing.
 use mathlib.Core.Path.{_≡_}
-use mathlib.Core.Bool.{Bool, _&&_, _||_}
-use mathlib.Core.List.{List, [], _∷_, _++_, map}
-use Prim.Native.Nat.{ℕ, _+_, _≤_, _<_}
-use lib.Dec.{eqb}
+use mathlib.Core.Bool.{Bool, _&&_, _||_, cond}
+use mathlib.Core.List.{List, [], _++_, map}
+use Prim.Native.Nat.{ℕ, zero, suc, _+_, _-_, _*_, _^_, _≤_, _<_}
+use lib.Dec.{eqb, ltb, leb}
 use lib.ListN.{length, getD, take, drop}
 use Rattle.lists.specs.Padded.{pad}
 use Rattle.lists.specs.Search.{any, below}
+use Rattle.evalset.specs.declared.EvalSet.{EvalSet}
 use Rattle.evalset.specs.Sets.{room, memAt, meetOf}
 use Rattle.evalset.specs.Most.{most}
-use Rattle.plan.specs.declared.PlanArrays.{PlanArrays}
-use Rattle.plan.specs.declared.Phase.the-variants as phase
-use Rattle.plan.specs.declared.Progress.{Progress}
+use Rattle.plan.specs.declared.PlanAnswer.{PlanAnswer}
+use Rattle.plan.specs.declared.PlanAnswer.the-variants as answer-is
+use Rattle.plan.specs.declared.Word.{Word}
+use Rattle.plan.specs.declared.Word.the-variants.{First, Point, Contact, Last, Other}
+use Rattle.plan.specs.declared.Opening.{Opening}
+use Rattle.plan.specs.declared.Opening.the-variants as opening
+use Rattle.plan.specs.declared.Pointing.{Pointing}
+use Rattle.plan.specs.declared.Pointing.the-variants as pointing-is
+use Rattle.plan.specs.declared.PointsAnswer.{PointsAnswer}
+use Rattle.plan.specs.declared.PointsAnswer.the-variants as points-are
+use Rattle.plan.specs.declared.Linking.{Linking}
+use Rattle.plan.specs.declared.Linking.the-variants as linking-is
 use Rattle.plan.specs.Words.{Plan, contactWord}
-use Rattle.plan.specs.Reader.{State, start, pointing, linking, whole, dead}
-use Rattle.plan.specs.Stored.{Stored}
+use Rattle.plan.specs.Reader.{State, pointing, linking, dead, opened, plan, refused, readFrom, readOf}
+use Rattle.plan.specs.Stored.{square}
 
 -- ---- reading
 abbrev pub planOf : ℕ → List ℕ → List ℕ → Plan
@@ -29,58 +39,85 @@ addAt t i j a b = t a b || (eqb a i && eqb b j)
 unfoldable pub joinedOf : (ℕ → ℕ → Bool) → ℕ → ℕ → ℕ → ℕ → Bool
 joinedOf t i j = addAt (addAt t i j) j i
 
--- the arrays with one more point, in contact with itself
-pub record Adds (p : PlanArrays) (e : ℕ) (r : PlanArrays) : Type 0 where
-  pub names : r .names ≡ p .names
-  pub count : r .count ≡ p .count + 1
-  pub points : (pts : List ℕ) → length pts ≡ p .count → p .points ≡ pad 64 pts → r .points ≡ pad 64 (pts ++ (e ∷ []))
-  pub rows : memAt (r .rows) ≡ joinedOf (memAt (p .rows)) (p .count) (p .count)
+-- each position below n is in contact with itself
+unfoldable pub selfOf : ℕ → ℕ → ℕ → Bool
+selfOf n a b = ltb a n && eqb a b
 
--- before word `at`, a point is wanted
-pub record HeldPoints (at : ℕ) (r : Progress) (n m : ℕ) (pts : List ℕ) (low : ℕ) : Type 0 where
-  pub phase : r .phase ≡ phase.Points
-  pub left : r .left ≡ m
-  pub least : r .low ≡ low
+-- so many points are wanted; then the contacts
+abbrev pub wanting : ℕ → ℕ → List ℕ → ℕ → State
+wanting n zero pts low = linking n pts [] 0
+wanting n (suc m) pts low = pointing n m pts low
+
+-- what the first word leads to
+abbrev pub OpensTo : Word → Opening → Type 0
+OpensTo w (opening.Plan n c) = (n ≤ most) × (0 < c) × (c ≤ 2 ^ n) × (opened w ≡ wanting n c [] 0)
+OpensTo w opening.Wrong = opened w ≡ dead
+
+pub record Opens (w : Word) (r : Opening) : Type 0 where
+  pub to : OpensTo w r
+
+-- what a word says where a point is wanted
+abbrev pub pointingOf : ℕ → ℕ → ℕ → Word → Pointing
+pointingOf low left top (First n c) = pointing-is.Wrong
+pointingOf low left top (Point e) = cond (leb low e && ltb (e + left) top) (pointing-is.Evaluation e) pointing-is.Wrong
+pointingOf low left top (Contact i j) = pointing-is.Wrong
+pointingOf low left top (Last c) = pointing-is.Wrong
+pointingOf low left top Other = pointing-is.Wrong
+
+-- the first word has been read, and the points come
+pub record PointsCome (ws : List ℕ) (n c : ℕ) : Type 0 where
   pub few : n ≤ most
-  pub small : length pts + m < 64
-  pub lowest : low ≤ 64
-  pub words : at ≡ 1 + length pts
-  pub stored : Stored (r .plan) (planOf n pts [])
+  pub some : 0 < c
+  pub room : c ≤ 2 ^ n
+  pub within : 1 ≤ length ws
+  pub rest : readFrom 1 (wanting n c [] 0) (drop 1 ws) ≡ readOf ws
 
--- before word `at`, a contact or the last word is wanted
-pub record HeldLinks (at : ℕ) (r : Progress) (n : ℕ) (pts ks : List ℕ) (low : ℕ) : Type 0 where
-  pub phase : r .phase ≡ phase.Contacts
-  pub least : r .low ≡ low
-  pub small : length pts ≤ 64
-  pub lowest : low ≤ 65536
-  pub words : at ≡ 1 + (length pts + length ks)
-  pub stored : Stored (r .plan) (planOf n pts ks)
-
--- before word `at`, the progress is the machine's state
-abbrev pub Holds : ℕ → Progress → State → Type 0
-Holds at r start = (r .phase ≡ phase.Start) × (at ≡ 0)
-Holds at r (pointing n m pts low) = HeldPoints at r n m pts low
-Holds at r (linking n pts ks low) = HeldLinks at r n pts ks low
-Holds at r (whole p) = (r .phase ≡ phase.Whole) × Stored (r .plan) p
-Holds at r dead = r .phase ≡ phase.Dead
-
-pub record SomePoints (at : ℕ) (r : Progress) : Type 0 where
-  pub n : ℕ
-  pub m : ℕ
+-- i of c points have been read
+pub record PointsHeld (ws : List ℕ) (n c i low : ℕ) (points : List ℕ) : Type 0 where
+  pub done : i ≤ c
+  pub within : 1 + i ≤ length ws
+  pub lowest : low ≤ 256
   pub pts : List ℕ
-  pub lo : ℕ
-  pub held : HeldPoints at r n m pts lo
+  pub size : length pts ≡ i
+  pub stored : points ≡ pad 64 pts
+  pub rest : readFrom (1 + i) (wanting n (c - i) pts low) (drop (1 + i) ws) ≡ readOf ws
 
-pub record SomeLinks (at : ℕ) (r : Progress) : Type 0 where
-  pub n : ℕ
-  pub pts : List ℕ
+-- all points have been read, or the words are refused
+abbrev pub PointsSay : List ℕ → ℕ → ℕ → PointsAnswer → List ℕ → Type 0
+PointsSay ws n c points-are.All points = (low : ℕ) × PointsHeld ws n c c low points
+PointsSay ws n c (points-are.Refused at) points = readOf ws ≡ refused at
+
+-- what all words are by one of kind 4
+abbrev pub lastOf : ℕ → ℕ → ℕ → PlanAnswer
+lastOf before at len = cond (eqb before at) (cond (eqb (at + 1) len) answer-is.Plan (answer-is.Refused (at + 1))) (answer-is.Refused at)
+
+-- what a word says after the points
+abbrev pub linkingOf : ℕ → ℕ → ℕ → ℕ → Word → Linking
+linkingOf count low at len (First n c) = linking-is.Over (answer-is.Refused at)
+linkingOf count low at len (Point e) = linking-is.Over (answer-is.Refused at)
+linkingOf count low at len (Contact i j) =
+    cond (leb low (i * 256 + j) && (ltb i j && ltb j count)) (linking-is.Pair i j) (linking-is.Over (answer-is.Refused at))
+linkingOf count low at len (Last c) = linking-is.Over (lastOf c at len)
+linkingOf count low at len Other = linking-is.Over (answer-is.Refused at)
+
+-- the points have been read, and the contacts come
+pub record LinksCome (ws : List ℕ) (count : ℕ) (rows : List EvalSet) (n : ℕ) (pts : List ℕ) : Type 0 where
+  pub size : length pts ≡ count
+  pub alone : memAt rows ≡ square (planOf n pts [])
+  pub rest : readFrom (1 + count) (linking n pts [] 0) (drop (1 + count) ws) ≡ readOf ws
+
+-- the words before `at` have been read
+pub record LinksHeld (ws : List ℕ) (n : ℕ) (pts : List ℕ) (at low : ℕ) (rows : List EvalSet) : Type 0 where
   pub ks : List ℕ
-  pub lo : ℕ
-  pub held : HeldLinks at r n pts ks lo
+  pub words : at ≡ 1 + (length pts + length ks)
+  pub joined : memAt rows ≡ square (planOf n pts ks)
+  pub rest : readFrom at (linking n pts ks low) (drop at ws) ≡ readOf ws
 
-pub record SomeState (at : ℕ) (r : Progress) : Type 0 where
-  pub s : State
-  pub held : Holds at r s
+-- the words are a plan of these points, or refused
+abbrev pub LinksSay : List ℕ → ℕ → List ℕ → PlanAnswer → List EvalSet → Type 0
+LinksSay ws n pts answer-is.Plan rows =
+    (ks : List ℕ) × (readOf ws ≡ plan (planOf n pts ks)) × (memAt rows ≡ square (planOf n pts ks))
+LinksSay ws n pts (answer-is.Refused at) rows = readOf ws ≡ refused at
 
 -- ---- writing
 -- words over a buffer, from a place on

@@ -7,15 +7,16 @@ ghost use mathlib.Core.Bool.{cond};
 ghost use mathlib.Core.List.{List, [], map};
 ghost use Prim.Native.Nat.{ℕ, min, _+_, _*_, _<_, _≤_, _^_};
 ghost use lib.ListN.{length, take};
+ghost use Rattle.lists.specs.Padded.{pad};
 ghost use Rattle.evalset.specs.Sets.{mem, memAt, addOf};
 ghost use Rattle.evalset.specs.Most.{most};
 ghost use Rattle.evalset.specs.Arrays.{positionsOf};
 ghost use Rattle.plan.specs.Words.{pointWord};
-ghost use Rattle.plan.specs.Reader.{kindOf, State, step, opened, pointed, linked};
+ghost use Rattle.plan.specs.Reader.{kindOf};
 ghost use Rattle.plan.specs.Arrays.{Reads, Writes, touchesOf, vacantOf};
 ghost use Rattle.plan.specs.Links.{pairOf, rowTo, linksTo};
 ghost use Rattle.plan.specs.Stored.{Stored};
-ghost use Rattle.plan.specs.Private.{planOf, joinedOf, Adds, Holds, HeldPoints, HeldLinks, SomePoints, SomeLinks, SomeState, written, Wrote, reachesOf, reachedOf};
+ghost use Rattle.plan.specs.Private.{planOf, Opens, pointingOf, PointsCome, PointsSay, selfOf, lastOf, linkingOf, LinksCome, LinksSay, written, Wrote, reachesOf, reachedOf};
 use evalset::EvalSet;
 
 // A plan: the evaluations of its points, ascending, and the square of contacts, one row for each point.
@@ -38,22 +39,40 @@ pub struct PlanRead {
     pub plan: PlanArrays,
 }
 
-// What may come next: the first word, a point, a contact or the last word, nothing after a whole plan, or nothing since no plan
-// begins so.
-enum Phase {
-    Start,
-    Points,
-    Contacts,
-    Whole,
-    Dead,
+// What the first word says: the names and the number of points of a plan, or nothing that a plan starts with.
+enum Opening {
+    Plan { names: u8, count: usize },
+    Wrong,
 }
 
-// How far words have been read: `left` points come after the next one, and no evaluation or contact below `low` may come.
-struct Progress {
-    phase: Phase,
-    left: u32,
-    low: u32,
-    plan: PlanArrays,
+// What a word says where a point is wanted.
+enum Pointing {
+    Evaluation(u8),
+    Wrong,
+}
+
+// Whether all points were read, or refusal 13 and its index.
+enum PointsAnswer {
+    All,
+    Refused(usize),
+}
+
+// The points, and beside them whether all were read.
+struct PointsRead {
+    answer: PointsAnswer,
+    points: [u8; 64],
+}
+
+// What a word says after the points: one more contact, or what all words are.
+enum Linking {
+    Pair { smaller: usize, larger: usize },
+    Over(PlanAnswer),
+}
+
+// The square of contacts, and beside it what all words are.
+struct ContactsRead {
+    answer: PlanAnswer,
+    rows: [EvalSet; 64],
 }
 
 // What a word says; Other is a word of no kind, or one with an unnamed bit set.
@@ -95,7 +114,7 @@ fn kind_of(word: u32) -> Word
 }
 
 // The number of evaluations over so many names.
-fn evaluations(names: u8) -> u32
+fn evaluations(names: u8) -> usize
     requires { ⌜ names ≤ most ⌝ }
     ensures { λ r. ⌜ r ≡ 2 ^ names ⌝ }
 {
@@ -110,210 +129,209 @@ fn evaluations(names: u8) -> u32
     }
 }
 
-// A plan with no point yet.
-fn blank(names: u8) -> PlanArrays
-    ensures { λ r. ⌜ Stored r (planOf names [] []) ⌝ }
-{
-    let points = [0u8; 64];
-    let none = evalset::empty();
-    let rows = [none; 64];
-    PlanArrays {
-        names: names,
-        count: 0,
-        points: points,
-        rows: rows,
-    }
-}
-
-// The rows with positions i and j in contact, both ways round.
-fn join(rows: [EvalSet; 64], i: usize, j: usize) -> [EvalSet; 64]
-    requires { ⌜ (i < 64) × (j < 64) ⌝ }
-    ensures { λ r. ⌜ memAt r ≡ joinedOf (memAt rows) i j ⌝ }
-{
-    let mut out = rows;
-    let first = out[i];
-    out[i] = evalset::insert(first, j);
-    let second = out[j];
-    out[j] = evalset::insert(second, i);
-    out
-}
-
-// No plan has these words first.
-fn dead() -> Progress
-    ensures { λ r. ⌜ r .phase ≡ Phase.Dead ⌝ }
-{
-    Progress {
-        phase: Phase::Dead,
-        left: 0,
-        low: 0,
-        plan: blank(0),
-    }
-}
-
-// The first word: "names (0 to 6)" and "points (1 to 2^names)", so at most 64.
-fn open(word: Word) -> Progress
-    ensures { λ r. ⌜ Holds 1 r (opened word) ⌝ }
+// The first word: "names (0 to 6)" and "points (1 to 2^names)".
+fn open(word: Word) -> Opening
+    ensures { λ r. ⌜ Opens word r ⌝ }
 {
     let Word::First { names, points } = word else {
-        return dead();
+        return Opening::Wrong;
     };
     match names {
         0..=6 => match points {
             1..=64 => {
                 let few = names as u8;
-                if evaluations(few) < points {
-                    return dead();
+                let count = points as usize;
+                if evaluations(few) < count {
+                    return Opening::Wrong;
                 }
-                Progress {
-                    phase: Phase::Points,
-                    left: points - 1,
-                    low: 0,
-                    plan: blank(few),
+                Opening::Plan {
+                    names: few,
+                    count: count,
                 }
             }
-            _ => dead(),
+            _ => Opening::Wrong,
         },
-        _ => dead(),
+        _ => Opening::Wrong,
     }
 }
 
-// The plan with one more point.
-fn with_point(plan: PlanArrays, e: u32) -> PlanArrays
-    requires { ⌜ (plan .count < 64) × (e < 64) ⌝ }
-    ensures { λ r. ⌜ Adds plan e r ⌝ }
+// A word where a point is wanted: an evaluation that is not below `low`, and leaves room below `top` for those that are left.
+fn point(word: Word, low: usize, left: usize, top: usize) -> Pointing
+    requires { ⌜ (left < 256) × (top ≤ 256) ⌝ }
+    ensures { λ r. ⌜ r ≡ pointingOf low left top word ⌝ }
 {
-    let count = plan.count;
-    let mut points = plan.points;
-    points[count] = e as u8;
-    let rows = plan.rows;
-    let joined = join(rows, count, count);
-    PlanArrays {
-        names: plan.names,
-        count: count + 1,
-        points: points,
-        rows: joined,
-    }
-}
-
-// A word where a point is wanted: "the evaluation, below 2^names", so at most 63, with room for the points that are left.
-fn point(p: Progress, at: usize, word: Word) -> Progress
-    requires { ⌜ SomePoints at p ⌝ }
-    ensures { λ r. ⌜ ((n m : ℕ) (pts : List ℕ) (low : ℕ) → HeldPoints at p n m pts low → Holds (at + 1) r (pointed n m pts low word)) ⌝ }
-{
-    let plan = p.plan;
-    let low = p.low;
-    let left = p.left;
-    let Word::Point(e) = word else {
-        return dead();
+    let Word::Point(bits) = word else {
+        return Pointing::Wrong;
     };
-    match e {
-        0..=63 => {
+    match bits {
+        0..=0xFF => {
+            let e = bits as usize;
             if e < low {
-                return dead();
+                return Pointing::Wrong;
             }
-            if evaluations(plan.names) <= e + left {
-                return dead();
+            if top <= e + left {
+                return Pointing::Wrong;
             }
-            let more = with_point(plan, e);
-            if left == 0 {
-                Progress {
-                    phase: Phase::Contacts,
-                    left: 0,
-                    low: 0,
-                    plan: more,
-                }
-            } else {
-                Progress {
-                    phase: Phase::Points,
-                    left: left - 1,
-                    low: e + 1,
-                    plan: more,
-                }
-            }
+            Pointing::Evaluation(e as u8)
         }
-        _ => dead(),
+        _ => Pointing::Wrong,
     }
 }
 
-// A contact of two points.
-fn link(p: Progress, at: usize, smaller: u32, larger: u32) -> Progress
-    requires { ⌜ SomeLinks at p ⌝ }
-    ensures { λ r. ⌜ ((n : ℕ) (pts ks : List ℕ) (low : ℕ) → HeldLinks at p n pts ks low → Holds (at + 1) r (linked n pts ks low (Word.Contact smaller larger))) ⌝ }
+// No point.
+fn no_points() -> [u8; 64]
+    ensures { λ r. ⌜ r ≡ pad 64 [] ⌝ }
 {
-    let plan = p.plan;
-    let low = p.low;
-    let count = plan.count;
-    let i = smaller as usize;
-    let j = larger as usize;
-    if j <= i {
-        return dead();
+    [0; 64]
+}
+
+// The points of a plan of so many names and points, from word 1 on.
+fn read_points(words: &[u32], names: u8, count: usize) -> PointsRead
+    requires { ⌜ PointsCome (now words) names count ⌝ }
+    ensures { λ r. ⌜ PointsSay (now (words .entry)) names count (r .answer) (r .points) ⌝ }
+{
+    let top = evaluations(names);
+    let mut points = no_points();
+    let mut low: usize = 0;
+    let mut i: usize = 0;
+    while i < count {
+        let at = 1 + i;
+        if words.len() <= at {
+            return PointsRead {
+                answer: PointsAnswer::Refused(at),
+                points: points,
+            };
+        }
+        let said = point(kind_of(words[at]), low, count - at, top);
+        let Pointing::Evaluation(e) = said else {
+            return PointsRead {
+                answer: PointsAnswer::Refused(at),
+                points: points,
+            };
+        };
+        points[i] = e;
+        low = e as usize + 1;
+        i += 1;
     }
-    if count <= j {
-        return dead();
-    }
-    let key = smaller * 256 + larger;
-    if key < low {
-        return dead();
-    }
-    let points = plan.points;
-    let rows = plan.rows;
-    let joined = join(rows, i, j);
-    let more = PlanArrays {
-        names: plan.names,
-        count: count,
+    PointsRead {
+        answer: PointsAnswer::All,
         points: points,
-        rows: joined,
-    };
-    Progress {
-        phase: Phase::Contacts,
-        left: 0,
-        low: key + 1,
-        plan: more,
     }
 }
 
-// The last word, which counts those before it.
-fn last(p: Progress, at: usize, before: u32) -> Progress
-    requires { ⌜ SomeLinks at p ⌝ }
-    ensures { λ r. ⌜ ((n : ℕ) (pts ks : List ℕ) (low : ℕ) → HeldLinks at p n pts ks low → Holds (at + 1) r (linked n pts ks low (Word.Last before))) ⌝ }
-{
-    if before as usize == at {
-        let plan = p.plan;
-        Progress {
-            phase: Phase::Whole,
-            left: 0,
-            low: 0,
-            plan: plan,
-        }
-    } else {
-        dead()
-    }
-}
-
-// A word after the points.
-fn contact(p: Progress, at: usize, word: Word) -> Progress
-    requires { ⌜ SomeLinks at p ⌝ }
-    ensures { λ r. ⌜ ((n : ℕ) (pts ks : List ℕ) (low : ℕ) → HeldLinks at p n pts ks low → Holds (at + 1) r (linked n pts ks low word)) ⌝ }
+// A word after the points: "the smaller position .. the larger, from 0, in strictly rising order", so not below `low`; or the last
+// word, which counts those before it.
+fn contact(word: Word, count: usize, low: usize, at: usize, len: usize) -> Linking
+    requires { ⌜ (count ≤ 256) × (at < len) ⌝ }
+    ensures { λ r. ⌜ r ≡ linkingOf count low at len word ⌝ }
 {
     match word {
-        Word::Contact { smaller, larger } => link(p, at, smaller, larger),
-        Word::Last(before) => last(p, at, before),
-        _ => dead(),
+        Word::Contact { smaller, larger } => {
+            let i = smaller as usize;
+            let j = larger as usize;
+            if j <= i {
+                return Linking::Over(PlanAnswer::Refused(at));
+            }
+            if count <= j {
+                return Linking::Over(PlanAnswer::Refused(at));
+            }
+            let key = i * 256 + j;
+            if key < low {
+                return Linking::Over(PlanAnswer::Refused(at));
+            }
+            Linking::Pair {
+                smaller: i,
+                larger: j,
+            }
+        }
+        Word::Last(before) => Linking::Over(last(before as usize, at, len)),
+        _ => Linking::Over(PlanAnswer::Refused(at)),
     }
 }
 
-// One word more.
-fn next(p: Progress, at: usize, word: u32) -> Progress
-    requires { ⌜ SomeState at p ⌝ }
-    ensures { λ r. ⌜ ((s : State) → Holds at p s → Holds (at + 1) r (step s (kindOf word))) ⌝ }
+// What all words are where one of kind 4 stands at an index: it counts the words before it, and no word follows it.
+fn last(before: usize, at: usize, len: usize) -> PlanAnswer
+    requires { ⌜ at < len ⌝ }
+    ensures { λ r. ⌜ r ≡ lastOf before at len ⌝ }
 {
-    let phase = p.phase;
-    let said = kind_of(word);
-    match phase {
-        Phase::Start => open(said),
-        Phase::Points => point(p, at, said),
-        Phase::Contacts => contact(p, at, said),
-        _ => dead(),
+    if before == at {
+        if at + 1 == len {
+            PlanAnswer::Plan
+        } else {
+            PlanAnswer::Refused(at + 1)
+        }
+    } else {
+        PlanAnswer::Refused(at)
+    }
+}
+
+// The square of no point.
+fn no_rows() -> [EvalSet; 64]
+    ensures { λ r. ⌜ memAt r ≡ selfOf 0 ⌝ }
+{
+    let none = evalset::empty();
+    [none; 64]
+}
+
+// The square of so many points, each in contact with itself alone.
+fn alone(count: usize) -> [EvalSet; 64]
+    requires { ⌜ count ≤ 64 ⌝ }
+    ensures { λ r. ⌜ memAt r ≡ selfOf count ⌝ }
+{
+    let none = evalset::empty();
+    let mut rows = no_rows();
+    let mut i: usize = 0;
+    while i < count {
+        rows[i] = evalset::insert(none, i);
+        i += 1;
+    }
+    rows
+}
+
+// The contacts and the last word, after so many points. The square comes with each point in contact with itself.
+fn read_contacts(words: &[u32], count: usize, square: [EvalSet; 64]) -> ContactsRead
+    requires { ⌜ (count ≤ 64) × (1 + count ≤ length (now words)) ⌝ }
+    ensures { λ r. ⌜ ((n : ℕ) (pts : List ℕ) → LinksCome (now (words .entry)) count square n pts → LinksSay (now (words .entry)) n pts (r .answer) (r .rows)) ⌝ }
+{
+    let mut rows = square;
+    let mut low: usize = 0;
+    let mut at: usize = 1 + count;
+    while at < words.len() {
+        let said = contact(kind_of(words[at]), count, low, at, words.len());
+        match said {
+            Linking::Pair { smaller, larger } => {
+                let i = smaller;
+                let j = larger;
+                let first = rows[i];
+                rows[i] = evalset::insert(first, j);
+                let second = rows[j];
+                rows[j] = evalset::insert(second, i);
+                low = i * 256 + j + 1;
+                at += 1;
+            }
+            Linking::Over(answer) => {
+                return ContactsRead {
+                    answer: answer,
+                    rows: rows,
+                };
+            }
+        }
+    }
+    ContactsRead {
+        answer: PlanAnswer::Refused(at),
+        rows: rows,
+    }
+}
+
+// A plan with no name and no point.
+fn blank() -> PlanArrays
+    ensures { λ r. ⌜ Stored r (planOf 0 [] []) ⌝ }
+{
+    PlanArrays {
+        names: 0,
+        count: 0,
+        points: no_points(),
+        rows: no_rows(),
     }
 }
 
@@ -323,7 +341,7 @@ fn refused(at: usize) -> PlanRead
 {
     PlanRead {
         answer: PlanAnswer::Refused(at),
-        plan: blank(0),
+        plan: blank(),
     }
 }
 
@@ -332,29 +350,33 @@ fn refused(at: usize) -> PlanRead
 pub fn read_plan(words: &[u32]) -> PlanRead
     ensures { λ r. ⌜ Reads (now (words .entry)) r ⌝ }
 {
-    let mut p = Progress {
-        phase: Phase::Start,
-        left: 0,
-        low: 0,
-        plan: blank(0),
-    };
-    let mut at: usize = 0;
-    while at < words.len() {
-        p = next(p, at, words[at]);
-        let phase = p.phase;
-        if let Phase::Dead = phase {
-            return refused(at);
-        }
-        at += 1;
+    if words.len() == 0 {
+        return refused(0);
     }
-    let phase = p.phase;
-    let Phase::Whole = phase else {
-        return refused(at);
+    let opening = open(kind_of(words[0]));
+    let Opening::Plan { names, count } = opening else {
+        return refused(0);
     };
-    let plan = p.plan;
+    let first = read_points(words, names, count);
+    let passed = first.answer;
+    if let PointsAnswer::Refused(at) = passed {
+        return refused(at);
+    }
+    let second = read_contacts(words, count, alone(count));
+    let answer = second.answer;
+    if let PlanAnswer::Refused(at) = answer {
+        return refused(at);
+    }
+    let points = first.points;
+    let rows = second.rows;
     PlanRead {
         answer: PlanAnswer::Plan,
-        plan: plan,
+        plan: PlanArrays {
+            names: names,
+            count: count,
+            points: points,
+            rows: rows,
+        },
     }
 }
 

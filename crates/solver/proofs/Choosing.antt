@@ -9,10 +9,11 @@ use native.Mathlib.Omega.{arith}
 use Rattle.lists.specs.Search.{first, below}
 use Rattle.lists.proofs.Below.{first-at, first-none-below}
 use Rattle.lists.proofs.Truth.{side}
+use Rattle.evalset.specs.Bit.{bit}
+use Rattle.kleene.specs.Rails.{wordRows}
 use Rattle.formula.specs.Formula.{Atom}
-use Rattle.evalset.specs.declared.EvalSet.{EvalSet}
 use Rattle.evalset.specs.declared.Found.the-variants.{Nothing as NoneFound}
-use Rattle.evalset.specs.Sets.{room, mem, dropOf, fromOf, foundOf}
+use Rattle.evalset.specs.Sets.{dropOf, fromOf, foundOf}
 use Rattle.evalset.proofs.Walk.{from-zero, Step, stop}
 use Rattle.contact.specs.Question.{building}
 use Rattle.search.specs.declared.Chart.{Chart}
@@ -23,32 +24,32 @@ use Rattle.search.proofs.Claims.{building-is}
 use Rattle.solver.specs.declared.RowAnswer.the-variants.{At, Nothing}
 use Rattle.solver.specs.Tree.{answerOf, counts, ChosenSays}
 
-module _ (chart : Chart) (set : EvalSet) (start : ℕ) where
+module _ (chart : Chart) (set : ℕ) (start : ℕ) where
   -- row e of the set is met
   abbrev met : List (Atom ℕ) → ℕ → Bool
-  met atoms e = mem set e && counts building (chart .names) (marksIn chart atoms (start + e))
+  met atoms e = bit set e && counts building (chart .names) (marksIn chart atoms (start + e))
 
   -- the rows of the set below `at` are tried, and the others are left
-  pub record Tried (rest : EvalSet) (at : ℕ) : Type 0 where
-    pub rest-is : mem rest ≡ fromOf at (mem set)
+  pub record Tried (rest : ℕ) (at : ℕ) : Type 0 where
+    pub rest-is : bit rest ≡ fromOf at (bit set)
     pub none : (atoms : List (Atom ℕ)) → Compiled chart atoms → (e : ℕ) → e < at → met atoms e ≡ false
 
   pub tried-none : Tried set 0
-  tried-none = record { rest-is = from-zero (mem set); none = λ atoms h e l. absurd (omega arith) }
+  tried-none = record { rest-is = from-zero (bit set); none = λ atoms h e l. absurd (omega arith) }
 
-  module _ (rest : EvalSet) (at : ℕ) (t : Tried rest at) where
+  module _ (rest : ℕ) (at : ℕ) (t : Tried rest at) where
     -- none is left
-    pub none-met : ((e : ℕ) → at ≤ e → e < room → mem set e ≡ false) → ChosenSays building chart (mem set) start Nothing
+    pub none-met : ((e : ℕ) → at ≤ e → e < wordRows → bit set e ≡ false) → ChosenSays building chart (bit set) start Nothing
     unfolding ChosenSays
     none-met out = λ atoms h.
-        sym (ap (answerOf start) (first-none-below (met atoms) room
+        sym (ap (answerOf start) (first-none-below (met atoms) wordRows
         (λ e l. ⊎-elim (t .none atoms h e)
         (λ m. ap (λ (b : Bool). b && counts building (chart .names) (marksIn chart atoms (start + e))) (out e m l)) (side e at))))
 
-    pub none-left : foundOf (first (mem rest) (below room)) ≡ NoneFound → ChosenSays building chart (mem set) start Nothing
-    none-left f = none-met (stop room at (mem set) (mem rest) (t .rest-is) f)
+    pub none-left : foundOf (first (bit rest) (below wordRows)) ≡ NoneFound → ChosenSays building chart (bit set) start Nothing
+    none-left f = none-met (stop wordRows at (bit set) (bit rest) (t .rest-is) f)
 
-    module _ (e : ℕ) (s : Step room at e (mem set) (mem rest)) (r : Bool) (says : BuildingSays chart (start + e) r) where
+    module _ (e : ℕ) (s : Step wordRows at e (bit set) (bit rest)) (r : Bool) (says : BuildingSays chart (start + e) r) where
       before : (atoms : List (Atom ℕ)) → Compiled chart atoms → (d : ℕ) → d < e → met atoms d ≡ false
       before atoms h d l =
           ⊎-elim (t .none atoms h d)
@@ -58,13 +59,13 @@ module _ (chart : Chart) (set : EvalSet) (start : ℕ) where
       here atoms h = ap₂ _&&_ (s .passes) (sym (building-is chart atoms h r (start + e) says))
 
       -- the row that is taken is met: it is the first
-      pub met-first : r ≡ true → ChosenSays building chart (mem set) start (At (start + e))
+      pub met-first : r ≡ true → ChosenSays building chart (bit set) start (At (start + e))
       unfolding ChosenSays
       met-first q = λ atoms h.
-          sym (ap (answerOf start) (first-at (met atoms) room e (record { within = s .within; passes = here atoms h ∙ q; before = before atoms h })))
+          sym (ap (answerOf start) (first-at (met atoms) wordRows e (record { within = s .within; passes = here atoms h ∙ q; before = before atoms h })))
 
       -- or it is passed too
-      pub tried-more : r ≡ false → (less : EvalSet) → mem less ≡ dropOf (mem rest) e → Tried less (e + 1)
+      pub tried-more : r ≡ false → (less : ℕ) → bit less ≡ dropOf (bit rest) e → Tried less (e + 1)
       tried-more q less m = record {
         rest-is = m ∙ s .rest;
         none = λ atoms h d l. ⊎-elim (before atoms h d) (λ k. let z : d ≡ e = omega arith in ap (met atoms) z ∙ here atoms h ∙ q) (side d e);

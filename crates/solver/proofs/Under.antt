@@ -12,10 +12,10 @@ use Rattle.lists.specs.Search.{first, below}
 use Rattle.lists.proofs.Below.{FirstSays, first-says}
 use Rattle.lists.proofs.Search.{first-none, none-intro, map-elim}
 use Rattle.lists.proofs.Truth.{clash, cases}
-use Rattle.evalset.specs.declared.EvalSet.{EvalSet}
-use Rattle.evalset.specs.Sets.{room, mem, meetOf}
-use Rattle.evalset.specs.Most.{most}
-use Rattle.evalset.proofs.Members.{names-room}
+use Rattle.evalset.specs.Bit.{wordLevels, bit}
+use Rattle.kleene.specs.Rails.{wordRows}
+use lib.Pow.{pow-mono}
+use Rattle.evalset.specs.Sets.{meetOf}
 use Rattle.formula.specs.Formula.{Atom, Form}
 use Rattle.contact.specs.Question.{Question, plain, building}
 use Rattle.contact.specs.Row.{Row, is, rulesTrue, Extends}
@@ -117,15 +117,15 @@ module _ {code ends : List ℕ} {chart : Chart} {cut : Cut} (g : Given code ends
   module _ (k row d : ℕ) where
     -- ---- rows outside a set
 
-    pub left-refuted : (r : EvalSet) → UnrefutedSays code ends row k d r → Left g k row d r
+    pub left-refuted : (r : ℕ) → UnrefutedSays code ends row k d r → Left g k row d r
     unfolding closes
     left-refuted r says e l h =
         ap (λ (b : Bool). b || not (check (chart .names) (rowMarks (g .atoms) (rowBits (k + d) (row * 2 ^ d + e)))))
         (ap (λ (x : Row). refutes (g .rules) (map is x)) (sym (row-join k row d e l)) ∙ says .refuted (length (g .atoms)) (g .rules) (g .coded) e l h)
 
-    pub left-meet : (a b r : EvalSet) → mem r ≡ meetOf (mem a) (mem b) → Left g k row d a → Left g k row d b → Left g k row d r
+    pub left-meet : (a b r : ℕ) → bit r ≡ meetOf (bit a) (bit b) → Left g k row d a → Left g k row d b → Left g k row d r
     left-meet a b r q x y e l h =
-        cases (mem a e) (λ t. y e l (sym (ap (λ (c : Bool). c && mem b e) t) ∙ sym (congr-fun q e) ∙ h)) (x e l)
+        cases (bit a e) (λ t. y e l (sym (ap (λ (c : Bool). c && bit b e) t) ∙ sym (congr-fun q e) ∙ h)) (x e l)
 
     module _ (table : List ℕ) (one : Bool) (contacts bits : ℕ) (tests : Tested g table one contacts bits k row d)
         (low start : ℕ) (q : low ≡ bits) (z : start ≡ row * 2 ^ d) where
@@ -133,7 +133,7 @@ module _ {code ends : List ℕ} {chart : Chart} {cut : Cut} (g : Given code ends
           → rowTest table one contacts low (start + e) ≡ check (chart .names) (rowMarks (g .atoms) (rowBits (k + d) (row * 2 ^ d + e)))
       test-is e l = ap₂ (λ (x y : ℕ). rowTest table one contacts x (y + e)) q z ∙ tests e l
 
-      pub left-tested : (r : EvalSet) → RowsAre d r (λ e. rowTest table one contacts low (start + e)) → Left g k row d r
+      pub left-tested : (r : ℕ) → RowsAre d r (λ e. rowTest table one contacts low (start + e)) → Left g k row d r
       unfolding closes
       left-tested r rows e l h =
           ap (λ (b : Bool). refutes (g .rules) (map is (rowBits (k + d) (row * 2 ^ d + e))) || not b) (sym (test-is e l) ∙ sym (rows .are e l) ∙ h)
@@ -141,10 +141,10 @@ module _ {code ends : List ℕ} {chart : Chart} {cut : Cut} (g : Given code ends
 
       -- ---- the first row of a word
 
-      module _ (few : d ≤ most) (fits : row < 2 ^ k) (whole : length (g .atoms) ≡ k + d) (set left : EvalSet) (says : WholeSays code ends row k d set)
-          (are : (e : ℕ) → mem left e ≡ (mem set e && rowTest table one contacts low (start + e))) where
+      module _ (few : d ≤ wordLevels) (fits : row < 2 ^ k) (whole : length (g .atoms) ≡ k + d) (set left : ℕ) (says : WholeSays code ends row k d set)
+          (are : (e : ℕ) → bit left e ≡ (bit set e && rowTest table one contacts low (start + e))) where
         -- those that are left are good for the plain question
-        exact : (e : ℕ) → e < 2 ^ d → mem left e ≡ good plain (chart .names) (g .atoms) (g .rules) (rowBits (k + d) (row * 2 ^ d + e))
+        exact : (e : ℕ) → e < 2 ^ d → bit left e ≡ good plain (chart .names) (g .atoms) (g .rules) (rowBits (k + d) (row * 2 ^ d + e))
         unfolding closes
         exact e l =
             are e
@@ -157,20 +157,20 @@ module _ {code ends : List ℕ} {chart : Chart} {cut : Cut} (g : Given code ends
 
         -- and those of them that count are good for what is asked
         chosen-good : (e : ℕ) → e < 2 ^ d
-            → (mem left e && counts (questionOf (cut .asked)) (chart .names) (marksIn chart (g .atoms) (start + e))) ≡ goodFor g (rowBits (k + d) (row * 2 ^ d + e))
+            → (bit left e && counts (questionOf (cut .asked)) (chart .names) (marksIn chart (g .atoms) (start + e))) ≡ goodFor g (rowBits (k + d) (row * 2 ^ d + e))
         chosen-good e l =
             ap₂ _&&_ (exact e l)
             (ap₂ (λ (n i : ℕ). counts (questionOf (cut .asked)) (chart .names) (rowMarks (g .atoms) (rowBits n i))) (g .compiled .counted ∙ whole)
             (ap (λ (i : ℕ). i + e) z))
             ∙ sym (good-counts (questionOf (cut .asked)) (chart .names) (g .atoms) (g .rules) (rowBits (k + d) (row * 2 ^ d + e)))
 
-        pub word-first : Finds g k row d (answerOf start (first (λ e. mem left e && counts (questionOf (cut .asked)) (chart .names) (marksIn chart (g .atoms) (start + e))) (below room)))
+        pub word-first : Finds g k row d (answerOf start (first (λ e. bit left e && counts (questionOf (cut .asked)) (chart .names) (marksIn chart (g .atoms) (start + e))) (below wordRows)))
         word-first =
             let y : d + 0 ≡ d = omega arith in
-            go (first picked (below room)) (first-says picked 0 room) ∙ ap (λ (s : ℕ). answerFor (first (goodFor g) (under (rowBits k row) s))) y
+            go (first picked (below wordRows)) (first-says picked 0 wordRows) ∙ ap (λ (s : ℕ). answerFor (first (goodFor g) (under (rowBits k row) s))) y
           where
             picked : ℕ → Bool
-            picked e = mem left e && counts (questionOf (cut .asked)) (chart .names) (marksIn chart (g .atoms) (start + e))
+            picked e = bit left e && counts (questionOf (cut .asked)) (chart .names) (marksIn chart (g .atoms) (start + e))
 
             at-row : (e : ℕ) → e < 2 ^ d → (b : Bool) → picked e ≡ b
                 → first (goodFor g) (under (rowBits (k + d) (row * 2 ^ d + e)) 0) ≡ cond b (rowBits (k + d) (row * 2 ^ d + e) ∷ []) []
@@ -178,13 +178,13 @@ module _ {code ends : List ℕ} {chart : Chart} {cut : Cut} (g : Given code ends
                 whole-first (rowBits (k + d) (row * 2 ^ d + e))
                 ∙ ap (λ (c : Bool). cond c (rowBits (k + d) (row * 2 ^ d + e) ∷ []) []) (sym (chosen-good e l) ∙ h)
 
-            go : (xs : List ℕ) → FirstSays picked 0 room xs → Finds g k row (d + 0) (answerOf start xs)
+            go : (xs : List ℕ) → FirstSays picked 0 wordRows xs → Finds g k row (d + 0) (answerOf start xs)
             go [] s =
                 ap answerFor (sym (walk-none (goodFor g) k row d 0
-                (λ e l m. at-row e m false (s e (omega arith) (omega (arith, names-room d few))))))
+                (λ e l m. at-row e m false (s e (omega arith) (omega (arith, pow-mono {i = d} {j = wordLevels} few))))))
             go (x ∷ xs) s =
-                let t : mem left x ≡ true = and-eq-true-iff (mem left x) (counts (questionOf (cut .asked)) (chart .names) (marksIn chart (g .atoms) (start + x))) .0 (s .2) .0 in
-                let l : x < 2 ^ d = says .low x (and-eq-true-iff (mem set x) (rowTest table one contacts low (start + x)) .0 (sym (are x) ∙ t) .0) in
+                let t : bit left x ≡ true = and-eq-true-iff (bit left x) (counts (questionOf (cut .asked)) (chart .names) (marksIn chart (g .atoms) (start + x))) .0 (s .2) .0 in
+                let l : x < 2 ^ d = says .low x (and-eq-true-iff (bit set x) (rowTest table one contacts low (start + x)) .0 (sym (are x) ∙ t) .0) in
                 ap At (ap (λ (y : ℕ). y + x) z ∙ sym (number-back (k + d) (row * 2 ^ d + x) (under-fits k d row x fits l)))
                 ∙ ap answerFor (sym (walk-at (goodFor g) k row d 0 x l (λ e b m. at-row e m false (s .3 e (omega arith) b)) (rowBits (k + d) (row * 2 ^ d + x)) []
                 (at-row x l true (s .2))))

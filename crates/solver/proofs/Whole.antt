@@ -12,16 +12,15 @@ use lib.ListN.{length, getD, set}
 use lib.Seq.{getD-set-same, getD-set-other}
 use borrow.Author.Tests.{lt-ltb}
 use Rattle.lists.proofs.Truth.{side, morgan}
+use Rattle.evalset.specs.Bit.{wordLevels, bit}
 use Rattle.formula.specs.Formula.{Form}
-use Rattle.evalset.specs.declared.EvalSet.{EvalSet}
-use Rattle.evalset.specs.Bit.{bit}
 use Rattle.evalset.proofs.Bits.{bit-and, bit-none, bit-ones}
 use Rattle.contact.specs.Row.{is, unknown, PartialRow}
 use Rattle.kleene.specs.Rails.{sure, exec, wordRows, wholeAt}
 use Rattle.kleene.proofs.Claims.{whole-refuted}
 use Rattle.search.specs.Rows.{rowBits}
 use Rattle.solver.specs.Coded.{part, PartIs, Coded, Decided, TrueSays}
-use Rattle.solver.specs.Tree.{extended, wordLevels, RowLeaves, WordLeaves, WholeSays}
+use Rattle.solver.specs.Tree.{extended, RowLeaves, WordLeaves, WholeSays}
 use Rattle.solver.proofs.Codes.{Joined, RefutedIn, joined-now, joined-all}
 use Rattle.solver.proofs.Blocks.{value-first, value-second, in-word, RowsAre}
 
@@ -112,7 +111,7 @@ module _ (code ends leaves : List ℕ) (from left : ℕ) where
 
 module _ (code ends leaves : List ℕ) (row k d left : ℕ) (few : d ≤ wordLevels)
     (are : (e : ℕ) → e < 2 ^ d → Decided (k + d) leaves e (extended (rowBits k row) d e)) (says : TrueSays code ends leaves left) where
-  pub true-rows : (r : EvalSet) → RowsAre d r (bit left) → WholeSays code ends row k d r
+  pub true-rows : (r : ℕ) → RowsAre d r (bit left) → WholeSays code ends row k d r
   unfolding TrueSays
   true-rows r rows = record {
     low = rows .low;

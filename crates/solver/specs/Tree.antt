@@ -6,17 +6,15 @@ use mathlib.Core.List.{List, [], _∷_, _++_, map}
 use Prim.Native.Nat.{ℕ, _+_, _-_, _*_, _/_, _^_, _≤_, _<_, min}
 use lib.ListN.{length, getD}
 use Rattle.formula.specs.Formula.{Atom, Form}
-use Rattle.evalset.specs.declared.EvalSet.{EvalSet}
 use Rattle.lists.specs.Search.{first, below}
-use Rattle.evalset.specs.Bit.{bit}
-use Rattle.evalset.specs.Sets.{room, mem}
+use Rattle.evalset.specs.Bit.{wordLevels, bit}
 use Rattle.evalset.specs.Most.{most}
 use Rattle.contact.specs.Question.{Question, plain, building}
 use Rattle.contact.specs.Row.{Row, is, unknown, PartialRow}
 use Rattle.contact.specs.Plan.{Mark, rowMarks}
 use Rattle.contact.specs.Check.{check, passes, good, firstRow}
 use Rattle.contact.specs.Tableau.{refutes, closes, under}
-use Rattle.kleene.specs.Rails.{Duo, duoOf, wordRows}
+use Rattle.kleene.specs.Rails.{Duo, sure, duoOf, wordRows}
 use Rattle.search.specs.declared.Asked.{Asked}
 use Rattle.search.specs.declared.Chart.{Chart}
 use Rattle.search.specs.Asked.{questionOf}
@@ -40,21 +38,27 @@ extended row d e = map is (row ++ rowBits d e)
 abbrev pub decidedAt : ℕ → ℕ → ℕ → ℕ → ℕ → Duo
 decidedAt k row d e i = duoOf (getD (extended (rowBits k row) d e) i unknown)
 
--- the set is of rows with d atoms more
-abbrev pub Low : ℕ → EvalSet → Type 0
-Low d r = (e : ℕ) → mem r e ≡ true → e < 2 ^ d
+-- where each atom is true in these rows, up to the undecided ones
+pub record YesLeaves (row k d : ℕ) (ts : List ℕ) : Type 0 where
+  pub are : (i : ℕ) → i < k + d → (e : ℕ) → e < 2 ^ d → sure (bit (getD ts i 0) e) ≡ decidedAt k row d e i
+  pub none : (i : ℕ) → k + d ≤ i → getD ts i 0 ≡ 0
+
+-- and where each of the first n is false
+pub record NoLeaves (n : ℕ) (ts fs : List ℕ) : Type 0 where
+  pub are : (i : ℕ) → i < n → (e : ℕ) → e < wordRows → bit (getD fs i 0) e ≡ not (bit (getD ts i 0) e)
+  pub none : (i : ℕ) → n ≤ i → getD fs i 0 ≡ 0
+
+-- the word is of rows with d atoms more
+abbrev pub Low : ℕ → ℕ → Type 0
+Low d r = (e : ℕ) → bit r e ≡ true → e < 2 ^ d
 
 -- some rule refutes those that are not in it
-pub record UnrefutedSays (code ends : List ℕ) (row k d : ℕ) (r : EvalSet) : Type 0 where
+pub record UnrefutedSays (code ends : List ℕ) (row k d : ℕ) (r : ℕ) : Type 0 where
   pub low : Low d r
-  pub refuted : (many : ℕ) (rules : List (Form ℕ)) → Coded many code ends rules → (e : ℕ) → e < 2 ^ d → mem r e ≡ false
+  pub refuted : (many : ℕ) (rules : List (Form ℕ)) → Coded many code ends rules → (e : ℕ) → e < 2 ^ d → bit r e ≡ false
       → refutes rules (extended (rowBits k row) d e) ≡ true
 
 -- ---- words of whole rows, where a word has an atom's value in each row
-
--- a word has the rows of so many atoms: 2 ^ wordLevels is wordRows
-abbrev pub wordLevels : ℕ
-wordLevels = 6
 
 -- the first k leaves are those of the row; the others are as before
 pub record RowLeaves (row k : ℕ) (before leaves : List ℕ) : Type 0 where
@@ -68,10 +72,10 @@ pub record WordLeaves (k d : ℕ) (leaves : List ℕ) : Type 0 where
   pub are : (i : ℕ) → k ≤ i → i < k + d → (e : ℕ) → e < wordRows → bit (getD leaves i 0) e ≡ not (bit e (k + d - 1 - i))
 
 -- the rows that no rule refutes, where the rules have no other atoms than those of the rows
-pub record WholeSays (code ends : List ℕ) (row k d : ℕ) (r : EvalSet) : Type 0 where
+pub record WholeSays (code ends : List ℕ) (row k d : ℕ) (r : ℕ) : Type 0 where
   pub low : Low d r
   pub are : (many : ℕ) (rules : List (Form ℕ)) → Coded many code ends rules → many ≤ k + d → (e : ℕ) → e < 2 ^ d
-      → mem r e ≡ not (refutes rules (extended (rowBits k row) d e))
+      → bit r e ≡ not (refutes rules (extended (rowBits k row) d e))
 
 -- ---- what the code and the chart come from
 
@@ -146,9 +150,9 @@ module _ {code ends : List ℕ} {chart : Chart} {cut : Cut} (g : Given code ends
   WordsTested upper row = Tested upper (cut .above) (cut .contacts / 2 ^ (cut .r)) (2 ^ (cut .k + cut .w) - 1) (cut .k) row (cut .w)
 
   -- of the 2 ^ d rows under the row of k atoms, those that are not in the set close
-  abbrev pub Left : ℕ → ℕ → ℕ → EvalSet → Type 0
+  abbrev pub Left : ℕ → ℕ → ℕ → ℕ → Type 0
   Left k row d set =
-      (e : ℕ) → e < 2 ^ d → mem set e ≡ false
+      (e : ℕ) → e < 2 ^ d → bit set e ≡ false
       → closes plain (chart .names) (g .atoms) (g .rules) (map is (rowBits (k + d) (row * 2 ^ d + e))) ≡ true
 
   -- the row is good for what is asked
@@ -169,7 +173,7 @@ counts building names ms = passes building names ms
 -- the first of a set of rows, counted from `start`, that counts
 unfoldable pub ChosenSays : Question → Chart → (ℕ → Bool) → ℕ → RowAnswer → Type 0
 ChosenSays q chart set start r =
-    (atoms : List (Atom ℕ)) → Compiled chart atoms → r ≡ answerOf start (first (λ e. set e && counts q (chart .names) (marksIn chart atoms (start + e))) (below room))
+    (atoms : List (Atom ℕ)) → Compiled chart atoms → r ≡ answerOf start (first (λ e. set e && counts q (chart .names) (marksIn chart atoms (start + e))) (below wordRows))
 
 -- for one building
 abbrev pub BuildingsSay : Chart → (ℕ → Bool) → ℕ → RowAnswer → Type 0

@@ -11,22 +11,17 @@ ghost use mathlib.Core.Bool.{false, not};
 ghost use Prim.Native.Nat.{ℕ, _+_, _*_, _≤_, _<_, _^_, min};
 ghost use lib.ListN.{length, getD};
 ghost use Rattle.lists.specs.Search.{first, below};
-ghost use Rattle.evalset.specs.Bit.{bit};
-ghost use Rattle.evalset.specs.Sets.{room, mem};
-ghost use Rattle.evalset.specs.Most.{most};
-ghost use Rattle.kleene.specs.Rails.{duoAt, twoAt, wordRows};
+ghost use Rattle.evalset.specs.Bit.{wordLevels, bit};
+ghost use Rattle.kleene.specs.Rails.{sure, wordRows};
 ghost use Rattle.search.specs.Asked.{questionOf};
 ghost use Rattle.search.specs.declared.Chart.{Chart};
 ghost use Rattle.search.specs.Compiled.{limit};
 ghost use Rattle.search.specs.Rows.{rowBits};
 ghost use Rattle.pairing.specs.Words.{Serving};
-ghost use Rattle.solver.specs.Coded.{part, PartSafe, SafeFrom, RuleRefuted, RefutedSays, TrueSays};
-ghost use Rattle.solver.specs.Tree.{decidedAt, Low, wordLevels, RowLeaves, WordLeaves, WholeSays, UnrefutedSays, answerOf, Fits, CutFor, Lent, Given, RowsTested, WordsTested, Left, Finds, BuildingsSay, ChosenSays, CutOf, evaluationCount, Unseen, Roomy, Runnable, SearchSays, FirstRowSays};
-use evalset::EvalSet;
+ghost use Rattle.solver.specs.Coded.{SafeFrom, RefutedSays, TrueSays};
+ghost use Rattle.solver.specs.Tree.{decidedAt, Low, YesLeaves, NoLeaves, RowLeaves, WordLeaves, WholeSays, UnrefutedSays, answerOf, Fits, CutFor, Lent, Given, RowsTested, WordsTested, Left, Finds, BuildingsSay, ChosenSays, CutOf, evaluationCount, Unseen, Roomy, Runnable, SearchSays, FirstRowSays};
 use evalset::Found;
 use evalset::NAMES;
-use evalset::ROOM;
-use kleene::Two;
 use pairing::PLACES;
 use search::ATOMS;
 use search::Asked;
@@ -50,75 +45,6 @@ struct Cut {
     above: bool,
 }
 
-// The values of atom i in the 2 ^ d rows under the row of k atoms: the other atoms are true where their bit is clear.
-fn leaf(row: usize, k: usize, d: usize, i: usize) -> Two
-    requires { ⌜ (k + d ≤ limit) × (d ≤ most) × (i < k + d) ⌝ }
-    ensures { λ r. ⌜ ((e : ℕ) → e < 2 ^ d → duoAt r e ≡ decidedAt k row d e i) ⌝ }
-{
-    if i < k {
-        kleene::settled(search::value_in(row, k, i))
-    } else {
-        let no = evalset::name_set(k + d - 1 - i);
-        let yes = evalset::minus(evalset::full(), no);
-        kleene::rails(yes, no)
-    }
-}
-
-// The values of all atoms there: those from k + d on are undecided.
-fn leaves(row: usize, k: usize, d: usize) -> [Two; ATOMS]
-    requires { ⌜ (k + d ≤ limit) × (d ≤ most) ⌝ }
-    ensures { λ r. ⌜ ((i e : ℕ) → e < 2 ^ d → twoAt r i e ≡ decidedAt k row d e i) ⌝ }
-{
-    let none = evalset::empty();
-    let nil = kleene::rails(none, none);
-    let mut out = [nil; ATOMS];
-    let n = k + d;
-    let mut i: usize = 0;
-    while i < n {
-        out[i] = leaf(row, k, d, i);
-        i += 1;
-    }
-    out
-}
-
-// The rows that the rule in code[from..end] refutes.
-fn refuted(code: &[u8], from: usize, end: usize, leaves: [Two; ATOMS]) -> EvalSet
-    requires { ⌜ PartSafe (now code) from end ⌝ }
-    ensures { λ r. ⌜ RuleRefuted (part (now (code .entry)) from end) leaves r ⌝ }
-{
-    let found = kleene::run(&code[from..end], leaves);
-    found.no
-}
-
-// The rows that some rule refutes.
-fn some_refuted(code: &[u8], ends: &[usize], leaves: [Two; ATOMS]) -> EvalSet
-    requires { ⌜ SafeFrom (now code) 0 (now ends) ⌝ }
-    ensures { λ r. ⌜ RefutedSays (now (code .entry)) (now (ends .entry)) leaves r ⌝ }
-{
-    let mut acc = evalset::empty();
-    let mut from: usize = 0;
-    let mut i: usize = 0;
-    while i < ends.len() {
-        let end = ends[i];
-        acc = evalset::join(acc, refuted(code, from, end, leaves));
-        from = end;
-        i += 1;
-    }
-    acc
-}
-
-// Of the 2 ^ d rows under the row of k atoms, those that no rule refutes; all where d is 0: the rules are run below.
-fn unrefuted(code: &[u8], ends: &[usize], row: usize, k: usize, d: usize) -> EvalSet
-    requires { ⌜ SafeFrom (now code) 0 (now ends) × ((k + d ≤ limit) × (d ≤ most)) ⌝ }
-    ensures { λ r. ⌜ UnrefutedSays (now (code .entry)) (now (ends .entry)) row k d r ⌝ }
-{
-    if d == 0 {
-        return evalset::below(0);
-    }
-    let no = some_refuted(code, ends, leaves(row, k, d));
-    evalset::minus(evalset::below(d), no)
-}
-
 // The value of atom i in the row of k atoms, in every row of a word.
 fn row_leaf(row: usize, k: usize, i: usize) -> u64
     requires { ⌜ (i < k) × (k ≤ limit) ⌝ }
@@ -131,6 +57,89 @@ fn row_leaf(row: usize, k: usize, i: usize) -> u64
     }
 }
 
+// The rows of a word in which bit j of their number is clear.
+fn word_leaf(j: usize) -> u64
+    requires { ⌜ j < wordLevels ⌝ }
+    ensures { λ r. ⌜ ((e : ℕ) → e < wordRows → bit r e ≡ not (bit e j)) ⌝ }
+{
+    !evalset::word_mask(j)
+}
+
+// The values of atom i in the 2 ^ d rows under the row of k atoms: the other atoms are true where their bit is clear.
+fn leaf(row: usize, k: usize, d: usize, i: usize) -> u64
+    requires { ⌜ (k + d ≤ limit) × (d ≤ wordLevels) × (i < k + d) ⌝ }
+    ensures { λ r. ⌜ ((e : ℕ) → e < 2 ^ d → sure (bit r e) ≡ decidedAt k row d e i) ⌝ }
+{
+    if i < k {
+        row_leaf(row, k, i)
+    } else {
+        word_leaf(k + d - 1 - i)
+    }
+}
+
+// Where each atom is true there: none from k + d on, which are undecided.
+fn yes_leaves(row: usize, k: usize, d: usize) -> [u64; ATOMS]
+    requires { ⌜ (k + d ≤ limit) × (d ≤ wordLevels) ⌝ }
+    ensures { λ r. ⌜ YesLeaves row k d r ⌝ }
+{
+    let mut out = [0u64; ATOMS];
+    let n = k + d;
+    let mut i: usize = 0;
+    while i < n {
+        out[i] = leaf(row, k, d, i);
+        i += 1;
+    }
+    out
+}
+
+// Where each of the first n atoms, which are decided, is false.
+fn no_leaves(yes: &[u64; ATOMS], n: usize) -> [u64; ATOMS]
+    requires { ⌜ n ≤ limit ⌝ }
+    ensures { λ r. ⌜ NoLeaves n (now (yes .entry)) r ⌝ }
+{
+    let mut out = [0u64; ATOMS];
+    let mut i: usize = 0;
+    while i < n {
+        out[i] = kleene::flipped(yes[i]);
+        i += 1;
+    }
+    out
+}
+
+// The rows that some rule refutes.
+fn some_refuted(code: &[u8], ends: &[usize], yes: &[u64; ATOMS], no: &[u64; ATOMS]) -> u64
+    requires { ⌜ SafeFrom (now code) 0 (now ends) ⌝ }
+    ensures { λ r. ⌜ RefutedSays (now (code .entry)) (now (ends .entry)) (now (yes .entry)) (now (no .entry)) r ⌝ }
+{
+    let mut ys = [0u64; 128];
+    let mut ns = [0u64; 128];
+    let mut acc: u64 = 0;
+    let mut from: usize = 0;
+    let mut i: usize = 0;
+    while i < ends.len() {
+        let end = ends[i];
+        let found = kleene::run_rails(&code[from..end], yes, no, &mut ys, &mut ns);
+        acc = acc | found.no;
+        from = end;
+        i += 1;
+    }
+    acc
+}
+
+// Of the 2 ^ d rows under the row of k atoms, those that no rule refutes; all where d is 0: the rules are run below.
+fn unrefuted(code: &[u8], ends: &[usize], row: usize, k: usize, d: usize) -> u64
+    requires { ⌜ SafeFrom (now code) 0 (now ends) × ((k + d ≤ limit) × (d ≤ wordLevels)) ⌝ }
+    ensures { λ r. ⌜ UnrefutedSays (now (code .entry)) (now (ends .entry)) row k d r ⌝ }
+{
+    if d == 0 {
+        return evalset::word_below(0);
+    }
+    let yes = yes_leaves(row, k, d);
+    let no = no_leaves(&yes, k + d);
+    let out = some_refuted(code, ends, &yes, &no);
+    evalset::word_below(d) & !out
+}
+
 // The first k leaves become those of the row.
 fn row_leaves(row: usize, k: usize, leaves: &mut [u64; ATOMS])
     requires { ⌜ (k ≤ limit) × (length (now leaves) ≡ 16) ⌝ }
@@ -141,14 +150,6 @@ fn row_leaves(row: usize, k: usize, leaves: &mut [u64; ATOMS])
         leaves[i] = row_leaf(row, k, i);
         i += 1;
     }
-}
-
-// The rows of a word in which bit j of their number is clear.
-fn word_leaf(j: usize) -> u64
-    requires { ⌜ j < wordLevels ⌝ }
-    ensures { λ r. ⌜ ((e : ℕ) → e < wordRows → bit r e ≡ not (bit e j)) ⌝ }
-{
-    !evalset::low_word(evalset::name_set(j))
 }
 
 // The leaves of a word of d atoms under a row of k atoms, for `whole_candidates`: those of the row are not set yet.
@@ -196,51 +197,51 @@ fn whole_candidates(
     d: usize,
     leaves: &mut [u64; ATOMS],
     stack: &mut [u64; 128],
-) -> EvalSet
+) -> u64
     requires { ⌜ SafeFrom (now code) 0 (now ends) × ((k + d ≤ limit) × (d ≤ wordLevels)) × WordLeaves k d (now leaves) × (length (now stack) ≡ 128) ⌝ }
     ensures { λ r. ⌜ WordLeaves k d (now (leaves .exit)) × (length (now (stack .exit)) ≡ 128) × WholeSays (now (code .entry)) (now (ends .entry)) row k d r ⌝ }
 {
     row_leaves(row, k, leaves);
     let left = all_true(code, ends, leaves, stack);
-    evalset::meet(evalset::below(d), evalset::of_word(left))
+    evalset::word_below(d) & left
 }
 
 // The first of a set of rows, counted from `start`.
-fn answer(set: EvalSet, start: usize) -> RowAnswer
+fn answer(set: u64, start: usize) -> RowAnswer
     requires { ⌜ start < 4294967232 ⌝ }
-    ensures { λ r. ⌜ r ≡ answerOf start (first (mem set) (below room)) ⌝ }
+    ensures { λ r. ⌜ r ≡ answerOf start (first (bit set) (below wordRows)) ⌝ }
 {
-    let Found::At(e) = evalset::least(set) else {
+    let Found::At(e) = evalset::word_least(set) else {
         return RowAnswer::Nothing;
     };
     RowAnswer::At(start + e)
 }
 
 // The first of a set of rows, counted from `start`, that some piece meets.
-fn first_building(chart: Chart, set: EvalSet, start: usize) -> RowAnswer
+fn first_building(chart: Chart, set: u64, start: usize) -> RowAnswer
     requires { ⌜ (start < 4294967232) × (chart .atoms ≤ limit) ⌝ }
-    ensures { λ r. ⌜ BuildingsSay chart (mem set) start r ⌝ }
+    ensures { λ r. ⌜ BuildingsSay chart (bit set) start r ⌝ }
 {
     let mut rest = set;
     let mut at: usize = 0;
-    while at < ROOM {
-        let Found::At(e) = evalset::least(rest) else {
+    while at < 64 {
+        let Found::At(e) = evalset::word_least(rest) else {
             return RowAnswer::Nothing;
         };
         let row = start + e;
         if search::building(chart, row) {
             return RowAnswer::At(row);
         }
-        rest = evalset::without(rest, e);
+        rest = evalset::word_without(rest, e);
         at = e + 1;
     }
     RowAnswer::Nothing
 }
 
 // Of a set of rows that pass the check, the first that counts for what is asked.
-fn chosen(chart: Chart, asked: Asked, set: EvalSet, start: usize) -> RowAnswer
+fn chosen(chart: Chart, asked: Asked, set: u64, start: usize) -> RowAnswer
     requires { ⌜ (start < 4294967232) × (chart .atoms ≤ limit) ⌝ }
-    ensures { λ r. ⌜ ChosenSays (questionOf asked) chart (mem set) start r ⌝ }
+    ensures { λ r. ⌜ ChosenSays (questionOf asked) chart (bit set) start r ⌝ }
 {
     match asked {
         Asked::Plain => answer(set, start),
@@ -273,18 +274,18 @@ fn word(
 }
 
 // The words of a block that are left: their rows pass the check, by the table of the first atoms, and no rule refutes them.
-fn words_left(code: &[u8], ends: &[usize], upper: &[u16; PLACES], cut: Cut, row: usize) -> EvalSet
+fn words_left(code: &[u8], ends: &[usize], upper: &[u16; PLACES], cut: Cut, row: usize) -> u64
     requires { ⌜ SafeFrom (now code) 0 (now ends) × Fits cut × (row < 2 ^ (cut .k)) ⌝ }
     ensures { λ r. ⌜ Low (cut .w) r × ((chart : Chart) (g : Given (now (code .entry)) (now (ends .entry)) chart cut) → WordsTested g (now (upper .entry)) row → Left g (cut .k) row (cut .w) r) ⌝ }
 {
     let contacts = cut.contacts >> cut.r;
     let low = pairing::low_bits(cut.k + cut.w);
-    let all = evalset::below(cut.w);
+    let all = evalset::word_below(cut.w);
     let passing = pairing::tested(upper, cut.above, contacts, low, row << cut.w, all);
-    if evalset::is_empty(passing) {
+    if passing == 0 {
         return passing;
     }
-    evalset::meet(passing, unrefuted(code, ends, row, cut.k, cut.w))
+    passing & unrefuted(code, ends, row, cut.k, cut.w)
 }
 
 // The first row in the words of the set, one word after the other.
@@ -297,22 +298,22 @@ fn in_words(
     chart: Chart,
     cut: Cut,
     row: usize,
-    words: EvalSet,
+    words: u64,
 ) -> RowAnswer
     requires { ⌜ SafeFrom (now code) 0 (now ends) × Fits cut × (row < 2 ^ (cut .k)) × Low (cut .w) words × Lent cut (now leaves) (now stack) × (chart .atoms ≤ limit) ⌝ }
     ensures { λ x. ⌜ Lent cut (now (leaves .exit)) (now (stack .exit)) × ((g : Given (now (code .entry)) (now (ends .entry)) chart cut) → RowsTested g (now (table .entry)) row × Left g (cut .k) row (cut .w) words → Finds g (cut .k) row (cut .w + cut .r) x) ⌝ }
 {
     let mut rest = words;
     let mut at: usize = 0;
-    while at < ROOM {
-        let Found::At(e) = evalset::least(rest) else {
+    while at < 64 {
+        let Found::At(e) = evalset::word_least(rest) else {
             return RowAnswer::Nothing;
         };
         let found = word(code, ends, leaves, stack, table, chart, cut, row, e);
         let RowAnswer::Nothing = found else {
             return found;
         };
-        rest = evalset::without(rest, e);
+        rest = evalset::word_without(rest, e);
         at = e + 1;
     }
     RowAnswer::Nothing
@@ -334,7 +335,7 @@ fn block(
     ensures { λ x. ⌜ Lent cut (now (leaves .exit)) (now (stack .exit)) × ((g : Given (now (code .entry)) (now (ends .entry)) chart cut) → Serving (chart .names) (g .atoms) (now (list .entry)) → WordsTested g (now (upper .entry)) row → Finds g (cut .k) row (cut .w + cut .r) x) ⌝ }
 {
     let words = words_left(code, ends, upper, cut, row);
-    if evalset::is_empty(words) {
+    if words == 0 {
         return RowAnswer::Nothing;
     }
     let table = pairing::judged(list, cut.contacts, 0, cut.w + cut.r, row);
@@ -351,8 +352,8 @@ fn in_blocks(code: &[u8], ends: &[usize], list: &[u16], chart: Chart, cut: Cut) 
     let upper = pairing::judged(list, cut.contacts, cut.r, cut.k + cut.w, 0);
     let mut rest = unrefuted(code, ends, 0, 0, cut.k);
     let mut at: usize = 0;
-    while at < ROOM {
-        let Found::At(e) = evalset::least(rest) else {
+    while at < 64 {
+        let Found::At(e) = evalset::word_least(rest) else {
             return RowAnswer::Nothing;
         };
         let found = block(
@@ -369,7 +370,7 @@ fn in_blocks(code: &[u8], ends: &[usize], list: &[u16], chart: Chart, cut: Cut) 
         let RowAnswer::Nothing = found else {
             return found;
         };
-        rest = evalset::without(rest, e);
+        rest = evalset::word_without(rest, e);
         at = e + 1;
     }
     RowAnswer::Nothing

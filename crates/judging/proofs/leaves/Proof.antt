@@ -4,8 +4,7 @@ use Prim.Native.Nat.{ℕ, _-_, _≤_}
 use native.Mathlib.Omega.{arith}
 use lib.ListN.{length, length-set}
 use borrow.Author.Needs.{needs}
-use Rattle.evalset.specs.Sets.{room, memAt}
-use Rattle.kleene.specs.Rails.{sure}
+use Rattle.evalset.specs.Sets.{memAt}
 use Rattle.judging.specs.Values.{valueOf, Sure, LeavesSay}
 use Rattle.judging.proofs.Atoms.{sure-none, sure-more}
 use Rattle.judging.proofs.leaves.Statement.{statement}
@@ -16,9 +15,6 @@ Inv-loop plan chart n out₀ i₀ out i = (i ≤ n) × (length out ≡ 16) × Su
 
 abbrev μ-loop : tie.MeasureT-loop
 μ-loop plan chart n out₀ i₀ out i = n - i
-
-settled-requires : tie.Need-settled-requires Inv-loop μ-loop
-settled-requires c κs = search needs
 
 loop-holds : tie.Need-loop-holds Inv-loop μ-loop
 loop-holds c = (omega arith, refl, sure-none _ _)
@@ -41,14 +37,14 @@ element-copy-out-y c = omega arith
 atom-value-requires : tie.Need-atom-value-requires Inv-loop μ-loop
 atom-value-requires c κs = search needs
 
-settled-requires-2 : tie.Need-settled-requires-2 Inv-loop μ-loop
-settled-requires-2 c κs = search needs
+settled-requires : tie.Need-settled-requires Inv-loop μ-loop
+settled-requires c κs = search needs
 
 mul-out : tie.Need-mul-out Inv-loop μ-loop
 mul-out c = omega arith
 
-array-set-from-out : tie.Need-array-set-from-out Inv-loop μ-loop
-array-set-from-out c = omega arith
+array-write-out : tie.Need-array-write-out Inv-loop μ-loop
+array-write-out c = omega arith
 
 add-i : tie.Need-add-i Inv-loop μ-loop
 add-i c = omega arith
@@ -57,19 +53,19 @@ loop-less : tie.Need-loop-less Inv-loop μ-loop
 loop-less c = omega arith
 
 loop-again : tie.Need-loop-again Inv-loop μ-loop
-unfolding valueOf memAt room
+unfolding valueOf memAt
 loop-again c =
     let loop = c .before .before .before .before .before .before .loop in (
       omega arith,
       length-set (loop .out) (loop .i) _ ∙ loop .inv .1,
-      sure-more (loop .out) (loop .i) _ _ (omega arith) (loop .inv .2) (c .settled2 .ensures 0 (omega arith) ∙ ap sure (c .before .atom-value .ensures)),
+      sure-more (loop .out) (loop .i) _ _ (omega arith) (loop .inv .2) (c .settled .ensures 0 (omega arith) ∙ c .before .atom-value .ensures),
     )
 
 returns : tie.Need-returns Inv-loop μ-loop
 unfolding LeavesSay
 returns c =
     let loop = c .before .loop in
-    let a = c .before .before .before .args in
+    let a = c .before .before .args in
     let z : loop .i ≡ a .t2 .atoms = omega arith in
     subst (λ (n : ℕ). Sure (loop .out) n (valueOf (a .plan) (a .t2))) z (loop .inv .2)
 
@@ -79,7 +75,6 @@ leaves-spec =
     (tie.spec
     Inv-loop
     μ-loop
-    settled-requires
     loop-holds
     element-copy-out-contact
     mul-x
@@ -87,9 +82,9 @@ leaves-spec =
     mul-y
     element-copy-out-y
     atom-value-requires
-    settled-requires-2
+    settled-requires
     mul-out
-    array-set-from-out
+    array-write-out
     add-i
     loop-less
     loop-again

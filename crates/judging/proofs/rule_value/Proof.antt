@@ -1,40 +1,38 @@
--- `judging::rule_value` meets its contract: a run whose atoms are all sure gives the rule's value. Assumes nothing.
-use mathlib.Core.Path.{_≡_, _∙_, subst}
-use mathlib.Core.List.{List, [], _∷_}
+-- `judging::rule_value` meets its contract: a run whose atoms are all decided gives the rule's value. Assumes nothing.
+use mathlib.Core.Path.{sym, ap, _∙_}
+use mathlib.Core.List.{List, []}
 use Prim.Native.Nat.{ℕ}
 use native.Mathlib.Omega.{arith}
-use Rattle.evalset.specs.Sets.{room}
-use Rattle.kleene.specs.Rails.{exec, duoAt, leafAt}
-use Rattle.kleene.proofs.Claims.{run-value}
+use Rattle.evalset.proofs.Bits.{bit-zero}
+use Rattle.kleene.specs.Rails.{exec, wholeAt}
+use Rattle.kleene.proofs.Claims.{whole-value}
 use Rattle.judging.specs.Values.{RuleSays}
 use borrow.Author.Needs.{needs}
 use Rattle.judging.proofs.rule_value.Statement.{statement}
 use Rattle.judging.proofs.rule_value.Tie as tie
 
-sub-run : tie.Need-sub-run
-sub-run c = search needs
+sub-run-whole : tie.Need-sub-run-whole
+sub-run-whole c = search needs
 
-part-run-start : tie.Need-part-run-start
-part-run-start c = search needs
+part-run-whole-start : tie.Need-part-run-whole-start
+part-run-whole-start c = search needs
 
-part-run-end : tie.Need-part-run-end
-part-run-end c = search needs
+part-run-whole-end : tie.Need-part-run-whole-end
+part-run-whole-end c = search needs
 
-run-requires : tie.Need-run-requires
-run-requires c κs = search needs
-
-contains-requires : tie.Need-contains-requires
-contains-requires c κs = search needs
+run-whole-requires : tie.Need-run-whole-requires
+run-whole-requires c κs = search needs
 
 returns : tie.Need-returns
-unfolding RuleSays room
-returns c = λ rule is w sure.
+unfolding RuleSays
+returns c = λ rule q w values.
     let a = c .before .before .before .before .before .args in
-    let r = c .before .before .run .result in
-    c .contains .ensures
-    ∙ run-value rule (a .atoms) 0 r w
-    (subst (λ (code : List ℕ). exec (leafAt (a .atoms) 0) code [] ≡ duoAt r 0 ∷ []) is (c .before .before .run .ensures 0 (omega arith))) sure
+    let r = c .run-whole .result in
+    sym (bit-zero r)
+    ∙ whole-value rule (a .t4) 0 r w
+    (ap (λ (code : List ℕ). exec (wholeAt (a .t4) 0) code []) (sym q) ∙ c .run-whole .ensures .1 0 (omega arith)) values
 
 pub rule-value-spec : {M : Type 1} → statement M
 rule-value-spec =
-    tie.close (tie.spec sub-run part-run-start part-run-end run-requires contains-requires returns)
+    tie.close
+    (tie.spec sub-run-whole part-run-whole-start part-run-whole-end run-whole-requires returns)

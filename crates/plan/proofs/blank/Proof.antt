@@ -1,16 +1,19 @@
 -- `plan::blank` meets its contract: nothing is stored, and no row has a position. Assumes nothing.
-use mathlib.Core.Path.{refl}
+use mathlib.Core.Path.{refl, _∙_}
+use mathlib.Core.List.{[]}
 use borrow.Author.Needs.{needs}
-use Rattle.lists.proofs.Padded.{pad-none}
-use Rattle.plan.proofs.Squares.{rows-none}
+use Rattle.plan.proofs.Squares.{self-square}
 use Rattle.plan.proofs.blank.Statement.{statement}
 use Rattle.plan.proofs.blank.Tie as tie
 
-empty-requires : tie.Need-empty-requires
-empty-requires c κs = search needs
+no-points-requires : tie.Need-no-points-requires
+no-points-requires c κs = search needs
+
+no-rows-requires : tie.Need-no-rows-requires
+no-rows-requires c κs = search needs
 
 returns : tie.Need-returns
-returns c = record { names = refl; count = refl; points = pad-none 64; rows = rows-none 64 _ _ (c .empty .ensures) }
+returns c = record { names = refl; count = refl; points = c .before .no-points .ensures; rows = c .no-rows .ensures ∙ self-square 0 [] }
 
 pub blank-spec : {M : Type 1} → statement M
-blank-spec = tie.close (tie.spec empty-requires returns)
+blank-spec = tie.close (tie.spec no-points-requires no-rows-requires returns)

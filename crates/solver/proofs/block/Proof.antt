@@ -1,10 +1,10 @@
 -- `solver::block` meets its contract: where no word is left there is no row, and else the table is made of all words of pairs. Assumes nothing.
-use mathlib.Core.Path.{sym, _∙_}
+use mathlib.Core.Path.{ap, _∙_}
+use Prim.Native.Nat.{ℕ}
 use native.Mathlib.Omega.{arith}
 use borrow.Author.Needs.{needs}
-use borrow.Author.Tests.{not-true}
-use Rattle.lists.proofs.Search.{none-elim, below-intro}
-use Rattle.evalset.specs.Sets.{room, mem}
+use Rattle.evalset.proofs.Bits.{bit-none}
+use Rattle.evalset.specs.Bit.{bit}
 use Rattle.solver.specs.Tree.{WordsTested}
 use Rattle.solver.proofs.Places.{row-small}
 use Rattle.solver.proofs.Under.{rows-judged}
@@ -15,18 +15,14 @@ use Rattle.solver.proofs.block.Tie as tie
 words-left-requires : tie.Need-words-left-requires
 words-left-requires c κs = search needs
 
-is-empty-requires : tie.Need-is-empty-requires
-is-empty-requires c κs = search needs
-
 returns : tie.Need-returns
 returns c =
-    let s = c .before .before .before .before .before .before in
+    let s = c .before .before .before .before .before in
     let a = s .args in
-    let words = c .before .before .words-left in
-    let none = not-true _ (sym (c .before .is-empty .ensures) ∙ c .if1 .taken) in (
+    let words = c .before .words-left in (
       s .pre .3,
       λ g serving. walk-ends (λ h. WordsTested h (a .upper .now) (a .row)) (a .cut .k) (a .row) (a .cut .w) (a .cut .r) (words .result)
-          (words .ensures .1 _) _ _ (walk-starts _ _ _ _ _ _) (omega arith) (λ j l m. none-elim (mem (words .result)) none (below-intro room j m)) g,
+          (words .ensures .1 _) _ _ (walk-starts _ _ _ _ _ _) (omega arith) (λ j l m. ap (λ (x : ℕ). bit x j) (c .if1 .taken) ∙ bit-none j) g,
     )
 
 add-judged : tie.Need-add-judged
@@ -34,7 +30,7 @@ add-judged c = search needs
 
 judged-requires : tie.Need-judged-requires
 judged-requires c κs =
-    let s = c .before .before .before .before .before .before .before in
+    let s = c .before .before .before .before .before .before in
     (omega arith, omega arith, row-small (s .args .cut .k) _ (omega arith) (s .pre .2), s .pre .1 .fits .contacts-fit)
 
 in-words-requires : tie.Need-in-words-requires
@@ -42,11 +38,11 @@ in-words-requires c κs = search needs
 
 returns-2 : tie.Need-returns-2
 returns-2 c =
-    let p = c .before .before .before .before .before .before .before .before .before .before .before .before .pre in (
+    let p = c .before .before .before .before .before .before .before .before .before .before .before .pre in (
       c .in-words .ensures .0,
       λ g serving tests. c .in-words .ensures .1 g (
         rows-judged g _ (p .1) serving _ _ (p .2) (c .before .before .before .before .judged .ensures .1),
-        c .before .before .before .before .before .before .before .before .words-left .ensures .1 _ g tests,
+        c .before .before .before .before .before .before .before .words-left .ensures .1 _ g tests,
       ),
     )
 
@@ -55,7 +51,6 @@ block-spec =
     tie.close
     (tie.spec
     words-left-requires
-    is-empty-requires
     returns
     add-judged
     judged-requires

@@ -4,7 +4,8 @@ use mathlib.Core.Path.{sym, ap, _∙_, subst, fun-ext}
 use Prim.Native.Nat.{ℕ, _+_}
 use borrow.Author.Needs.{needs}
 use Rattle.lists.specs.Search.{first, below}
-use Rattle.evalset.specs.Sets.{room, mem}
+use Rattle.evalset.specs.Bit.{bit}
+use Rattle.kleene.specs.Rails.{wordRows}
 use Rattle.search.specs.declared.Asked.{Asked}
 use Rattle.search.specs.Asked.{questionOf}
 use Rattle.search.specs.Planned.{marksIn}
@@ -29,14 +30,14 @@ unfolding ChosenSays
 returns c = λ atoms h.
     let a = c .before .before .before .args in
     c .answer .ensures
-    ∙ ap (λ (p : ℕ → Bool). answerOf (a .start) (first p (below room)))
-    (fun-ext (λ e. sym (and-true (mem (a .set) e))
-    ∙ ap (λ (x : Asked). mem (a .set) e && counts (questionOf x) (a .chart .names) (marksIn (a .chart) atoms (a .start + e))) (sym (c .before .enum-told .given .1))))
+    ∙ ap (λ (p : ℕ → Bool). answerOf (a .start) (first p (below wordRows)))
+    (fun-ext (λ e. sym (and-true (bit (a .set) e))
+    ∙ ap (λ (x : Asked). bit (a .set) e && counts (questionOf x) (a .chart .names) (marksIn (a .chart) atoms (a .start + e))) (sym (c .before .enum-told .given .1))))
 
 returns-2 : tie.Need-returns-2
 returns-2 c =
     let a = c .before .before .before .args in
-    subst (λ (x : Asked). ChosenSays (questionOf x) (a .chart) (mem (a .set)) (a .start) (c .first-building .result)) (sym (c .before .enum-told2 .given .1))
+    subst (λ (x : Asked). ChosenSays (questionOf x) (a .chart) (bit (a .set)) (a .start) (c .first-building .result)) (sym (c .before .enum-told2 .given .1))
     (c .first-building .ensures)
 
 pub chosen-spec : {M : Type 1} → statement M

@@ -3,31 +3,32 @@ use mathlib.Core.Path.{sym, _∙_}
 use Prim.Native.Nat.{_-_}
 use native.Mathlib.Omega.{arith}
 use borrow.Author.Needs.{needs}
-use Rattle.evalset.specs.Sets.{room, mem}
+use Rattle.evalset.specs.Bit.{bit}
+use Rattle.kleene.specs.Rails.{wordRows}
 use Rattle.evalset.proofs.Walk.{Step, step}
 use Rattle.solver.proofs.Choosing.{Tried, tried-none, none-met, none-left, met-first, tried-more}
 use Rattle.solver.proofs.first_building.Statement.{statement}
 use Rattle.solver.proofs.first_building.Tie as tie
 
 abbrev Inv-loop : tie.InvT-loop
-Inv-loop chart start rest₀ at₀ rest at = Tried chart rest₀ start rest at
+Inv-loop chart set start rest₀ at₀ rest at = Tried chart rest₀ start rest at
 
 abbrev μ-loop : tie.MeasureT-loop
-μ-loop chart start rest₀ at₀ rest at = room - at
+μ-loop chart set start rest₀ at₀ rest at = wordRows - at
 
 -- the row that was taken
 taken : (c : tie.After-known-told Inv-loop μ-loop)
-    → Step room (c .before .before .before .before .before .loop .at) (c .before .e .given .0 .0)
-    (mem (c .before .before .before .before .before .before .args .set)) (mem (c .before .before .before .before .before .loop .rest))
+    → Step wordRows (c .before .before .before .before .before .loop .at) (c .before .e .given .0 .0)
+    (bit (c .before .before .before .before .before .before .args .set)) (bit (c .before .before .before .before .before .loop .rest))
 taken c =
-    step room _ _ _ (c .before .before .before .before .before .loop .inv .rest-is) _
-    (sym (c .before .before .before .least .ensures) ∙ c .before .e .given .1)
+    step wordRows _ _ _ (c .before .before .before .before .before .loop .inv .rest-is) _
+    (sym (c .before .before .before .word-least .ensures) ∙ c .before .e .given .1)
 
 loop-holds : tie.Need-loop-holds Inv-loop μ-loop
 loop-holds c = tried-none _ _ _
 
-least-requires : tie.Need-least-requires Inv-loop μ-loop
-least-requires c κs = search needs
+word-least-requires : tie.Need-word-least-requires Inv-loop μ-loop
+word-least-requires c κs = search needs
 
 enum-known-e : tie.Need-enum-known-e Inv-loop μ-loop
 enum-known-e c = search needs
@@ -36,10 +37,9 @@ enum-told : tie.Need-enum-told Inv-loop μ-loop
 enum-told c = search needs
 
 returns : tie.Need-returns Inv-loop μ-loop
-returns c = none-left _ _ _ _ _ (c .before .before .before .before .loop .inv) (sym (c .before .before .least .ensures) ∙ c .enum-told .given .1)
+returns c = none-left _ _ _ _ _ (c .before .before .before .before .loop .inv) (sym (c .before .before .word-least .ensures) ∙ c .enum-told .given .1)
 
 add-row : tie.Need-add-row Inv-loop μ-loop
-unfolding room
 add-row c = omega (arith, taken c .within)
 
 building-requires : tie.Need-building-requires Inv-loop μ-loop
@@ -50,15 +50,13 @@ returns-2 c =
     let t = c .before .before in
     met-first _ _ _ _ _ (t .before .before .before .before .before .loop .inv) _ (taken t) _ (c .before .building .ensures) (c .if1 .taken)
 
-without-requires : tie.Need-without-requires Inv-loop μ-loop
-without-requires c κs = search needs
+word-without-requires : tie.Need-word-without-requires Inv-loop μ-loop
+word-without-requires c κs = search needs
 
 add-at : tie.Need-add-at Inv-loop μ-loop
-unfolding room
 add-at c = omega (arith, taken (c .before .before .before) .within)
 
 loop-less : tie.Need-loop-less Inv-loop μ-loop
-unfolding room
 loop-less c =
     let t = taken (c .before .before .before) in
     omega (arith, t .within, t .low)
@@ -66,10 +64,9 @@ loop-less c =
 loop-again : tie.Need-loop-again Inv-loop μ-loop
 loop-again c =
     let t = c .before .before .before in
-    tried-more _ _ _ _ _ (t .before .before .before .before .before .loop .inv) _ (taken t) _ (c .before .before .building .ensures) (c .before .if1 .left) _ (c .without .ensures)
+    tried-more _ _ _ _ _ (t .before .before .before .before .before .loop .inv) _ (taken t) _ (c .before .before .building .ensures) (c .before .if1 .left) _ (c .word-without .ensures)
 
 returns-3 : tie.Need-returns-3 Inv-loop μ-loop
-unfolding room
 returns-3 c = none-met _ _ _ _ _ (c .before .loop .inv) (λ e l m. absurd (omega arith))
 
 pub first-building-spec : {M : Type 1} → statement M
@@ -79,14 +76,14 @@ first-building-spec =
     Inv-loop
     μ-loop
     loop-holds
-    least-requires
+    word-least-requires
     enum-known-e
     enum-told
     returns
     add-row
     building-requires
     returns-2
-    without-requires
+    word-without-requires
     add-at
     loop-less
     loop-again

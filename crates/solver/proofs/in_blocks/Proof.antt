@@ -4,7 +4,8 @@ use mathlib.Core.List.{List}
 use Prim.Native.Nat.{ℕ, _+_, _-_, _*_, _^_}
 use native.Mathlib.Omega.{arith}
 use borrow.Author.Needs.{needs}
-use Rattle.evalset.specs.Sets.{room, mem}
+use Rattle.evalset.specs.Bit.{bit}
+use Rattle.kleene.specs.Rails.{wordRows}
 use Rattle.evalset.proofs.Walk.{Step, step}
 use Rattle.search.specs.Rows.{rowBits}
 use Rattle.pairing.specs.Words.{Serving}
@@ -26,15 +27,15 @@ Inv-loop code ends list chart cut stack₀ leaves₀ upper rest₀ at₀ stack l
     × Lent cut leaves stack
 
 abbrev μ-loop : tie.MeasureT-loop
-μ-loop code ends list chart cut stack₀ leaves₀ upper rest₀ at₀ stack leaves rest at = room - at
+μ-loop code ends list chart cut stack₀ leaves₀ upper rest₀ at₀ stack leaves rest at = wordRows - at
 
 -- the block that was taken
 taken : (c : tie.After-known-told Inv-loop μ-loop)
-    → Step room (c .before .before .before .before .before .loop .at) (c .before .e .given .0 .0)
-    (mem (c .before .before .before .before .before .before .unrefuted .result)) (mem (c .before .before .before .before .before .loop .rest))
+    → Step wordRows (c .before .before .before .before .before .loop .at) (c .before .e .given .0 .0)
+    (bit (c .before .before .before .before .before .before .unrefuted .result)) (bit (c .before .before .before .before .before .loop .rest))
 taken c =
-    step room _ _ _ (c .before .before .before .before .before .loop .inv .0 .rest-is) _
-    (sym (c .before .before .before .least .ensures) ∙ c .before .e .given .1)
+    step wordRows _ _ _ (c .before .before .before .before .before .loop .inv .0 .rest-is) _
+    (sym (c .before .before .before .word-least .ensures) ∙ c .before .e .given .1)
 
 -- what is found in it
 turned : (c : tie.After-block Inv-loop μ-loop)
@@ -71,8 +72,8 @@ unrefuted-requires c κs = search needs
 loop-holds : tie.Need-loop-holds Inv-loop μ-loop
 loop-holds c = (walk-starts _ _ _ _ _ _, (c .before .before .before .word-leaves .ensures, refl))
 
-least-requires : tie.Need-least-requires Inv-loop μ-loop
-least-requires c κs = search needs
+word-least-requires : tie.Need-word-least-requires Inv-loop μ-loop
+word-least-requires c κs = search needs
 
 enum-known-e : tie.Need-enum-known-e Inv-loop μ-loop
 enum-known-e c = search needs
@@ -84,7 +85,7 @@ returns : tie.Need-returns Inv-loop μ-loop
 returns c =
     let k = c .before .before .before .before in
     walk-stops _ _ _ _ _ _ (λ g h. left-refuted g _ _ _ _ (k .before .unrefuted .ensures)) _ _ (k .loop .inv .0)
-    (k .before .before .before .before .before .before .before .before .before .pre .1 .fits .blocks) (sym (c .before .before .least .ensures) ∙ c .enum-told .given .1)
+    (k .before .before .before .before .before .before .before .before .before .pre .1 .fits .blocks) (sym (c .before .before .word-least .ensures) ∙ c .enum-told .given .1)
 
 block-requires : tie.Need-block-requires Inv-loop μ-loop
 block-requires c κs =
@@ -101,25 +102,22 @@ enum-told-3 c = search needs
 returns-2 : tie.Need-returns-2 Inv-loop μ-loop
 returns-2 c = turned (c .before .before) .finds _ (c .enum-told3 .given .1)
 
-without-requires : tie.Need-without-requires Inv-loop μ-loop
-without-requires c κs = search needs
+word-without-requires : tie.Need-word-without-requires Inv-loop μ-loop
+word-without-requires c κs = search needs
 
 add-at : tie.Need-add-at Inv-loop μ-loop
-unfolding room
 add-at c = omega (arith, taken (c .before .before .before .before .before .before .before) .within)
 
 loop-less : tie.Need-loop-less Inv-loop μ-loop
-unfolding room
 loop-less c =
     let t = taken (c .before .before .before .before .before .before .before) in
     omega (arith, t .within, t .low)
 
 loop-again : tie.Need-loop-again Inv-loop μ-loop
 loop-again c =
-    (turned (c .before .before .before) .passes (c .before .enum-told2 .given .1) _ (c .without .ensures), c .before .before .before .block .ensures .0)
+    (turned (c .before .before .before) .passes (c .before .enum-told2 .given .1) _ (c .word-without .ensures), c .before .before .before .block .ensures .0)
 
 returns-3 : tie.Need-returns-3 Inv-loop μ-loop
-unfolding room
 returns-3 c =
     let k = c .before in
     walk-ends _ _ _ _ _ _ (λ g h. left-refuted g _ _ _ _ (k .before .unrefuted .ensures)) _ _ (k .loop .inv .0)
@@ -137,7 +135,7 @@ in-blocks-spec =
     judged-requires
     unrefuted-requires
     loop-holds
-    least-requires
+    word-least-requires
     enum-known-e
     enum-told
     returns
@@ -145,7 +143,7 @@ in-blocks-spec =
     enum-told-2
     enum-told-3
     returns-2
-    without-requires
+    word-without-requires
     add-at
     loop-less
     loop-again

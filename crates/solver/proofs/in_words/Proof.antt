@@ -4,8 +4,8 @@ use mathlib.Core.List.{List}
 use Prim.Native.Nat.{ℕ, _-_}
 use native.Mathlib.Omega.{arith}
 use borrow.Author.Needs.{needs}
-use Rattle.evalset.specs.declared.EvalSet.{EvalSet}
-use Rattle.evalset.specs.Sets.{room, mem}
+use Rattle.evalset.specs.Bit.{bit}
+use Rattle.kleene.specs.Rails.{wordRows}
 use Rattle.evalset.proofs.Walk.{Step, step}
 use Rattle.search.specs.declared.Chart.{Chart}
 use Rattle.solver.specs.declared.Cut.{Cut}
@@ -15,24 +15,24 @@ use Rattle.solver.proofs.in_words.Statement.{statement}
 use Rattle.solver.proofs.in_words.Tie as tie
 
 -- what is known of the block
-abbrev Known : {code ends : List ℕ} {chart : Chart} {cut : Cut} → List ℕ → ℕ → EvalSet → Given code ends chart cut → Type 0
+abbrev Known : {code ends : List ℕ} {chart : Chart} {cut : Cut} → List ℕ → ℕ → ℕ → Given code ends chart cut → Type 0
 Known {cut = cut} table row words g = RowsTested g table row × Left g (cut .k) row (cut .w) words
 
 abbrev Inv-loop : tie.InvT-loop
-Inv-loop code ends leaves₀ stack₀ table chart cut row rest₀ at₀ leaves stack rest at =
+Inv-loop code ends leaves₀ stack₀ table chart cut row words rest₀ at₀ leaves stack rest at =
     Walked {code = code} {ends = ends} {chart = chart} {cut = cut} (Known table row rest₀) (cut .k) row (cut .w) (cut .r) rest₀ rest at
     × Lent cut leaves stack
 
 abbrev μ-loop : tie.MeasureT-loop
-μ-loop code ends leaves₀ stack₀ table chart cut row rest₀ at₀ leaves stack rest at = room - at
+μ-loop code ends leaves₀ stack₀ table chart cut row words rest₀ at₀ leaves stack rest at = wordRows - at
 
 -- the word that was taken
 taken : (c : tie.After-known-told Inv-loop μ-loop)
-    → Step room (c .before .before .before .before .before .loop .at) (c .before .e .given .0 .0)
-    (mem (c .before .before .before .before .before .before .before .before .args .words)) (mem (c .before .before .before .before .before .loop .rest))
+    → Step wordRows (c .before .before .before .before .before .loop .at) (c .before .e .given .0 .0)
+    (bit (c .before .before .before .before .before .before .before .before .args .words)) (bit (c .before .before .before .before .before .loop .rest))
 taken c =
-    step room _ _ _ (c .before .before .before .before .before .loop .inv .0 .rest-is) _
-    (sym (c .before .before .before .least .ensures) ∙ c .before .e .given .1)
+    step wordRows _ _ _ (c .before .before .before .before .before .loop .inv .0 .rest-is) _
+    (sym (c .before .before .before .word-least .ensures) ∙ c .before .e .given .1)
 
 -- what is found in it
 turned : (c : tie.After-word Inv-loop μ-loop)
@@ -48,8 +48,8 @@ turned c =
 loop-holds : tie.Need-loop-holds Inv-loop μ-loop
 loop-holds c = (walk-starts _ _ _ _ _ _, c .before .before .pre .4)
 
-least-requires : tie.Need-least-requires Inv-loop μ-loop
-least-requires c κs = search needs
+word-least-requires : tie.Need-word-least-requires Inv-loop μ-loop
+word-least-requires c κs = search needs
 
 enum-known-e : tie.Need-enum-known-e Inv-loop μ-loop
 enum-known-e c = search needs
@@ -60,7 +60,7 @@ enum-told c = search needs
 returns : tie.Need-returns Inv-loop μ-loop
 returns c =
     let k = c .before .before .before .before .loop in
-    (k .inv .1, walk-stops _ _ _ _ _ _ (λ g h. h .1) _ _ (k .inv .0) (omega arith) (sym (c .before .before .least .ensures) ∙ c .enum-told .given .1))
+    (k .inv .1, walk-stops _ _ _ _ _ _ (λ g h. h .1) _ _ (k .inv .0) (omega arith) (sym (c .before .before .word-least .ensures) ∙ c .enum-told .given .1))
 
 word-requires : tie.Need-word-requires Inv-loop μ-loop
 word-requires c κs =
@@ -76,25 +76,22 @@ enum-told-3 c = search needs
 returns-2 : tie.Need-returns-2 Inv-loop μ-loop
 returns-2 c = (c .before .before .word .ensures .0, turned (c .before .before) .finds _ (c .enum-told3 .given .1))
 
-without-requires : tie.Need-without-requires Inv-loop μ-loop
-without-requires c κs = search needs
+word-without-requires : tie.Need-word-without-requires Inv-loop μ-loop
+word-without-requires c κs = search needs
 
 add-at : tie.Need-add-at Inv-loop μ-loop
-unfolding room
 add-at c = omega (arith, taken (c .before .before .before .before .before .before) .within)
 
 loop-less : tie.Need-loop-less Inv-loop μ-loop
-unfolding room
 loop-less c =
     let t = taken (c .before .before .before .before .before .before) in
     omega (arith, t .within, t .low)
 
 loop-again : tie.Need-loop-again Inv-loop μ-loop
 loop-again c =
-    (turned (c .before .before .before) .passes (c .before .enum-told2 .given .1) _ (c .without .ensures), c .before .before .before .word .ensures .0)
+    (turned (c .before .before .before) .passes (c .before .enum-told2 .given .1) _ (c .word-without .ensures), c .before .before .before .word .ensures .0)
 
 returns-3 : tie.Need-returns-3 Inv-loop μ-loop
-unfolding room
 returns-3 c =
     let k = c .before .loop in
     (k .inv .1, walk-ends _ _ _ _ _ _ (λ g h. h .1) _ _ (k .inv .0) (omega arith) (λ j l m. absurd (omega arith)))
@@ -106,7 +103,7 @@ in-words-spec =
     Inv-loop
     μ-loop
     loop-holds
-    least-requires
+    word-least-requires
     enum-known-e
     enum-told
     returns
@@ -114,7 +111,7 @@ in-words-spec =
     enum-told-2
     enum-told-3
     returns-2
-    without-requires
+    word-without-requires
     add-at
     loop-less
     loop-again
