@@ -2,8 +2,8 @@
 -- Assumes nothing.
 use native.Mathlib.Omega.{arith}
 use lib.Pow.{pow-mono}
-use Rattle.plan.proofs.ReadLoop.{words-none, opens-wrong, opens-points, points-passed, points-refused, links-come, links-refused, reads-refused, reads-plan}
 use borrow.Author.Needs.{needs}
+use Rattle.plan.proofs.ReadLoop.{words-none, opens-wrong, opens-points, points-passed, points-refused, links-come, links-refused, reads-refused, reads-plan}
 use Rattle.plan.proofs.read_plan.Statement.{statement}
 use Rattle.plan.proofs.read_plan.Tie as tie
 
@@ -109,31 +109,43 @@ returns-4 c =
     let held = points-passed (a .words .now) (given .0 .0) (given .0 .1 .0) (points .result .answer) (points .result .points)
     (points .ensures) (c .before .before .before .before .before .before .enum-told2 .given .1) in
     let contacts = c .before .before .before .before .read-contacts in
+    let alone = c .before .before .before .before .before .alone in
     let say = contacts .ensures (given .0 .0) (held .1 .pts)
     (links-come (a .words .now) (given .0 .0) (given .0 .1 .0) (held .0) (points .result .points) (held .1)
-    (c .before .before .before .before .before .alone .result) (c .before .before .before .before .before .alone .ensures)) in
+    (alone .result) (alone .ensures .0) (alone .ensures .1)) in
     let answer = c .before .before .answer .given in
     reads-refused (a .words .now) (answer .0 .0) _
-    (links-refused (a .words .now) (given .0 .0) (held .1 .pts) (contacts .result .answer) (contacts .result .rows) say
+    (links-refused (a .words .now) (given .0 .0) (held .1 .pts) (contacts .result .answer) (contacts .result .square) say
     (answer .0 .0) (answer .1))
     (c .refused4 .ensures)
 
 enum-told-3 : tie.Need-enum-told-3
 enum-told-3 c = search needs
 
-returns-5 : tie.Need-returns-5
-returns-5 c =
+rows-of-requires : tie.Need-rows-of-requires
+rows-of-requires c κs =
     let a = c .before .before .before .before .before .before .before .before .before .before .before .before .before .before .before .before .before .args in
     let given = c .before .before .before .before .before .before .before .before .before .before .opening .given in
-    let points = c .before .before .before .before .before .before .before .before .read-points in
+    let opened = c .before .before .before .before .before .before .before .before .before .before .before .before .«open» in
+    let kind = c .before .before .before .before .before .before .before .before .before .before .before .before .before .kind-of in
+    let come = opens-points (a .words .now) (kind .result) (kind .ensures) (omega arith) (opened .result) (opened .ensures .to)
+    (given .0 .0) (given .0 .1 .0) (given .1) in
+    omega (arith, come .room, pow-mono (come .few))
+
+returns-5 : tie.Need-returns-5
+returns-5 c =
+    let a = c .before .before .before .before .before .before .before .before .before .before .before .before .before .before .before .before .before .before .args in
+    let given = c .before .before .before .before .before .before .before .before .before .before .before .opening .given in
+    let points = c .before .before .before .before .before .before .before .before .before .read-points in
     let held = points-passed (a .words .now) (given .0 .0) (given .0 .1 .0) (points .result .answer) (points .result .points)
-    (points .ensures) (c .before .before .before .before .before .before .enum-told2 .given .1) in
-    let contacts = c .before .before .before .before .read-contacts in
+    (points .ensures) (c .before .before .before .before .before .before .before .enum-told2 .given .1) in
+    let contacts = c .before .before .before .before .before .read-contacts in
+    let alone = c .before .before .before .before .before .before .alone in
     let say = contacts .ensures (given .0 .0) (held .1 .pts)
     (links-come (a .words .now) (given .0 .0) (given .0 .1 .0) (held .0) (points .result .points) (held .1)
-    (c .before .before .before .before .before .alone .result) (c .before .before .before .before .before .alone .ensures)) in
+    (alone .result) (alone .ensures .0) (alone .ensures .1)) in
     reads-plan (a .words .now) (given .0 .0) (given .0 .1 .0) (held .0) (points .result .points) (held .1)
-    (contacts .result .answer) (contacts .result .rows) say (c .before .before .enum-told3 .given .1)
+    (contacts .result .answer) (contacts .result .square) say (c .before .before .before .enum-told3 .given .1) (c .rows-of .result) (c .rows-of .ensures)
 
 pub read-plan-spec : {M : Type 1} → statement M
 read-plan-spec =
@@ -159,4 +171,5 @@ read-plan-spec =
     refused-requires-4
     returns-4
     enum-told-3
+    rows-of-requires
     returns-5)
