@@ -1,5 +1,5 @@
--- What is meant: the names of a text at their places, and refusal 7 of the table of calls, "a seventh name", carrying "that name's first
--- byte". Assumes nothing.
+-- What is meant: the names of a text at their places, and refusal 7 of the table of calls, "7 at the ninth name" (document 02, T-08),
+-- carrying "that name's first byte". Assumes nothing.
 use mathlib.Core.Path.{_≡_}
 use mathlib.Core.List.{List, [], _∷_, _++_, map}
 use Prim.Native.Nat.{ℕ}
@@ -28,13 +28,13 @@ placesOf s (t ∷ ts) = map (nameAt (t .start)) (symbolNames (symbolOf (t .kind)
 abbrev pub namesAt : List NameAt → List Name
 namesAt xs = map (λ (x : NameAt). x .name) xs
 
--- behind the names of the earlier texts, one at place p is the seventh different one, at its first place
-pub record SeventhAt (earlier : List Name) (xs : List NameAt) (p : ℕ) : Type 0 where
+-- behind the names of the earlier texts, one at place p is the ninth different one, at its first place
+pub record NinthAt (earlier : List Name) (xs : List NameAt) (p : ℕ) : Type 0 where
   pub before : List NameAt
   pub name : Name
   pub after : List NameAt
   pub split : xs ≡ before ++ nameAt p name ∷ after
-  -- there are six different names before it
-  pub six : length (distinct sameName (earlier ++ namesAt before)) ≡ most
+  -- there are eight different names before it
+  pub eight : length (distinct sameName (earlier ++ namesAt before)) ≡ most
   -- and it is none of them
   pub new : In name (earlier ++ namesAt before) → ⊥
