@@ -1,129 +1,127 @@
--- A square as words, four to a row: a bit set is a contact more, and four words are a row. Assumes nothing.
-use mathlib.Core.Path.{_≡_, sym, ap, ap₂, _∙_, fun-ext}
-use mathlib.Core.Bool.{Bool, true, false, _&&_, _||_, or-false, and-false, and-eq-true-iff}
-use mathlib.Core.List.{List, [], _∷_}
+-- A bit more in a square of words is a contact more, and the rows of a plan's square are those of its points. Assumes nothing.
+use mathlib.Core.Path.{_≡_, refl, sym, ap, ap₂, _∙_, fun-ext}
+use mathlib.Core.Bool.{Bool, true, false, _&&_, _||_, cond, or-false, and-eq-true-iff}
+use mathlib.Core.List.{List}
 use mathlib.Core.Logic.{_⊎_, ⊎-elim}
 use mathlib.Mathlib.Data.Bool.Basic.{and-intro, eq-false-of-not-eq-true}
 use mathlib.Mathlib.Logic.Function.Defs.{congr-fun}
-use Prim.Native.Nat.{ℕ, _+_, _*_, _/_, _%_, _≤_, _<_}
+use Prim.Native.Nat.{ℕ, suc, _+_, _*_, _/_, _%_, _≤_, _<_}
 use native.Mathlib.Omega.{arith}
+use native.Mathlib.Nat.{mul-le-mul-left, mul-suc}
 use native.Mathlib.Decide.{ℕ-discrete as decEq}
 use lib.Dec.{eqb, ltb}
 use lib.ListN.{length, getD, set, replicate, length-set}
 use lib.Seq.{getD-set-same, getD-set-other}
 use borrow.Author.Tests.{lt-ltb, le-ltb, eq-eqb, ne-eqb}
 use Rattle.lists.proofs.Truth.{side}
-use Rattle.lists.proofs.Lists.{repeated-at}
 use Rattle.evalset.specs.declared.EvalSet.{EvalSet}
 use Rattle.evalset.specs.Bit.{wordBits, bit}
-use Rattle.evalset.specs.Sets.{room, mem, memAt}
-use Rattle.evalset.proofs.Bits.{bit-none}
-use Rattle.evalset.proofs.Words.{made}
+use Rattle.evalset.specs.Sets.{mem, memAt}
 use Rattle.evalset.proofs.Arrays.{mem-at-same, mem-at-other}
+use Rattle.squares.specs.Square.{wide, Square, squareAt, reach}
+use Rattle.squares.proofs.Rows.{clear-words, narrow-inside, wide-inside, narrow-reach, wide-reach}
 use Rattle.plan.specs.Words.{Plan}
 use Rattle.plan.specs.Stored.{square}
-use Rattle.plan.specs.Private.{addAt, joinedOf, selfOf, flatOf, rowsTo}
+use Rattle.plan.specs.Private.{addAt, joinedOf, selfOf, Grown, rowsTo}
 use Rattle.plan.proofs.Squares.{self-elim, square-elim}
 
--- ---- within a row, and past its end
-flat-in : (words : List ℕ) (a b : ℕ) → b < room → flatOf words a b ≡ bit (getD words (4 * a + b / wordBits) 0) (b % wordBits)
-unfolding flatOf
-flat-in words a b l = ap (λ (t : Bool). t && bit (getD words (4 * a + b / wordBits) 0) (b % wordBits)) (lt-ltb b room l)
-
-flat-out : (words : List ℕ) (a b : ℕ) → room ≤ b → flatOf words a b ≡ false
-unfolding flatOf
-flat-out words a b l = ap (λ (t : Bool). t && bit (getD words (4 * a + b / wordBits) 0) (b % wordBits)) (le-ltb b room l)
-
 -- ---- no bit
-pub flat-none : (n : ℕ) → flatOf (replicate n 0) ≡ selfOf 0
-unfolding flatOf
-flat-none n = fun-ext (λ a. fun-ext (λ b.
-    ap (λ (t : Bool). ltb b room && t)
-    (repeated-at (λ (w : ℕ). bit w (b % wordBits) ≡ false) (bit-none (b % wordBits)) (bit-none (b % wordBits)) n (4 * a + b / wordBits))
-    ∙ and-false (ltb b room)
-    ∙ sym (eq-false-of-not-eq-true (λ e. let l = self-elim 0 a b e .0 in omega arith))))
+pub bits-none : (n : ℕ) → squareAt (replicate n 0) ≡ selfOf 0
+bits-none n = fun-ext (λ a. fun-ext (λ b.
+    clear-words n a b ∙ sym (eq-false-of-not-eq-true (λ e. let l = self-elim 0 a b e .0 in omega arith))))
 
 -- ---- one bit more
-module _ (words : List ℕ) (i j v : ℕ) (long : length words ≡ 1024) (a-row : i < 256) (in-row : j < 256)
-    (bits : (e : ℕ) → bit v e ≡ (bit (getD words (4 * i + j / wordBits) 0) e || eqb e (j % wordBits))) where
-  pub flat-set : flatOf (set words (4 * i + j / wordBits) v) ≡ addAt (flatOf words) i j
-  unfolding room
-  flat-set = fun-ext (λ a. fun-ext (λ b. ⊎-elim (low a b) (high a b) (side b room)))
-    where
-      at : ℕ
-      at = 4 * i + j / wordBits
+-- words of two rows are two words
+apart : (w a i k l : ℕ) → k < w → l < w → w * a + k ≡ w * i + l → a ≡ i
+apart w a i k l m n e = ⊎-elim (λ x. absurd (lower a i k l m x e)) (λ x. ⊎-elim (λ y. absurd (lower i a l k n y (sym e))) (λ y. omega arith) (side i a)) (side a i)
+  where
+    lower : (a i k l : ℕ) → k < w → a < i → w * a + k ≡ w * i + l → ⊥
+    lower a i k l m x e =
+        let d : w * suc a ≤ w * i = mul-le-mul-left w x in
+        omega (arith, d, mul-suc w a, m, e)
 
-      -- no other position
-      other : (a b : ℕ) → ((a ≡ i) → (b ≡ j) → ⊥) → (eqb a i && eqb b j) ≡ false
-      other a b h = eq-false-of-not-eq-true (λ q. let u = and-eq-true-iff (eqb a i) (eqb b j) .0 q in
-          h (eqb-is a i (u .0)) (eqb-is b j (u .1)))
-        where
-          eqb-is : (x y : ℕ) → eqb x y ≡ true → x ≡ y
-          eqb-is x y e = go (decEq x y)
-            where
-              go : Dec (x ≡ y) → x ≡ y
-              go (yes p) = p
-              go (no p) = absurd (let z : _≡_ {A = Bool} true false = sym e ∙ ne-eqb x y p in let w : _≡_ {A = ℕ} 0 1 = cc in omega arith)
+module _ (ws : List ℕ) (w : ℕ) (is : wide ws ≡ w) where
+  in-row : (us : List ℕ) → length us ≡ length ws → (a b : ℕ) → b < wordBits * w
+      → squareAt us a b ≡ bit (getD us (w * a + b / wordBits) 0) (b % wordBits)
+  unfolding squareAt wide
+  in-row us e a b l =
+      ap (λ (x : ℕ). ltb b (wordBits * x) && bit (getD us (x * a + b / wordBits) 0) (b % wordBits)) (ap (λ (n : ℕ). cond (eqb n wordBits) 1 4) e ∙ is)
+      ∙ ap (λ (t : Bool). t && bit (getD us (w * a + b / wordBits) 0) (b % wordBits)) (lt-ltb b (wordBits * w) l)
 
-      high : (a b : ℕ) → room ≤ b → flatOf (set words at v) a b ≡ addAt (flatOf words) i j a b
-      high a b l =
-          flat-out (set words at v) a b l
-          ∙ sym (ap₂ _||_ (flat-out words a b l) (other a b (λ p q. omega arith)))
+  past-row : (us : List ℕ) → length us ≡ length ws → (a b : ℕ) → wordBits * w ≤ b → squareAt us a b ≡ false
+  unfolding squareAt wide
+  past-row us e a b l =
+      ap (λ (x : ℕ). ltb b (wordBits * x) && bit (getD us (x * a + b / wordBits) 0) (b % wordBits)) (ap (λ (n : ℕ). cond (eqb n wordBits) 1 4) e ∙ is)
+      ∙ ap (λ (t : Bool). t && bit (getD us (w * a + b / wordBits) 0) (b % wordBits)) (le-ltb b (wordBits * w) l)
 
-      low : (a b : ℕ) → b < room → flatOf (set words at v) a b ≡ addAt (flatOf words) i j a b
-      low a b l = flat-in (set words at v) a b l ∙ pick (decEq (4 * a + b / wordBits) at)
-        where
-          last : a ≡ i → b / wordBits ≡ j / wordBits → Dec (b ≡ j) → eqb (b % wordBits) (j % wordBits) ≡ (eqb a i && eqb b j)
-          last p q (yes r) =
-              eq-eqb (b % wordBits) (j % wordBits) (ap (λ (x : ℕ). x % wordBits) r)
-              ∙ sym (and-intro (eq-eqb a i p) (eq-eqb b j r))
-          last p q (no r) =
-              ne-eqb (b % wordBits) (j % wordBits) (λ z. r (omega arith))
-              ∙ sym (other a b (λ x y. r y))
+  module _ (i j v at : ℕ) (place : at ≡ w * i + j / wordBits) (a-word : at < length ws) (a-bit : j < wordBits * w)
+      (bits : (e : ℕ) → bit v e ≡ (bit (getD ws at 0) e || eqb e (j % wordBits))) where
+    pub bit-set : Grown (addAt (squareAt ws) i j) ws (set ws at v)
+    bit-set = record { long = long; rows = fun-ext (λ a. fun-ext (λ b. ⊎-elim (low a b) (high a b) (side b (wordBits * w)))) }
+      where
+        long : length (set ws at v) ≡ length ws
+        long = length-set ws at v
 
-          pick : Dec (4 * a + b / wordBits ≡ at)
-              → bit (getD (set words at v) (4 * a + b / wordBits) 0) (b % wordBits) ≡ addAt (flatOf words) i j a b
-          pick (yes p) =
-              let q : a ≡ i = omega arith in
-              let r : b / wordBits ≡ j / wordBits = omega arith in
-              ap (λ (x : ℕ). bit (getD (set words at v) x 0) (b % wordBits)) p
-              ∙ ap (λ (x : ℕ). bit x (b % wordBits)) (getD-set-same words at v 0 (omega arith))
-              ∙ bits (b % wordBits)
-              ∙ ap₂ _||_ (ap (λ (x : ℕ). bit (getD words x 0) (b % wordBits)) (sym p) ∙ sym (flat-in words a b l)) (last q r (decEq b j))
-          pick (no p) =
-              ap (λ (x : ℕ). bit x (b % wordBits)) (getD-set-other words at (4 * a + b / wordBits) v 0 p)
-              ∙ sym (flat-in words a b l)
-              ∙ sym (or-false (flatOf words a b))
-              ∙ ap (λ (t : Bool). flatOf words a b || t)
-              (sym (other a b (λ x y. p (ap₂ (λ (s t : ℕ). 4 * s + t / wordBits) x y))))
+        -- no other position
+        other : (a b : ℕ) → ((a ≡ i) → (b ≡ j) → ⊥) → (eqb a i && eqb b j) ≡ false
+        other a b h = eq-false-of-not-eq-true (λ q. let u = and-eq-true-iff (eqb a i) (eqb b j) .0 q in
+            h (eqb-is a i (u .0)) (eqb-is b j (u .1)))
+          where
+            eqb-is : (x y : ℕ) → eqb x y ≡ true → x ≡ y
+            eqb-is x y e = go (decEq x y)
+              where
+                go : Dec (x ≡ y) → x ≡ y
+                go (yes p) = p
+                go (no p) = absurd (let z : _≡_ {A = Bool} true false = sym e ∙ ne-eqb x y p in let w : _≡_ {A = ℕ} 0 1 = cc in omega arith)
+
+        high : (a b : ℕ) → wordBits * w ≤ b → squareAt (set ws at v) a b ≡ addAt (squareAt ws) i j a b
+        high a b l =
+            past-row (set ws at v) long a b l
+            ∙ sym (ap₂ _||_ (past-row ws refl a b l) (other a b (λ p q. omega arith)))
+
+        low : (a b : ℕ) → b < wordBits * w → squareAt (set ws at v) a b ≡ addAt (squareAt ws) i j a b
+        low a b l = in-row (set ws at v) long a b l ∙ pick (decEq (w * a + b / wordBits) at)
+          where
+            last : a ≡ i → b / wordBits ≡ j / wordBits → Dec (b ≡ j) → eqb (b % wordBits) (j % wordBits) ≡ (eqb a i && eqb b j)
+            last p q (yes r) =
+                eq-eqb (b % wordBits) (j % wordBits) (ap (λ (x : ℕ). x % wordBits) r)
+                ∙ sym (and-intro (eq-eqb a i p) (eq-eqb b j r))
+            last p q (no r) =
+                ne-eqb (b % wordBits) (j % wordBits) (λ z. r (omega arith))
+                ∙ sym (other a b (λ x y. r y))
+
+            pick : Dec (w * a + b / wordBits ≡ at)
+                → bit (getD (set ws at v) (w * a + b / wordBits) 0) (b % wordBits) ≡ addAt (squareAt ws) i j a b
+            pick (yes p) =
+                let q : a ≡ i = apart w a i (b / wordBits) (j / wordBits) (omega arith) (omega arith) (p ∙ place) in
+                let s : w * a ≡ w * i = ap (λ (x : ℕ). w * x) q in
+                let r : b / wordBits ≡ j / wordBits = omega (arith, s, p, place) in
+                ap (λ (x : ℕ). bit (getD (set ws at v) x 0) (b % wordBits)) p
+                ∙ ap (λ (x : ℕ). bit x (b % wordBits)) (getD-set-same ws at v 0 a-word)
+                ∙ bits (b % wordBits)
+                ∙ ap₂ _||_ (ap (λ (x : ℕ). bit (getD ws x 0) (b % wordBits)) (sym p) ∙ sym (in-row ws refl a b l)) (last q r (decEq b j))
+            pick (no p) =
+                ap (λ (x : ℕ). bit x (b % wordBits)) (getD-set-other ws at (w * a + b / wordBits) v 0 p)
+                ∙ sym (in-row ws refl a b l)
+                ∙ sym (or-false (squareAt ws a b))
+                ∙ ap (λ (t : Bool). squareAt ws a b || t)
+                (sym (other a b (λ x y. p (ap₂ (λ (s t : ℕ). w * s + t / wordBits) x y ∙ sym place))))
 
 -- both ways round
-pub flat-joined : (words : List ℕ) (i j v u : ℕ) → length words ≡ 1024 → i < 256 → j < 256
-    → ((e : ℕ) → bit v e ≡ (bit (getD words (4 * i + j / wordBits) 0) e || eqb e (j % wordBits)))
-    → ((e : ℕ) → bit u e ≡ (bit (getD (set words (4 * i + j / wordBits) v) (4 * j + i / wordBits) 0) e || eqb e (i % wordBits)))
-    → flatOf (set (set words (4 * i + j / wordBits) v) (4 * j + i / wordBits) u) ≡ joinedOf (flatOf words) i j
+pub both-set : (ws us vs : List ℕ) (i j : ℕ) → Grown (addAt (squareAt ws) i j) ws us → Grown (addAt (squareAt us) j i) us vs
+    → Grown (joinedOf (squareAt ws) i j) ws vs
 unfolding joinedOf
-flat-joined words i j v u long a b c d =
-    flat-set (set words (4 * i + j / wordBits) v) j i u (length-set words (4 * i + j / wordBits) v ∙ long) b a d
-    ∙ ap (λ (t : ℕ → ℕ → Bool). addAt t j i) (flat-set words i j v long a b c)
+both-set ws us vs i j g h =
+    record { long = h .long ∙ g .long; rows = h .rows ∙ ap (λ (t : ℕ → ℕ → Bool). addAt t j i) (g .rows) }
 
--- ---- four words are a row
-pub flat-row : (words : List ℕ) (i : ℕ) (s : EvalSet)
-    → s .words ≡ getD words (4 * i) 0 ∷ (getD words (4 * i + 1) 0 ∷ (getD words (4 * i + 2) 0 ∷ (getD words (4 * i + 3) 0 ∷ [])))
-    → mem s ≡ flatOf words i
-unfolding room
-flat-row words i s e =
-    ap (λ (l : List ℕ). mem (record { words = l })) e
-    ∙ made (flatOf words i) (getD words (4 * i) 0) (getD words (4 * i + 1) 0) (getD words (4 * i + 2) 0) (getD words (4 * i + 3) 0)
-    (part 0 (omega arith) (4 * i) (omega arith)) (part 1 (omega arith) (4 * i + 1) (omega arith))
-    (part 2 (omega arith) (4 * i + 2) (omega arith)) (part 3 (omega arith) (4 * i + 3) (omega arith))
-    (λ b l. flat-out words i b l)
+-- ---- rows
+-- a row below the reach is in the square
+pub row-inside : (ws : List ℕ) (p : ℕ) → Square ws → p < reach ws → wide ws * p + wide ws ≤ length ws
+row-inside ws p h l = go (decEq (length ws) 64)
   where
-    part : (k : ℕ) → k < 4 → (at : ℕ) → at ≡ 4 * i + k → (d : ℕ) → d < wordBits → bit (getD words at 0) d ≡ flatOf words i (wordBits * k + d)
-    part k l at p d m =
-        let q : 4 * i + (wordBits * k + d) / wordBits ≡ at = omega arith in
-        let r : (wordBits * k + d) % wordBits ≡ d = omega arith in
-        sym (flat-in words i (wordBits * k + d) (omega arith) ∙ ap₂ (λ (x y : ℕ). bit (getD words x 0) y) q r)
+    go : Dec (length ws ≡ 64) → wide ws * p + wide ws ≤ length ws
+    go (yes z) = narrow-inside ws z p (omega (arith, l, narrow-reach ws z))
+    go (no z) = wide-inside ws h z p (omega (arith, l, wide-reach ws z))
 
 -- one row more
 rows-elim : (n : ℕ) (t : ℕ → ℕ → Bool) (a b : ℕ) → a < n → rowsTo n t a b ≡ t a b

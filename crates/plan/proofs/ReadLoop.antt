@@ -19,6 +19,7 @@ use Rattle.lists.proofs.Padded.{pad-set}
 use Rattle.evalset.specs.declared.EvalSet.{EvalSet}
 use Rattle.evalset.specs.Sets.{memAt}
 use Rattle.evalset.specs.Most.{most}
+use Rattle.squares.specs.Square.{squareAt}
 use Rattle.plan.proofs.Word as word-type
 use Rattle.plan.specs.declared.Word.{Word}
 use Rattle.plan.specs.declared.Word.the-variants.{First, Point, Contact, Last, Other}
@@ -37,7 +38,7 @@ use Rattle.plan.specs.Words.{Plan, mostPoints}
 use Rattle.plan.specs.Reader.{kindOf, State, start, pointing, linking, whole, dead, opened, went, pointed, linked, step, Reading, plan, refused, ended, unless, readFrom, readOf}
 use Rattle.plan.specs.Arrays.{answerOf, planIn, Reads}
 use Rattle.plan.specs.Stored.{Stored}
-use Rattle.plan.specs.Private.{planOf, joinedOf, selfOf, flatOf, rowsTo, wanting, OpensTo, pointingOf, PointsCome, PointsHeld, PointsSay, lastOf, linkingOf, LinksCome, LinksHeld, LinksSay}
+use Rattle.plan.specs.Private.{planOf, joinedOf, selfOf, rowsTo, wanting, OpensTo, pointingOf, PointsCome, PointsHeld, PointsSay, lastOf, linkingOf, LinksCome, LinksHeld, LinksSay}
 use Rattle.plan.proofs.Exact.{IsDead}
 use Rattle.plan.proofs.Complete.{open-by, link-by, last-by}
 use Rattle.plan.proofs.Squares.{self-square, square-link}
@@ -269,12 +270,11 @@ points-refused ws n c a points s at e = subst (λ (x : PointsAnswer). PointsSay 
 
 -- the contacts come after the points, each of which is in contact with itself
 pub links-come : (ws : List ℕ) (n c low : ℕ) (points : List ℕ) (h : PointsHeld ws n c c low points) (words : List ℕ)
-    → length words ≡ 1024 → flatOf words ≡ selfOf c → LinksCome ws c words n (h .pts)
-links-come ws n c low points h words l e =
+    → squareAt words ≡ selfOf c → LinksCome ws c words n (h .pts)
+links-come ws n c low points h words e =
     let none : c - c ≡ 0 = omega arith in
     record {
       size = h .size;
-      long = l;
       alone = e ∙ ap selfOf (sym (h .size)) ∙ self-square n (h .pts);
       rest = sym (ap (λ (x : ℕ). readFrom (1 + c) (wanting n x (h .pts) low) (drop (1 + c) ws)) none) ∙ h .rest;
     }
@@ -361,7 +361,7 @@ module _ (ws : List ℕ) (count : ℕ) (n : ℕ) (pts : List ℕ) (size : length
   module _ (l : at < length ws) (w : Word) (k : w ≡ kindOf (getD ws at 0)) (said : Linking)
       (q : said ≡ linkingOf count low at (length ws) w) where
     pub links-next : (i j : ℕ) → said ≡ linking-is.Pair i j → count ≤ 256 → (more : List ℕ)
-        → flatOf more ≡ joinedOf (flatOf words) i j → LinksHeld ws n pts (at + 1) (i * 256 + j + 1) more
+        → squareAt more ≡ joinedOf (squareAt words) i j → LinksHeld ws n pts (at + 1) (i * 256 + j + 1) more
     links-next i j s few more e =
         let p = taken-pair count low at (length ws) i j w (sym s ∙ q) in
         let a = p .later in
@@ -444,7 +444,7 @@ reads-refused ws at r e h = record {
 }
 
 pub reads-plan : (ws : List ℕ) (n c low : ℕ) (points : List ℕ) (h : PointsHeld ws n c c low points) (a : PlanAnswer) (words : List ℕ)
-    → LinksSay ws n (h .pts) a words → a ≡ answer-is.Plan → (rows : List EvalSet) → memAt rows ≡ rowsTo c (flatOf words)
+    → LinksSay ws n (h .pts) a words → a ≡ answer-is.Plan → (rows : List EvalSet) → memAt rows ≡ rowsTo c (squareAt words)
     → Reads ws (record { answer = answer-is.Plan; plan = record { names = n; count = c; points = points; rows = rows } })
 reads-plan ws n c low points h a words s e rows q =
     let t = subst (λ (x : PlanAnswer). LinksSay ws n (h .pts) x words) e s in

@@ -3,15 +3,15 @@
 use mathlib.Core.Path.{_≡_}
 use mathlib.Core.Bool.{Bool, true, false, _&&_, _||_, cond}
 use mathlib.Core.List.{List, [], _++_, map}
-use Prim.Native.Nat.{ℕ, zero, suc, _+_, _-_, _*_, _^_, _/_, _%_, _≤_, _<_}
+use Prim.Native.Nat.{ℕ, zero, suc, _+_, _-_, _*_, _^_, _≤_, _<_}
 use lib.Dec.{eqb, ltb, leb}
 use lib.ListN.{length, getD, take, drop}
 use Rattle.lists.specs.Padded.{pad}
 use Rattle.lists.specs.Search.{any, below}
-use Rattle.evalset.specs.Bit.{wordBits, bit}
 use Rattle.evalset.specs.Sets.{room, meetOf, minusOf}
 use Rattle.evalset.specs.Arrays.{positionsOf}
 use Rattle.evalset.specs.Most.{most}
+use Rattle.squares.specs.Square.{Square, squareAt, reach}
 use Rattle.plan.specs.declared.PlanAnswer.{PlanAnswer}
 use Rattle.plan.specs.declared.PlanAnswer.the-variants as answer-is
 use Rattle.plan.specs.declared.Word.{Word}
@@ -44,9 +44,10 @@ joinedOf t i j = addAt (addAt t i j) j i
 unfoldable pub selfOf : ℕ → ℕ → ℕ → Bool
 selfOf n a b = ltb a n && eqb a b
 
--- a square as words, four to a row: row a has position b
-unfoldable pub flatOf : List ℕ → ℕ → ℕ → Bool
-flatOf words a b = ltb b room && bit (getD words (4 * a + b / wordBits) 0) (b % wordBits)
+-- the words of a square have these rows now, and are as many
+pub record Grown (t : ℕ → ℕ → Bool) (ws ws' : List ℕ) : Type 0 where
+  pub long : length ws' ≡ length ws
+  pub rows : squareAt ws' ≡ t
 
 -- the rows of the positions below n alone
 unfoldable pub rowsTo : ℕ → (ℕ → ℕ → Bool) → ℕ → ℕ → Bool
@@ -112,22 +113,28 @@ linkingOf count low at len Other = linking-is.Over (answer-is.Refused at)
 -- the points have been read, and the contacts come
 pub record LinksCome (ws : List ℕ) (count : ℕ) (words : List ℕ) (n : ℕ) (pts : List ℕ) : Type 0 where
   pub size : length pts ≡ count
-  pub long : length words ≡ 1024
-  pub alone : flatOf words ≡ square (planOf n pts [])
+  pub alone : squareAt words ≡ square (planOf n pts [])
   pub rest : readFrom (1 + count) (linking n pts [] 0) (drop (1 + count) ws) ≡ readOf ws
 
 -- the words before `at` have been read
 pub record LinksHeld (ws : List ℕ) (n : ℕ) (pts : List ℕ) (at low : ℕ) (words : List ℕ) : Type 0 where
   pub ks : List ℕ
   pub before : at ≡ 1 + (length pts + length ks)
-  pub joined : flatOf words ≡ square (planOf n pts ks)
+  pub joined : squareAt words ≡ square (planOf n pts ks)
   pub rest : readFrom at (linking n pts ks low) (drop at ws) ≡ readOf ws
 
 -- the words are a plan of these points, or refused
 abbrev pub LinksSay : List ℕ → ℕ → List ℕ → PlanAnswer → List ℕ → Type 0
 LinksSay ws n pts answer-is.Plan words =
-    (ks : List ℕ) × (readOf ws ≡ plan (planOf n pts ks)) × (flatOf words ≡ square (planOf n pts ks))
+    (ks : List ℕ) × (readOf ws ≡ plan (planOf n pts ks)) × (squareAt words ≡ square (planOf n pts ks))
 LinksSay ws n pts (answer-is.Refused at) words = readOf ws ≡ refused at
+
+-- the points have been read, and no contact; the square has room for them
+pub record RestComes (ws : List ℕ) (n c : ℕ) (points words : List ℕ) : Type 0 where
+  pub held : PointsSay ws n c points-are.All points
+  pub is : Square words
+  pub few : c ≤ reach words
+  pub none : squareAt words ≡ selfOf 0
 
 -- ---- writing
 -- r is the least position from `low` on, below n, that is in the row, or n

@@ -16,13 +16,13 @@ ghost use Rattle.evalset.specs.Sets.{room, mem, memAt};
 ghost use Rattle.evalset.specs.Bit.{wordBits, bit};
 ghost use Rattle.evalset.specs.Most.{most};
 ghost use Rattle.evalset.specs.Arrays.{positionsOf};
-ghost use Rattle.squares.specs.Square.{Square, squareAt};
+ghost use Rattle.squares.specs.Square.{Square, squareAt, reach};
 ghost use Rattle.plan.specs.Words.{mostPoints, firstWord, pointWord};
 ghost use Rattle.plan.specs.Reader.{kindOf};
 ghost use Rattle.plan.specs.Arrays.{Reads, pointsPlan, Writes, touchesOf, vacantOf};
 ghost use Rattle.plan.specs.Links.{rowTo, linksTo};
 ghost use Rattle.plan.specs.Stored.{Stored};
-ghost use Rattle.plan.specs.Private.{planOf, Opens, pointingOf, PointsCome, PointsSay, selfOf, flatOf, rowsTo, lastOf, linkingOf, LinksCome, LinksSay, Next, rowsBy, lackingOf, written, Wrote, reachesOf, reachedOf};
+ghost use Rattle.plan.specs.Private.{planOf, Opens, pointingOf, PointsCome, PointsSay, addAt, joinedOf, selfOf, Grown, rowsTo, lastOf, linkingOf, LinksCome, LinksSay, RestComes, Next, rowsBy, lackingOf, written, Wrote, reachesOf, reachedOf};
 use evalset::EvalSet;
 use evalset::Found;
 use evalset::ROOM;
@@ -75,16 +75,6 @@ struct PointsRead {
 enum Linking {
     Pair { smaller: usize, larger: usize },
     Over(PlanAnswer),
-}
-
-// The words of a square of contacts as it is read, four to a row: bit b % 64 of word 4 * a + b / 64 for positions a and b. A bit is
-// set in place so, where a set of a row would be copied.
-const SQUARE: usize = 1024;
-
-// The square of contacts, and beside it what all words are.
-struct ContactsRead {
-    answer: PlanAnswer,
-    square: [u64; SQUARE],
 }
 
 // What a word says; Other is a word of no kind, or one with an unnamed bit set.
@@ -296,61 +286,75 @@ fn with_bit(word: u64, e: usize) -> u64
     word | (one << e)
 }
 
-// The square of no point.
-fn no_square() -> [u64; SQUARE]
-    ensures { λ r. ⌜ (length r ≡ 1024) × (flatOf r ≡ selfOf 0) ⌝ }
+// The square of no point, for up to 64 points: to clear more costs more than to read a small plan.
+fn few_bits() -> [u64; 64]
+    ensures { λ r. ⌜ (length r ≡ 64) × (squareAt r ≡ selfOf 0) ⌝ }
 {
-    [0; SQUARE]
+    [0; 64]
 }
 
-// The square of so many points, each in contact with itself alone.
-fn alone(count: usize) -> [u64; SQUARE]
-    requires { ⌜ count ≤ mostPoints ⌝ }
-    ensures { λ r. ⌜ (length r ≡ 1024) × (flatOf r ≡ selfOf count) ⌝ }
+// The square of no point, for all.
+fn all_bits() -> [u64; 1024]
+    ensures { λ r. ⌜ (length r ≡ 1024) × (squareAt r ≡ selfOf 0) ⌝ }
 {
-    let mut square = no_square();
+    [0; 1024]
+}
+
+// Row i has position j too. The bit is set in place, where a set of a row would be copied.
+fn set_bit(square: &mut [u64], i: usize, j: usize)
+    requires { ⌜ Square (now square) × (i < reach (now square)) × (j < reach (now square)) ⌝ }
+    ensures { λ _. ⌜ Grown (addAt (squareAt (now (square .entry))) i j) (now (square .entry)) (now (square .exit)) ⌝ }
+{
+    if square.len() == 64 {
+        square[i] = with_bit(square[i], j);
+        return;
+    }
+    let at = 4 * i + j / 64;
+    square[at] = with_bit(square[at], j % 64);
+}
+
+// The points at i and j are in contact, both ways round.
+fn link(square: &mut [u64], i: usize, j: usize)
+    requires { ⌜ Square (now square) × (i < reach (now square)) × (j < reach (now square)) ⌝ }
+    ensures { λ _. ⌜ Grown (joinedOf (squareAt (now (square .entry))) i j) (now (square .entry)) (now (square .exit)) ⌝ }
+{
+    set_bit(square, i, j);
+    set_bit(square, j, i);
+}
+
+// Each of so many points is in contact with itself alone. The square comes as that of no point.
+fn alone(square: &mut [u64], count: usize)
+    requires { ⌜ Square (now square) × (count ≤ reach (now square)) × (squareAt (now square) ≡ selfOf 0) ⌝ }
+    ensures { λ _. ⌜ Grown (selfOf count) (now (square .entry)) (now (square .exit)) ⌝ }
+{
     let mut i: usize = 0;
     while i < count {
-        let at = 4 * i + i / 64;
-        square[at] = with_bit(square[at], i % 64);
+        set_bit(square, i, i);
         i += 1;
     }
-    square
 }
 
 // The contacts and the last word, after so many points. The square comes with each point in contact with itself.
-fn read_contacts(words: &[u32], count: usize, start: [u64; SQUARE]) -> ContactsRead
-    requires { ⌜ (count ≤ mostPoints) × (1 + count ≤ length (now words)) ⌝ }
-    ensures { λ r. ⌜ ((n : ℕ) (pts : List ℕ) → LinksCome (now (words .entry)) count start n pts → LinksSay (now (words .entry)) n pts (r .answer) (r .square)) ⌝ }
+fn read_contacts(words: &[u32], count: usize, square: &mut [u64]) -> PlanAnswer
+    requires { ⌜ Square (now square) × (count ≤ reach (now square)) × (1 + count ≤ length (now words)) ⌝ }
+    ensures { λ r. ⌜ ((n : ℕ) (pts : List ℕ) → LinksCome (now (words .entry)) count (now (square .entry)) n pts → LinksSay (now (words .entry)) n pts r (now (square .exit))) × (length (now (square .exit)) ≡ length (now (square .entry))) ⌝ }
 {
-    let mut square = start;
     let mut low: usize = 0;
     let mut at: usize = 1 + count;
     while at < words.len() {
         let said = contact(kind_of(words[at]), count, low, at, words.len());
         match said {
             Linking::Pair { smaller, larger } => {
-                let i = smaller;
-                let j = larger;
-                let first = 4 * i + j / 64;
-                square[first] = with_bit(square[first], j % 64);
-                let second = 4 * j + i / 64;
-                square[second] = with_bit(square[second], i % 64);
-                low = i * 256 + j + 1;
+                link(square, smaller, larger);
+                low = smaller * 256 + larger + 1;
                 at += 1;
             }
             Linking::Over(answer) => {
-                return ContactsRead {
-                    answer: answer,
-                    square: square,
-                };
+                return answer;
             }
         }
     }
-    ContactsRead {
-        answer: PlanAnswer::Refused(at),
-        square: square,
-    }
+    PlanAnswer::Refused(at)
 }
 
 // No row.
@@ -361,25 +365,15 @@ fn no_rows() -> [EvalSet; ROOM]
     [none; ROOM]
 }
 
-// A row of four words.
-fn row_of(first: u64, second: u64, third: u64, fourth: u64) -> EvalSet
-    ensures { λ r. ⌜ r .words ≡ first ∷ (second ∷ (third ∷ (fourth ∷ []))) ⌝ }
-{
-    EvalSet {
-        words: [first, second, third, fourth],
-    }
-}
-
 // The rows of so many points.
-fn rows_of(square: [u64; SQUARE], count: usize) -> [EvalSet; ROOM]
-    requires { ⌜ count ≤ mostPoints ⌝ }
-    ensures { λ r. ⌜ memAt r ≡ rowsTo count (flatOf square) ⌝ }
+fn rows_of(square: &[u64], count: usize) -> [EvalSet; ROOM]
+    requires { ⌜ Square (now square) × (count ≤ reach (now square)) ⌝ }
+    ensures { λ r. ⌜ memAt r ≡ rowsTo count (squareAt (now (square .entry))) ⌝ }
 {
     let mut rows = no_rows();
     let mut i: usize = 0;
     while i < count {
-        let at = 4 * i;
-        rows[i] = row_of(square[at], square[at + 1], square[at + 2], square[at + 3]);
+        rows[i] = squares::row_of(square, i);
         i += 1;
     }
     rows
@@ -407,6 +401,34 @@ fn refused(at: usize) -> PlanRead
     }
 }
 
+// What is left of the words after the points, and so all that they are. The square comes as that of no point.
+fn read_rest(
+    words: &[u32],
+    names: u8,
+    count: usize,
+    points: [u8; ROOM],
+    square: &mut [u64],
+) -> PlanRead
+    requires { ⌜ RestComes (now words) names count points (now square) ⌝ }
+    ensures { λ r. ⌜ Reads (now (words .entry)) r ⌝ }
+{
+    alone(square, count);
+    let answer = read_contacts(words, count, square);
+    if let PlanAnswer::Refused(at) = answer {
+        return refused(at);
+    }
+    let rows = rows_of(square, count);
+    PlanRead {
+        answer: PlanAnswer::Plan,
+        plan: PlanArrays {
+            names: names,
+            count: count,
+            points: points,
+            rows: rows,
+        },
+    }
+}
+
 // Reads plan words: the plan that they are, or refusal 13 with "word index, or the length": the index of the word up to which they
 // begin no plan, or their number where they end early. Words of any number and any values are answered.
 pub fn read_plan(words: &[u32]) -> PlanRead
@@ -424,23 +446,13 @@ pub fn read_plan(words: &[u32]) -> PlanRead
     if let PointsAnswer::Refused(at) = passed {
         return refused(at);
     }
-    let second = read_contacts(words, count, alone(count));
-    let answer = second.answer;
-    if let PlanAnswer::Refused(at) = answer {
-        return refused(at);
-    }
     let points = first.points;
-    let square = second.square;
-    let rows = rows_of(square, count);
-    PlanRead {
-        answer: PlanAnswer::Plan,
-        plan: PlanArrays {
-            names: names,
-            count: count,
-            points: points,
-            rows: rows,
-        },
+    if count <= 64 {
+        let mut square = few_bits();
+        return read_rest(words, names, count, points, &mut square);
     }
+    let mut square = all_bits();
+    read_rest(words, names, count, points, &mut square)
 }
 
 // A set as a list.
