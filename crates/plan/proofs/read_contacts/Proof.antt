@@ -1,13 +1,12 @@
 -- `plan::read_contacts` meets its contract: what is left, read from the contacts so far, gives what all words give. Assumes nothing.
 use mathlib.Core.Path.{_≡_, refl, _∙_}
 use mathlib.Core.List.{List}
-use Prim.Native.Nat.{ℕ, _+_, _-_, _≤_, _<_}
+use Prim.Native.Nat.{ℕ, _-_, _≤_, _<_}
 use native.Mathlib.Omega.{arith}
 use lib.ListN.{length}
 use borrow.Author.Needs.{needs}
 use Rattle.evalset.specs.Sets.{room}
 use Rattle.squares.proofs.Rows.{same-reach, same-square, reach-room}
-use Rattle.plan.specs.Words.{mostPoints}
 use Rattle.plan.specs.Private.{LinksCome, LinksHeld}
 use Rattle.plan.proofs.ReadLoop.{pair-within, links-start, links-next, links-over, links-short}
 use Rattle.plan.proofs.read_contacts.Statement.{statement}
