@@ -32,6 +32,7 @@ use Rattle.compile.specs.Kinds.{takenBy, termKind, atomKind, namesBy, se
 use Rattle.compile.specs.Machine.{State, withAtom, withSign, start, step, run}
 use Rattle.compile.specs.Compiles.{atomsAfter, codeAfter, Given, Asked, Compiles}
 use Rattle.compile.specs.Signs.{Signing}
+use Rattle.compile.specs.Stack.{Roomy}
 use Rattle.compile.proofs.Orders.{run-last, run-append, formula-run, Bounds, run-bounds}
 use Rattle.compile.proofs.Heights.{symbolAt, Finds, order-fine}
 use Rattle.compile.proofs.Placing.{Holds, Shows, seventeen}
@@ -118,7 +119,7 @@ pub record Follows (before : CompiledRule) (buf : List ℕ) (s : State) (count :
 pub record Inv (order numbers : List ℕ) (before : CompiledRule) (keeping buf kept out : List ℕ) (rule : CompiledRule) (stack : List EvalSet)
     (row : List ℕ) (height len used i : ℕ) : Type 0 where
   pub within : i ≤ length order
-  pub whole : length stack ≡ 172
+  pub roomy : Roomy order stack
   pub wide : length row ≡ 256
   pub long : length out ≡ length buf
   pub behind : len ≤ i
@@ -129,13 +130,13 @@ pub record Inv (order numbers : List ℕ) (before : CompiledRule) (keeping buf k
 
 -- ---- before the first symbol
 
-pub begins : (order numbers : List ℕ) (before : CompiledRule) (keeping buf : List ℕ) (stack : List EvalSet) (row : List ℕ) → length stack ≡ 172
+pub begins : (order numbers : List ℕ) (before : CompiledRule) (keeping buf : List ℕ) (stack : List EvalSet) (row : List ℕ) → Roomy order stack
     → length row ≡ 256 → before .enough ≡ true → Inv order numbers before keeping buf keeping buf before stack row 0 0 0 0
 unfolding run namesAmong
 begins order numbers before keeping buf stack row w l b =
     record {
       within = omega arith;
-      whole = w;
+      roomy = w;
       wide = l;
       long = refl;
       behind = omega arith;
@@ -189,7 +190,7 @@ module _ {order numbers : List ℕ} {before : CompiledRule} {keeping buf kept ou
   low = omega (arith, first-follows .waits .high, reached-bounds (q .formula) (q .numbering) (q .atoms) i (omega (arith, inv .within, same-length (q .given))) .high)
 
   -- nor higher than what the symbols left can take away
-  pub lower : height ≤ 2 * (length order - i)
+  lower : height ≤ 2 * (length order - i)
   lower =
       omega (
         arith,
@@ -198,6 +199,10 @@ module _ {order numbers : List ℕ} {before : CompiledRule} {keeping buf kept ou
         length-drop i (postfix (q .formula)),
         same-length (q .given),
       )
+
+  -- so it has a place above its top, and one above that
+  pub never-full : height + 1 < length stack
+  never-full = omega (arith, low, lower, inv .roomy)
 
   pub few-names : used ≤ i
   few-names = omega (arith, first-follows .counted, passed-few (postfix (q .formula)) i (omega (arith, inv .within, same-length (q .given))))
@@ -232,7 +237,7 @@ module _ {order numbers : List ℕ} {before : CompiledRule} {keeping buf kept ou
     -- ---- a turn
 
     -- the next symbol, once the values are those of the state after it
-    next : {kept' out' : List ℕ} {rule' : CompiledRule} {stack' : List EvalSet} {row' : List ℕ} {height' len' used' : ℕ} → length stack' ≡ 172 → length row' ≡ 256
+    next : {kept' out' : List ℕ} {rule' : CompiledRule} {stack' : List EvalSet} {row' : List ℕ} {height' len' used' : ℕ} → Roomy order stack' → length row' ≡ 256
         → length out' ≡ length buf → len' ≤ i + 1 → ((v : ℕ) → In v (take len' row') → v < 16) → rule' .enough ≡ true
         → ((f : Formula Name) (g : Name → ℕ) (atoms : List (Atom ℕ)) → Given order numbers (before .atoms) keeping f g atoms → kind ≡ code (symbolAt (postfix f) i)
         → Finds g (start atoms) (take i (postfix f)) (symbolAt (postfix f) i)
@@ -242,7 +247,7 @@ module _ {order numbers : List ℕ} {before : CompiledRule} {keeping buf kept ou
     next {kept'} {out'} {rule'} {stack'} {row'} {height'} {len'} {used'} w x o n p b h =
         record {
           within = omega arith;
-          whole = w;
+          roomy = w;
           wide = x;
           long = o;
           behind = n;
@@ -258,18 +263,18 @@ module _ {order numbers : List ℕ} {before : CompiledRule} {keeping buf kept ou
         }
 
     module _ (h : ℕ) (d : h ≡ height - takenBy kind) where
-      pub term-again : (r : EvalSet) (v number more : ℕ) → h < 172 → termKind kind ≡ true → number ≡ getD numbers used 0 → more ≡ namesBy kind
+      pub term-again : (r : EvalSet) (v number more : ℕ) → termKind kind ≡ true → number ≡ getD numbers used 0 → more ≡ namesBy kind
           → mem r ≡ setBy kind number (memAt stack h) (memAt stack (h + 1)) → v ≡ symbolBy kind number
           → Inv order numbers before keeping buf kept out rule (set stack h r) (set row len v) (h + 1) (len + 1) (used + more) (i + 1)
-      term-again r v number more low-enough term read passes made shown =
-          next (length-set stack h r ∙ inv .whole) (length-set row len v ∙ inv .wide) (inv .long) (omega (arith, inv .behind))
+      term-again r v number more term read passes made shown =
+          next (omega (arith, length-set stack h r, inv .roomy)) (length-set row len v ∙ inv .wide) (inv .long) (omega (arith, inv .behind))
           (λ s j. ⊎-elim (inv .small s) (λ m. omega (arith, in-one m, shown, symbol-small kind number (omega (arith, small-number used)))) (in-either (take len row) (v ∷ []) (subst (In s) longer j)))
           (inv .going)
           (λ f g atoms G e found F.
           let S : State = reached f g atoms i in
           let x : Sym = symbolAt (postfix f) i in
           let P : Put (set stack h r) h (symbolBy (code x) number) S (step g x S)
-          = term-step g stack r number height h (S .atoms) (S .code) (omega (arith, inv .whole)) x (S .terms) (ap termKind (sym e) ∙ term) (F .waits .high)
+          = term-step g stack r number height h (S .atoms) (S .code) (omega (arith, never-full)) x (S .terms) (ap termKind (sym e) ∙ term) (F .waits .high)
           (subst (λ (j : ℕ). takenBy j ≤ height) e enough) (d ∙ ap (λ (j : ℕ). height - takenBy j) e) (F .waits .stacked)
           (λ y w. read ∙ ap (λ (j : ℕ). getD numbers j 0) (F .counted) ∙ number-is G i y l w)
           (made ∙ ap (λ (j : ℕ). setBy j number (memAt stack h) (memAt stack (h + 1))) e) in
@@ -392,7 +397,7 @@ module _ {order numbers : List ℕ} {before : CompiledRule} {keeping buf kept ou
 
           pub sign-again : rule' .enough ≡ true → Inv order numbers before keeping buf kept' out' rule' stack row h 0 used (i + 1)
           sign-again b =
-              next (inv .whole) (inv .wide) (says .long ∙ inv .long) (omega arith) (λ s j. none-in j) b
+              next (inv .roomy) (inv .wide) (says .long ∙ inv .long) (omega arith) (λ s j. none-in j) b
               (λ f g atoms G e found F. cases (atomKind kind) (of-atom G found F b) (of-sign G found F))
 
           -- where sixteen atoms are not enough

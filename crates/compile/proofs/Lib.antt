@@ -2,6 +2,7 @@ pub mod Sets
 pub mod Charts
 pub mod Orders
 pub mod Heights
+pub mod Stack
 pub mod Steps
 pub mod Placing
 pub mod Turns

@@ -3,3 +3,4 @@ pub mod Chart
 pub mod Machine
 pub mod Compiles
 pub mod Signs
+pub mod Stack

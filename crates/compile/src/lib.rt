@@ -5,14 +5,15 @@
 // `compile_rule` says so, since to test for it would read the rule twice.
 ghost use mathlib.Core.Path.{_≡_};
 ghost use mathlib.Core.List.{[]};
-ghost use Prim.Native.Nat.{_<_};
+ghost use Prim.Native.Nat.{_+_, _*_, _≤_, _<_};
 ghost use lib.ListN.{length, getD};
-ghost use Rattle.evalset.specs.Sets.{mem};
+ghost use Rattle.evalset.specs.Sets.{mem, memAt};
 ghost use Rattle.evalset.specs.Most.{most};
 ghost use Rattle.compile.specs.Kinds.{takenBy, termKind, atomKind, namesBy, setBy, symbolBy, firstBy, secondBy, signBy};
 ghost use Rattle.compile.specs.Chart.{CompiledFrom};
 ghost use Rattle.compile.specs.Compiles.{atomsWith, ruleWith, Asked, Compiles};
 ghost use Rattle.compile.specs.Signs.{Signing, Signs};
+ghost use Rattle.compile.specs.Stack.{setsIn, Puts, Roomy};
 use evalset::EvalSet;
 use lexer::AND;
 use lexer::CONTACT;
@@ -185,13 +186,27 @@ fn sign_code(kind: u8) -> u8
     }
 }
 
-// A stack of empty sets. A symbol puts at most one set on it and takes at most two away, and none is left in the end: of 256
-// symbols the stack is never higher than 170.
-fn empty_stack() -> [EvalSet; 172]
-    ensures { λ r. ⌜ length r ≡ 172 ⌝ }
+// The set at a place of the stack, on which a set is four words.
+fn set_at(stack: &[u64], h: usize) -> EvalSet
+    requires { ⌜ 4 * h + 4 ≤ length (now stack) ⌝ }
+    ensures { λ r. ⌜ mem r ≡ memAt (setsIn (now (stack .entry))) h ⌝ }
 {
-    let none = evalset::empty();
-    [none; 172]
+    let at = 4 * h;
+    EvalSet {
+        words: [stack[at], stack[at + 1], stack[at + 2], stack[at + 3]],
+    }
+}
+
+// A set is put at a place of the stack.
+fn put_set(stack: &mut [u64], h: usize, s: EvalSet)
+    requires { ⌜ 4 * h + 4 ≤ length (now stack) ⌝ }
+    ensures { λ _. ⌜ Puts (now (stack .entry)) h (mem s) (now (stack .exit)) ⌝ }
+{
+    let at = 4 * h;
+    stack[at] = evalset::word_of(s, 0);
+    stack[at + 1] = evalset::word_of(s, 1);
+    stack[at + 2] = evalset::word_of(s, 2);
+    stack[at + 3] = evalset::word_of(s, 3);
 }
 
 // The code of a formula's token: of one that makes an atom it is the number's of the atom, whose terms are in the row. The row of an
@@ -234,8 +249,8 @@ fn whole(chart: Chart, lens: [u8; ATOMS], end: usize, enough: bool) -> CompiledR
 }
 
 // The rule with the signs of this order behind it. A token is put on neither, the first or both of two sets, and the stack is never
-// full: the place above its top can be read. Where the sign of an atom stands, its terms are all that is on the stack, and so
-// their symbols are all that is in the row. The chart is changed in place, since to hand it on would copy it.
+// full: the place above its top can be read, whichever set it has. Where the sign of an atom stands, its terms are all that is on the
+// stack, and so their symbols are all that is in the row. The chart is changed in place, since to hand it on would copy it.
 fn order_passed(
     order: &[u8],
     numbers: &[u8],
@@ -244,11 +259,11 @@ fn order_passed(
     kept: &mut [u8; 2048],
     code: &mut [u8],
     mut end: usize,
+    stack: &mut [u64],
 ) -> CompiledRule
-    requires { ⌜ Asked (now order) (now numbers) (atomsWith chart lens) (now kept) (now code) end ⌝ }
+    requires { ⌜ Asked (now order) (now numbers) (atomsWith chart lens) (now kept) (now code) end × Roomy (now order) (setsIn (now stack)) ⌝ }
     ensures { λ r. ⌜ Compiles (now (order .entry)) (now (numbers .entry)) (atomsWith chart lens) (now (kept .entry)) (now (code .entry)) end r (now (kept .exit)) (now (code .exit)) × (length (now (code .exit)) ≡ length (now (code .entry))) ⌝ }
 {
-    let mut stack = empty_stack();
     let mut row = lexer::zeros();
     let mut height: usize = 0;
     let mut len: usize = 0;
@@ -258,11 +273,11 @@ fn order_passed(
         let kind = order[i];
         i += 1;
         height -= taken(kind);
-        let x = stack[height];
-        let y = stack[height + 1];
+        let x = set_at(stack, height);
+        let y = set_at(stack, height + 1);
         if is_term(kind) {
             let number = number_at(numbers, used);
-            stack[height] = term_set(kind, number, x, y);
+            put_set(stack, height, term_set(kind, number, x, y));
             row[len] = symbol(kind, number);
             height += 1;
             len += 1;
@@ -291,7 +306,9 @@ fn order_passed(
 
 // The rule with this order, whose names have these numbers at their places: its atoms go behind those before where they are none
 // of them, its code into the array from a place on. The requires asks for the order of a formula, compiled atoms, and room for
-// the code: a caller has them of what was read (`order-read` and `order-short` of proofs/Claims.antt).
+// the code: a caller has them of what was read (`order-read` and `order-short` of proofs/Claims.antt). The stack has words for 24 sets
+// or for 172, as the order asks (`Roomy` of specs/Stack.antt): most rules are short. The words are whichever, and where they are many
+// not zero, since the C library clears so many bytes by an instruction that counts once a byte.
 pub fn compile_rule(
     order: &[u8],
     numbers: &[u8],
@@ -305,5 +322,10 @@ pub fn compile_rule(
 {
     let chart = before.chart;
     let lens = before.lens;
-    order_passed(order, numbers, chart, lens, kept, code, from)
+    if order.len() <= 32 {
+        let mut few = [0u64; 96];
+        return order_passed(order, numbers, chart, lens, kept, code, from, &mut few);
+    }
+    let mut many = [1u64; 688];
+    order_passed(order, numbers, chart, lens, kept, code, from, &mut many)
 }

@@ -261,8 +261,13 @@ fn check_rows(chart: Chart, seen: &mut [u64], bits: &mut [u64])
         prefixes::check_all(chart, seen, &mut few, bits);
         return;
     }
-    let mut list = [0u16; 2080];
-    prefixes::check_all(chart, seen, &mut list, bits);
+    if chart.names <= 6 {
+        let mut list = [0u16; 2080];
+        prefixes::check_all(chart, seen, &mut list, bits);
+        return;
+    }
+    let mut many = [0u16; 32896];
+    prefixes::check_all(chart, seen, &mut many, bits);
 }
 
 // The tree, with room by the number of atoms: sheets of few atoms do not clear more than they need.

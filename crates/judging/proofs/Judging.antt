@@ -43,7 +43,7 @@ uncovered-is : (plan : PlanArrays) (p : Plan) → IsPlan p → Stored plan p →
 unfolding uncoveredOf uncovered
 uncovered-is plan p is s =
     ap₂ (λ (n : ℕ) (b : Bool). not (eqb n 0) && b) (s .names)
-    (ap (λ (e : ℕ). eqb e 0) (ap (λ (xs : List ℕ). getD xs 0 0) (s .points) ∙ pad-at 64 (p .points) 0 (is .some)) ∙ sym (first-decides p is))
+    (ap (λ (e : ℕ). eqb e 0) (ap (λ (xs : List ℕ). getD xs 0 0) (s .points) ∙ pad-at 256 (p .points) 0 (is .some)) ∙ sym (first-decides p is))
 
 -- an uncovered plan is not judged by rules
 pub judges-uncovered : (plan : PlanArrays) (chart : Chart) (code ends : List ℕ) → uncoveredOf plan ≡ true → JudgesSay plan chart code ends Uncovered

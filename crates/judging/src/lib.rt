@@ -11,7 +11,7 @@ ghost use Rattle.kleene.specs.Rails.{wordRows};
 ghost use Rattle.search.specs.Compiled.{limit};
 ghost use Rattle.solver.specs.Coded.{PartSafe, SafeFrom};
 ghost use Rattle.solver.specs.Tree.{Runnable};
-ghost use Rattle.judging.specs.Values.{atomOf, LeavesSay, RuleSays, UnmetSays, uncoveredOf};
+ghost use Rattle.judging.specs.Values.{LeavesSay, RuleSays, UnmetSays, uncoveredOf};
 ghost use Rattle.judging.specs.Judges.{JudgesSay};
 use evalset::EvalSet;
 use plan::PlanArrays;
@@ -25,17 +25,6 @@ pub enum Judged {
     Uncovered,
 }
 
-// The value of an atom on the plan: whether it is a contact, and its sets. Of a zero atom x has the zero term.
-fn atom_value(plan: PlanArrays, contact: bool, x: EvalSet, y: EvalSet) -> bool
-    ensures { λ r. ⌜ r ≡ atomOf plan contact (mem x) (mem y) ⌝ }
-{
-    if contact {
-        plan::touches(plan, x, y)
-    } else {
-        plan::is_vacant(plan, x)
-    }
-}
-
 // A value in every row of a word.
 fn settled(value: bool) -> u64
     ensures { λ r. ⌜ ((e : ℕ) → e < wordRows → bit r e ≡ value) ⌝ }
@@ -43,7 +32,8 @@ fn settled(value: bool) -> u64
     if value { 0xFFFF_FFFF_FFFF_FFFF } else { 0 }
 }
 
-// The values of the chart's atoms on the plan.
+// The values of the chart's atoms on the plan. Of a zero atom x has the zero term. Contacts alone take the plan whole: a function of both
+// kinds of atoms would copy it for each atom.
 fn leaves(plan: PlanArrays, chart: Chart) -> [u64; ATOMS]
     requires { ⌜ chart .atoms ≤ limit ⌝ }
     ensures { λ r. ⌜ LeavesSay plan chart r ⌝ }
@@ -52,10 +42,14 @@ fn leaves(plan: PlanArrays, chart: Chart) -> [u64; ATOMS]
     let mut out = [0u64; ATOMS];
     let mut i: usize = 0;
     while i < n {
-        let contact = chart.contact[i];
         let x = chart.xs[i];
         let y = chart.ys[i];
-        out[i] = settled(atom_value(plan, contact, x, y));
+        if chart.contact[i] {
+            out[i] = settled(plan::touches(plan, x, y));
+            i += 1;
+            continue;
+        }
+        out[i] = settled(plan::is_vacant(plan, x));
         i += 1;
     }
     out

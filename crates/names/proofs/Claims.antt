@@ -1,5 +1,5 @@
 -- What is proved of the names that are gathered, for whoever builds on it: the names that are known after a rule are the different names
--- of all rules so far, each place's number is its name's place among them, and a seventh is answered exactly where there is one. Each
+-- of all rules so far, each place's number is its name's place among them, and a ninth is answered exactly where there is one. Each
 -- claim cites the file that proves it. Assumes nothing.
 use mathlib.Core.Path.{_≡_, sym, ap, ap₂, subst, _∙_}
 use mathlib.Core.Logic.{_↔_}
@@ -22,16 +22,16 @@ use Rattle.names.specs.declared.NamesAnswer.{NamesAnswer}
 use Rattle.names.specs.declared.NamesAnswer.the-variants as NamesAnswer
 use Rattle.names.specs.declared.Gathered.{Gathered}
 use Rattle.names.specs.Gather.{ruleTokens, namesAfter, arraysOf, knownOf, gatheredOf, gathered, Kept, Gathers}
-use Rattle.names.specs.Seventh.{namesAt, SeventhAt, placesOf}
+use Rattle.names.specs.Ninth.{namesAt, NinthAt, placesOf}
 use Rattle.contact.proofs.Distinct.{position-distinct}
 use Rattle.names.proofs.Arrays.{known-back, kept-names}
 use Rattle.names.proofs.Outcome.{few-after}
-use Rattle.names.proofs.Places.{places-enough, places-known, places-seventh}
+use Rattle.names.proofs.Places.{places-enough, places-known, places-ninth}
 use Rattle.names.proofs.Texts.{names-of-rule, everyName, every-name-append, every-name-last}
 
 -- ---- for a caller of `gather`
 
--- names that are the arrays of at most six may be given to it
+-- names that are the arrays of at most eight may be given to it
 pub may-gather : (s : List ℕ) (rule : Rule) (ns : Names) (ks : List Name) → rule ≡ ruleOf s → ns ≡ arraysOf ks → length ks ≤ most → Gathers s rule ns
 may-gather s rule ns ks e f h = record { read = e; kept = subst Kept (sym f) (kept-names ks h) }
 
@@ -44,7 +44,7 @@ pub kept-after : (s : List ℕ) (ks : List Name) → length ks ≤ most → Kept
 unfolding gathered gatheredOf
 kept-after s ks h = kept-names (namesAfter ks (placesOf s (ruleTokens s)) .names) (few-after ks (placesOf s (ruleTokens s)) h)
 
--- ---- a rule behind earlier names, of which at most six are different
+-- ---- a rule behind earlier names, of which at most eight are different
 
 -- the arrays of the names ks, with the number of each of the names ws
 abbrev pub enoughOf : List Name → List Name → Gathered
@@ -60,7 +60,7 @@ module _ (s : List ℕ) (f : Formula Name) (rule : IsRule s f) (earlier : List N
   every-is : distinct sameName (earlier ++ namesAt (placesOf s (ruleTokens s))) ≡ every
   every-is = ap (λ (ws : List Name). distinct sameName (earlier ++ ws)) (names-of-rule s f rule)
 
-  -- six are enough exactly if at most six are different
+  -- eight are enough exactly if at most eight are different
   pub enough-exactly : (after .answer ≡ NamesAnswer.Enough) ↔ (length every ≤ most)
   unfolding gathered gatheredOf
   enough-exactly =
@@ -76,10 +76,10 @@ module _ (s : List ℕ) (f : Formula Name) (rule : IsRule s f) (earlier : List N
       ap gatheredOf (places-known earlier (placesOf s (ruleTokens s)) few e)
       ∙ ap₂ (λ (ks ws : List Name). enoughOf ks ws) every-is (names-of-rule s f rule)
 
-  -- a seventh is answered at exactly one place: the seventh different name's first
-  pub seventh-exactly : (p : ℕ) → (after .answer ≡ NamesAnswer.SeventhName p) ↔ SeventhAt earlier (placesOf s (ruleTokens s)) p
+  -- a ninth is answered at exactly one place: the ninth different name's first
+  pub ninth-exactly : (p : ℕ) → (after .answer ≡ NamesAnswer.TooManyNames p) ↔ NinthAt earlier (placesOf s (ruleTokens s)) p
   unfolding gathered gatheredOf
-  seventh-exactly p = places-seventh earlier (placesOf s (ruleTokens s)) few p
+  ninth-exactly p = places-ninth earlier (placesOf s (ruleTokens s)) few p
 
 -- a name keeps its number when further names come
 pub number-stays : (earlier later : List Name) (w : Name) → In w earlier
@@ -104,8 +104,8 @@ module _ (rules : List (Formula Name)) (few : length (namesOf rules) ≤ most) (
   pub rule-gathered : gathered s (namesOf rules) .answer ≡ NamesAnswer.Enough → gathered s (namesOf rules) ≡ enoughOf (namesOf (rules ++ f ∷ [])) (formulaNames f)
   rule-gathered e = enough-gathered s f rule (everyName rules) few e ∙ ap (λ (ks : List Name). enoughOf ks (formulaNames f)) (sym (names-with rules f))
 
-  pub rule-seventh : (p : ℕ) → (gathered s (namesOf rules) .answer ≡ NamesAnswer.SeventhName p) ↔ SeventhAt (collect atomNames (allAtoms rules)) (placesOf s (ruleTokens s)) p
-  rule-seventh p = seventh-exactly s f rule (everyName rules) few p
+  pub rule-ninth : (p : ℕ) → (gathered s (namesOf rules) .answer ≡ NamesAnswer.TooManyNames p) ↔ NinthAt (collect atomNames (allAtoms rules)) (placesOf s (ruleTokens s)) p
+  rule-ninth p = ninth-exactly s f rule (everyName rules) few p
 
 -- later rules change no number
 pub rules-number-stays : (rules more : List (Formula Name)) (w : Name) → In w (collect atomNames (allAtoms rules))

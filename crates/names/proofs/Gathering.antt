@@ -23,7 +23,7 @@ use Rattle.names.specs.declared.NamesAnswer.{NamesAnswer}
 use Rattle.names.specs.declared.NamesAnswer.the-variants as NamesAnswer
 use Rattle.names.specs.declared.Gathered.{Gathered}
 use Rattle.names.specs.Gather.{ruleTokens, withName, Numbered, numbered, behind, namesAfter, arraysOf, knownOf, gatheredOf, gathered, Gathers}
-use Rattle.names.specs.Seventh.{NameAt, nameAt, placesOf}
+use Rattle.names.specs.Ninth.{NameAt, nameAt, placesOf}
 use Rattle.names.specs.Steps.{placeIn, withKept}
 use Rattle.contact.proofs.Distinct.{position-most}
 use Rattle.names.proofs.Arrays.{kept-count, number-kept, with-kept, too-many, not-too-many}
@@ -151,16 +151,16 @@ module _ {text kinds starts lens : List ℕ} {n : ℕ} {first known : Names} {nu
       places = at-name text every i inside (sym kind-is ∙ k) ∙ ap₂ (λ (a : ℕ) (v : Name). nameAt a v ∷ left) (sym (p ∙ start-is)) name-is
 
       abbrev next : Bool → Numbered
-      next b = cond b (numbered (g .names) [] (NamesAnswer.SeventhName start)) (behind (position sameName (g .names) w ∷ []) (namesAfter (withName (g .names) w) left))
+      next b = cond b (numbered (g .names) [] (NamesAnswer.TooManyNames start)) (behind (position sameName (g .names) w ∷ []) (namesAfter (withName (g .names) w) left))
 
       turn : namesAfter (g .names) (placesOf text (drop i every)) ≡ next (ltb most (length (withName (g .names) w)))
       unfolding namesAfter
       turn = ap (namesAfter (g .names)) places
 
-      -- a seventh name
-      pub going-seventh : number ≡ most → gave known numbers (NamesAnswer.SeventhName start) ≡ gathered text (knownOf first)
-      going-seventh z =
-          unchanged (g .names) [] (NamesAnswer.SeventhName start) refl refl (turn ∙ ap next (too-many (g .names) w (g .few) (sym number-is ∙ z)))
+      -- a ninth name
+      pub going-ninth : number ≡ most → gave known numbers (NamesAnswer.TooManyNames start) ≡ gathered text (knownOf first)
+      going-ninth z =
+          unchanged (g .names) [] (NamesAnswer.TooManyNames start) refl refl (turn ∙ ap next (too-many (g .names) w (g .few) (sym number-is ∙ z)))
 
       -- a name that has a number
       pub going-name : (number ≡ most → ⊥) → (after : Names) → after ≡ withKept known w number → Going text kinds starts lens n first after (set numbers m number) (m + 1) (i + 1)

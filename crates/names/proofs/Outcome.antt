@@ -1,5 +1,5 @@
 -- Names at their places, one after the other, either all find room, and then those that are known are all the different ones and each
--- number is a place among them; or one finds six others before it and is none of them. By recursion on the places. Assumes nothing.
+-- number is a place among them; or one finds eight others before it and is none of them. By recursion on the places. Assumes nothing.
 use mathlib.Core.Bool.{Bool, true, false, cond}
 use mathlib.Core.Path.{_≡_, refl, sym, ap, _∙_}
 use mathlib.Core.Logic.{_⊎_, inl, inr, ⊎-elim}
@@ -17,7 +17,7 @@ use Rattle.names.specs.declared.NamesAnswer.{NamesAnswer}
 use Rattle.names.specs.declared.NamesAnswer.the-variants as NamesAnswer
 use Rattle.names.specs.Gather.{withName, Numbered, numbered, behind, namesAfter}
 use Rattle.contact.specs.Putting.{isIn, put}
-use Rattle.names.specs.Seventh.{namesAt, NameAt, nameAt}
+use Rattle.names.specs.Ninth.{namesAt, NameAt, nameAt}
 use Rattle.contact.proofs.Distinct.{put-all-longer, put-all-position}
 
 -- all the different names, and where each stands among them
@@ -39,14 +39,14 @@ pub record Stops (ks : List Name) (xs : List NameAt) : Type 0 where
   pub split : xs ≡ before ++ nameAt place name ∷ after
   pub full : length (allOf ks before) ≡ most
   pub new : isIn sameName (allOf ks before) name ≡ false
-  pub result : namesAfter ks xs ≡ numbered (allOf ks before) (numbersIn (allOf ks before) before) (NamesAnswer.SeventhName place)
+  pub result : namesAfter ks xs ≡ numbered (allOf ks before) (numbersIn (allOf ks before) before) (NamesAnswer.TooManyNames place)
 
 module _ (ks : List Name) (x : NameAt) (xs : List NameAt) where
   abbrev after : List Name
   after = put sameName ks (x .name)
 
   abbrev next : Bool → Numbered
-  next b = cond b (numbered ks [] (NamesAnswer.SeventhName (x .place))) (behind (position sameName ks (x .name) ∷ []) (namesAfter after xs))
+  next b = cond b (numbered ks [] (NamesAnswer.TooManyNames (x .place))) (behind (position sameName ks (x .name) ∷ []) (namesAfter after xs))
 
   turn : namesAfter ks (x ∷ xs) ≡ next (ltb most (length after))
   unfolding namesAfter withName
@@ -57,10 +57,10 @@ module _ (ks : List Name) (x : NameAt) (xs : List NameAt) where
   goes-on h = turn ∙ ap next (le-ltb most (length after) h)
 
   -- or there is none
-  stops : most < length after → namesAfter ks (x ∷ xs) ≡ numbered ks [] (NamesAnswer.SeventhName (x .place))
+  stops : most < length after → namesAfter ks (x ∷ xs) ≡ numbered ks [] (NamesAnswer.TooManyNames (x .place))
   stops h = turn ∙ ap next (lt-ltb most (length after) h)
 
-  -- in that case it is new and six are known
+  -- in that case it is new and eight are known
   new-and-full : length ks ≤ most → most < length after → (isIn sameName ks (x .name) ≡ false) × (length ks ≡ most)
   new-and-full few h = go (isIn sameName ks (x .name)) refl h
     where
@@ -99,7 +99,7 @@ outcome ks (x ∷ xs) h = go (ltb most (length (after ks x xs))) refl (outcome (
           result =
               goes-on ks x xs l
               ∙ ap (behind (position sameName ks (x .name) ∷ [])) (r .result)
-              ∙ ap (λ (n : ℕ). numbered (allOf ks (x ∷ r .before)) (n ∷ numbersIn (allOf ks (x ∷ r .before)) (r .before)) (NamesAnswer.SeventhName (r .place)))
+              ∙ ap (λ (n : ℕ). numbered (allOf ks (x ∷ r .before)) (n ∷ numbersIn (allOf ks (x ∷ r .before)) (r .before)) (NamesAnswer.TooManyNames (r .place)))
               (first-number ks x xs (r .before));
         }
 
@@ -112,20 +112,20 @@ outcome ks (x ∷ xs) h = go (ltb most (length (after ks x xs))) refl (outcome (
         let l = ltb-false most (length (after ks x xs)) e in
         ⊎-elim (λ q. inl (on l q)) (λ q. inr (later l q)) (r l)
 
--- a name that is new where six are known is answered, with the names and numbers before it
-pub seventh-answered : (ks : List Name) (before : List NameAt) (p : ℕ) (w : Name) (rest : List NameAt)
+-- a name that is new where eight are known is answered, with the names and numbers before it
+pub ninth-answered : (ks : List Name) (before : List NameAt) (p : ℕ) (w : Name) (rest : List NameAt)
     → length (allOf ks before) ≡ most → isIn sameName (allOf ks before) w ≡ false
-    → namesAfter ks (before ++ nameAt p w ∷ rest) ≡ numbered (allOf ks before) (numbersIn (allOf ks before) before) (NamesAnswer.SeventhName p)
-seventh-answered ks [] p w rest full new =
+    → namesAfter ks (before ++ nameAt p w ∷ rest) ≡ numbered (allOf ks before) (numbersIn (allOf ks before) before) (NamesAnswer.TooManyNames p)
+ninth-answered ks [] p w rest full new =
     let z : put sameName ks w ≡ ks ++ w ∷ [] = ap (λ (b : Bool). cond b ks (ks ++ w ∷ [])) new in
     stops ks (nameAt p w) rest (omega (arith, ap length z, length-append ks (w ∷ [])))
-seventh-answered ks (x ∷ before) p w rest full new =
+ninth-answered ks (x ∷ before) p w rest full new =
     let l : length (put sameName ks (x .name)) ≤ most = omega (arith, put-all-longer sameName (put sameName ks (x .name)) (namesAt before)) in
     goes-on ks x (before ++ nameAt p w ∷ rest) l
-    ∙ ap (behind (position sameName ks (x .name) ∷ [])) (seventh-answered (put sameName ks (x .name)) before p w rest full new)
-    ∙ ap (λ (n : ℕ). numbered (allOf ks (x ∷ before)) (n ∷ numbersIn (allOf ks (x ∷ before)) before) (NamesAnswer.SeventhName p)) (first-number ks x before before)
+    ∙ ap (behind (position sameName ks (x .name) ∷ [])) (ninth-answered (put sameName ks (x .name)) before p w rest full new)
+    ∙ ap (λ (n : ℕ). numbered (allOf ks (x ∷ before)) (n ∷ numbersIn (allOf ks (x ∷ before)) before) (NamesAnswer.TooManyNames p)) (first-number ks x before before)
 
--- then there are more than six
+-- then there are more than eight
 pub stops-many : (ks : List Name) (xs : List NameAt) → Stops ks xs → most < length (allOf ks xs)
 stops-many ks xs r = rw (r .split) (go (r .before) ks (r .full) (r .new))
   where
@@ -136,7 +136,7 @@ stops-many ks xs r = rw (r .split) (go (r .before) ks (r .full) (r .new))
         omega (arith, ap length z, length-append ls (r .name ∷ []), put-all-longer sameName (put sameName ls (r .name)) (namesAt (r .after)))
     go (x ∷ before) ls full new = go before (put sameName ls (x .name)) full new
 
--- never more than six are known
+-- never more than eight are known
 pub few-after : (ks : List Name) (xs : List NameAt) → length ks ≤ most → length (namesAfter ks xs .names) ≤ most
 few-after ks xs h =
     ⊎-elim (λ r. rw (r .result) (r .few)) (λ r. rw (r .result) (omega (arith, r .full))) (outcome ks xs h)

@@ -1,4 +1,4 @@
--- Behind the different names of earlier texts the fold finds the different names of all, or the seventh: what is put last where it is not
+-- Behind the different names of earlier texts the fold finds the different names of all, or the ninth: what is put last where it is not
 -- known yet is what is different from all before it. Assumes nothing.
 use mathlib.Core.Bool.{false}
 use mathlib.Core.Path.{_≡_, sym, ap, _∙_}
@@ -17,9 +17,9 @@ use Rattle.names.specs.declared.NamesAnswer.{NamesAnswer}
 use Rattle.names.specs.declared.NamesAnswer.the-variants as NamesAnswer
 use Rattle.names.specs.Gather.{Numbered, numbered, namesAfter}
 use Rattle.contact.specs.Putting.{isIn}
-use Rattle.names.specs.Seventh.{namesAt, SeventhAt, NameAt, nameAt}
+use Rattle.names.specs.Ninth.{namesAt, NinthAt, NameAt, nameAt}
 use Rattle.contact.proofs.Distinct.{distinct-append, in-distinct, distinct-in-list}
-use Rattle.names.proofs.Outcome.{allOf, numbersIn, Fits, Stops, outcome, seventh-answered, stops-many}
+use Rattle.names.proofs.Outcome.{allOf, numbersIn, Fits, Stops, outcome, ninth-answered, stops-many}
 
 -- the different names of earlier texts and of those at their places
 abbrev different : List Name → List NameAt → List Name
@@ -28,7 +28,7 @@ different earlier xs = distinct sameName (earlier ++ namesAt xs)
 different-is : (earlier : List Name) (xs : List NameAt) → different earlier xs ≡ allOf (distinct sameName earlier) xs
 different-is earlier xs = distinct-append sameName name-alike earlier (namesAt xs)
 
-apart : {a : NamesAnswer} {p : ℕ} → a ≡ NamesAnswer.SeventhName p → a ≡ NamesAnswer.Enough → ⊥
+apart : {a : NamesAnswer} {p : ℕ} → a ≡ NamesAnswer.TooManyNames p → a ≡ NamesAnswer.Enough → ⊥
 apart e f = let z : _≡_ {A = ℕ} 0 1 = cc in omega arith
 
 module _ (earlier : List Name) (xs : List NameAt) where
@@ -38,36 +38,36 @@ module _ (earlier : List Name) (xs : List NameAt) where
   abbrev result : Numbered
   result = namesAfter known xs
 
-  stopped : Stops known xs → (p : ℕ) × (result .answer ≡ NamesAnswer.SeventhName p)
+  stopped : Stops known xs → (p : ℕ) × (result .answer ≡ NamesAnswer.TooManyNames p)
   stopped r = (r .place, ap (λ (n : Numbered). n .answer) (r .result))
 
   fitted : Fits known xs → result .answer ≡ NamesAnswer.Enough
   fitted r = ap (λ (n : Numbered). n .answer) (r .result)
 
-  -- the name that is answered is the seventh different one, at its first place
-  seventh-from : {p : ℕ} → Stops known xs → result .answer ≡ NamesAnswer.SeventhName p → SeventhAt earlier xs p
-  seventh-from {p} r e =
+  -- the name that is answered is the ninth different one, at its first place
+  ninth-from : {p : ℕ} → Stops known xs → result .answer ≡ NamesAnswer.TooManyNames p → NinthAt earlier xs p
+  ninth-from {p} r e =
       let same : r .place ≡ p = (let f = stopped r .1 in cc) in
-      let six : different earlier (r .before) ≡ allOf known (r .before) = different-is earlier (r .before) in
+      let eight : different earlier (r .before) ≡ allOf known (r .before) = different-is earlier (r .before) in
       record {
         before = r .before;
         name = r .name;
         after = r .after;
         split = r .split ∙ ap (λ (n : ℕ). r .before ++ nameAt n (r .name) ∷ r .after) same;
-        six = ap length six ∙ r .full;
-        new = λ i. clash (ap (λ (l : List Name). isIn sameName l (r .name)) (sym six) ∙ in-distinct sameName name-alike (earlier ++ namesAt (r .before)) (r .name) i) (r .new);
+        eight = ap length eight ∙ r .full;
+        new = λ i. clash (ap (λ (l : List Name). isIn sameName l (r .name)) (sym eight) ∙ in-distinct sameName name-alike (earlier ++ namesAt (r .before)) (r .name) i) (r .new);
       }
 
-  -- and the seventh different one is answered, with the names and numbers before it
-  seventh-result : {p : ℕ} (h : SeventhAt earlier xs p)
-      → result ≡ numbered (different earlier (h .before)) (numbersIn (different earlier (h .before)) (h .before)) (NamesAnswer.SeventhName p)
-  seventh-result {p} h =
-      let six : different earlier (h .before) ≡ allOf known (h .before) = different-is earlier (h .before) in
+  -- and the ninth different one is answered, with the names and numbers before it
+  ninth-result : {p : ℕ} (h : NinthAt earlier xs p)
+      → result ≡ numbered (different earlier (h .before)) (numbersIn (different earlier (h .before)) (h .before)) (NamesAnswer.TooManyNames p)
+  ninth-result {p} h =
+      let eight : different earlier (h .before) ≡ allOf known (h .before) = different-is earlier (h .before) in
       let new : isIn sameName (different earlier (h .before)) (h .name) ≡ false =
       eq-false-of-not-eq-true (λ k. h .new (distinct-in-list sameName same-name (earlier ++ namesAt (h .before)) (h .name) k)) in
       ap (namesAfter known) (h .split)
-      ∙ seventh-answered known (h .before) p (h .name) (h .after) (sym (ap length six) ∙ h .six) (ap (λ (l : List Name). isIn sameName l (h .name)) (sym six) ∙ new)
-      ∙ ap (λ (l : List Name). numbered l (numbersIn l (h .before)) (NamesAnswer.SeventhName p)) (sym six)
+      ∙ ninth-answered known (h .before) p (h .name) (h .after) (sym (ap length eight) ∙ h .eight) (ap (λ (l : List Name). isIn sameName l (h .name)) (sym eight) ∙ new)
+      ∙ ap (λ (l : List Name). numbered l (numbersIn l (h .before)) (NamesAnswer.TooManyNames p)) (sym eight)
 
   module _ (few : length known ≤ most) where
     pub places-enough : (result .answer ≡ NamesAnswer.Enough) ↔ (length (different earlier xs) ≤ most)
@@ -82,8 +82,8 @@ module _ (earlier : List Name) (xs : List NameAt) where
         (λ r. r .result ∙ ap (λ (l : List Name). numbered l (numbersIn l xs) NamesAnswer.Enough) (sym (different-is earlier xs)))
         (λ r. absurd (apart (stopped r .1) e)) (outcome known xs few)
 
-    pub places-seventh : (p : ℕ) → (result .answer ≡ NamesAnswer.SeventhName p) ↔ SeventhAt earlier xs p
-    places-seventh p = (
-      λ e. ⊎-elim (λ r. absurd (apart e (fitted r))) (λ r. seventh-from r e) (outcome known xs few),
-      λ h. ap (λ (n : Numbered). n .answer) (seventh-result h),
+    pub places-ninth : (p : ℕ) → (result .answer ≡ NamesAnswer.TooManyNames p) ↔ NinthAt earlier xs p
+    places-ninth p = (
+      λ e. ⊎-elim (λ r. absurd (apart e (fitted r))) (λ r. ninth-from r e) (outcome known xs few),
+      λ h. ap (λ (n : Numbered). n .answer) (ninth-result h),
     )

@@ -16,7 +16,7 @@ use Rattle.lists.specs.Search.{collect}
 use Rattle.lists.proofs.Search.{collect-append}
 use Rattle.contact.specs.Numbering.{allAtoms}
 use Rattle.names.specs.Gather.{ruleTokens}
-use Rattle.names.specs.Seventh.{namesAt, NameAt, nameAt, placesOf}
+use Rattle.names.specs.Ninth.{namesAt, NameAt, nameAt, placesOf}
 use Rattle.names.proofs.Tokens.{tokens-of-rule}
 
 -- ---- the names of a text

@@ -30,7 +30,7 @@ use Rattle.syntax.specs.declared.RuleAnswer.{RuleAnswer}
 use Rattle.syntax.specs.declared.Rule.{Rule}
 use Rattle.syntax.proofs.Claims.{text-answered, text-read}
 use Rattle.names.specs.Gather.{ifRead, ruleTokens}
-use Rattle.names.specs.Seventh.{nameAt, placesOf}
+use Rattle.names.specs.Ninth.{nameAt, placesOf}
 
 -- ---- the rule's tokens
 

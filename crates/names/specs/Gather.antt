@@ -1,4 +1,4 @@
--- What is computed: the names of a rule's text, numbered by first place behind those that are known, up to the seventh different one.
+-- What is computed: the names of a rule's text, numbered by first place behind those that are known, up to the ninth different one.
 -- Assumes nothing.
 use mathlib.Core.Bool.{cond}
 use mathlib.Core.Path.{_≡_}
@@ -17,7 +17,7 @@ use Rattle.syntax.specs.declared.Rule.{Rule}
 use Rattle.evalset.specs.Most.{most}
 use Rattle.contact.specs.Numbering.{position, sameName}
 use Rattle.contact.specs.Putting.{put}
-use Rattle.names.specs.Seventh.{NameAt, placesOf}
+use Rattle.names.specs.Ninth.{NameAt, placesOf}
 use Rattle.names.specs.declared.KeptName.{KeptName}
 use Rattle.names.specs.declared.Names.{Names}
 use Rattle.names.specs.declared.NamesAnswer.{NamesAnswer}
@@ -65,7 +65,7 @@ unfoldable pub namesAfter : List Name → List NameAt → Numbered
 namesAfter ks [] = numbered ks [] NamesAnswer.Enough
 namesAfter ks (x ∷ xs) =
     let more = behind (position sameName ks (x .name) ∷ []) (namesAfter (withName ks (x .name)) xs) in
-    cond (ltb most (length (withName ks (x .name)))) (numbered ks [] (NamesAnswer.SeventhName (x .place))) more
+    cond (ltb most (length (withName ks (x .name)))) (numbered ks [] (NamesAnswer.TooManyNames (x .place))) more
 
 -- ---- as arrays
 
@@ -94,7 +94,7 @@ gathered s ks = gatheredOf (namesAfter ks (placesOf s (ruleTokens s)))
 
 -- ---- what a caller has
 
--- arrays that hold names, at most six
+-- arrays that hold names, at most eight
 pub record Kept (ns : Names) : Type 0 where
   pub canonical : ns ≡ arraysOf (knownOf ns)
   pub few : ns .count ≤ most

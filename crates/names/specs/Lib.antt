@@ -1,3 +1,3 @@
 pub mod Gather
-pub mod Seventh
+pub mod Ninth
 pub mod Steps

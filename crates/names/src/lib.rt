@@ -1,4 +1,4 @@
-// The names of rule texts, numbered from 0 by first place over several texts, at most six: document 01,
+// The names of rule texts, numbered from 0 by first place over several texts, at most eight: document 01 and document 02's T-08,
 // 'Meaning', second paragraph, and refusal 7 of the table of calls. The names of a text are found in the
 // tokens that the reader handed back; nothing is cut again. `gather` is called by this project's own
 // crates, and requires what they have: the rule that was read from the text, and names that `no_names`
@@ -27,14 +27,14 @@ pub struct Names {
     pub count: usize,
 }
 
-// Whether six names are enough, or where the seventh different one stands first.
+// Whether eight names are enough, or where the ninth different one stands first.
 pub enum NamesAnswer {
     Enough,
-    SeventhName(usize),
+    TooManyNames(usize),
 }
 
 // The names that are known after a text, the numbers of the names in it, place by place with zeros after
-// them, and the answer. At a seventh name these are the names and numbers before it.
+// them, and the answer. At a ninth name these are the names and numbers before it.
 pub struct Gathered {
     pub names: Names,
     pub numbers: [u8; 256],
@@ -120,7 +120,7 @@ fn with_name(names: Names, w: &[u8], number: usize) -> Names
     next
 }
 
-// The names of a rule's text behind those that are known, up to the seventh; a text that was refused
+// The names of a rule's text behind those that are known, up to the ninth; a text that was refused
 // has none.
 pub fn gather(text: &[u8], rule: Rule, names: Names) -> Gathered
     requires { ⌜ Gathers (now text) rule names ⌝ }
@@ -147,7 +147,7 @@ pub fn gather(text: &[u8], rule: Rule, names: Names) -> Gathered
             return Gathered {
                 names: known,
                 numbers,
-                answer: NamesAnswer::SeventhName(start),
+                answer: NamesAnswer::TooManyNames(start),
             };
         }
         known = with_name(known, &text[start..end], number);

@@ -133,10 +133,10 @@ module _ (zeros : ℕ) (masks : List ℕ) where
   wordAt e f = pairWord zeros (entry masks e) (entry masks f)
 
   -- the pairs of e are put into an array
-  pub pairs-in-none : (e : ℕ) (words : List ℕ) → length words ≡ 64 → PairsIn zeros masks e 0 words
+  pub pairs-in-none : (e : ℕ) (words : List ℕ) → length words ≡ 256 → PairsIn zeros masks e 0 words
   pairs-in-none e words h = record { long = h; are = λ f l. absurd (omega arith) }
 
-  pub pairs-in-more : (e n : ℕ) (words : List ℕ) → PairsIn zeros masks e n words → n < 64 → PairsIn zeros masks e (n + 1) (set words n (wordAt e n))
+  pub pairs-in-more : (e n : ℕ) (words : List ℕ) → PairsIn zeros masks e n words → n < 256 → PairsIn zeros masks e (n + 1) (set words n (wordAt e n))
   pairs-in-more e n words h l =
       record { long = length-set words n (wordAt e n) ∙ h .long; are = λ f k. go f k (decEq f n) }
     where

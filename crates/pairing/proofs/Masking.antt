@@ -1,10 +1,10 @@
 -- The masks of evaluations, atom by atom: each takes a digit in each half. Of these the different ones are kept: one that is among those
 -- before it is left out. Assumes nothing.
-use mathlib.Core.Bool.{true, false}
+use mathlib.Core.Bool.{Bool, true, false}
 use mathlib.Core.Path.{_≡_, refl, sym, ap, _∙_, subst}
 use mathlib.Core.List.{List, [], _∷_, _++_}
 use mathlib.Core.Logic.{⊎-elim}
-use Prim.Native.Nat.{ℕ, zero, suc, _+_, _/_, _%_, _^_, _≤_, _<_}
+use Prim.Native.Nat.{ℕ, zero, suc, _+_, _-_, _/_, _%_, _^_, _≤_, _<_}
 use native.Mathlib.Numerals.{add-one}
 use native.Mathlib.Decide.{ℕ-discrete as decEq}
 use native.Mathlib.Omega.{arith}
@@ -13,14 +13,15 @@ use lib.ListN.{length, take, set, length-set, length-take}
 use lib.Seq.{getD-set-same, getD-set-other, getD-take, length-take-le, take-suc-set}
 use Rattle.lists.specs.Search.{In, here, elem}
 use Rattle.lists.proofs.Search.{none-in, in-one, in-left, in-right, in-either, place, placed, elem-intro, elem-elim}
-use Rattle.lists.proofs.Truth.{clash}
+use Rattle.lists.proofs.Truth.{clash, side}
 use Rattle.evalset.specs.declared.EvalSet.{EvalSet}
+use Rattle.evalset.specs.Bit.{bit}
 use Rattle.evalset.specs.Sets.{mem, memAt}
 use Rattle.contact.specs.Plan.{may}
 use Rattle.contact.proofs.Somewhere.{may-some, may-intro}
 use Rattle.pairing.specs.Sums.{entry}
 use Rattle.pairing.specs.Words.{Spelt}
-use Rattle.pairing.specs.Masks.{memberOf, Spare, Marked, MarkedTo, MaskIs, MasksAre, lowestOf, Kept}
+use Rattle.pairing.specs.Masks.{memberOf, Spare, Marked, MarkedIn, MarkedTo, MaskIs, MasksAre, lowestOf, Kept}
 use Rattle.pairing.proofs.Words.{spelt-none, spelt-more}
 
 -- ---- the masks
@@ -40,26 +41,56 @@ module _ (xs ys : List EvalSet) (e : ℕ) where
         second-is = subst (Spelt (i + 1) (memberOf ys e)) (sym (k .low)) (spelt-more (memberOf ys e) i (m % 65536) (memAt ys i e) (h .second-is) refl);
       }
 
+module _ (x y from : ℕ) (masks : List ℕ) where
+  pub word-none : MarkedIn x y from 0 masks masks
+  word-none = record { long = refl; marked = λ e l. absurd (omega arith); before = λ e l. refl; behind = λ e l. refl }
+
+  pub word-next : (e v : ℕ) (masks' : List ℕ) → MarkedIn x y from e masks masks' → from + e < length masks
+      → Marked (bit x e) (bit y e) (entry masks' (from + e)) v → MarkedIn x y from (e + 1) masks (set masks' (from + e) v)
+  word-next e v masks' h l k =
+      record {
+        long = length-set masks' (from + e) v ∙ h .long;
+        marked = λ d ld. go d ld (decEq d e);
+        before = λ d ld. getD-set-other masks' (from + e) d v 0 (λ z. omega arith) ∙ h .before d ld;
+        behind = λ d ld. getD-set-other masks' (from + e) d v 0 (λ z. omega arith) ∙ h .behind d (omega arith);
+      }
+    where
+      go : (d : ℕ) → d < e + 1 → Dec (d ≡ e) → Marked (bit x d) (bit y d) (entry masks (from + d)) (entry (set masks' (from + e) v) (from + d))
+      go d ld (yes z) =
+          subst (λ (i : ℕ). Marked (bit x i) (bit y i) (entry masks (from + i)) (entry (set masks' (from + e) v) (from + i))) (sym z)
+          (subst (λ (m : ℕ). Marked (bit x e) (bit y e) m (entry (set masks' (from + e) v) (from + e))) (h .behind (from + e) (omega arith))
+          (subst (Marked (bit x e) (bit y e) (entry masks' (from + e))) (sym (getD-set-same masks' (from + e) v 0 (omega (arith, h .long)))) k))
+      go d ld (no ne) =
+          subst (Marked (bit x d) (bit y d) (entry masks (from + d))) (sym (getD-set-other masks' (from + e) (from + d) v 0 (λ z. ne (omega arith))))
+          (h .marked d (omega (arith, ne)))
+
 module _ (x y : EvalSet) (masks : List ℕ) where
   pub marked-none : MarkedTo x y 0 masks masks
   marked-none = record { long = refl; marked = λ e l. absurd (omega arith); others = λ e l. refl }
 
-  pub marked-next : (e v : ℕ) (masks' : List ℕ) → MarkedTo x y e masks masks' → e < length masks → Marked (mem x e) (mem y e) (entry masks' e) v
-      → MarkedTo x y (e + 1) masks (set masks' e v)
-  marked-next e v masks' h l k =
+  -- one word more
+  pub marked-word : (from n u v : ℕ) (masks' more : List ℕ) → MarkedTo x y from masks masks' → MarkedIn u v from n masks' more
+      → ((e : ℕ) → e < n → bit u e ≡ mem x (from + e)) → ((e : ℕ) → e < n → bit v e ≡ mem y (from + e)) → MarkedTo x y (from + n) masks more
+  marked-word from n u v masks' more h k us vs =
       record {
-        long = length-set masks' e v ∙ h .long;
-        marked = λ d ld. go d ld (decEq d e);
-        others = λ d ld. getD-set-other masks' e d v 0 (λ z. omega arith) ∙ h .others d (omega arith);
+        long = k .long ∙ h .long;
+        marked = λ d l. ⊎-elim (low d) (high d l) (side d from);
+        others = λ d l. k .behind d l ∙ h .others d (omega arith);
       }
     where
-      go : (d : ℕ) → d < e + 1 → Dec (d ≡ e) → Marked (mem x d) (mem y d) (entry masks d) (entry (set masks' e v) d)
-      go d ld (yes z) =
-          subst (λ (i : ℕ). Marked (mem x i) (mem y i) (entry masks i) (entry (set masks' e v) i)) (sym z)
-          (subst (λ (m : ℕ). Marked (mem x e) (mem y e) m (entry (set masks' e v) e)) (h .others e (omega arith))
-          (subst (Marked (mem x e) (mem y e) (entry masks' e)) (sym (getD-set-same masks' e v 0 (omega (arith, h .long)))) k))
-      go d ld (no ne) =
-          subst (Marked (mem x d) (mem y d) (entry masks d)) (sym (getD-set-other masks' e d v 0 ne)) (h .marked d (omega (arith, ne)))
+      low : (d : ℕ) → d < from → Marked (mem x d) (mem y d) (entry masks d) (entry more d)
+      low d m = subst (Marked (mem x d) (mem y d) (entry masks d)) (sym (k .before d m)) (h .marked d m)
+
+      there : (e : ℕ) → e < n → Marked (mem x (from + e)) (mem y (from + e)) (entry masks (from + e)) (entry more (from + e))
+      there e l =
+          subst (λ (b : Bool). Marked b (mem y (from + e)) (entry masks (from + e)) (entry more (from + e))) (us e l)
+          (subst (λ (b : Bool). Marked (bit u e) b (entry masks (from + e)) (entry more (from + e))) (vs e l)
+          (subst (λ (m : ℕ). Marked (bit u e) (bit v e) m (entry more (from + e))) (h .others (from + e) (omega arith)) (k .marked e l)))
+
+      high : (d : ℕ) → d < from + n → from ≤ d → Marked (mem x d) (mem y d) (entry masks d) (entry more d)
+      high d l m =
+          let z : from + (d - from) ≡ d = omega arith in
+          subst (λ (i : ℕ). Marked (mem x i) (mem y i) (entry masks i) (entry more i)) z (there (d - from) (omega arith))
 
 -- ---- the places of an array's first elements
 

@@ -8,6 +8,7 @@ use lib.Bits.{bitAnd, bitOr}
 use lib.ListN.{length, take}
 use Rattle.lists.specs.Search.{In, collect, below}
 use Rattle.evalset.specs.declared.EvalSet.{EvalSet}
+use Rattle.evalset.specs.Bit.{bit}
 use Rattle.evalset.specs.Sets.{mem, memAt}
 use Rattle.pairing.specs.Sums.{entry}
 use Rattle.pairing.specs.Words.{Spelt}
@@ -31,6 +32,13 @@ Spare m = (m % 65536 < 32768) × (m / 65536 < 32768)
 pub record Marked (first second : Bool) (m r : ℕ) : Type 0 where
   pub high : r / 65536 ≡ m / 65536 * 2 + digit first
   pub low : r % 65536 ≡ m % 65536 * 2 + digit second
+
+-- the masks of n evaluations from one on have one atom more, whose terms have the words x and y there; the others are as before
+pub record MarkedIn (x y from n : ℕ) (masks masks' : List ℕ) : Type 0 where
+  pub long : length masks' ≡ length masks
+  pub marked : (e : ℕ) → e < n → Marked (bit x e) (bit y e) (entry masks (from + e)) (entry masks' (from + e))
+  pub before : (e : ℕ) → e < from → entry masks' e ≡ entry masks e
+  pub behind : (e : ℕ) → from + n ≤ e → entry masks' e ≡ entry masks e
 
 -- so are the masks of the evaluations below n, by the terms x and y; the others are as they were
 pub record MarkedTo (x y : EvalSet) (n : ℕ) (masks masks' : List ℕ) : Type 0 where
@@ -78,5 +86,5 @@ allPairs zeros masks n = collect (λ e. pairsOf zeros masks e (e + 1)) (below n)
 
 -- those of the mask at e with the first n stand in an array
 pub record PairsIn (zeros : ℕ) (masks : List ℕ) (e n : ℕ) (words : List ℕ) : Type 0 where
-  pub long : length words ≡ 64
+  pub long : length words ≡ 256
   pub are : (f : ℕ) → f < n → entry words f ≡ pairWord zeros (entry masks e) (entry masks f)

@@ -5,16 +5,16 @@
 // unions for all rows of a block by sums over subsets, for rows of some of the atoms too. A requires asks only that indices are in range: our own crates alone call these functions. Assumes nothing.
 ghost use mathlib.Core.Path.{_≡_};
 ghost use mathlib.Core.Bool.{_&&_, cond};
-ghost use Prim.Native.Nat.{ℕ, _+_, _*_, _/_, _-_, _^_, _≤_, _<_};
+ghost use Prim.Native.Nat.{ℕ, _+_, _*_, _/_, _-_, _^_, _≤_, _<_, min};
 ghost use lib.ListN.{length, take};
 ghost use mathlib.Core.List.{[], _∷_};
 ghost use Rattle.lists.specs.Search.{elem};
-ghost use Rattle.evalset.specs.Bit.{bit};
+ghost use Rattle.evalset.specs.Bit.{wordBits, bit};
 ghost use Rattle.evalset.specs.Sets.{room, dropOf};
 ghost use Rattle.search.specs.Compiled.{limit, contactAt};
 ghost use Rattle.pairing.specs.Sums.{Joined, Sums, entry};
 ghost use Rattle.pairing.specs.Words.{Spelt, lone, rowTest, Judges};
-ghost use Rattle.pairing.specs.Masks.{digit, Spare, Marked, MarkedTo, MasksAre, lowestOf, Kept, PairsIn};
+ghost use Rattle.pairing.specs.Masks.{digit, Spare, Marked, MarkedIn, MarkedTo, MasksAre, lowestOf, Kept, PairsIn};
 ghost use Rattle.pairing.specs.Listed.{Small, Noted, entriesOf, Listable, ListSays, Takes, puts, putsAll};
 use evalset::EvalSet;
 use evalset::Found;
@@ -59,22 +59,54 @@ fn marked(m: u32, first: bool, second: bool) -> u32
     if first { k + 65536 } else { k }
 }
 
-// The masks of the first `top` evaluations with one atom more, whose terms are x and y.
-fn mark_each(masks: &mut [u32; ROOM], x: EvalSet, y: EvalSet, top: usize)
-    requires { ⌜ (top ≤ room) × (length (now masks) ≡ 64) × ((e : ℕ) → e < top → Spare (entry (now masks) e)) ⌝ }
-    ensures { λ _. ⌜ MarkedTo x y top (now (masks .entry)) (now (masks .exit)) ⌝ }
+// The masks of n evaluations from one on with one atom more, whose terms have these words there.
+fn mark_word(masks: &mut [u32; ROOM], from: usize, n: usize, x: u64, y: u64)
+    requires { ⌜ (from + n ≤ room) × (n ≤ wordBits) × (length (now masks) ≡ 256) × ((e : ℕ) → e < n → Spare (entry (now masks) (from + e))) ⌝ }
+    ensures { λ _. ⌜ MarkedIn x y from n (now (masks .entry)) (now (masks .exit)) ⌝ }
 {
     let mut e: usize = 0;
-    while e < top {
-        masks[e] = marked(masks[e], evalset::contains(x, e), evalset::contains(y, e));
+    while e < n {
+        let at = from + e;
+        masks[at] = marked(masks[at], (x >> e) % 2 == 1, (y >> e) % 2 == 1);
         e += 1;
+    }
+}
+
+// The bits of a word that are wanted: all where there are more.
+fn at_most_word(n: usize) -> usize
+    ensures { λ r. ⌜ r ≡ min n wordBits ⌝ }
+{
+    if n < 64 { n } else { 64 }
+}
+
+// The masks of the first `top` evaluations with one atom more, whose terms are x and y. They are marked word by word, so that a word is
+// read once.
+fn mark_each(masks: &mut [u32; ROOM], x: EvalSet, y: EvalSet, top: usize)
+    requires { ⌜ (top ≤ room) × (length (now masks) ≡ 256) × ((e : ℕ) → e < top → Spare (entry (now masks) e)) ⌝ }
+    ensures { λ _. ⌜ MarkedTo x y top (now (masks .entry)) (now (masks .exit)) ⌝ }
+{
+    let mut k: usize = 0;
+    while k < 4 {
+        let from = 64 * k;
+        if top <= from {
+            return;
+        }
+        let n = at_most_word(top - from);
+        mark_word(
+            masks,
+            from,
+            n,
+            evalset::word_of(x, k),
+            evalset::word_of(y, k),
+        );
+        k += 1;
     }
 }
 
 // The masks of the first `top` evaluations, by the first and the second terms of n atoms.
 fn masks_of(xs: [EvalSet; 16], ys: [EvalSet; 16], n: usize, top: usize) -> [u32; ROOM]
     requires { ⌜ (n ≤ limit) × (top ≤ room) ⌝ }
-    ensures { λ r. ⌜ (length r ≡ 64) × MasksAre xs ys n top r ⌝ }
+    ensures { λ r. ⌜ (length r ≡ 256) × MasksAre xs ys n top r ⌝ }
 {
     let mut masks = [0u32; ROOM];
     let mut i: usize = 0;
@@ -91,7 +123,7 @@ fn masks_of(xs: [EvalSet; 16], ys: [EvalSet; 16], n: usize, top: usize) -> [u32;
 
 // Whether m is one of the first `count` masks. It is compared with each of them, so that several are compared at once.
 fn among(masks: &[u32; ROOM], count: usize, m: u32) -> bool
-    requires { ⌜ (count ≤ room) × (length (now masks) ≡ 64) ⌝ }
+    requires { ⌜ (count ≤ room) × (length (now masks) ≡ 256) ⌝ }
     ensures { λ r. ⌜ r ≡ elem m (take count (now (masks .entry))) ⌝ }
 {
     let mut there = false;
@@ -113,7 +145,7 @@ fn lowest(names: usize) -> usize
 // The different ones of the first `top` masks, but for those of evaluations that no point may have, in the first places, each once; their
 // number is answered.
 fn keep_different(masks: &mut [u32; ROOM], names: usize, top: usize) -> usize
-    requires { ⌜ (0 < top) × (top ≤ room) × (length (now masks) ≡ 64) ⌝ }
+    requires { ⌜ (0 < top) × (top ≤ room) × (length (now masks) ≡ 256) ⌝ }
     ensures { λ r. ⌜ Kept (lowestOf names) top (now (masks .entry)) (now (masks .exit)) r ⌝ }
 {
     let mut count: usize = 0;
@@ -151,7 +183,7 @@ fn note(seen: &mut [u64], list: &mut [u16], count: usize, k: u32) -> usize
 // The words of the pairs of class e with the classes up to it: an atom is served if one of the two is in its first term, and one in its
 // second, or it is one of the zero atoms. They are made apart from the list, so that several are made at once.
 fn pair_words(words: &mut [u32; ROOM], masks: &[u32; ROOM], zeros: u32, e: usize)
-    requires { ⌜ (e < room) × (length (now words) ≡ 64) ⌝ }
+    requires { ⌜ (e < room) × (length (now words) ≡ 256) ⌝ }
     ensures { λ _. ⌜ PairsIn zeros (now (masks .entry)) e (e + 1) (now (words .exit)) ⌝ }
 {
     let m = masks[e] | zeros;

@@ -1,34 +1,36 @@
 -- What this crate promises, claim by claim; each holds by the file named in its comment. Assumes nothing.
 use mathlib.Core.Path.{_≡_, sym, ap, _∙_, subst}
-use mathlib.Core.Bool.{true, false}
-use mathlib.Core.Logic.{_↔_}
+use mathlib.Core.Bool.{Bool, true, false}
+use mathlib.Core.Logic.{_↔_, _⊎_}
 use mathlib.Core.List.{List, [], _∷_}
 use Prim.Native.Nat.{ℕ, _^_, _≤_, _<_}
 use lib.ListN.{length, take}
 use native.Mathlib.Omega.{arith}
 use Rattle.formula.specs.Formula.{Term, Atom, Formula, Name}
 use Rattle.evalset.specs.declared.EvalSet.{EvalSet}
-use Rattle.evalset.specs.Sets.{mem, memAt}
+use Rattle.evalset.specs.Sets.{room, mem, memAt}
 use Rattle.evalset.specs.Most.{most}
 use Rattle.contact.specs.Meaning.{Floor, atomOn, meetsAll}
 use Rattle.contact.specs.Question.{Question, plain, Counts, NoFloor}
 use Rattle.contact.specs.Numbering.{namesOf, differentAtoms}
 use Rattle.contact.specs.Row.{Row, Realises}
-use Rattle.lists.specs.Search.{In}
+use Rattle.lists.specs.Search.{In, keep, below}
 use Rattle.contact.specs.Plan.{Means}
 use Rattle.contact.specs.Check.{firstRowOf}
 use Rattle.plan.specs.declared.PlanArrays.{PlanArrays}
 use Rattle.plan.specs.declared.PlanAnswer.the-variants as answer-is
 use Rattle.plan.specs.declared.PlanRead.{PlanRead}
-use Rattle.plan.specs.Words.{Plan, Ascends, IsPlan, wordsOf, Refusal}
+use Rattle.plan.specs.Words.{Plan, mostPoints, Ascends, IsPlan, shortFirst, longFirst, wordsOf, Refusal}
+use Rattle.plan.specs.Short.{shortWords}
 use Rattle.plan.specs.Floor.{touching, planFloor, namedFloor}
 use Rattle.plan.specs.Judging.{yes, unmet, judge, uncovered}
 use Rattle.plan.specs.Reader.{Reading, plan, refused, readOf, ReadingSays}
-use Rattle.plan.specs.Arrays.{answerOf, planIn, Reads, countOf, planBy, touchesOf, vacantOf}
+use Rattle.plan.specs.Arrays.{answerOf, planIn, Reads, countOf, planBy, pointsPlan, touchesOf, vacantOf}
 use Rattle.plan.specs.Stored.{Stored}
 use Rattle.plan.specs.Given.{IsRowPlan}
 use Rattle.plan.specs.Plans.{rowPlan, plansOf}
 use Rattle.plan.proofs.Exact.{exact, plan-read, refusal-read}
+use Rattle.plan.proofs.Kept
 use Rattle.plan.proofs.Contacts.{arrays-plan}
 use Rattle.plan.proofs.SamePlan.{plan-again, rows-kept}
 use Rattle.plan.proofs.SameArrays.{InRange, reads-once}
@@ -50,6 +52,22 @@ plan-is-read p h = plan-read p h
 pub refused-exactly : (ws : List ℕ) (j : ℕ) → (readOf ws ≡ refused j → Refusal ws j) × (Refusal ws j → readOf ws ≡ refused j)
 refused-exactly ws j = (λ e. subst (ReadingSays ws) e (exact ws), refusal-read ws j)
 
+-- document 02's T-08: "Plans of up to 6 names keep their words": those of document 01's text (Kept)
+pub short-words : (p : Plan) → p .names ≤ 6 → wordsOf p ≡ shortWords p
+short-words p few = Kept.short-words p few
+
+-- "and stored ones read as before" (Kept)
+pub short-read : (p : Plan) → IsPlan p → p .names ≤ 6 → readOf (shortWords p) ≡ plan p
+short-read p h few = Kept.short-read p h few
+
+-- "kind 1 with such names is refused": seven or more (Kept)
+pub short-many : (n c : ℕ) (ws : List ℕ) → 6 < n → n < 256 → c < 256 → Refusal (shortFirst n c ∷ ws) 0
+short-many n c ws many top small = refused-exactly (shortFirst n c ∷ ws) 0 .0 (Kept.short-many n c ws many top small)
+
+-- "and kind 8 with fewer too", or with more than eight (Kept)
+pub long-other : (n c : ℕ) (ws : List ℕ) → (n ≤ 6) ⊎ (8 < n) → n < 4096 → c < 65536 → Refusal (longFirst n c ∷ ws) 0
+long-other n c ws names top small = refused-exactly (longFirst n c ∷ ws) 0 .0 (Kept.long-other n c ws names top small)
+
 -- words that were read as a plan are the words of the arrays that came back, so written again they are the same (SamePlan)
 pub read-written : (ws : List ℕ) (r : PlanRead) → Reads ws r → r .answer ≡ answer-is.Plan → wordsOf (planBy (r .plan)) ≡ ws
 read-written ws r s e = go (readOf ws) (exact ws) (s .plan) (sym (s .answer) ∙ e)
@@ -64,8 +82,13 @@ written-read p h q s =
     let e : readOf (wordsOf p) ≡ plan p = plan-read p h in
     (s .answer ∙ ap answerOf e, subst (λ (x : Reading). Stored (q .plan) (planIn x)) e (s .plan))
 
+-- what is written of a set of points is a plan if they are evaluations of its names, whatever is apart (Given)
+pub points-are-plan : (names : ℕ) (given : ℕ → Bool) (apart : ℕ → ℕ → Bool) → names ≤ most → ((e : ℕ) → given e ≡ true → e < 2 ^ names)
+    → 0 < length (keep given (below room)) → IsPlan (pointsPlan names given apart)
+points-are-plan = Given.set-plan
+
 -- arrays hold a plan if their points ascend below 2^names, whatever their rows (Contacts)
-pub arrays-are-plan : (r : PlanArrays) → length (r .points) ≡ 64 → r .names ≤ most → 0 < countOf r
+pub arrays-are-plan : (r : PlanArrays) → length (r .points) ≡ mostPoints → r .names ≤ most → 0 < countOf r
     → Ascends 0 (2 ^ (r .names)) (take (countOf r) (r .points)) → IsPlan (planBy r)
 arrays-are-plan r full few some up = arrays-plan r full few some up
 
@@ -109,7 +132,7 @@ pub judge-unmet : {N : Type 0} (F : Floor N) (rules : List (Formula N)) (k : ℕ
     → (judge F rules ≡ unmet k → FirstUnmet F 1 rules k) × (FirstUnmet F 1 rules k → judge F rules ≡ unmet k)
 judge-unmet F rules k = unmet-exactly F rules k
 
--- the plan of the row that is found is a plan in words, for at most six names (Given)
+-- the plan of the row that is found is a plan in words, for at most eight names (Given)
 pub given-is-plan : (q : Question) (rules : List (Formula Name)) → length (namesOf rules) ≤ most → (row : Row)
     → firstRowOf q rules ≡ row ∷ [] → IsPlan (rowPlan q rules row)
 given-is-plan q rules few row found = Given.given-is-plan q rules row found few
@@ -164,12 +187,12 @@ pub given-words : (rules : List (Formula Name)) → length (differentAtoms rules
     → length (wordsOf p) ≤ 530
 given-words = Given.given-words
 
--- any plan, also that of one building, has at most 63 points for at most six names (Given)
+-- any plan, also that of one building, has at most 255 points for at most eight names (Given)
 pub room-points : (q : Question) (rules : List (Formula Name)) (p : Plan) → plansOf q rules ≡ p ∷ [] → length (namesOf rules) ≤ most
-    → length (p .points) ≤ 63
+    → length (p .points) ≤ 255
 room-points = Given.room-points
 
--- so "a one-building plan now has at most 63 points and 2,018 words" (Given)
+-- "One-building plans then have up to 255 points", and so 32,642 words (Given)
 pub room-words : (q : Question) (rules : List (Formula Name)) (p : Plan) → plansOf q rules ≡ p ∷ [] → length (namesOf rules) ≤ most
-    → length (wordsOf p) ≤ 2018
+    → length (wordsOf p) ≤ 32642
 room-words = Given.room-words

@@ -9,9 +9,10 @@ use lib.Pow.{pow-mono}
 use borrow.Author.Tests.{le-leb, lt-ltb, eq-eqb}
 use Rattle.plan.specs.declared.Word.{Word}
 use Rattle.plan.specs.declared.Word.the-variants.{First, Point, Contact, Last}
-use Rattle.plan.specs.Words.{Plan, Ascends, Rises, IsPlan, firstWord, pointWord, contactWord, lastWord, before, wordsOf}
+use Rattle.plan.specs.Words.{Plan, Ascends, Rises, IsPlan, firstWord, pointWord, contactWord, lastWord, before, wordsOf, mostPoints}
 use Rattle.plan.specs.Reader.{kindOf, State, start, pointing, linking, whole, opened, went, pointed, linked, step, run}
 use Rattle.plan.proofs.Spelling.{first-kind, point-kind, contact-kind, last-kind}
+use Rattle.evalset.specs.Most.{most}
 
 -- ascending points leave room: there are at most high - low of them
 pub ascends-room : (low high : ℕ) (es : List ℕ) → low ≤ high → Ascends low high es → low + length es ≤ high
@@ -19,8 +20,8 @@ ascends-room low high [] h a = omega arith
 ascends-room low high (e ∷ es) h a = omega (arith, a .0, ascends-room (suc e) high es (a .1) (a .2))
 
 -- ---- one step by each kind
-pub open-by : (n c : ℕ) → n ≤ 6 → 1 ≤ c → c ≤ 2 ^ n → opened (First n c) ≡ pointing n (c - 1) [] 0
-open-by n c a b d = rw (le-leb n 6 a, le-leb 1 c b, le-leb c (2 ^ n) d)
+pub open-by : (n c : ℕ) → n ≤ most → 1 ≤ c → c ≤ 2 ^ n → opened (First n c) ≡ pointing n (c - 1) [] 0
+open-by n c a b d = rw (le-leb n most a, le-leb 1 c b, le-leb c (2 ^ n) d)
 
 pub point-by : (n m : ℕ) (pts : List ℕ) (low e : ℕ) → low ≤ e → e + m < 2 ^ n
     → pointed n m pts low (Point e) ≡ went n m (pts ++ (e ∷ [])) e
@@ -45,7 +46,7 @@ unfolding run
 run-cons s t w k ws a b = ap (λ (x : State). run x ws) (ap (step s) a ∙ b)
 
 -- the points, of which there is one at least
-run-points : (n : ℕ) → n ≤ 6 → (low : ℕ) (pts : List ℕ) (e : ℕ) (es ws : List ℕ) → Ascends low (2 ^ n) (e ∷ es)
+run-points : (n : ℕ) → n ≤ most → (low : ℕ) (pts : List ℕ) (e : ℕ) (es ws : List ℕ) → Ascends low (2 ^ n) (e ∷ es)
     → run (pointing n (length es) pts low) (map pointWord (e ∷ es) ++ ws) ≡ run (linking n (pts ++ (e ∷ es)) [] 0) ws
 run-points n few low pts e [] ws a =
     run-cons _ _ (pointWord e) (Point e) ws (point-kind e (omega (arith, a .1, pow-mono few)))
@@ -61,7 +62,7 @@ abbrev after : ℕ → List ℕ → ℕ
 after low [] = low
 after low (k ∷ ks) = after (suc k) ks
 
-run-links : (n : ℕ) (pts : List ℕ) → length pts ≤ 64 → (low : ℕ) (js ks ws : List ℕ) → Rises low (length pts) ks
+run-links : (n : ℕ) (pts : List ℕ) → length pts ≤ mostPoints → (low : ℕ) (js ks ws : List ℕ) → Rises low (length pts) ks
     → run (linking n pts js low) (map contactWord ks ++ ws) ≡ run (linking n pts (js ++ ks) (after low ks)) ws
 run-links n pts few low js [] ws r = ap (λ (l : List ℕ). run (linking n pts l low) ws) (sym (append-nil js))
 run-links n pts few low js (k ∷ ks) ws r =
@@ -76,7 +77,7 @@ run-links n pts few low js (k ∷ ks) ws r =
     ∙ ap (λ (l : List ℕ). run (linking n pts l (after (suc k) ks)) ws) (append-assoc js (k ∷ []) ks)
 
 -- how many contacts there can be
-rises-room : (low n : ℕ) (ks : List ℕ) → n ≤ 64 → low ≤ 65536 → Rises low n ks → low + length ks ≤ 65536
+rises-room : (low n : ℕ) (ks : List ℕ) → n ≤ mostPoints → low ≤ 65536 → Rises low n ks → low + length ks ≤ 65536
 rises-room low n [] f h r = omega arith
 rises-room low n (k ∷ ks) f h r =
     let b = r .1 in
@@ -116,7 +117,7 @@ run-whole n (e ∷ es) ks p = shown
     d : Plan
     d = record { names = n; points = e ∷ es; contacts = ks }
 
-    few : 2 ^ n ≤ 64
+    few : 2 ^ n ≤ mostPoints
     few = pow-mono (p .few)
 
     size : length (e ∷ es) ≤ 2 ^ n
@@ -133,7 +134,7 @@ run-whole n (e ∷ es) ks p = shown
         ap (run start) (spelt d)
         ∙ run-cons start (pointing n (length es) [] 0) (firstWord n (suc (length es))) (First n (suc (length es)))
         (map pointWord (e ∷ es) ++ (map contactWord ks ++ tail))
-        (first-kind n (suc (length es)) (omega (arith, p .few)) (omega (arith, size, few)))
+        (first-kind n (suc (length es)) (p .few) size)
         (open-by n (suc (length es)) (p .few) (omega arith) size ∙ ap (λ (x : ℕ). pointing n x [] 0) less)
         ∙ run-points n (p .few) 0 [] e es (map contactWord ks ++ tail) (p .ascend)
         ∙ run-links n (e ∷ es) (omega (arith, size, few)) 0 [] ks tail (p .rise)

@@ -1,21 +1,24 @@
 -- The contacts that rows give are their pairs, one after the other. They rise strictly, whatever the rows are: row after row, and in
 -- a row position after position. So arrays whose points ascend hold a plan. Assumes nothing.
-use mathlib.Core.Path.{_≡_, refl, sym, _∙_, subst}
-use mathlib.Core.Bool.{Bool, true, false, _&&_, cond, and-eq-true-iff}
-use mathlib.Core.List.{List, [], _∷_, _++_, append-assoc}
-use Prim.Native.Nat.{ℕ, zero, suc, _+_, _*_, _^_, _/_, _%_, _≤_, _<_}
+use mathlib.Core.Path.{_≡_, refl, sym, ap, ap₂, _∙_, subst}
+use mathlib.Core.Bool.{Bool, true, false, _&&_, cond, and-false, and-eq-true-iff}
+use mathlib.Core.List.{List, [], _∷_, _++_, append-assoc, append-nil}
+use Prim.Native.Nat.{ℕ, zero, suc, _+_, _-_, _*_, _^_, _/_, _%_, _≤_, _<_}
 use native.Mathlib.Omega.{arith}
+use native.Mathlib.Numerals.{add-one}
 use lib.Dec.{ltb}
 use lib.ListN.{length, take, length-take}
 use borrow.Author.Tests.{ltb-true, lt-ltb, le-ltb}
 use Rattle.lists.proofs.Below.{collect-more, collect-within, collect-small}
-use Rattle.lists.specs.Search.{collect, from}
+use Rattle.lists.specs.Search.{collect, from, below}
+use Rattle.lists.proofs.Search.{collect-same, below-elim}
 use Rattle.evalset.specs.Sets.{memAt}
 use Rattle.evalset.specs.Most.{most}
 use Rattle.plan.specs.declared.PlanArrays.{PlanArrays}
-use Rattle.plan.specs.Words.{Ascends, Rises, IsPlan}
+use Rattle.plan.specs.Words.{Ascends, Rises, IsPlan, mostPoints}
 use Rattle.plan.specs.Arrays.{countOf, planBy}
 use Rattle.plan.specs.Links.{pairOf, rowTo, linksTo}
+use Rattle.plan.specs.Private.{Next}
 
 -- ---- the contacts that rows give
 pub pair-early : (i j : ℕ) (t : ℕ → Bool) → j ≤ i → pairOf i j t ≡ []
@@ -26,9 +29,14 @@ pub pair-there : (i j : ℕ) (t : ℕ → Bool) → i < j → t j ≡ true → p
 unfolding pairOf
 pair-there i j t h e = rw (lt-ltb i j h, e)
 
-pub pair-apart : (i j : ℕ) (t : ℕ → Bool) → i < j → t j ≡ false → pairOf i j t ≡ []
+pair-absent : (i j : ℕ) (t : ℕ → Bool) → t j ≡ false → pairOf i j t ≡ []
 unfolding pairOf
-pair-apart i j t h e = rw (lt-ltb i j h, e)
+pair-absent i j t e =
+    ap (λ (b : Bool). cond (ltb i j && b) ((i * 256 + j) ∷ []) []) e
+    ∙ ap (λ (b : Bool). cond b ((i * 256 + j) ∷ []) []) (and-false (ltb i j))
+
+pub pair-apart : (i j : ℕ) (t : ℕ → Bool) → i < j → t j ≡ false → pairOf i j t ≡ []
+pair-apart i j t h e = pair-absent i j t e
 
 pub pair-small : (i j : ℕ) (t : ℕ → Bool) → length (pairOf i j t) ≤ 1
 unfolding pairOf
@@ -38,13 +46,46 @@ pair-small i j t = go (ltb i j && t j)
     go true = omega arith
     go false = omega arith
 
-pub row-none : (i : ℕ) (t : ℕ → Bool) → rowTo 0 i t ≡ []
+row-none : (i : ℕ) (t : ℕ → Bool) → rowTo 0 i t ≡ []
 unfolding rowTo
 row-none i t = refl
 
 pub row-more : (j i : ℕ) (t : ℕ → Bool) → rowTo j i t ++ pairOf i j t ≡ rowTo (j + 1) i t
 unfolding rowTo
 row-more j i t = collect-more (λ b. pairOf i b t) j
+
+-- no pair with a position that is not later
+row-early : (k i : ℕ) (t : ℕ → Bool) → k ≤ i + 1 → rowTo k i t ≡ []
+row-early zero i t h = row-none i t
+row-early (suc k) i t h =
+    ap (λ (x : ℕ). rowTo x i t) (sym (add-one k)) ∙ sym (row-more k i t)
+    ∙ ap₂ _++_ (row-early k i t (omega arith)) (pair-early i k t (omega arith))
+
+-- positions that are not in the row give no pair
+pub row-skip : (j m i : ℕ) (t : ℕ → Bool) → ((d : ℕ) → j ≤ d → d < j + m → t d ≡ false) → rowTo (j + m) i t ≡ rowTo j i t
+row-skip j zero i t h = let e : j + 0 ≡ j = omega arith in ap (λ (x : ℕ). rowTo x i t) e
+row-skip j (suc m) i t h =
+    let e : j + suc m ≡ j + m + 1 = omega arith in
+    ap (λ (x : ℕ). rowTo x i t) e ∙ sym (row-more (j + m) i t)
+    ∙ ap₂ _++_ (row-skip j m i t (λ d a b. h d a (omega arith))) (pair-absent i (j + m) t (h (j + m) (omega arith) (omega arith)))
+    ∙ append-nil (rowTo j i t)
+
+pub row-to-next : (low n r i : ℕ) (t : ℕ → Bool) → Next t low n r → rowTo r i t ≡ rowTo low i t
+row-to-next low n r i t h =
+    let l = h .least in
+    let e : low + (r - low) ≡ r = omega arith in
+    sym (ap (λ (x : ℕ). rowTo x i t) e) ∙ row-skip low (r - low) i t (λ d a b. h .absent d a (omega arith))
+
+-- the first position in the row, and the one after a position that is
+pub row-first : (n r i : ℕ) (t : ℕ → Bool) → Next t (i + 1) n r → rowTo r i t ≡ []
+row-first n r i t h = row-to-next (i + 1) n r i t h ∙ row-early (i + 1) i t (omega arith)
+
+pub row-one : (j i : ℕ) (t : ℕ → Bool) → i < j → t j ≡ true → rowTo j i t ++ ((i * 256 + j) ∷ []) ≡ rowTo (j + 1) i t
+row-one j i t l e = ap (λ (ks : List ℕ). rowTo j i t ++ ks) (sym (pair-there i j t l e)) ∙ row-more j i t
+
+pub row-next : (j n r i : ℕ) (t : ℕ → Bool) → i < j → t j ≡ true → Next t (j + 1) n r
+    → rowTo j i t ++ ((i * 256 + j) ∷ []) ≡ rowTo r i t
+row-next j n r i t l e h = row-one j i t l e ∙ sym (row-to-next (j + 1) n r i t h)
 
 pub row-small : (j i : ℕ) (t : ℕ → Bool) → length (rowTo j i t) ≤ j
 unfolding rowTo
@@ -67,9 +108,17 @@ pub links-within : (i m n : ℕ) (t : ℕ → ℕ → Bool) → i ≤ m → leng
 unfolding linksTo
 links-within i m n t h = collect-within (λ a. rowTo n a (t a)) i m h
 
-pub links-small : (i n : ℕ) (t : ℕ → ℕ → Bool) → n ≤ 64 → length (linksTo i n t) ≤ i * 64
+pub links-small : (i n : ℕ) (t : ℕ → ℕ → Bool) → n ≤ mostPoints → length (linksTo i n t) ≤ i * mostPoints
 unfolding linksTo
-links-small i n t h = collect-small (λ a. rowTo n a (t a)) 64 (λ a. omega (arith, row-small n a (t a))) 0 i
+links-small i n t h = collect-small (λ a. rowTo n a (t a)) mostPoints (λ a. omega (arith, row-small n a (t a))) 0 i
+
+-- rows that agree on the positions below n have the same contacts
+pub links-same : (n : ℕ) (s t : ℕ → ℕ → Bool) → ((i j : ℕ) → i < n → j < n → s i j ≡ t i j) → linksTo n n s ≡ linksTo n n t
+unfolding linksTo rowTo pairOf
+links-same n s t h =
+    collect-same (λ i. rowTo n i (s i)) (λ i. rowTo n i (t i)) (below n)
+    (λ i x. collect-same (λ j. pairOf i j (s i)) (λ j. pairOf i j (t i)) (below n)
+    (λ j y. ap (λ (b : Bool). cond (ltb i j && b) ((i * 256 + j) ∷ []) []) (h i j (below-elim n i x) (below-elim n j y))))
 
 -- ---- they rise
 rises-from : (low low′ n : ℕ) (ks : List ℕ) → low ≤ low′ → Rises low′ n ks → Rises low n ks
@@ -111,7 +160,7 @@ unfolding linksTo
 links-rise m n t f = rows-rise m 0 n t f
 
 -- arrays with points that ascend hold a plan
-pub arrays-plan : (r : PlanArrays) → length (r .points) ≡ 64 → r .names ≤ most → 0 < countOf r
+pub arrays-plan : (r : PlanArrays) → length (r .points) ≡ mostPoints → r .names ≤ most → 0 < countOf r
     → Ascends 0 (2 ^ (r .names)) (take (countOf r) (r .points)) → IsPlan (planBy r)
 unfolding planBy
 arrays-plan r full few some up =

@@ -41,6 +41,21 @@ examples =
     ∷ (0x10010101 ∷ [], refused 0)
     ∷ (0x20000000 ∷ [], refused 0)
     ∷ (0x00000001 ∷ [], refused 0)
+    -- seven and eight names: the first word is of kind 8, and the last evaluation is 255
+    ∷ (0x80070001 ∷ 0x20000040 ∷ 0x40000002 ∷ [], plan (planOf 7 (64 ∷ []) []))
+    ∷ (0x80080002 ∷ 0x20000000 ∷ 0x200000FF ∷ 0x30000001 ∷ 0x40000004 ∷ [], plan (planOf 8 (0 ∷ 255 ∷ []) (1 ∷ [])))
+    ∷ (0x80070002 ∷ 0x2000007F ∷ [], refused 1)
+    ∷ (0x80080100 ∷ 0x20000001 ∷ [], refused 1)
+    ∷ (0x80080100 ∷ 0x20000000 ∷ [], refused 2)
+    -- of kind 8: six names, none, nine, no point, more than 2^names points, an unnamed bit; of kind 1: eight names
+    ∷ (0x80060001 ∷ [], refused 0)
+    ∷ (0x80000001 ∷ [], refused 0)
+    ∷ (0x80090001 ∷ [], refused 0)
+    ∷ (0x80070000 ∷ [], refused 0)
+    ∷ (0x80070081 ∷ [], refused 0)
+    ∷ (0x80080101 ∷ [], refused 0)
+    ∷ (0x80170001 ∷ [], refused 0)
+    ∷ (0x10000801 ∷ [], refused 0)
     -- the last word: too early, a wrong count, a word after it, none; no words
     ∷ (0x10000202 ∷ 0x20000001 ∷ 0x40000002 ∷ [], refused 2)
     ∷ (0x10000202 ∷ 0x20000001 ∷ 0x20000002 ∷ 0x40000004 ∷ [], refused 3)

@@ -10,7 +10,7 @@ use native.Mathlib.Omega.{arith}
 use native.Mathlib.Nat.{mul-suc, suc-mul, mul-le-mul}
 use lib.ListN.{length, getD, length-append, length-map}
 use lib.Pow.{pow-mono}
-use Rattle.lists.proofs.Below.{collect-small}
+use Rattle.lists.proofs.Below.{collect-small, keep-length}
 use Rattle.lists.proofs.Search.{first-short}
 use Rattle.lists.proofs.Truth.{side}
 use Rattle.lists.proofs.Lists.{map-one}
@@ -28,9 +28,12 @@ use Rattle.contact.proofs.Naming.{numbers-count, numbers-row, row-meets, first-
 use Rattle.contact.proofs.Count.{points-at-most, points-room, points-room-named}
 use Rattle.contact.proofs.SameFloor.{SameFloor, same-back, row-same, counts-same}
 use Rattle.plan.specs.Words.{Plan, Ascends, IsPlan, lastWord, before, wordsOf}
+use Rattle.evalset.specs.Sets.{room}
 use Rattle.evalset.specs.Most.{most}
+use Rattle.evalset.proofs.Members.{keep-names}
 use Rattle.plan.specs.Floor.{liesIn, planFloor, namedFloor}
 use Rattle.plan.specs.Links.{pairOf, rowTo, linksTo}
+use Rattle.plan.specs.Arrays.{pointsPlan}
 use Rattle.plan.specs.Given.{givenPlan, IsRowPlan}
 use Rattle.plan.specs.Plans.{rowPlan, plansOf}
 use Rattle.plan.proofs.Complete.{before-length}
@@ -49,6 +52,19 @@ keep-ascends p low k (suc n) high h l = go (p k) (λ least m. keep-ascends p lea
         → Ascends low high (cond b (k ∷ keep p (from (suc k) n)) (keep p (from (suc k) n)))
     go true f = (h, omega arith, f (suc k) (omega arith))
     go false f = f low (omega arith)
+
+-- the plan of a set of evaluations that the names reach is a plan, whatever is apart
+pub set-plan : (names : ℕ) (given : ℕ → Bool) (apart : ℕ → ℕ → Bool) → names ≤ most → ((e : ℕ) → given e ≡ true → e < 2 ^ names)
+    → 0 < length (keep given (below room)) → IsPlan (pointsPlan names given apart)
+unfolding pointsPlan
+set-plan names given apart few low some =
+    let cut : keep given (below room) ≡ keep given (below (2 ^ names)) = keep-names given names few low in
+    record {
+      few = few;
+      some = some;
+      ascend = subst (Ascends 0 (2 ^ names)) (sym cut) (keep-ascends given 0 0 (2 ^ names) (2 ^ names) (omega arith) (omega arith));
+      rise = links-rise _ _ _ (omega (arith, ap length cut, keep-length given (2 ^ names), pow-mono few));
+    }
 
 module _ (q : Question) (n : ℕ) (ms : List Mark) where
   points-ascend : Ascends 0 (2 ^ n) (pointsFor q n ms)
@@ -196,7 +212,7 @@ row-count i row k (suc n) =
     (side i k)
 
 -- so n points have at most n(n - 1)/2 contacts
-links-count : (rows : ℕ → ℕ → Bool) (size k n : ℕ) → k + n ≡ size
+pub links-count : (rows : ℕ → ℕ → Bool) (size k n : ℕ) → k + n ≡ size
     → 2 * length (collect (λ i. rowTo size i (rows i)) (from k n)) ≤ n * (n - 1)
 unfolding rowTo
 links-count rows size k zero e = omega arith
@@ -223,15 +239,15 @@ words-at-most p h =
     let pairs : p * (p - 1) ≤ 32 * 31 = mul-le-mul h low in
     omega arith
 
--- and 63 points, 2,018 words
-words-room : (p : ℕ) → p ≤ 63 → 1 + p + p * (p - 1) / 2 + 1 ≤ 2018
+-- and 255 points, 32,642 words
+words-room : (p : ℕ) → p ≤ 255 → 1 + p + p * (p - 1) / 2 + 1 ≤ 32642
 words-room p h =
-    let low : p - 1 ≤ 62 = omega arith in
-    let pairs : p * (p - 1) ≤ 63 * 62 = mul-le-mul h low in
+    let low : p - 1 ≤ 254 = omega arith in
+    let pairs : p * (p - 1) ≤ 255 * 254 = mul-le-mul h low in
     omega arith
 
--- six names, 63 points: with no names there is one
-points-most : (q : Question) (n : ℕ) (ms : List Mark) → n ≤ most → length (pointsFor q n ms) ≤ 63
+-- eight names, 255 points: with no names there is one
+points-most : (q : Question) (n : ℕ) (ms : List Mark) → n ≤ most → length (pointsFor q n ms) ≤ 255
 points-most q zero ms few = omega (arith, points-room q 0 ms)
 points-most q (suc n) ms few = omega (arith, points-room-named q (suc n) ms (omega arith), pow-mono few)
 
@@ -250,13 +266,13 @@ module _ (q : Question) (rules : List (Formula Name)) (p : Plan) (e : plansOf q 
   unfolding wordsOf
   words-count = omega (arith, length-append (before p) (lastWord (length (before p)) ∷ []), before-length p, given-contacts)
 
-  -- "a one-building plan now has at most 63 points and 2,018 words"
-  pub room-points : length (namesOf rules) ≤ most → length (p .points) ≤ 63
+  -- "One-building plans then have up to 255 points."
+  pub room-points : length (namesOf rules) ≤ most → length (p .points) ≤ 255
   unfolding rowPlan givenPlan
   room-points few =
-      of-row (λ r. length (r .points) ≤ 63) (λ row. points-most q (length (namesOf rules)) (rowMarks (rowAtoms rules) row) few)
+      of-row (λ r. length (r .points) ≤ 255) (λ row. points-most q (length (namesOf rules)) (rowMarks (rowAtoms rules) row) few)
 
-  pub room-words : length (namesOf rules) ≤ most → length (wordsOf p) ≤ 2018
+  pub room-words : length (namesOf rules) ≤ most → length (wordsOf p) ≤ 32642
   room-words few = omega (arith, words-count, words-room (length (p .points)) (room-points few))
 
 module _ (rules : List (Formula Name)) (few : length (differentAtoms rules) ≤ 16) (p : Plan) (e : plansOf plain rules ≡ p ∷ []) where

@@ -16,13 +16,13 @@ use Rattle.lists.proofs.Padded.{pad-at}
 use Rattle.contact.specs.Meaning.{within, isEmpty, touches}
 use Rattle.contact.specs.Plan.{Means}
 use Rattle.plan.specs.declared.PlanArrays.{PlanArrays}
-use Rattle.plan.specs.Words.{Plan, Ascends, IsPlan}
+use Rattle.plan.specs.Words.{Plan, Ascends, IsPlan, mostPoints}
 use Rattle.plan.specs.Floor.{touching, liesIn, planFloor}
 use Rattle.plan.specs.Arrays.{countOf, pointAt, touchesOf, vacantOf}
 use Rattle.plan.specs.Stored.{square, Stored}
 use Rattle.plan.proofs.Complete.{ascends-room}
 
-pub few-points : (p : Plan) → IsPlan p → length (p .points) ≤ 64
+pub few-points : (p : Plan) → IsPlan p → length (p .points) ≤ mostPoints
 few-points p h = omega (arith, ascends-room 0 (2 ^ (p .names)) (p .points) (omega arith) (h .ascend), pow-mono (h .few))
 
 pub ascends-at : (low high : ℕ) (es : List ℕ) (a : ℕ) → Ascends low high es → a < length es → getD es a 0 < high
@@ -35,7 +35,7 @@ module _ (p : Plan) (h : IsPlan p) (r : PlanArrays) (s : Stored r p) where
   count-is = omega (arith, s .count, few-points p h)
 
   point-is : (a : ℕ) → a < length (p .points) → pointAt r a ≡ getD (p .points) a 0
-  point-is a l = ap (λ (pts : List ℕ). getD pts a 0) (s .points) ∙ pad-at 64 (p .points) a l
+  point-is a l = ap (λ (pts : List ℕ). getD pts a 0) (s .points) ∙ pad-at mostPoints (p .points) a l
 
   row-is : (a b : ℕ) → a < length (p .points) → b < length (p .points) → memAt (r .rows) a b ≡ touching p a b
   unfolding square

@@ -2,10 +2,14 @@ pub mod Spelling
 pub mod Sound
 pub mod Complete
 pub mod Exact
+pub mod Kept
 pub mod Squares
+pub mod Flat
+pub mod WordOf
 pub mod ReadLoop
 pub mod Buffer
 pub mod Contacts
+pub mod Nexts
 pub mod Writing
 pub mod Positions
 pub mod Judged

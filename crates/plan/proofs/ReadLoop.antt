@@ -19,6 +19,7 @@ use Rattle.lists.proofs.Padded.{pad-set}
 use Rattle.evalset.specs.declared.EvalSet.{EvalSet}
 use Rattle.evalset.specs.Sets.{memAt}
 use Rattle.evalset.specs.Most.{most}
+use Rattle.squares.specs.Square.{squareAt}
 use Rattle.plan.proofs.Word as word-type
 use Rattle.plan.specs.declared.Word.{Word}
 use Rattle.plan.specs.declared.Word.the-variants.{First, Point, Contact, Last, Other}
@@ -33,14 +34,15 @@ use Rattle.plan.specs.declared.Linking.the-variants as linking-is
 use Rattle.plan.specs.declared.PlanAnswer.{PlanAnswer}
 use Rattle.plan.specs.declared.PlanAnswer.the-variants as answer-is
 use Rattle.plan.specs.declared.PlanRead.{PlanRead}
-use Rattle.plan.specs.Words.{Plan}
+use Rattle.plan.specs.Words.{Plan, mostPoints}
 use Rattle.plan.specs.Reader.{kindOf, State, start, pointing, linking, whole, dead, opened, went, pointed, linked, step, Reading, plan, refused, ended, unless, readFrom, readOf}
 use Rattle.plan.specs.Arrays.{answerOf, planIn, Reads}
 use Rattle.plan.specs.Stored.{Stored}
-use Rattle.plan.specs.Private.{planOf, joinedOf, selfOf, wanting, OpensTo, pointingOf, PointsCome, PointsHeld, PointsSay, lastOf, linkingOf, LinksCome, LinksHeld, LinksSay}
+use Rattle.plan.specs.Private.{planOf, joinedOf, selfOf, rowsTo, wanting, OpensTo, pointingOf, PointsCome, PointsHeld, PointsSay, lastOf, linkingOf, LinksCome, LinksHeld, LinksSay}
 use Rattle.plan.proofs.Exact.{IsDead}
 use Rattle.plan.proofs.Complete.{open-by, link-by, last-by}
 use Rattle.plan.proofs.Squares.{self-square, square-link}
+use Rattle.plan.proofs.Flat.{rows-square}
 
 -- ---- one word more, and no word more
 module _ (ws : List ℕ) (at : ℕ) (s : State) (rest : readFrom at s (drop at ws) ≡ readOf ws) where
@@ -88,16 +90,16 @@ not-first (Last c) h = refl
 not-first Other h = refl
 
 module _ (w : Word) (n c : ℕ) (e : w ≡ First n c) where
-  pub open-many : 6 < n → opened w ≡ dead
-  open-many h = ap opened e ∙ rw (lt-leb n 6 h)
+  pub open-many : most < n → opened w ≡ dead
+  open-many h = ap opened e ∙ rw (lt-leb n most h)
 
-  pub open-none : n ≤ 6 → c < 1 → opened w ≡ dead
-  open-none h k = ap opened e ∙ rw (le-leb n 6 h, lt-leb 1 c k)
+  pub open-none : n ≤ most → c < 1 → opened w ≡ dead
+  open-none h k = ap opened e ∙ rw (le-leb n most h, lt-leb 1 c k)
 
-  pub open-over : n ≤ 6 → 1 ≤ c → 2 ^ n < c → opened w ≡ dead
-  open-over h k l = ap opened e ∙ rw (le-leb n 6 h, le-leb 1 c k, lt-leb c (2 ^ n) l)
+  pub open-over : n ≤ most → 1 ≤ c → 2 ^ n < c → opened w ≡ dead
+  open-over h k l = ap opened e ∙ rw (le-leb n most h, le-leb 1 c k, lt-leb c (2 ^ n) l)
 
-  pub open-good : n ≤ 6 → 1 ≤ c → c ≤ 2 ^ n → OpensTo w (opening.Plan n c)
+  pub open-good : n ≤ most → 1 ≤ c → c ≤ 2 ^ n → OpensTo w (opening.Plan n c)
   open-good h k l = (h, k, l, ap opened e ∙ open-by n c h k l ∙ go c k)
     where
       go : (c : ℕ) → 1 ≤ c → pointing n (c - 1) [] 0 ≡ wanting n c [] 0
@@ -184,7 +186,7 @@ pointed-by n m pts low (Contact i j) = refl
 pointed-by n m pts low (Last c) = refl
 pointed-by n m pts low Other = refl
 
-pub points-start : (ws : List ℕ) (n c : ℕ) (points : List ℕ) → PointsCome ws n c → points ≡ pad 64 [] → PointsHeld ws n c 0 0 points
+pub points-start : (ws : List ℕ) (n c : ℕ) (points : List ℕ) → PointsCome ws n c → points ≡ pad mostPoints [] → PointsHeld ws n c 0 0 points
 points-start ws n c points h e =
     let q : c ≡ c - 0 = omega arith in
     record {
@@ -226,10 +228,10 @@ module _ (ws : List ℕ) (n c i low : ℕ) (points : List ℕ) (h : PointsHeld w
         word-dead ws (1 + i) (pointing n (c - (1 + i)) (h .pts) low) before-point l
         (steps ∙ ap (pointedBy n (c - (1 + i)) (h .pts)) e)
 
-    pub points-next : (e : ℕ) → said ≡ pointing-is.Evaluation e → n ≤ most → i < 64 → PointsHeld ws n c (i + 1) (e + 1) (set points i e)
+    pub points-next : (e : ℕ) → said ≡ pointing-is.Evaluation e → n ≤ most → i < mostPoints → PointsHeld ws n c (i + 1) (e + 1) (set points i e)
     points-next e s few fits =
         let room : e + (c - (1 + i)) < top = taken-room low (c - (1 + i)) top e w (sym s ∙ q) in
-        let high : top ≤ 64 = omega (arith, t, pow-mono few) in
+        let high : top ≤ mostPoints = omega (arith, t, pow-mono few) in
         let left : c - (1 + i) ≡ c - (i + 1) = omega arith in
         let place : 1 + i + 1 ≡ 1 + (i + 1) = omega arith in
         record {
@@ -238,7 +240,7 @@ module _ (ws : List ℕ) (n c i low : ℕ) (points : List ℕ) (h : PointsHeld w
           lowest = omega arith;
           pts = h .pts ++ (e ∷ []);
           size = length-append (h .pts) (e ∷ []) ∙ ap (λ (x : ℕ). x + 1) (h .size);
-          stored = ap (λ (l : List ℕ). set l i e) (h .stored) ∙ pad-set 64 (h .pts) i e (h .size) fits;
+          stored = ap (λ (l : List ℕ). set l i e) (h .stored) ∙ pad-set mostPoints (h .pts) i e (h .size) fits;
           rest = ap (λ (x : ℕ). readFrom x (wanting n (c - (i + 1)) (h .pts ++ (e ∷ [])) (e + 1)) (drop x ws)) (sym place)
               ∙ ap₂ (λ (x y : ℕ). readFrom (1 + i + 1) (wanting n x (h .pts ++ (e ∷ [])) y) (drop (1 + i + 1) ws)) (sym left) (add-one e)
               ∙ word-live ws (1 + i) (pointing n (c - (1 + i)) (h .pts) low) before-point l
@@ -267,9 +269,9 @@ pub points-refused : (ws : List ℕ) (n c : ℕ) (a : PointsAnswer) (points : Li
 points-refused ws n c a points s at e = subst (λ (x : PointsAnswer). PointsSay ws n c x points) e s
 
 -- the contacts come after the points, each of which is in contact with itself
-pub links-come : (ws : List ℕ) (n c low : ℕ) (points : List ℕ) (h : PointsHeld ws n c c low points) (rows : List EvalSet)
-    → memAt rows ≡ selfOf c → LinksCome ws c rows n (h .pts)
-links-come ws n c low points h rows e =
+pub links-come : (ws : List ℕ) (n c low : ℕ) (points : List ℕ) (h : PointsHeld ws n c c low points) (words : List ℕ)
+    → squareAt words ≡ selfOf c → LinksCome ws c words n (h .pts)
+links-come ws n c low points h words e =
     let none : c - c ≡ 0 = omega arith in
     record {
       size = h .size;
@@ -345,31 +347,31 @@ pair-within count low at len i j w said s q high h =
     let b = p .within in
     (omega arith, omega arith)
 
-pub links-start : (ws : List ℕ) (count : ℕ) (rows : List EvalSet) (n : ℕ) (pts : List ℕ) → LinksCome ws count rows n pts
-    → LinksHeld ws n pts (1 + count) 0 rows
-links-start ws count rows n pts h =
+pub links-start : (ws : List ℕ) (count : ℕ) (words : List ℕ) (n : ℕ) (pts : List ℕ) → LinksCome ws count words n pts
+    → LinksHeld ws n pts (1 + count) 0 words
+links-start ws count words n pts h =
     let s = h .size in
-    record { ks = []; words = omega arith; joined = h .alone; rest = h .rest }
+    record { ks = []; before = omega arith; joined = h .alone; rest = h .rest }
 
-module _ (ws : List ℕ) (count : ℕ) (n : ℕ) (pts : List ℕ) (size : length pts ≡ count) (at low : ℕ) (rows : List EvalSet)
-    (h : LinksHeld ws n pts at low rows) where
+module _ (ws : List ℕ) (count : ℕ) (n : ℕ) (pts : List ℕ) (size : length pts ≡ count) (at low : ℕ) (words : List ℕ)
+    (h : LinksHeld ws n pts at low words) where
   pub links-short : at ≡ length ws → readOf ws ≡ refused at
   links-short e = sym (words-end ws at (linking n pts (h .ks) low) (h .rest) e)
 
   module _ (l : at < length ws) (w : Word) (k : w ≡ kindOf (getD ws at 0)) (said : Linking)
       (q : said ≡ linkingOf count low at (length ws) w) where
-    pub links-next : (i j : ℕ) → said ≡ linking-is.Pair i j → count ≤ 256 → (more : List EvalSet)
-        → memAt more ≡ joinedOf (memAt rows) i j → LinksHeld ws n pts (at + 1) (i * 256 + j + 1) more
+    pub links-next : (i j : ℕ) → said ≡ linking-is.Pair i j → count ≤ 256 → (more : List ℕ)
+        → squareAt more ≡ joinedOf (squareAt words) i j → LinksHeld ws n pts (at + 1) (i * 256 + j + 1) more
     links-next i j s few more e =
         let p = taken-pair count low at (length ws) i j w (sym s ∙ q) in
         let a = p .later in
         let b = p .within in
-        let x = h .words in
+        let x = h .before in
         let m : j < length pts = omega arith in
         let longer : length (h .ks ++ ((i * 256 + j) ∷ [])) ≡ length (h .ks) + 1 = length-append (h .ks) ((i * 256 + j) ∷ []) in
         record {
           ks = h .ks ++ ((i * 256 + j) ∷ []);
-          words = omega arith;
+          before = omega arith;
           joined = e ∙ ap (λ (t : ℕ → ℕ → Bool). joinedOf t i j) (h .joined) ∙ square-link n pts (h .ks) i j a m (omega arith);
           rest = ap (λ (x : ℕ). readFrom (at + 1) (linking n pts (h .ks ++ ((i * 256 + j) ∷ [])) x) (drop (at + 1) ws)) (add-one (i * 256 + j))
               ∙ word-live ws at (linking n pts (h .ks) low) (h .rest) l
@@ -382,37 +384,37 @@ module _ (ws : List ℕ) (count : ℕ) (n : ℕ) (pts : List ℕ) (size : length
     wrong d = word-dead ws at (linking n pts (h .ks) low) (h .rest) l (ap (linked n pts (h .ks) low) (sym k) ∙ d)
 
     -- by the last word
-    ends : (c : ℕ) → w ≡ Last c → LinksSay ws n pts (lastOf c at (length ws)) rows
+    ends : (c : ℕ) → w ≡ Last c → LinksSay ws n pts (lastOf c at (length ws)) words
     ends c z = go (decEq c at) (decEq (at + 1) (length ws))
       where
         x : at ≡ 1 + (length pts + length (h .ks))
-        x = h .words
+        x = h .before
 
         all : c ≡ at → readFrom (at + 1) (whole (planOf n pts (h .ks))) (drop (at + 1) ws) ≡ readOf ws
         all e = word-live ws at (linking n pts (h .ks) low) (h .rest) l (whole (planOf n pts (h .ks))) (λ d. d)
             (ap (linked n pts (h .ks) low) (sym k ∙ z) ∙ last-by n pts (h .ks) low c (e ∙ x))
 
-        go : Dec (c ≡ at) → Dec (at + 1 ≡ length ws) → LinksSay ws n pts (lastOf c at (length ws)) rows
+        go : Dec (c ≡ at) → Dec (at + 1 ≡ length ws) → LinksSay ws n pts (lastOf c at (length ws)) words
         go (yes e) (yes f) =
             let z : lastOf c at (length ws) ≡ answer-is.Plan = rw (eq-eqb c at e, eq-eqb (at + 1) (length ws) f) in
-            subst (λ (a : PlanAnswer). LinksSay ws n pts a rows) (sym z)
+            subst (λ (a : PlanAnswer). LinksSay ws n pts a words) (sym z)
             (h .ks, sym (words-end ws (at + 1) (whole (planOf n pts (h .ks))) (all e) f), h .joined)
         go (yes e) (no f) =
             let z : lastOf c at (length ws) ≡ answer-is.Refused (at + 1) = rw (eq-eqb c at e, ne-eqb (at + 1) (length ws) f) in
-            subst (λ (a : PlanAnswer). LinksSay ws n pts a rows) (sym z)
+            subst (λ (a : PlanAnswer). LinksSay ws n pts a words) (sym z)
             (word-dead ws (at + 1) (whole (planOf n pts (h .ks))) (all e) (omega (arith, f)) refl)
         go (no e) f =
             let r : lastOf c at (length ws) ≡ answer-is.Refused at = rw (ne-eqb c at e) in
-            subst (λ (a : PlanAnswer). LinksSay ws n pts a rows) (sym r)
+            subst (λ (a : PlanAnswer). LinksSay ws n pts a words) (sym r)
             (wrong (ap (linked n pts (h .ks) low) z ∙ rw (ne-eqb c (1 + (length pts + length (h .ks))) (λ y. e (y ∙ sym x)))))
 
-    pub links-over : (r : PlanAnswer) → said ≡ linking-is.Over r → LinksSay ws n pts r rows
+    pub links-over : (r : PlanAnswer) → said ≡ linking-is.Over r → LinksSay ws n pts r words
     links-over r s = go w refl (sym s ∙ q)
       where
-        say : (x : PlanAnswer) → linking-is.Over r ≡ linking-is.Over x → LinksSay ws n pts x rows → LinksSay ws n pts r rows
-        say x e t = let z : x ≡ r = cc in subst (λ (a : PlanAnswer). LinksSay ws n pts a rows) z t
+        say : (x : PlanAnswer) → linking-is.Over r ≡ linking-is.Over x → LinksSay ws n pts x words → LinksSay ws n pts r words
+        say x e t = let z : x ≡ r = cc in subst (λ (a : PlanAnswer). LinksSay ws n pts a words) z t
 
-        go : (v : Word) → w ≡ v → linking-is.Over r ≡ linkingOf count low at (length ws) v → LinksSay ws n pts r rows
+        go : (v : Word) → w ≡ v → linking-is.Over r ≡ linkingOf count low at (length ws) v → LinksSay ws n pts r words
         go (First i c) z e = say (answer-is.Refused at) e (wrong (ap (linked n pts (h .ks) low) z))
         go (Point x) z e = say (answer-is.Refused at) e (wrong (ap (linked n pts (h .ks) low) z))
         go (Contact i j) z e = pick (leb low (i * 256 + j) && (ltb i j && ltb j count)) refl e
@@ -421,7 +423,7 @@ module _ (ws : List ℕ) (count : ℕ) (n : ℕ) (pts : List ℕ) (size : length
             same = ap (λ (x : ℕ). leb low (i * 256 + j) && (ltb i j && ltb j x)) (sym size)
 
             pick : (t : Bool) → (leb low (i * 256 + j) && (ltb i j && ltb j count)) ≡ t
-                → linking-is.Over r ≡ cond t (linking-is.Pair i j) (linking-is.Over (answer-is.Refused at)) → LinksSay ws n pts r rows
+                → linking-is.Over r ≡ cond t (linking-is.Pair i j) (linking-is.Over (answer-is.Refused at)) → LinksSay ws n pts r words
             pick true b e = absurd (let z : _≡_ {A = ℕ} 0 1 = cc in omega arith)
             pick false b e = say (answer-is.Refused at) e
                 (wrong (ap (linked n pts (h .ks) low) z
@@ -429,9 +431,9 @@ module _ (ws : List ℕ) (count : ℕ) (n : ℕ) (pts : List ℕ) (size : length
         go (Last c) z e = say (lastOf c at (length ws)) e (ends c z)
         go Other z e = say (answer-is.Refused at) e (wrong (ap (linked n pts (h .ks) low) z))
 
-pub links-refused : (ws : List ℕ) (n : ℕ) (pts : List ℕ) (a : PlanAnswer) (rows : List EvalSet) → LinksSay ws n pts a rows
+pub links-refused : (ws : List ℕ) (n : ℕ) (pts : List ℕ) (a : PlanAnswer) (words : List ℕ) → LinksSay ws n pts a words
     → (at : ℕ) → a ≡ answer-is.Refused at → readOf ws ≡ refused at
-links-refused ws n pts a rows s at e = subst (λ (x : PlanAnswer). LinksSay ws n pts x rows) e s
+links-refused ws n pts a words s at e = subst (λ (x : PlanAnswer). LinksSay ws n pts x words) e s
 
 -- ---- what is read
 pub reads-refused : (ws : List ℕ) (at : ℕ) (r : PlanRead) → readOf ws ≡ refused at
@@ -441,14 +443,19 @@ reads-refused ws at r e h = record {
   plan = subst (λ (x : Reading). Stored (r .plan) (planIn x)) (sym e) (h .1);
 }
 
-pub reads-plan : (ws : List ℕ) (n c low : ℕ) (points : List ℕ) (h : PointsHeld ws n c c low points) (a : PlanAnswer) (rows : List EvalSet)
-    → LinksSay ws n (h .pts) a rows → a ≡ answer-is.Plan
+pub reads-plan : (ws : List ℕ) (n c low : ℕ) (points : List ℕ) (h : PointsHeld ws n c c low points) (a : PlanAnswer) (words : List ℕ)
+    → LinksSay ws n (h .pts) a words → a ≡ answer-is.Plan → (rows : List EvalSet) → memAt rows ≡ rowsTo c (squareAt words)
     → Reads ws (record { answer = answer-is.Plan; plan = record { names = n; count = c; points = points; rows = rows } })
-reads-plan ws n c low points h a rows s e =
-    let t = subst (λ (x : PlanAnswer). LinksSay ws n (h .pts) x rows) e s in
+reads-plan ws n c low points h a words s e rows q =
+    let t = subst (λ (x : PlanAnswer). LinksSay ws n (h .pts) x words) e s in
     let p : Plan = planOf n (h .pts) (t .0) in
     let stored : Stored (record { names = n; count = c; points = points; rows = rows }) p =
-    record { names = refl; count = sym (h .size); points = h .stored; rows = t .2 } in
+    record {
+      names = refl;
+      count = sym (h .size);
+      points = h .stored;
+      rows = q ∙ ap₂ rowsTo (sym (h .size)) (t .2) ∙ rows-square p;
+    } in
     record {
       answer = ap answerOf (sym (t .1));
       plan = subst (λ (x : Reading). Stored (record { names = n; count = c; points = points; rows = rows }) (planIn x)) (sym (t .1)) stored;

@@ -2,33 +2,34 @@
 -- words. Assumes nothing.
 use mathlib.Core.Path.{_≡_, sym, ap, ap₂, _∙_}
 use mathlib.Core.Bool.{Bool}
-use mathlib.Core.List.{List}
-use Prim.Native.Nat.{ℕ, _^_, _<_}
+use mathlib.Core.List.{List, []}
+use Prim.Native.Nat.{ℕ, _<_}
+use native.Mathlib.Omega.{arith}
 use lib.ListN.{length, getD}
 use lib.Seq.{ext-getD}
 use Rattle.evalset.specs.declared.EvalSet.{EvalSet}
-use Rattle.evalset.specs.Sets.{room, memAt}
-use Rattle.evalset.proofs.Members.{same-members}
+use Rattle.evalset.specs.Sets.{memAt}
+use Rattle.evalset.proofs.Words.{Whole, same-members}
 use Rattle.plan.specs.declared.PlanArrays.{PlanArrays}
 use Rattle.plan.specs.declared.PlanAnswer.{PlanAnswer}
 use Rattle.plan.specs.declared.PlanRead.{PlanRead}
-use Rattle.plan.specs.Words.{Plan}
+use Rattle.plan.specs.Words.{Plan, mostPoints}
 use Rattle.plan.specs.Reader.{readOf}
 use Rattle.plan.specs.Arrays.{planIn, Reads}
 use Rattle.plan.specs.Stored.{Stored}
 
--- what the type says of each value of it: 64 rows, each a word of 64 bits
+-- what the type says of each value of it: so many rows, each a set of whole words
 pub record InRange (r : PlanArrays) : Type 0 where
-  pub rows : length (r .rows) ≡ 64
-  pub words : (i : ℕ) → getD (r .rows) i (record { bits = 0 }) .bits < 2 ^ room
+  pub rows : length (r .rows) ≡ mostPoints
+  pub words : (i : ℕ) → i < mostPoints → Whole (getD (r .rows) i (record { words = [] }))
 
 stored-once : (p : Plan) (r s : PlanArrays) → InRange r → InRange s → Stored r p → Stored s p → r ≡ s
 unfolding memAt
 stored-once p r s v w a b =
     let rows : memAt (r .rows) ≡ memAt (s .rows) = a .rows ∙ sym (b .rows) in
     let same : r .rows ≡ s .rows =
-    ext-getD (record { bits = 0 }) (r .rows) (s .rows) (v .rows ∙ sym (w .rows))
-    (λ i l. same-members _ _ (v .words i) (w .words i) (ap (λ (t : ℕ → ℕ → Bool). t i) rows)) in
+    ext-getD (record { words = [] }) (r .rows) (s .rows) (v .rows ∙ sym (w .rows))
+    (λ i l. same-members _ _ (v .words i (omega (arith, v .rows))) (w .words i (omega (arith, v .rows))) (ap (λ (t : ℕ → ℕ → Bool). t i) rows)) in
     ap₂ (λ (x y : ℕ). arrays x y (r .points) (r .rows)) (a .names ∙ sym (b .names)) (a .count ∙ sym (b .count))
     ∙ ap₂ (λ (x : List ℕ) (y : List EvalSet). arrays (s .names) (s .count) x y) (a .points ∙ sym (b .points)) same
   where

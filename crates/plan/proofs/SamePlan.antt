@@ -16,7 +16,7 @@ use Rattle.lists.specs.Padded.{pad}
 use Rattle.lists.specs.Search.{In, here, next, any, below}
 use Rattle.evalset.specs.Sets.{memAt}
 use Rattle.plan.specs.declared.PlanArrays.{PlanArrays}
-use Rattle.plan.specs.Words.{Plan, Rises, IsPlan}
+use Rattle.plan.specs.Words.{Plan, Rises, IsPlan, mostPoints}
 use Rattle.plan.specs.Floor.{between, touching}
 use Rattle.plan.specs.Arrays.{countOf, planBy}
 use Rattle.plan.specs.Links.{pairOf, rowTo, linksTo}
@@ -131,7 +131,7 @@ unfolding planBy pad
 plan-again r p h s =
     let n : countOf r ≡ length (p .points) = count-is p h r s in
     let pts : take (countOf r) (r .points) ≡ p .points =
-    ap₂ take n (s .points) ∙ take-at (p .points) (replicate (64 - length (p .points)) 0) (length (p .points)) refl in
+    ap₂ take n (s .points) ∙ take-at (p .points) (replicate (mostPoints - length (p .points)) 0) (length (p .points)) refl in
     let ks : linksTo (countOf r) (countOf r) (memAt (r .rows)) ≡ p .contacts =
     ap₂ (λ (x : ℕ) (t : ℕ → ℕ → Bool). linksTo x x t) n (s .rows) ∙ links-again p (omega (arith, few-points p h)) (h .rise) in
     ap (λ (x : ℕ). planOf x (take (countOf r) (r .points)) (linksTo (countOf r) (countOf r) (memAt (r .rows)))) (s .names)

@@ -14,15 +14,16 @@ use Rattle.plan.specs.Words.{Plan, Ascends, Rises, IsPlan, firstWord, po
 use Rattle.plan.specs.Reader.{kindOf, State, start, pointing, linking, whole, dead, opened, went, pointed, linked, step, run}
 use Rattle.plan.proofs.Spelling.{Spells, spells}
 use Rattle.plan.proofs.Complete.{before-length}
+use Rattle.evalset.specs.Most.{most}
 
 pub record PointsSeen (ws : List ℕ) (n m : ℕ) (pts : List ℕ) (low : ℕ) : Type 0 where
-  pub few : n ≤ 6
+  pub few : n ≤ most
   pub words : ws ≡ firstWord n (length pts + suc m) ∷ map pointWord pts
   pub room : low + m < 2 ^ n
   pub ascend : (es : List ℕ) → Ascends low (2 ^ n) es → Ascends 0 (2 ^ n) (pts ++ es)
 
 pub record LinksSeen (ws : List ℕ) (n : ℕ) (pts ks : List ℕ) (low : ℕ) : Type 0 where
-  pub few : n ≤ 6
+  pub few : n ≤ most
   pub some : 0 < length pts
   pub ascend : Ascends 0 (2 ^ n) pts
   pub words : ws ≡ firstWord n (length pts) ∷ (map pointWord pts ++ map contactWord ks)
@@ -36,17 +37,17 @@ Seen ws (whole p) = IsPlan p × (ws ≡ wordsOf p)
 Seen ws dead = Unit {0}
 
 open-step : (w : ℕ) (k : Word) → Spells w k → Seen (w ∷ []) (opened k)
-open-step w (First n c) e = go (leb n 6 && (leb 1 c && leb c (2 ^ n))) refl
+open-step w (First n c) e = go (leb n most && (leb 1 c && leb c (2 ^ n))) refl
   where
-    go : (b : Bool) → (leb n 6 && (leb 1 c && leb c (2 ^ n))) ≡ b → Seen (w ∷ []) (cond b (pointing n (c - 1) [] 0) dead)
+    go : (b : Bool) → (leb n most && (leb 1 c && leb c (2 ^ n))) ≡ b → Seen (w ∷ []) (cond b (pointing n (c - 1) [] 0) dead)
     go true h =
-        let t = and-eq-true-iff (leb n 6) (leb 1 c && leb c (2 ^ n)) .0 h in
+        let t = and-eq-true-iff (leb n most) (leb 1 c && leb c (2 ^ n)) .0 h in
         let u = and-eq-true-iff (leb 1 c) (leb c (2 ^ n)) .0 (t .1) in
         let one : 1 ≤ c = leb-true 1 c (u .0) in
         let top : c ≤ 2 ^ n = leb-true c (2 ^ n) (u .1) in
         let cs : c ≡ 0 + suc (c - 1) = omega arith in
         record {
-          few = leb-true n 6 (t .0);
+          few = leb-true n most (t .0);
           words = ap (λ (x : ℕ). x ∷ []) (e ∙ ap (firstWord n) cs);
           room = omega arith;
           ascend = λ es a. a;

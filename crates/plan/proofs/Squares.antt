@@ -1,21 +1,19 @@
 -- Rows that hold a square of contacts: a point more is one bit, a contact more is two. Assumes nothing.
-use mathlib.Core.Path.{_≡_, sym, ap, ap₂, _∙_, fun-ext}
-use mathlib.Core.Bool.{Bool, true, _&&_, _||_, or-false, and-eq-true-iff}
+use mathlib.Core.Path.{_≡_, sym, _∙_, fun-ext}
+use mathlib.Core.Bool.{Bool, true, _&&_, _||_, and-eq-true-iff}
 use mathlib.Core.List.{List, [], _∷_, _++_}
 use mathlib.Core.Logic.{_⊎_, inl, inr, ⊎-elim}
 use mathlib.Mathlib.Data.Bool.Basic.{and-intro, eq-false-of-not-eq-true, or-inl, or-inr, partialOrderLaws}
-use mathlib.Mathlib.Logic.Function.Defs.{congr-fun}
 use Prim.Native.Nat.{ℕ, _+_, _*_, _≤_, _<_}
 use native.Mathlib.Omega.{arith}
 use native.Mathlib.Decide.{ℕ-discrete as decEq}
 use lib.Dec.{eqb, ltb}
-use lib.ListN.{length, set, replicate, length-set}
-use borrow.Author.Tests.{eqb-true, eq-eqb, ne-eqb, ltb-true, lt-ltb}
+use lib.ListN.{length, replicate}
+use borrow.Author.Tests.{eqb-true, eq-eqb, ltb-true, lt-ltb}
 use Rattle.evalset.specs.declared.EvalSet.{EvalSet}
 use Rattle.lists.specs.Search.{any}
-use Rattle.evalset.specs.Sets.{room, mem, memAt, noneOf, addOf}
-use Rattle.evalset.proofs.Members.{add-in}
-use Rattle.evalset.proofs.Arrays.{empty-rows, mem-at-same, mem-at-other}
+use Rattle.evalset.specs.Sets.{mem, memAt, noneOf}
+use Rattle.evalset.proofs.Arrays.{empty-rows}
 use Rattle.plan.specs.Words.{Plan}
 use Rattle.plan.specs.Floor.{between, touching}
 use Rattle.plan.specs.Stored.{square}
@@ -79,32 +77,8 @@ module _ (t : ℕ → ℕ → Bool) (i j a b : ℕ) where
   unfolding joinedOf
   joined-other p q = add-new (addAt t i j) j i a b p q
 
--- ---- rows of sets
-pub row-set : (rows : List EvalSet) (i j : ℕ) (v : EvalSet) → i < length rows → j < room → mem v ≡ addOf (memAt rows i) j
-    → memAt (set rows i v) ≡ addAt (memAt rows) i j
-row-set rows i j v h l e = fun-ext (λ a. fun-ext (λ b. go a b (decEq a i)))
-  where
-    go : (a b : ℕ) → Dec (a ≡ i) → memAt (set rows i v) a b ≡ addAt (memAt rows) i j a b
-    go a b (yes q) =
-        ap (λ (x : ℕ). memAt (set rows i v) x b) q
-        ∙ congr-fun (mem-at-same rows i v h ∙ e) b
-        ∙ add-in (memAt rows i) j l b
-        ∙ ap₂ (λ (x : ℕ) (t : Bool). memAt rows x b || (t && eqb b j)) (sym q) (sym (eq-eqb a i q))
-    go a b (no q) =
-        congr-fun (mem-at-other rows i a v q) b ∙ sym (or-false (memAt rows a b))
-        ∙ ap (λ (t : Bool). memAt rows a b || (t && eqb b j)) (sym (ne-eqb a i q))
-
--- a contact stored, both ways round
-pub rows-joined : (rows : List EvalSet) (i j : ℕ) (v u : EvalSet) → i < length rows → j < length rows → i < room → j < room
-    → mem v ≡ addOf (memAt rows i) j → mem u ≡ addOf (memAt (set rows i v) j) i
-    → memAt (set (set rows i v) j u) ≡ joinedOf (memAt rows) i j
-unfolding joinedOf
-rows-joined rows i j v u a b c d e f =
-    row-set (set rows i v) j i u (omega (arith, length-set rows i v)) c f
-    ∙ ap (λ (t : ℕ → ℕ → Bool). addAt t j i) (row-set rows i j v a d e)
-
 -- ---- points that are in contact with themselves alone
-self-elim : (n a b : ℕ) → selfOf n a b ≡ true → (a < n) × (a ≡ b)
+pub self-elim : (n a b : ℕ) → selfOf n a b ≡ true → (a < n) × (a ≡ b)
 unfolding selfOf
 self-elim n a b e = let u = and-eq-true-iff (ltb a n) (eqb a b) .0 e in (ltb-true a n (u .0), eqb-true a b (u .1))
 
@@ -117,17 +91,10 @@ self-none n none h =
     fun-ext (λ a. fun-ext (λ b.
     empty-rows n a b none h ∙ sym (eq-false-of-not-eq-true (λ e. let l = self-elim 0 a b e .0 in omega arith))))
 
-pub self-more : (rows : List EvalSet) (i : ℕ) (none v : EvalSet) → i < length rows → i < room → mem none ≡ noneOf
-    → mem v ≡ addOf (mem none) i → memAt rows ≡ selfOf i → memAt (set rows i v) ≡ selfOf (i + 1)
-self-more rows i none v h l z e s =
-    row-set rows i i v h l (e ∙ ap (λ (t : ℕ → Bool). addOf t i) (z ∙ sym blank))
-    ∙ ap (λ (t : ℕ → ℕ → Bool). addAt t i i) s
-    ∙ fun-ext (λ a. fun-ext (λ b. partialOrderLaws .le-antisymm _ _ (there a b) (back a b (decEq a i))))
+-- one more of them
+pub self-more : (i : ℕ) → addAt (selfOf i) i i ≡ selfOf (i + 1)
+self-more i = fun-ext (λ a. fun-ext (λ b. partialOrderLaws .le-antisymm _ _ (there a b) (back a b (decEq a i))))
   where
-    blank : memAt rows i ≡ noneOf
-    blank = ap (λ (t : ℕ → ℕ → Bool). t i) s
-        ∙ fun-ext (λ b. eq-false-of-not-eq-true (λ q. let l = self-elim i i b q .0 in omega arith))
-
     there : (a b : ℕ) → addAt (selfOf i) i i a b ≡ true → selfOf (i + 1) a b ≡ true
     there a b q =
         ⊎-elim (λ x. let u = self-elim i a b x in self-intro (i + 1) a b (omega (arith, u .0)) (u .1))

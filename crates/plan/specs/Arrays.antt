@@ -1,20 +1,20 @@
--- What is computed: what the public functions answer: what reading words gives, the plan that arrays hold, what writing it gives, and the
--- two kinds of atoms judged on arrays. Assumes nothing.
+-- What is computed: what the public functions answer: what reading words gives, the plan that arrays hold, the plan of a set of points and
+-- what writing a plan gives, and the two kinds of atoms judged on arrays. Assumes nothing.
 use mathlib.Core.Path.{_≡_}
 use mathlib.Core.Bool.{Bool, not, _&&_, cond}
 use mathlib.Core.List.{List, []}
 use Prim.Native.Nat.{ℕ, min}
 use lib.Dec.{leb}
 use lib.ListN.{length, getD, take}
-use Rattle.lists.specs.Search.{any, below}
-use Rattle.evalset.specs.Sets.{memAt}
+use Rattle.lists.specs.Search.{any, keep, below}
+use Rattle.evalset.specs.Sets.{room, memAt}
 use Rattle.plan.specs.declared.PlanArrays.{PlanArrays}
 use Rattle.plan.specs.declared.PlanAnswer.{PlanAnswer}
 use Rattle.plan.specs.declared.PlanAnswer.the-variants as answer-is
 use Rattle.plan.specs.declared.PlanRead.{PlanRead}
 use Rattle.plan.specs.declared.Written.{Written}
 use Rattle.plan.specs.declared.Written.the-variants.{Words, Needs}
-use Rattle.plan.specs.Words.{Plan, wordsOf, over}
+use Rattle.plan.specs.Words.{Plan, mostPoints, wordsOf, over}
 use Rattle.plan.specs.Stored.{Stored}
 use Rattle.plan.specs.Links.{linksTo}
 use Rattle.plan.specs.Reader.{Reading, plan, refused, readOf}
@@ -36,9 +36,9 @@ pub record Reads (ws : List ℕ) (r : PlanRead) : Type 0 where
   pub plan : Stored (r .plan) (planIn (readOf ws))
 
 -- ---- writing
--- how many points the arrays have: at most 64
+-- how many points the arrays have
 abbrev pub countOf : PlanArrays → ℕ
-countOf r = min (r .count) 64
+countOf r = min (r .count) mostPoints
 
 -- the plan that arrays hold
 unfoldable pub planBy : PlanArrays → Plan
@@ -49,14 +49,24 @@ planBy r =
       contacts = linksTo (countOf r) (countOf r) (memAt (r .rows));
     }
 
+-- two points are in contact unless they are apart, by their evaluations
+abbrev pub inContact : List ℕ → (ℕ → ℕ → Bool) → ℕ → ℕ → Bool
+inContact points apart i j = not (apart (getD points i 0) (getD points j 0))
+
+-- the plan of a set of points, which ascend, by which of them are apart
+unfoldable pub pointsPlan : ℕ → (ℕ → Bool) → (ℕ → ℕ → Bool) → Plan
+pointsPlan names given apart =
+    let points = keep given (below room) in
+    record { names = names; points = points; contacts = linksTo (length points) (length points) (inContact points apart) }
+
 -- the plan's words fit into the buffer
-abbrev pub fits : PlanArrays → List ℕ → Bool
-fits r buf = leb (length (wordsOf (planBy r))) (length buf)
+abbrev pub fits : Plan → List ℕ → Bool
+fits p buf = leb (length (wordsOf p)) (length buf)
 
 -- what writing the plan gives: the answer, and the buffer after it
-pub record Writes (r : PlanArrays) (buf : List ℕ) (result : Written) (exit : List ℕ) : Type 0 where
-  pub answer : result ≡ cond (fits r buf) (Words (length (wordsOf (planBy r)))) (Needs (length (wordsOf (planBy r))))
-  pub words : exit ≡ cond (fits r buf) (over (wordsOf (planBy r)) buf) buf
+pub record Writes (p : Plan) (buf : List ℕ) (result : Written) (exit : List ℕ) : Type 0 where
+  pub answer : result ≡ cond (fits p buf) (Words (length (wordsOf p))) (Needs (length (wordsOf p)))
+  pub words : exit ≡ cond (fits p buf) (over (wordsOf p) buf) buf
 
 -- ---- judging
 -- the evaluation of the point at a position

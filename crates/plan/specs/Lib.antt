@@ -1,4 +1,5 @@
 pub mod Words
+pub mod Short
 pub mod Floor
 pub mod Judging
 pub mod Reader

@@ -1,16 +1,17 @@
 -- For proofs: what the private functions' values hold: what a word says where it stands, what has been read when the points and when the
 -- contacts are, what has been written over a buffer so far, and what has been found of a row. Assumes nothing.
 use mathlib.Core.Path.{_≡_}
-use mathlib.Core.Bool.{Bool, _&&_, _||_, cond}
+use mathlib.Core.Bool.{Bool, true, false, _&&_, _||_, cond}
 use mathlib.Core.List.{List, [], _++_, map}
 use Prim.Native.Nat.{ℕ, zero, suc, _+_, _-_, _*_, _^_, _≤_, _<_}
 use lib.Dec.{eqb, ltb, leb}
 use lib.ListN.{length, getD, take, drop}
 use Rattle.lists.specs.Padded.{pad}
 use Rattle.lists.specs.Search.{any, below}
-use Rattle.evalset.specs.declared.EvalSet.{EvalSet}
-use Rattle.evalset.specs.Sets.{room, memAt, meetOf}
+use Rattle.evalset.specs.Sets.{room, meetOf, minusOf}
+use Rattle.evalset.specs.Arrays.{positionsOf}
 use Rattle.evalset.specs.Most.{most}
+use Rattle.squares.specs.Square.{Square, squareAt, reach}
 use Rattle.plan.specs.declared.PlanAnswer.{PlanAnswer}
 use Rattle.plan.specs.declared.PlanAnswer.the-variants as answer-is
 use Rattle.plan.specs.declared.Word.{Word}
@@ -23,7 +24,7 @@ use Rattle.plan.specs.declared.PointsAnswer.{PointsAnswer}
 use Rattle.plan.specs.declared.PointsAnswer.the-variants as points-are
 use Rattle.plan.specs.declared.Linking.{Linking}
 use Rattle.plan.specs.declared.Linking.the-variants as linking-is
-use Rattle.plan.specs.Words.{Plan, contactWord}
+use Rattle.plan.specs.Words.{Plan, mostPoints, contactWord}
 use Rattle.plan.specs.Reader.{State, pointing, linking, dead, opened, plan, refused, readFrom, readOf}
 use Rattle.plan.specs.Stored.{square}
 
@@ -42,6 +43,15 @@ joinedOf t i j = addAt (addAt t i j) j i
 -- each position below n is in contact with itself
 unfoldable pub selfOf : ℕ → ℕ → ℕ → Bool
 selfOf n a b = ltb a n && eqb a b
+
+-- the words of a square have these rows now, and are as many
+pub record Grown (t : ℕ → ℕ → Bool) (ws ws' : List ℕ) : Type 0 where
+  pub long : length ws' ≡ length ws
+  pub rows : squareAt ws' ≡ t
+
+-- the rows of the positions below n alone
+unfoldable pub rowsTo : ℕ → (ℕ → ℕ → Bool) → ℕ → ℕ → Bool
+rowsTo n t a b = ltb a n && t a b
 
 -- so many points are wanted; then the contacts
 abbrev pub wanting : ℕ → ℕ → List ℕ → ℕ → State
@@ -79,7 +89,7 @@ pub record PointsHeld (ws : List ℕ) (n c i low : ℕ) (points : List ℕ) : Ty
   pub lowest : low ≤ 256
   pub pts : List ℕ
   pub size : length pts ≡ i
-  pub stored : points ≡ pad 64 pts
+  pub stored : points ≡ pad mostPoints pts
   pub rest : readFrom (1 + i) (wanting n (c - i) pts low) (drop (1 + i) ws) ≡ readOf ws
 
 -- all points have been read, or the words are refused
@@ -101,25 +111,47 @@ linkingOf count low at len (Last c) = linking-is.Over (lastOf c at len)
 linkingOf count low at len Other = linking-is.Over (answer-is.Refused at)
 
 -- the points have been read, and the contacts come
-pub record LinksCome (ws : List ℕ) (count : ℕ) (rows : List EvalSet) (n : ℕ) (pts : List ℕ) : Type 0 where
+pub record LinksCome (ws : List ℕ) (count : ℕ) (words : List ℕ) (n : ℕ) (pts : List ℕ) : Type 0 where
   pub size : length pts ≡ count
-  pub alone : memAt rows ≡ square (planOf n pts [])
+  pub alone : squareAt words ≡ square (planOf n pts [])
   pub rest : readFrom (1 + count) (linking n pts [] 0) (drop (1 + count) ws) ≡ readOf ws
 
 -- the words before `at` have been read
-pub record LinksHeld (ws : List ℕ) (n : ℕ) (pts : List ℕ) (at low : ℕ) (rows : List EvalSet) : Type 0 where
+pub record LinksHeld (ws : List ℕ) (n : ℕ) (pts : List ℕ) (at low : ℕ) (words : List ℕ) : Type 0 where
   pub ks : List ℕ
-  pub words : at ≡ 1 + (length pts + length ks)
-  pub joined : memAt rows ≡ square (planOf n pts ks)
+  pub before : at ≡ 1 + (length pts + length ks)
+  pub joined : squareAt words ≡ square (planOf n pts ks)
   pub rest : readFrom at (linking n pts ks low) (drop at ws) ≡ readOf ws
 
 -- the words are a plan of these points, or refused
-abbrev pub LinksSay : List ℕ → ℕ → List ℕ → PlanAnswer → List EvalSet → Type 0
-LinksSay ws n pts answer-is.Plan rows =
-    (ks : List ℕ) × (readOf ws ≡ plan (planOf n pts ks)) × (memAt rows ≡ square (planOf n pts ks))
-LinksSay ws n pts (answer-is.Refused at) rows = readOf ws ≡ refused at
+abbrev pub LinksSay : List ℕ → ℕ → List ℕ → PlanAnswer → List ℕ → Type 0
+LinksSay ws n pts answer-is.Plan words =
+    (ks : List ℕ) × (readOf ws ≡ plan (planOf n pts ks)) × (squareAt words ≡ square (planOf n pts ks))
+LinksSay ws n pts (answer-is.Refused at) words = readOf ws ≡ refused at
+
+-- the points have been read, and no contact; the square has room for them
+pub record RestComes (ws : List ℕ) (n c : ℕ) (points words : List ℕ) : Type 0 where
+  pub held : PointsSay ws n c points-are.All points
+  pub is : Square words
+  pub few : c ≤ reach words
+  pub none : squareAt words ≡ selfOf 0
 
 -- ---- writing
+-- r is the least position from `low` on, below n, that is in the row, or n
+pub record Next (row : ℕ → Bool) (low n r : ℕ) : Type 0 where
+  pub least : low ≤ r
+  pub most : r ≤ n
+  pub absent : (d : ℕ) → low ≤ d → d < r → row d ≡ false
+  pub present : r < n → row r ≡ true
+
+-- the contact rows of the first n of these points, of which `given` has all: the positions of those that are not apart from each
+unfoldable pub rowsBy : ℕ → List ℕ → (ℕ → Bool) → (ℕ → ℕ → Bool) → ℕ → ℕ → Bool
+rowsBy n points given apart i = positionsOf n points (minusOf given (apart (getD points i 0)))
+
+-- so many words where the buffer is shorter, else 0
+abbrev pub lackingOf : ℕ → ℕ → ℕ
+lackingOf size len = cond (leb size len) 0 size
+
 -- words over a buffer, from a place on
 unfoldable pub written : ℕ → List ℕ → List ℕ → List ℕ
 written at ws buf = take at buf ++ (ws ++ drop (at + length ws) buf)

@@ -11,13 +11,15 @@ use Rattle.plan.specs.declared.Word.the-variants.{First, Point, Contact,
 use Rattle.plan.specs.Words.{Plan, IsPlan, wordsOf, Refusal}
 use Rattle.evalset.specs.Most.{most}
 
--- a word by its kind and the rest of its bits; Other where an unnamed bit is set
+-- a word by its kind and the rest of its bits; Other where an unnamed bit is set, and where the names are not those of the kind: "kind 1
+-- with such names is refused, and kind 8 with fewer too"
 abbrev pub byKind : ℕ → ℕ → Word
 byKind k b =
-    cond (eqb k 1) (cond (leb b 0xFFFF) (First (b / 256) (b % 256)) Other)
+    cond (eqb k 1) (cond (leb b 0x6FF) (First (b / 256) (b % 256)) Other)
     (cond (eqb k 2) (cond (leb b 0xFF) (Point b) Other)
     (cond (eqb k 3) (cond (leb b 0xFFFF) (Contact (b / 256) (b % 256)) Other)
-    (cond (eqb k 4) (Last b) Other)))
+    (cond (eqb k 4) (Last b)
+    (cond (eqb k 8) (cond (leb 0x70000 b && leb b 0x8FFFF) (First (b / 65536) (b % 65536)) Other) Other))))
 
 -- "the kind in the top four bits decides what the rest means"
 unfoldable pub kindOf : ℕ → Word

@@ -7,7 +7,7 @@ use lib.ListN.{length}
 use Rattle.lists.specs.Padded.{pad}
 use Rattle.evalset.specs.Sets.{memAt}
 use Rattle.plan.specs.declared.PlanArrays.{PlanArrays}
-use Rattle.plan.specs.Words.{Plan}
+use Rattle.plan.specs.Words.{Plan, mostPoints}
 use Rattle.plan.specs.Floor.{touching}
 
 -- "A plan's contacts form a square of bits, one row for each point": row a has position b
@@ -18,5 +18,5 @@ square p a b = (ltb a (length (p .points)) && ltb b (length (p .points))) && tou
 pub record Stored (r : PlanArrays) (p : Plan) : Type 0 where
   pub names : r .names ≡ p .names
   pub count : r .count ≡ length (p .points)
-  pub points : r .points ≡ pad 64 (p .points)
+  pub points : r .points ≡ pad mostPoints (p .points)
   pub rows : memAt (r .rows) ≡ square p

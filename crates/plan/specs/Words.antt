@@ -1,7 +1,9 @@
 -- What is meant: document 01, 'Plan words'. Assumes nothing.
 use mathlib.Core.Path.{_≡_}
+use mathlib.Core.Bool.{cond}
 use mathlib.Core.List.{List, [], _∷_, _++_, map}
 use Prim.Native.Nat.{ℕ, suc, _+_, _*_, _^_, _/_, _%_, _≤_, _<_}
+use lib.Dec.{leb}
 use lib.ListN.{length, drop}
 use Rattle.evalset.specs.Most.{most}
 
@@ -22,8 +24,12 @@ abbrev pub Rises : ℕ → ℕ → List ℕ → Type 0
 Rises low n [] = Unit {0}
 Rises low n (k ∷ ks) = (low ≤ k) × (k / 256 < k % 256) × (k % 256 < n) × Rises (suc k) n ks
 
--- "names (0 to 6) .. points (1 to 2^names) .. strictly ascending: .. the evaluation, below 2^names"; at most 2^names points
--- follow from that
+-- the most points of a plan: as many as there are evaluations
+abbrev pub mostPoints : ℕ
+mostPoints = 256
+
+-- "names (0 to 6)", and 7 or 8 (document 02's T-08: "Names go up to 8"), ".. points (1 to 2^names) .. strictly ascending: .. the
+-- evaluation, below 2^names"; at most 2^names points follow from that
 pub record IsPlan (p : Plan) : Type 0 where
   pub few : p .names ≤ most
   pub some : 0 < length (p .points)
@@ -31,8 +37,16 @@ pub record IsPlan (p : Plan) : Type 0 where
   pub rise : Rises 0 (length (p .points)) (p .contacts)
 
 -- "Kind 1, first: bits 15..8 names (0 to 6), bits 7..0 points (1 to 2^names)"
+abbrev pub shortFirst : ℕ → ℕ → ℕ
+shortFirst names count = 0x10000000 + (names * 256 + count)
+
+-- document 02's T-08: "For 7 or 8 names the first word is of kind 8: bits 19..16 names, bits 15..0 points (1 to 2^names)"
+abbrev pub longFirst : ℕ → ℕ → ℕ
+longFirst names count = 0x80000000 + (names * 65536 + count)
+
+-- "Plans of up to 6 names keep their words"
 abbrev pub firstWord : ℕ → ℕ → ℕ
-firstWord names count = 0x10000000 + (names * 256 + count)
+firstWord names count = cond (leb names 6) (shortFirst names count) (longFirst names count)
 
 -- "Kind 2, once a point, strictly ascending: bits 7..0 the evaluation"
 abbrev pub pointWord : ℕ → ℕ

@@ -1,30 +1,38 @@
 // Plan words (document 01, 'Plan words'): a plan as 32-bit words, read and written, and the atoms of rules judged on it.
-// A plan is held in arrays, the points' evaluations in one and the contact rows beside it, one row a point; they go in and come
-// back by value. No public function has a requires: words, counts and rows may be any, and each answer says what it is then.
+// A plan that is read is held in arrays, the points' evaluations in one and the contact rows beside it, one row a point; they go in and come
+// back by value. A plan that is written comes as the set of its points and a square of those apart, which is lent. No public function but
+// the writer has a requires, and that asks only that the words lent are a square: words, counts, rows and sets may be any, and each answer
+// says what it is then.
 // What a plan is and which words it has is in specs/Words.antt, what is answered in specs/Arrays.antt. Assumes nothing.
 ghost use mathlib.Core.Path.{_≡_};
-ghost use mathlib.Core.Bool.{cond};
+ghost use mathlib.Core.Bool.{_&&_, _||_};
 ghost use mathlib.Core.List.{List, [], map};
 ghost use Prim.Native.Nat.{ℕ, min, _+_, _*_, _<_, _≤_, _^_};
+ghost use lib.Dec.{eqb};
 ghost use lib.ListN.{length, take};
 ghost use Rattle.lists.specs.Padded.{pad};
-ghost use Rattle.evalset.specs.Sets.{mem, memAt, addOf};
+ghost use Rattle.lists.specs.Search.{keep, below};
+ghost use Rattle.evalset.specs.Sets.{room, mem, memAt};
+ghost use Rattle.evalset.specs.Bit.{wordBits, bit};
 ghost use Rattle.evalset.specs.Most.{most};
 ghost use Rattle.evalset.specs.Arrays.{positionsOf};
-ghost use Rattle.plan.specs.Words.{pointWord};
+ghost use Rattle.squares.specs.Square.{Square, squareAt, reach};
+ghost use Rattle.plan.specs.Words.{mostPoints, firstWord, pointWord};
 ghost use Rattle.plan.specs.Reader.{kindOf};
-ghost use Rattle.plan.specs.Arrays.{Reads, Writes, touchesOf, vacantOf};
-ghost use Rattle.plan.specs.Links.{pairOf, rowTo, linksTo};
+ghost use Rattle.plan.specs.Arrays.{Reads, pointsPlan, Writes, touchesOf, vacantOf};
+ghost use Rattle.plan.specs.Links.{rowTo, linksTo};
 ghost use Rattle.plan.specs.Stored.{Stored};
-ghost use Rattle.plan.specs.Private.{planOf, Opens, pointingOf, PointsCome, PointsSay, selfOf, lastOf, linkingOf, LinksCome, LinksSay, written, Wrote, reachesOf, reachedOf};
+ghost use Rattle.plan.specs.Private.{planOf, Opens, pointingOf, PointsCome, PointsSay, addAt, joinedOf, selfOf, Grown, rowsTo, lastOf, linkingOf, LinksCome, LinksSay, RestComes, Next, rowsBy, lackingOf, written, Wrote, reachesOf, reachedOf};
 use evalset::EvalSet;
+use evalset::Found;
+use evalset::ROOM;
 
 // A plan: the evaluations of its points, ascending, and the square of contacts, one row for each point.
 pub struct PlanArrays {
     pub names: u8,
     pub count: usize,
-    pub points: [u8; 64],
-    pub rows: [EvalSet; 64],
+    pub points: [u8; ROOM],
+    pub rows: [EvalSet; ROOM],
 }
 
 // What reading words answers: a plan, or refusal 13 and its index.
@@ -60,19 +68,13 @@ enum PointsAnswer {
 // The points, and beside them whether all were read.
 struct PointsRead {
     answer: PointsAnswer,
-    points: [u8; 64],
+    points: [u8; ROOM],
 }
 
 // What a word says after the points: one more contact, or what all words are.
 enum Linking {
     Pair { smaller: usize, larger: usize },
     Over(PlanAnswer),
-}
-
-// The square of contacts, and beside it what all words are.
-struct ContactsRead {
-    answer: PlanAnswer,
-    rows: [EvalSet; 64],
 }
 
 // What a word says; Other is a word of no kind, or one with an unnamed bit set.
@@ -84,14 +86,15 @@ enum Word {
     Other,
 }
 
-// "the kind in the top four bits decides what the rest means, and unnamed bits are zero"
+// "the kind in the top four bits decides what the rest means, and unnamed bits are zero"; of kind 1 names are 0 to 6, of kind 8 they
+// are 7 or 8.
 fn kind_of(word: u32) -> Word
     ensures { λ r. ⌜ r ≡ kindOf word ⌝ }
 {
     let body = word % 0x1000_0000;
     match word / 0x1000_0000 {
         1 => match body {
-            0..=0xFFFF => Word::First {
+            0..=0x6FF => Word::First {
                 names: body / 256,
                 points: body % 256,
             },
@@ -109,6 +112,13 @@ fn kind_of(word: u32) -> Word
             _ => Word::Other,
         },
         4 => Word::Last(body),
+        8 => match body {
+            0x7_0000..=0x8_FFFF => Word::First {
+                names: body / 65536,
+                points: body % 65536,
+            },
+            _ => Word::Other,
+        },
         _ => Word::Other,
     }
 }
@@ -125,11 +135,13 @@ fn evaluations(names: u8) -> usize
         3 => 8,
         4 => 16,
         5 => 32,
-        _ => 64,
+        6 => 64,
+        7 => 128,
+        _ => 256,
     }
 }
 
-// The first word: "names (0 to 6)" and "points (1 to 2^names)".
+// The first word: "names (0 to 6)", or 7 or 8, and "points (1 to 2^names)".
 fn open(word: Word) -> Opening
     ensures { λ r. ⌜ Opens word r ⌝ }
 {
@@ -137,8 +149,8 @@ fn open(word: Word) -> Opening
         return Opening::Wrong;
     };
     match names {
-        0..=6 => match points {
-            1..=64 => {
+        0..=8 => match points {
+            1..=256 => {
                 let few = names as u8;
                 let count = points as usize;
                 if evaluations(few) < count {
@@ -179,10 +191,10 @@ fn point(word: Word, low: usize, left: usize, top: usize) -> Pointing
 }
 
 // No point.
-fn no_points() -> [u8; 64]
-    ensures { λ r. ⌜ r ≡ pad 64 [] ⌝ }
+fn no_points() -> [u8; ROOM]
+    ensures { λ r. ⌜ r ≡ pad mostPoints [] ⌝ }
 {
-    [0; 64]
+    [0; ROOM]
 }
 
 // The points of a plan of so many names and points, from word 1 on.
@@ -265,62 +277,106 @@ fn last(before: usize, at: usize, len: usize) -> PlanAnswer
     }
 }
 
-// The square of no point.
-fn no_rows() -> [EvalSet; 64]
-    ensures { λ r. ⌜ memAt r ≡ selfOf 0 ⌝ }
+// The word and bit e, of which it has 64.
+fn with_bit(word: u64, e: usize) -> u64
+    requires { ⌜ e < wordBits ⌝ }
+    ensures { λ r. ⌜ ((i : ℕ) → bit r i ≡ (bit word i || eqb i e)) ⌝ }
 {
-    let none = evalset::empty();
-    [none; 64]
+    let one: u64 = 1;
+    word | (one << e)
 }
 
-// The square of so many points, each in contact with itself alone.
-fn alone(count: usize) -> [EvalSet; 64]
-    requires { ⌜ count ≤ 64 ⌝ }
-    ensures { λ r. ⌜ memAt r ≡ selfOf count ⌝ }
+// The square of no point, for up to 64 points: to clear more costs more than to read a small plan.
+fn few_bits() -> [u64; 64]
+    ensures { λ r. ⌜ (length r ≡ 64) × (squareAt r ≡ selfOf 0) ⌝ }
 {
-    let none = evalset::empty();
-    let mut rows = no_rows();
+    [0; 64]
+}
+
+// The square of no point, for all.
+fn all_bits() -> [u64; 1024]
+    ensures { λ r. ⌜ (length r ≡ 1024) × (squareAt r ≡ selfOf 0) ⌝ }
+{
+    [0; 1024]
+}
+
+// Row i has position j too. The bit is set in place, where a set of a row would be copied.
+fn set_bit(square: &mut [u64], i: usize, j: usize)
+    requires { ⌜ Square (now square) × (i < reach (now square)) × (j < reach (now square)) ⌝ }
+    ensures { λ _. ⌜ Grown (addAt (squareAt (now (square .entry))) i j) (now (square .entry)) (now (square .exit)) ⌝ }
+{
+    if square.len() == 64 {
+        square[i] = with_bit(square[i], j);
+        return;
+    }
+    let at = 4 * i + j / 64;
+    square[at] = with_bit(square[at], j % 64);
+}
+
+// The points at i and j are in contact, both ways round.
+fn link(square: &mut [u64], i: usize, j: usize)
+    requires { ⌜ Square (now square) × (i < reach (now square)) × (j < reach (now square)) ⌝ }
+    ensures { λ _. ⌜ Grown (joinedOf (squareAt (now (square .entry))) i j) (now (square .entry)) (now (square .exit)) ⌝ }
+{
+    set_bit(square, i, j);
+    set_bit(square, j, i);
+}
+
+// Each of so many points is in contact with itself alone. The square comes as that of no point.
+fn alone(square: &mut [u64], count: usize)
+    requires { ⌜ Square (now square) × (count ≤ reach (now square)) × (squareAt (now square) ≡ selfOf 0) ⌝ }
+    ensures { λ _. ⌜ Grown (selfOf count) (now (square .entry)) (now (square .exit)) ⌝ }
+{
     let mut i: usize = 0;
     while i < count {
-        rows[i] = evalset::insert(none, i);
+        set_bit(square, i, i);
         i += 1;
     }
-    rows
 }
 
 // The contacts and the last word, after so many points. The square comes with each point in contact with itself.
-fn read_contacts(words: &[u32], count: usize, square: [EvalSet; 64]) -> ContactsRead
-    requires { ⌜ (count ≤ 64) × (1 + count ≤ length (now words)) ⌝ }
-    ensures { λ r. ⌜ ((n : ℕ) (pts : List ℕ) → LinksCome (now (words .entry)) count square n pts → LinksSay (now (words .entry)) n pts (r .answer) (r .rows)) ⌝ }
+fn read_contacts(words: &[u32], count: usize, square: &mut [u64]) -> PlanAnswer
+    requires { ⌜ Square (now square) × (count ≤ reach (now square)) × (1 + count ≤ length (now words)) ⌝ }
+    ensures { λ r. ⌜ ((n : ℕ) (pts : List ℕ) → LinksCome (now (words .entry)) count (now (square .entry)) n pts → LinksSay (now (words .entry)) n pts r (now (square .exit))) × (length (now (square .exit)) ≡ length (now (square .entry))) ⌝ }
 {
-    let mut rows = square;
     let mut low: usize = 0;
     let mut at: usize = 1 + count;
     while at < words.len() {
         let said = contact(kind_of(words[at]), count, low, at, words.len());
         match said {
             Linking::Pair { smaller, larger } => {
-                let i = smaller;
-                let j = larger;
-                let first = rows[i];
-                rows[i] = evalset::insert(first, j);
-                let second = rows[j];
-                rows[j] = evalset::insert(second, i);
-                low = i * 256 + j + 1;
+                link(square, smaller, larger);
+                low = smaller * 256 + larger + 1;
                 at += 1;
             }
             Linking::Over(answer) => {
-                return ContactsRead {
-                    answer: answer,
-                    rows: rows,
-                };
+                return answer;
             }
         }
     }
-    ContactsRead {
-        answer: PlanAnswer::Refused(at),
-        rows: rows,
+    PlanAnswer::Refused(at)
+}
+
+// No row.
+fn no_rows() -> [EvalSet; ROOM]
+    ensures { λ r. ⌜ memAt r ≡ selfOf 0 ⌝ }
+{
+    let none = evalset::empty();
+    [none; ROOM]
+}
+
+// The rows of so many points.
+fn rows_of(square: &[u64], count: usize) -> [EvalSet; ROOM]
+    requires { ⌜ Square (now square) × (count ≤ reach (now square)) ⌝ }
+    ensures { λ r. ⌜ memAt r ≡ rowsTo count (squareAt (now (square .entry))) ⌝ }
+{
+    let mut rows = no_rows();
+    let mut i: usize = 0;
+    while i < count {
+        rows[i] = squares::row_of(square, i);
+        i += 1;
     }
+    rows
 }
 
 // A plan with no name and no point.
@@ -345,6 +401,34 @@ fn refused(at: usize) -> PlanRead
     }
 }
 
+// What is left of the words after the points, and so all that they are. The square comes as that of no point.
+fn read_rest(
+    words: &[u32],
+    names: u8,
+    count: usize,
+    points: [u8; ROOM],
+    square: &mut [u64],
+) -> PlanRead
+    requires { ⌜ RestComes (now words) names count points (now square) ⌝ }
+    ensures { λ r. ⌜ Reads (now (words .entry)) r ⌝ }
+{
+    alone(square, count);
+    let answer = read_contacts(words, count, square);
+    if let PlanAnswer::Refused(at) = answer {
+        return refused(at);
+    }
+    let rows = rows_of(square, count);
+    PlanRead {
+        answer: PlanAnswer::Plan,
+        plan: PlanArrays {
+            names: names,
+            count: count,
+            points: points,
+            rows: rows,
+        },
+    }
+}
+
 // Reads plan words: the plan that they are, or refusal 13 with "word index, or the length": the index of the word up to which they
 // begin no plan, or their number where they end early. Words of any number and any values are answered.
 pub fn read_plan(words: &[u32]) -> PlanRead
@@ -362,22 +446,19 @@ pub fn read_plan(words: &[u32]) -> PlanRead
     if let PointsAnswer::Refused(at) = passed {
         return refused(at);
     }
-    let second = read_contacts(words, count, alone(count));
-    let answer = second.answer;
-    if let PlanAnswer::Refused(at) = answer {
-        return refused(at);
-    }
     let points = first.points;
-    let rows = second.rows;
-    PlanRead {
-        answer: PlanAnswer::Plan,
-        plan: PlanArrays {
-            names: names,
-            count: count,
-            points: points,
-            rows: rows,
-        },
+    if count <= 64 {
+        let mut square = few_bits();
+        return read_rest(words, names, count, points, &mut square);
     }
+    let mut square = all_bits();
+    read_rest(words, names, count, points, &mut square)
+}
+
+// A set as a list.
+struct Listed {
+    count: usize,
+    points: [u8; ROOM],
 }
 
 // What writing a plan answers: its number of words, or, where the buffer is too short, the number needed.
@@ -386,67 +467,99 @@ pub enum Written {
     Needs(usize),
 }
 
-// A plan has 64 points at most.
+// A plan has at most as many points as there are evaluations.
 fn clamped(count: usize) -> usize
-    ensures { λ r. ⌜ r ≡ min count 64 ⌝ }
+    ensures { λ r. ⌜ r ≡ min count mostPoints ⌝ }
 {
-    if count < 64 { count } else { 64 }
+    least_of(count, ROOM)
 }
 
-// One word if j stands after i and is in its row, else none.
-fn pair_size(row: EvalSet, i: usize, j: usize) -> usize
-    requires { ⌜ (i < 64) × (j < 64) ⌝ }
-    ensures { λ r. ⌜ r ≡ length (pairOf i j (mem row)) ⌝ }
+// The next position from `from` on and below n that is in the row, or n: the lowest set bit of what is left of a word, word after word.
+fn next(row: EvalSet, from: usize, n: usize) -> usize
+    requires { ⌜ (from ≤ n) × (n ≤ mostPoints) ⌝ }
+    ensures { λ r. ⌜ Next (mem row) from n r ⌝ }
 {
-    if j <= i {
-        return 0;
+    let mut j = from;
+    while j < n {
+        let word = evalset::word_of(row, j / 64);
+        let found = evalset::word_least(word >> (j % 64));
+        if let Found::At(x) = found {
+            return least_of(j + x, n);
+        }
+        j = (j / 64 + 1) * 64;
     }
-    if evalset::contains(row, j) { 1 } else { 0 }
+    n
 }
 
-// That word, and the place after it.
-fn put_pair(row: EvalSet, i: usize, j: usize, buffer: &mut [u32], at: usize) -> usize
-    requires { ⌜ (i < 64) × (j < 64) × (at + length (pairOf i j (mem row)) ≤ length (now buffer)) ⌝ }
-    ensures { λ r. ⌜ Wrote at (pairOf i j (mem row)) (now (buffer .entry)) (now (buffer .exit)) r ⌝ }
+// The lesser of two numbers.
+fn least_of(a: usize, b: usize) -> usize
+    ensures { λ r. ⌜ r ≡ min a b ⌝ }
 {
-    if j <= i {
-        return at;
-    }
-    if evalset::contains(row, j) {
-        buffer[at] = 0x3000_0000 + (i * 256 + j) as u32;
-        at + 1
-    } else {
-        at
-    }
+    if a < b { a } else { b }
 }
 
 // How many of the positions after i, below n, are in the row.
 fn row_size(row: EvalSet, i: usize, n: usize) -> usize
-    requires { ⌜ (i < 64) × (n ≤ 64) ⌝ }
+    requires { ⌜ (i < n) × (n ≤ mostPoints) ⌝ }
     ensures { λ r. ⌜ r ≡ length (rowTo n i (mem row)) ⌝ }
 {
     let mut size: usize = 0;
-    let mut j: usize = 0;
+    let mut j = next(row, i + 1, n);
     while j < n {
-        size += pair_size(row, i, j);
-        j += 1;
+        size += 1;
+        j = next(row, j + 1, n);
     }
     size
 }
 
+// The contact row of the point at position i: "All unseparated pairs are in contact", so the positions of the points that are not apart
+// from it.
+fn contact_row(points: [u8; ROOM], n: usize, given: EvalSet, apart: &[u64], i: usize) -> EvalSet
+    requires { ⌜ (i < n) × (n ≤ mostPoints) × Square (now apart) ⌝ }
+    ensures { λ r. ⌜ mem r ≡ rowsBy n points (mem given) (squareAt (now (apart .entry))) i ⌝ }
+{
+    let e = points[i] as usize;
+    let row = squares::row_at(apart, e);
+    places(points, n, evalset::minus(given, row))
+}
+
 // How many contacts of two points there are.
-fn contact_count(rows: [EvalSet; 64], n: usize) -> usize
-    requires { ⌜ n ≤ 64 ⌝ }
-    ensures { λ r. ⌜ r ≡ length (linksTo n n (memAt rows)) ⌝ }
+fn contact_count(points: [u8; ROOM], n: usize, given: EvalSet, apart: &[u64]) -> usize
+    requires { ⌜ (n ≤ mostPoints) × Square (now apart) ⌝ }
+    ensures { λ r. ⌜ r ≡ length (linksTo n n (rowsBy n points (mem given) (squareAt (now (apart .entry))))) ⌝ }
 {
     let mut size: usize = 0;
     let mut i: usize = 0;
     while i < n {
-        let row = rows[i];
+        let row = contact_row(points, n, given, apart, i);
         size += row_size(row, i, n);
         i += 1;
     }
     size
+}
+
+// How many words the plan of n points needs, where a buffer of so many is too short, else 0. Two points each give n * (n - 1) / 2
+// contacts at most: where there is room for all of them, none is counted.
+fn lacking(points: [u8; ROOM], n: usize, given: EvalSet, apart: &[u64], len: usize) -> usize
+    requires { ⌜ (n ≤ mostPoints) × Square (now apart) ⌝ }
+    ensures { λ r. ⌜ r ≡ lackingOf (2 + n + length (linksTo n n (rowsBy n points (mem given) (squareAt (now (apart .entry)))))) len ⌝ }
+{
+    if 2 + n * (n + 1) / 2 <= len {
+        return 0;
+    }
+    let size = 2 + n + contact_count(points, n, given, apart);
+    if len < size { size } else { 0 }
+}
+
+// The first word: of kind 1 for up to six names, of kind 8 for more.
+fn first_word(names: u8, n: usize) -> u32
+    requires { ⌜ n ≤ mostPoints ⌝ }
+    ensures { λ r. ⌜ r ≡ firstWord names n ⌝ }
+{
+    match names {
+        0..=6 => 0x1000_0000 + (names as u32 * 256 + n as u32),
+        _ => 0x8000_0000 + (names as u32 * 65536 + n as u32),
+    }
 }
 
 // A point's word.
@@ -457,8 +570,8 @@ fn point_word(e: u8) -> u32
 }
 
 // The points' words, from word 1 on.
-fn put_points(points: [u8; 64], n: usize, buffer: &mut [u32])
-    requires { ⌜ (n ≤ 64) × (1 + n ≤ length (now buffer)) ⌝ }
+fn put_points(points: [u8; ROOM], n: usize, buffer: &mut [u32])
+    requires { ⌜ (n ≤ mostPoints) × (1 + n ≤ length (now buffer)) ⌝ }
     ensures { λ r. ⌜ now (buffer .exit) ≡ written 1 (map pointWord (take n points)) (now (buffer .entry)) ⌝ }
 {
     let mut i: usize = 0;
@@ -470,74 +583,122 @@ fn put_points(points: [u8; 64], n: usize, buffer: &mut [u32])
 
 // One row's contact words, and the place after them.
 fn put_row(row: EvalSet, i: usize, n: usize, buffer: &mut [u32], at: usize) -> usize
-    requires { ⌜ (i < 64) × (n ≤ 64) × (at + length (rowTo n i (mem row)) ≤ length (now buffer)) ⌝ }
+    requires { ⌜ (i < n) × (n ≤ mostPoints) × (at + length (rowTo n i (mem row)) ≤ length (now buffer)) ⌝ }
     ensures { λ r. ⌜ Wrote at (rowTo n i (mem row)) (now (buffer .entry)) (now (buffer .exit)) r ⌝ }
 {
     let mut end = at;
-    let mut j: usize = 0;
+    let mut j = next(row, i + 1, n);
     while j < n {
-        end = put_pair(row, i, j, buffer, end);
-        j += 1;
+        buffer[end] = 0x3000_0000 + (i * 256 + j) as u32;
+        end += 1;
+        j = next(row, j + 1, n);
     }
     end
 }
 
 // All contact words, and the place after them.
-fn put_rows(rows: [EvalSet; 64], n: usize, buffer: &mut [u32], at: usize) -> usize
-    requires { ⌜ (n ≤ 64) × (at + length (linksTo n n (memAt rows)) ≤ length (now buffer)) ⌝ }
-    ensures { λ r. ⌜ Wrote at (linksTo n n (memAt rows)) (now (buffer .entry)) (now (buffer .exit)) r ⌝ }
+fn put_rows(
+    points: [u8; ROOM],
+    n: usize,
+    given: EvalSet,
+    apart: &[u64],
+    buffer: &mut [u32],
+    at: usize,
+) -> usize
+    requires { ⌜ (n ≤ mostPoints) × Square (now apart) × (at + length (linksTo n n (rowsBy n points (mem given) (squareAt (now apart)))) ≤ length (now buffer)) ⌝ }
+    ensures { λ r. ⌜ Wrote at (linksTo n n (rowsBy n points (mem given) (squareAt (now (apart .entry))))) (now (buffer .entry)) (now (buffer .exit)) r ⌝ }
 {
     let mut end = at;
     let mut i: usize = 0;
     while i < n {
-        let row = rows[i];
+        let row = contact_row(points, n, given, apart, i);
         end = put_row(row, i, n, buffer, end);
         i += 1;
     }
     end
 }
 
-// Writes the plan's words, once, over the buffer's first ones and answers how many they are. A buffer that is too short is left as
-// it is, and the number needed is answered. Words past the plan keep their values. Of a count above 64 the first 64 points are
-// written; a contact is one where a later position is in the earlier one's row.
-pub fn write_plan(plan: PlanArrays, buffer: &mut [u32]) -> Written
-    ensures { λ r. ⌜ Writes plan (now (buffer .entry)) r (now (buffer .exit)) ⌝ }
+// The evaluations of a set, "ascending, each once"; zeros stand after them.
+fn ascending(s: EvalSet) -> Listed
+    ensures { λ r. ⌜ (r .count ≡ length (keep (mem s) (below room))) × (r .points ≡ pad room (keep (mem s) (below room))) ⌝ }
 {
-    let points = plan.points;
-    let rows = plan.rows;
-    let names = plan.names;
-    let n = clamped(plan.count);
-    let size = 2 + n + contact_count(rows, n);
-    if buffer.len() < size {
-        return Written::Needs(size);
+    let mut points = [0u8; ROOM];
+    let mut rest = s;
+    let mut from: usize = 0;
+    let mut count: usize = 0;
+    while from < ROOM {
+        let Found::At(e) = evalset::least(rest) else {
+            return Listed { count, points };
+        };
+        points[count] = e as u8;
+        rest = evalset::without(rest, e);
+        from = e + 1;
+        count += 1;
     }
-    buffer[0] = 0x1000_0000 + (names as u32 * 256 + n as u32);
-    put_points(points, n, buffer);
-    let end = put_rows(rows, n, buffer, 1 + n);
-    buffer[end] = 0x4000_0000 + end as u32;
-    Written::Words(size)
+    Listed { count, points }
 }
 
-// The set with position j, if it belongs there.
-fn with_place(s: EvalSet, j: usize, belongs: bool) -> EvalSet
-    ensures { λ r. ⌜ mem r ≡ cond belongs (addOf (mem s) j) (mem s) ⌝ }
+// Writes the words of the plan of a set of points, once, over the buffer's first ones and answers how many they are. Two points are in
+// contact unless a square of evaluations (crate squares) has them apart: the larger one's bit in the smaller one's row. A buffer that is
+// too short is left as it is, and the number needed is answered. Words past the plan keep their values.
+pub fn write_plan(names: u8, given: EvalSet, apart: &[u64], buffer: &mut [u32]) -> Written
+    requires { ⌜ Square (now apart) ⌝ }
+    ensures { λ r. ⌜ Writes (pointsPlan names (mem given) (squareAt (now (apart .entry)))) (now (buffer .entry)) r (now (buffer .exit)) ⌝ }
 {
-    if belongs { evalset::insert(s, j) } else { s }
+    let listed = ascending(given);
+    let n = listed.count;
+    let points = listed.points;
+    let need = lacking(points, n, given, apart, buffer.len());
+    if need != 0 {
+        return Written::Needs(need);
+    }
+    buffer[0] = first_word(names, n);
+    put_points(points, n, buffer);
+    let end = put_rows(points, n, given, apart, buffer, 1 + n);
+    buffer[end] = 0x4000_0000 + end as u32;
+    Written::Words(end + 1)
+}
+
+// The word with bit e, if it belongs there.
+fn with_place(word: u64, e: usize, belongs: bool) -> u64
+    requires { ⌜ e < wordBits ⌝ }
+    ensures { λ r. ⌜ ((i : ℕ) → bit r i ≡ (bit word i || (eqb i e && belongs))) ⌝ }
+{
+    if belongs { with_bit(word, e) } else { word }
+}
+
+// Word k of the positions of the points whose evaluations are in x.
+fn place_word(points: [u8; ROOM], n: usize, x: EvalSet, k: usize) -> u64
+    requires { ⌜ (n ≤ mostPoints) × (k < 4) ⌝ }
+    ensures { λ r. ⌜ ((e : ℕ) → e < wordBits → bit r e ≡ positionsOf n points (mem x) (wordBits * k + e)) ⌝ }
+{
+    let start = 64 * k;
+    let mut word: u64 = 0;
+    let mut j = start;
+    while j < n {
+        if start + 64 <= j {
+            return word;
+        }
+        let e = points[j] as usize;
+        word = with_place(word, j - start, evalset::contains(x, e));
+        j += 1;
+    }
+    word
 }
 
 // The positions of the points whose evaluations are in x.
-fn places(points: [u8; 64], n: usize, x: EvalSet) -> EvalSet
-    requires { ⌜ n ≤ 64 ⌝ }
+fn places(points: [u8; ROOM], n: usize, x: EvalSet) -> EvalSet
+    requires { ⌜ n ≤ mostPoints ⌝ }
     ensures { λ r. ⌜ mem r ≡ positionsOf n points (mem x) ⌝ }
 {
-    let mut found = evalset::empty();
-    let mut j: usize = 0;
-    while j < n {
-        let e = points[j] as usize;
-        found = with_place(found, j, evalset::contains(x, e));
-        j += 1;
+    EvalSet {
+        words: [
+            place_word(points, n, x, 0),
+            place_word(points, n, x, 1),
+            place_word(points, n, x, 2),
+            place_word(points, n, x, 3),
+        ],
     }
-    found
 }
 
 // Whether e is in x and the row meets the positions ys.
@@ -552,8 +713,8 @@ fn reaches(row: EvalSet, e: usize, x: EvalSet, ys: EvalSet) -> bool
 }
 
 // Whether some row of a point in x meets the positions ys.
-fn reached(points: [u8; 64], rows: [EvalSet; 64], n: usize, x: EvalSet, ys: EvalSet) -> bool
-    requires { ⌜ n ≤ 64 ⌝ }
+fn reached(points: [u8; ROOM], rows: [EvalSet; ROOM], n: usize, x: EvalSet, ys: EvalSet) -> bool
+    requires { ⌜ n ≤ mostPoints ⌝ }
     ensures { λ r. ⌜ r ≡ reachedOf n points (memAt rows) (mem x) (mem ys) ⌝ }
 {
     let mut a: usize = 0;
@@ -569,7 +730,7 @@ fn reached(points: [u8; 64], rows: [EvalSet; 64], n: usize, x: EvalSet, ys: Eval
 }
 
 // Whether C(x,y) holds on the plan, the terms given as sets of evaluations: some point in x has a point in y in its row. Of a count
-// above 64 the first 64 points are judged.
+// above ROOM the first ROOM points are judged.
 pub fn touches(plan: PlanArrays, x: EvalSet, y: EvalSet) -> bool
     ensures { λ r. ⌜ r ≡ touchesOf plan (mem x) (mem y) ⌝ }
 {
@@ -580,8 +741,8 @@ pub fn touches(plan: PlanArrays, x: EvalSet, y: EvalSet) -> bool
     reached(points, rows, n, x, ys)
 }
 
-// Whether t=0 holds on the plan, the term given as a set of evaluations: no point is in t. Of a count above 64 the first 64 points
-// are judged.
+// Whether t=0 holds on the plan, the term given as a set of evaluations: no point is in t. Of a count above ROOM the first ROOM
+// points are judged.
 pub fn is_vacant(plan: PlanArrays, t: EvalSet) -> bool
     ensures { λ r. ⌜ r ≡ vacantOf plan (mem t) ⌝ }
 {

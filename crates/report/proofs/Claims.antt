@@ -1,18 +1,17 @@
 -- What is proved of the text that the program floorplan prints for a sheet, `outputOf` of the plain question, which `report` gives by its
--- contract, of that of building, by the question of one building, which `report_building` gives, of that of asread, `asReadOf`, which
--- `as_read` gives, and of that of why, `whyOf`, which `why` and `why_piece` give: for every list of bytes it is what is meant
+-- contract, of that of building, by the question of one building, which `report_building` and `building_piece` give, of that of asread,
+-- `asReadOf`, which `as_read` gives, and of that of why, `whyOf`, which `why` and `why_piece` give: for every list of bytes it is what is meant
 -- (specs/Printed.antt), and no other text is. Each claim cites the file that proves it. Assumes nothing.
-use mathlib.Core.Path.{_≡_, refl, sym, ap, _∙_}
+use mathlib.Core.Path.{_≡_, sym}
 use mathlib.Core.Logic.{_↔_}
 use mathlib.Core.Bool.{true}
 use mathlib.Core.List.{List}
-use Prim.Native.Nat.{ℕ, _-_}
+use Prim.Native.Nat.{ℕ}
 use Rattle.formula.specs.Formula.{Formula, Name}
 use Rattle.lexer.specs.Text.{bytes}
 use Rattle.contact.specs.Meaning.{Floor, meetsAll}
 use Rattle.contact.specs.Question.{Question, plain, building, Counts, NoFloor}
 use Rattle.lists.specs.Search.{collect}
-use native.Mathlib.Omega.{arith}
 use Rattle.contact.specs.Numbering.{namesOf}
 use Rattle.plan.specs.Words.{Plan}
 use Rattle.plan.specs.Meant.{IsGiven}
@@ -21,12 +20,12 @@ use Rattle.table.specs.Rules.{AreRules}
 use Rattle.table.specs.Rows.{LoadRow}
 use Rattle.table.specs.declared.Outcome.the-variants as Outcome
 use Rattle.report.specs.Output.{outputOf, asReadOf, whyOf}
-use Rattle.report.specs.Pieces.{linesFrom, Answers, Pieces}
-use Rattle.report.specs.declared.WhyAnswer.the-variants as WhyAnswer
+use Rattle.report.specs.Pieces.{Answers, Pieces}
+use Rattle.report.specs.declared.TextAnswer.the-variants as TextAnswer
 use Rattle.report.specs.Lines.{ended, planText}
 use Rattle.report.specs.Printed.{Printed, plan-lines, no-plan-line, AsRead, Why}
 use Rattle.report.proofs.Printing as Printing
-use Rattle.report.proofs.Reasons as Reasons
+use Rattle.report.proofs.Pieces as Joined
 use Rattle.report.proofs.Examples as Examples
 
 -- for each question, a plan, NO PLAN or a refusal, as it is meant, and one text only is meant
@@ -56,12 +55,11 @@ pub plan-exists-printed : (file : Text) → (whyOf file ≡ ended (bytes "PLAN E
 plan-exists-printed file =
     (Printing.some-floor file (whyOf file) (why file), λ r. sym (why-only file _ (Why.exists (r .0) (r .2) (r .3) (r .4) (r .5))))
 
--- where `why` tells of a tree, the pieces that `why_piece` gives, each from where the one before it ended, are the text
-pub pieces-joined : (file : Text) (line : ℕ → List ℕ) (count : ℕ) (buffer exit : List ℕ) → Answers (whyOf file) line buffer exit (WhyAnswer.Tree count)
-    → (pieces : List (List ℕ)) → Pieces line count 0 pieces → collect (λ p. p) pieces ≡ whyOf file
-pieces-joined file line count buffer exit told pieces p =
-    let z : count - 0 ≡ count = omega arith in
-    Reasons.joined line 0 pieces p (omega arith) ∙ ap (linesFrom line 0) z ∙ Reasons.answered-tree _ told count refl
+-- where lines are told of, the pieces that are given, each from where the one before it ended, are the text: of one building
+-- (`report_building`, `building_piece`) and of a tree (`why`, `why_piece`)
+pub pieces-joined : (text : List ℕ) (line : ℕ → List ℕ) (count : ℕ) (buffer exit : List ℕ) → Answers text line buffer exit (TextAnswer.Lines count)
+    → (pieces : List (List ℕ)) → Pieces line count 0 pieces → collect (λ p. p) pieces ≡ text
+pieces-joined text line count buffer exit told pieces = Joined.all-joined pieces told
 
 -- the line NO PLAN, exactly if the sheet is loaded and no finite floor that counts, of any number of points, meets its rules
 pub no-plan-printed : (q : Question) (file : Text) → (outputOf q file ≡ ended (bytes "NO PLAN"))

@@ -21,7 +21,7 @@ use Rattle.contact.specs.Plan.{separated, may, allowed, fills, given}
 use Rattle.contact.specs.Pieces.{allowedOnes, grown, grownBy, wholePiece, pieceMeets, checkPieces, pieceGiven}
 use Rattle.contact.specs.Check.{check, pointsFor, good, firstRow}
 use Rattle.names.specs.Gather.{ruleTokens, withName, namesAfter, gatheredOf, gathered}
-use Rattle.names.specs.Seventh.{placesOf}
+use Rattle.names.specs.Ninth.{placesOf}
 use Rattle.plan.specs.Private.{planOf}
 use Rattle.plan.specs.Links.{pairOf, rowTo, linksTo}
 use Rattle.plan.specs.Given.{givenPlan}

@@ -2,47 +2,34 @@
 use mathlib.Core.Path.{_≡_, sym, ap, _∙_}
 use mathlib.Core.Bool.{true, false}
 use mathlib.Core.List.{List, [], append-nil}
-use Prim.Native.Nat.{ℕ, _<_}
+use Prim.Native.Nat.{ℕ, min, _<_}
 use native.Mathlib.Omega.{arith}
-use lib.ListN.{length, getD}
+use lib.ListN.{length, getD, take, length-map, length-take}
+use lib.Seq.{getD-take}
 use Rattle.formula.specs.Formula.{Name}
 use Rattle.evalset.specs.Bit.{bit}
-use Rattle.lists.specs.Search.{collect, below}
-use Rattle.lists.proofs.Lists.{map-before}
-use Rattle.names.specs.Gather.{keptName, arraysOf, bytesIn, knownOf, Kept}
-use Rattle.names.specs.declared.KeptName.{KeptName}
+use Rattle.lists.specs.Search.{collect}
+use Rattle.lists.proofs.Lists.{map-at}
+use Rattle.names.specs.Gather.{bytesIn, knownOf}
 use Rattle.names.specs.declared.Names.{Names}
-use Rattle.names.proofs.Arrays.{bytes-back, size-back}
 use Rattle.names.proofs.Scans.{empty}
-use Rattle.report.specs.Lines.{nameIf, pointNames, blanked}
-use Rattle.report.proofs.Parts.{names-parts}
+use Rattle.report.specs.Lines.{nameIf, blanked}
 
-module _ (names : Names) (kept : Kept names) where
-  known-count : names .count ≡ length (knownOf names)
-  unfolding arraysOf
-  known-count = ap (λ (n : Names). n .count) (kept .canonical)
+module _ (names : Names) where
+  -- as many as are counted, and no more than there are
+  pub known-count : length (knownOf names) ≡ min (names .count) (length (names .list))
+  unfolding knownOf
+  known-count = length-map (take (names .count) (names .list)) bytesIn ∙ length-take (names .count) (names .list)
 
-  -- a turn for each name
-  pub names-turns : (e : ℕ)
-      → collect blanked (pointNames (knownOf names) e) ≡ collect (λ i. collect blanked (nameIf (knownOf names) e i)) (below (names .count))
-  names-turns e =
-      names-parts (knownOf names) e ∙ ap (λ (n : ℕ). collect (λ i. collect blanked (nameIf (knownOf names) e i)) (below n)) (sym known-count)
+  module _ (i : ℕ) (h : i < length (knownOf names)) where
+    known-name : getD (knownOf names) i [] ≡ bytesIn (getD (names .list) i empty)
+    unfolding knownOf
+    known-name =
+        map-at bytesIn (take (names .count) (names .list)) i empty [] (omega (arith, h, length-map (take (names .count) (names .list)) bytesIn))
+        ∙ ap bytesIn (getD-take (names .count) (names .list) i empty (omega (arith, known-count)))
 
-  module _ (i : ℕ) (h : i < names .count) where
-    known-at : getD (names .list) i empty ≡ keptName (getD (knownOf names) i [])
-    unfolding arraysOf
-    known-at =
-        ap (λ (n : Names). getD (n .list) i empty) (kept .canonical)
-        ∙ map-before keptName (knownOf names) _ i [] empty (omega (arith, known-count))
+    pub name-set : (e : ℕ) → bit e i ≡ true → blanked (bytesIn (getD (names .list) i empty)) ≡ collect blanked (nameIf (knownOf names) e i)
+    name-set e b = rw b (sym (append-nil (blanked (getD (knownOf names) i [])) ∙ ap blanked known-name))
 
-    known-name : bytesIn (getD (names .list) i empty) ≡ getD (knownOf names) i []
-    known-name = ap bytesIn known-at ∙ bytes-back (getD (knownOf names) i [])
-
-    pub known-size : getD (names .list) i empty .len ≡ length (bytesIn (getD (names .list) i empty))
-    known-size = ap (λ (k : KeptName). k .len) known-at ∙ size-back (getD (knownOf names) i []) ∙ ap length (sym known-name)
-
-    pub name-set : (e : ℕ) → bit e i ≡ true → collect blanked (nameIf (knownOf names) e i) ≡ blanked (bytesIn (getD (names .list) i empty))
-    name-set e b = rw b (append-nil (blanked (getD (knownOf names) i [])) ∙ ap blanked (sym known-name))
-
-pub name-clear : (names : List Name) (e i : ℕ) → bit e i ≡ false → collect blanked (nameIf names e i) ≡ []
+pub name-clear : (names : List Name) (e i : ℕ) → bit e i ≡ false → [] ≡ collect blanked (nameIf names e i)
 name-clear names e i b = rw b

@@ -4,6 +4,8 @@ pub mod Parts
 pub mod Kept
 pub mod Bounds
 pub mod Short
+pub mod Pieces
+pub mod PlanLines
 pub mod Reporting
 pub mod AsRead
 pub mod Reasons

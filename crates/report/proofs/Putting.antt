@@ -11,8 +11,8 @@ use Rattle.lists.proofs.Below.{collect-more, collect-within}
 use Rattle.lists.specs.Search.{collect, below}
 use Rattle.plan.specs.Private.{written}
 use Rattle.plan.specs.Words.{over}
-use Rattle.plan.proofs.Buffer.{written-none, written-set, written-more, written-length}
-use Rattle.report.specs.Putting.{Puts}
+use Rattle.plan.proofs.Buffer.{written-none, written-set, written-more, written-length, written-over}
+use Rattle.report.specs.Putting.{Puts, Reports}
 
 pub puts-none : (at : ℕ) (buffer : List ℕ) → at ≤ length buffer → Puts at [] buffer buffer at
 puts-none at buffer h = record { fits = omega arith; place = sym (add-zero at); bytes = written-none at buffer }
@@ -64,6 +64,14 @@ module _ (at : ℕ) (buffer : List ℕ) where
     bytes = ap₂ (λ (a b : List ℕ). take at buffer ++ (a ++ b)) (p ∙ ap (over text) part-is) (post-is at (length buffer) buffer (omega arith) ∙ drop-length buffer)
         ∙ ap (λ (l : List ℕ). take at buffer ++ l) (append-nil (text ++ drop (length text) (drop at buffer)) ∙ ap (λ (l : List ℕ). text ++ l) (drop-drop (length text) at buffer));
   }
+
+-- put at the first byte, a text is over the buffer
+pub puts-over : (text buffer exit : List ℕ) (end : ℕ) → Puts 0 text buffer exit end → Reports text buffer end exit
+unfolding over
+puts-over text buffer exit end p =
+    let z : end ≡ length text = omega (arith, p .place) in
+    let e : exit ≡ over text buffer = p .bytes ∙ written-over text buffer in
+    record { counted = z; fits = omega (arith, z, ap length e, length-append text (drop (length text) buffer)); bytes = e }
 
 -- a loop that puts the text f i in turn i, before that turn
 module _ (f : ℕ → List ℕ) (i : ℕ) {at : ℕ} {buffer mid : List ℕ} {end : ℕ} (before : Puts at (collect f (below i)) buffer mid end) where

@@ -1,33 +1,24 @@
--- Word by word the lines of a tree are its lines, where each word has its depth, and the trees of the writer are shallow; pieces of them, one
--- after the other, are the whole. Assumes nothing.
+-- Word by word the lines of a tree are its lines, where each word has its depth, and the trees of the writer are shallow. Assumes nothing.
 use mathlib.Core.Path.{_≡_, refl, sym, ap, ap₂, _∙_, subst}
 use mathlib.Core.Bool.{Bool, true, false, cond}
-use mathlib.Core.Logic.{⊎-elim}
-use mathlib.Core.List.{List, [], _∷_, _++_, append-nil, append-assoc, nil≢cons, head-eq-of-cons-eq, tail-eq-of-cons-eq}
-use Prim.Native.Nat.{ℕ, zero, suc, _+_, _-_, _*_, _/_, _%_, _≤_, _<_}
+use mathlib.Core.List.{List, [], _∷_, _++_, append-nil, append-assoc, nil≢cons}
+use Prim.Native.Nat.{ℕ, suc, _+_, _*_, _/_, _%_, _≤_, _<_}
 use native.Mathlib.Omega.{arith}
-use lib.ListN.{length, getD, take, drop, set, length-append, drop-of-length-le}
-use lib.Seq.{drop-drop, drop-at, take-append-seam}
+use lib.ListN.{length, getD, drop, set, length-append, drop-of-length-le}
 use borrow.Author.Tests.{ne-eqb}
 use Rattle.formula.specs.Formula.{Form}
 use Rattle.lexer.specs.Text.{bytes}
-use Rattle.lists.specs.Search.{collect, from}
-use Rattle.lists.proofs.Search.{collect-append, from-append}
 use Rattle.lists.proofs.Below.{collect-small}
-use Rattle.lists.proofs.Truth.{side}
 use Rattle.contact.specs.Row.{PartialRow}
-use Rattle.plan.specs.Words.{over}
 use Rattle.trees.specs.Trees.{Tree, split, rule, floorless, missing, splitWord, ruleWord, floorlessWord, wordsOf}
 use Rattle.trees.specs.Closed.{decided}
 use Rattle.trees.specs.Written.{Written}
 use Rattle.report.specs.declared.AtomText.{AtomText}
-use Rattle.report.specs.declared.WhyAnswer.{WhyAnswer}
-use Rattle.report.specs.declared.WhyAnswer.the-variants as WhyAnswer
 use Rattle.report.specs.Lines.{margin, indented, splitText, ruleText, floorlessText, reasonLines}
-use Rattle.report.specs.Pieces.{wordText, saying, heldAt, lineAt, linesFrom, depthsOf, Shallow, DepthsSay, Answers, GivesPiece, Pieces}
-use Rattle.report.specs.Putting.{Puts, Reports}
+use Rattle.report.specs.Pieces.{wordText, saying, heldAt, lineAt, linesFrom, depthsOf, Shallow, DepthsSay}
+use Rattle.report.specs.Putting.{Puts}
 use Rattle.report.proofs.Putting.{puts-none, puts-byte, puts-more}
-use Rattle.report.proofs.Reporting.{puts-over}
+use Rattle.report.proofs.Pieces.{first-there, behind-it, behind-part, lines-more}
 
 -- ---- words
 
@@ -68,23 +59,6 @@ saying-floorless : (atom : ℕ → List ℕ) → saying atom floorlessWord ≡ f
 unfolding saying
 saying-floorless atom = refl
 
--- the first of what stands from an index on, and what stands behind it
-first-there : {x : ℕ} {later : List ℕ} (xs : List ℕ) (at : ℕ) → drop at xs ≡ x ∷ later → getD xs at 0 ≡ x
-first-there [] zero e = absurd (nil≢cons e)
-first-there [] (suc at) e = absurd (nil≢cons e)
-first-there (y ∷ xs) zero e = head-eq-of-cons-eq e
-first-there (y ∷ xs) (suc at) e = first-there xs at e
-
-behind-it : {x : ℕ} {later : List ℕ} (xs : List ℕ) (at : ℕ) → drop at xs ≡ x ∷ later → drop (suc at) xs ≡ later
-behind-it [] zero e = absurd (nil≢cons e)
-behind-it [] (suc at) e = absurd (nil≢cons e)
-behind-it (y ∷ xs) zero e = tail-eq-of-cons-eq e
-behind-it (y ∷ xs) (suc at) e = behind-it xs at e
-
--- of two parts that stand there, the second stands behind the first
-behind-part : (xs : List ℕ) (at n : ℕ) (a b later : List ℕ) → drop at xs ≡ (a ++ b) ++ later → n ≡ length a → drop (at + n) xs ≡ b ++ later
-behind-part xs at n a b later e l = sym (drop-drop n at xs) ∙ ap (drop n) (e ∙ append-assoc a b later) ∙ drop-at a (b ++ later) n (sym l)
-
 depths-long : (t : Tree) (d : ℕ) → length (depthsOf d t) ≡ length (wordsOf t)
 depths-long (split a t f) d =
     omega (
@@ -105,55 +79,6 @@ pub line-is : (words depths : List ℕ) (atoms : List AtomText) (i w d : ℕ) �
     → indented d (saying (heldAt atoms) w) ≡ lineAt words depths atoms i
 unfolding lineAt
 line-is words depths atoms i w d = ap₂ (λ (x y : ℕ). indented y (saying (heldAt atoms) x))
-
-module _ (line : ℕ → List ℕ) where
-  pub lines-more : (at m n : ℕ) → linesFrom line at (m + n) ≡ linesFrom line at m ++ linesFrom line (at + m) n
-  unfolding linesFrom
-  lines-more at m n = ap (collect line) (from-append at m n) ∙ collect-append line (from at m) (from (at + m) n)
-
-  pub joined : {count : ℕ} (at : ℕ) (pieces : List (List ℕ)) → Pieces line count at pieces → at ≤ count → collect (λ p. p) pieces ≡ linesFrom line at (count - at)
-  unfolding linesFrom over
-  joined {count} at pieces (Pieces.none l) h =
-      let z : 0 ≡ count - at = omega arith in
-      ap (linesFrom line at) z
-  joined {count} at pieces (Pieces.more {buffer = buffer} {exit = exit} {r = r} {pieces = later} l g p) h =
-      let w = g .within h in
-      let z : g .lines + (count - r .next) ≡ count - at = omega (arith, g .next, w) in
-      ap₂ (λ (x y : List ℕ). x ++ y)
-      (ap (take (r .len)) (g .reports .bytes) ∙ ap (λ (k : ℕ). take k (over (linesFrom line at (g .lines)) buffer)) (g .reports .counted) ∙ take-append-seam (linesFrom line at (g .lines)) _)
-      (joined (r .next) later p w ∙ ap (λ (k : ℕ). linesFrom line k (count - r .next)) (g .next))
-      ∙ sym (lines-more at (g .lines) (count - r .next)) ∙ ap (linesFrom line at) z
-
-  pub lines-none : (at : ℕ) → [] ≡ linesFrom line at (at - at)
-  unfolding linesFrom
-  lines-none at = let z : 0 ≡ at - at = omega arith in ap (linesFrom line at) z
-
-  -- one line more
-  pub lines-next : (at next : ℕ) → at ≤ next → linesFrom line at (next - at) ++ line next ≡ linesFrom line at (next + 1 - at)
-  unfolding linesFrom
-  lines-next at next h =
-      let here : at + (next - at) ≡ next = omega arith in
-      let more : next - at + 1 ≡ next + 1 - at = omega arith in
-      ap (λ (xs : List ℕ). linesFrom line at (next - at) ++ xs) (sym (append-nil (line next)) ∙ ap (λ (x : ℕ). linesFrom line x 1) (sym here))
-      ∙ sym (lines-more at (next - at) 1) ∙ ap (linesFrom line at) more
-
-  module _ {at next : ℕ} {buffer exit : List ℕ} {end : ℕ} (up : at ≤ next) (puts : Puts 0 (linesFrom line at (next - at)) buffer exit end) where
-    -- where the room is used up, there is a line
-    pub not-empty : 0 < end → next ≤ at → ⊥
-    unfolding linesFrom
-    not-empty full h =
-        let z : next - at ≡ 0 = omega arith in
-        omega (arith, full, puts .place, ap (λ (n : ℕ). length (linesFrom line at n)) z)
-
-    pub gives : (count : ℕ) → (at ≤ count → next ≤ count) → (at < count → next ≤ at → ⊥) → GivesPiece line count at buffer (record { len = end; next = next }) exit
-    gives count within forward =
-        record {
-          lines = next - at;
-          next = omega arith;
-          reports = puts-over _ _ _ _ puts;
-          within = within;
-          forward = λ h. ⊎-elim (λ l. l) (λ l. absurd (forward h l)) (side at next);
-        }
 
 module _ (words depths : List ℕ) (atoms : List AtomText) where
   abbrev lines : ℕ → ℕ → List ℕ
@@ -260,20 +185,3 @@ written-shallow many rules NoPlan h k (split a t f) n part w = (
 written-shallow many rules NoPlan h k (rule r) n part w = omega (arith, w .refuted .named)
 written-shallow many rules NoPlan h k floorless n part w = tt
 written-shallow many rules NoPlan h k missing n part w = absurd w
-
--- ---- what is answered
-
-module _ {text : List ℕ} {line : ℕ → List ℕ} {buffer exit : List ℕ} where
-  -- the same text, said in another way
-  pub answers-text : {a : WhyAnswer} {other : List ℕ} → text ≡ other → Answers text line buffer exit a → Answers other line buffer exit a
-  answers-text {a} e h = subst (λ (l : List ℕ). Answers l line buffer exit a) e h
-
-  pub answered-text : (a : WhyAnswer) → Answers text line buffer exit a → (n : ℕ) → a ≡ WhyAnswer.Text n → Reports text buffer n exit
-  answered-text a (Answers.short {n = m} h) n e = let z : m ≡ n = cc in subst (λ (k : ℕ). Reports text buffer k exit) z h
-  answered-text a (Answers.lines t) n e = absurd (let z : _≡_ {A = ℕ} 0 1 = cc in omega arith)
-
-  pub answered-tree : (a : WhyAnswer) → Answers text line buffer exit a → (n : ℕ) → a ≡ WhyAnswer.Tree n → linesFrom line 0 n ≡ text
-  answered-tree a (Answers.short h) n e = absurd (let z : _≡_ {A = ℕ} 0 1 = cc in omega arith)
-  answered-tree a (Answers.lines {n = m} t) n e =
-      let z : n ≡ m = cc in
-      ap (linesFrom line 0) z ∙ t

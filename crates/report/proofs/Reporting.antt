@@ -1,10 +1,10 @@
--- What ask wrote is the plan that is given, so that what is read from its words is put out as that plan; where it wrote none there is none,
--- because a rule stands and the words are enough. Assumes nothing.
+-- What ask wrote is the plan that is given, so that the lines of its words are that plan's text; where it wrote none there is none, because a
+-- rule stands and the words are enough. Assumes nothing.
 use Prim.Native.Nat.{ℕ, _+_, _*_, _≤_}
 use mathlib.Core.Path.{_≡_, refl, sym, ap, ap₂, subst, _∙_}
 use mathlib.Core.List.{List, [], _∷_}
 use native.Mathlib.Omega.{arith}
-use lib.ListN.{length, take, drop, length-append}
+use lib.ListN.{length}
 use types.Run.{OneOf, miss}
 use denote.Enum.Declared.{tagOf}
 use Rattle.formula.specs.Formula.{Formula, Name}
@@ -12,18 +12,12 @@ use Rattle.lexer.specs.Text.{bytes}
 use Rattle.contact.specs.Question.{Question, plain, building}
 use Rattle.contact.specs.Numbering.{namesOf, differentAtoms}
 use Rattle.evalset.specs.Most.{most}
-use Rattle.names.specs.Gather.{arraysOf, knownOf, Kept}
+use Rattle.names.specs.Gather.{arraysOf, knownOf}
 use Rattle.names.specs.declared.Names.{Names}
-use Rattle.names.proofs.Arrays.{known-back, kept-names}
-use Rattle.plan.specs.declared.PlanArrays.{PlanArrays}
-use Rattle.plan.specs.declared.PlanRead.{PlanRead}
+use Rattle.names.proofs.Arrays.{known-back}
 use Rattle.plan.specs.Words.{Plan, IsPlan, wordsOf, over}
-use Rattle.plan.specs.Arrays.{Reads, planBy}
-use Rattle.plan.specs.Stored.{Stored}
 use Rattle.plan.specs.Plans.{plansOf}
-use Rattle.plan.proofs.SamePlan.{plan-again}
-use Rattle.plan.proofs.Buffer.{written-over}
-use Rattle.plan.proofs.Claims.{no-plan-given, given-exactly, given-found, given-is-plan, given-words, given-points, room-words, room-points, written-read}
+use Rattle.plan.proofs.Claims.{no-plan-given, given-exactly, given-found, given-is-plan, given-words, given-points, room-words, room-points}
 use Rattle.table.specs.declared.Table.{Table}
 use Rattle.table.specs.declared.AskAnswer.{AskAnswer}
 use Rattle.table.specs.declared.AskAnswer.the-variants as AskAnswer
@@ -37,7 +31,7 @@ use Rattle.table.proofs.Outcome.{the-type as outcome-type}
 use Rattle.table.specs.Store.{rulesOf}
 use Rattle.table.specs.Sheet.{Text, linesOf, filled}
 use Rattle.table.specs.Calls.{formulasOf, namesIn, atomsIn, judgeLoad, ifLoaded, loadRules, loaded, FromUs, Loads}
-use Rattle.table.specs.Asking.{askWords, asked, Asks}
+use Rattle.table.specs.Asking.{asked, Asks}
 use Rattle.table.specs.Rows.{SomeStand, AskRow, LoadRow}
 use Rattle.plan.specs.Meant.{IsGiven}
 use Rattle.table.proofs.Claims.{ask-answered, load-answered, load-can-come, rules-back}
@@ -46,12 +40,14 @@ use Rattle.table.specs.declared.Outcome.the-variants as Outcome
 use Rattle.table.specs.Numbers.{CanCome, loadOutcome, askOutcome}
 use Rattle.table.proofs.Rules.{of-computed, can-read, can-names, can-atoms}
 use Rattle.table.proofs.Standing.{not-loaded}
-use Rattle.table.proofs.Asking.{words-written, first-words}
+use Rattle.table.proofs.Asking.{words-written}
 use Rattle.report.specs.Output.{plansText, rulesText, outcomeText, sheetText}
 use Rattle.report.specs.Lines.{planText, ended}
-use Rattle.report.specs.Putting.{wordRoom, textRoom, Puts, Reports}
+use Rattle.report.specs.Pieces.{planLineAt, linesFrom}
+use Rattle.report.specs.Putting.{wordRoom, textRoom}
 use Rattle.report.proofs.Short.{names-short}
 use Rattle.report.proofs.Bounds.{plan-few}
+use Rattle.report.proofs.PlanLines.{plan-lines}
 
 -- a case that is another than the first is no plan
 pub told-other : (a : AskAnswer) → OneOf (1 ∷ 2 ∷ 3 ∷ []) (tagOf the-type a) → (n : ℕ) → a ≡ AskAnswer.Plan n → ⊥
@@ -76,13 +72,6 @@ is-plan (AskAnswer.Plan k) {n} e = let z : k ≡ n = cc in ap AskAnswer.Plan z
 is-plan AskAnswer.NoPlan e = absurd (let z : _≡_ {A = ℕ} 0 1 = cc in omega arith)
 is-plan AskAnswer.NoRule e = absurd (let z : _≡_ {A = ℕ} 0 1 = cc in omega arith)
 is-plan (AskAnswer.ShortBuffer k) e = absurd (let z : _≡_ {A = ℕ} 0 1 = cc in omega arith)
-
--- names and a plan that can be put out, and the text is that of these rules
-pub record Puttable (q : Question) (names : Names) (plan : PlanArrays) (rules : List (Formula Name)) : Type 0 where
-  pub kept : Kept names
-  pub count : plan .count ≤ 64
-  pub fits : length (planText (knownOf names) (planBy plan)) ≤ textRoom q
-  pub text : planText (knownOf names) (planBy plan) ≡ rulesText q rules
 
 -- a question was put where some rule stands, with room for every plan
 pub record Asking (q : Question) (t : Table) (buffer : List ℕ) (r : AskResult) (exit : List ℕ) : Type 0 where
@@ -115,12 +104,12 @@ module _ {q : Question} {t : Table} {buffer : List ℕ} {r : AskResult} {exit : 
   unfolding namesIn
   text-room p is only = go q only
     where
-      few : (n contacts : ℕ) → n ≤ 64 → length (p .points) ≤ n → length (wordsOf p) ≤ 2 + n + contacts → length (planText (namesOf rules) p) ≤ 23 + n * 112 + contacts * 14
+      few : (n contacts : ℕ) → n ≤ 256 → length (p .points) ≤ n → length (wordsOf p) ≤ 2 + n + contacts → length (planText (namesOf rules) p) ≤ 24 + n * 147 + contacts * 16
       few = plan-few (namesOf rules) few-names (names-short (rulesOf t) (can-read (rulesOf t) (h .from-us .standing))) p is
 
       go : (k : Question) → plansOf k rules ≡ p ∷ [] → length (planText (namesOf rules) p) ≤ textRoom k
       go plain e = few 32 496 (omega arith) (given-points rules few-atoms p e) (given-words rules few-atoms p e)
-      go building e = few 63 1953 (omega arith) (room-points building rules p e few-names) (room-words building rules p e few-names)
+      go building e = few 255 32385 (omega arith) (room-points building rules p e few-names) (room-words building rules p e few-names)
 
   row : AskRow q (rulesOf t) (length buffer) (askOutcome (r .answer))
   unfolding asked
@@ -141,16 +130,14 @@ module _ {q : Question} {t : Table} {buffer : List ℕ} {r : AskResult} {exit : 
       go o (AskRow.given {p = p} z are g l) f = absurd (other (length (wordsOf p)) (is-plan (r .answer) f))
 
   -- where it gives one
-  pub record Wrote (n : ℕ) : Type 0 where
-    pub plan : Plan
-    pub is : IsPlan plan
-    pub only : plansOf q rules ≡ plan ∷ []
-    pub within : n ≤ length exit
-    pub counted : n ≡ length (take n exit)
-    pub words : take n exit ≡ wordsOf plan
+  record Wrote (n : ℕ) : Type 0 where
+    plan : Plan
+    is : IsPlan plan
+    only : plansOf q rules ≡ plan ∷ []
+    size : n ≡ length (wordsOf plan)
+    words : exit ≡ over (wordsOf plan) buffer
 
-  pub plan-written : (n : ℕ) → r .answer ≡ AskAnswer.Plan n → Wrote n
-  unfolding over
+  plan-written : (n : ℕ) → r .answer ≡ AskAnswer.Plan n → Wrote n
   plan-written n e = go (askOutcome (r .answer)) row (ap askOutcome e)
     where
       go : (o : Outcome) → AskRow q (rulesOf t) (length buffer) o → o ≡ Outcome.Plan n → Wrote n
@@ -159,45 +146,33 @@ module _ {q : Question} {t : Table} {buffer : List ℕ} {r : AskResult} {exit : 
       go o (AskRow.short z are g l) f = absurd (let z : _≡_ {A = ℕ} 0 1 = cc in omega arith)
       go o (AskRow.given {fs} {p} z are k l) f =
           let g : IsGiven q rules p = of-computed (rulesOf t) fs are (λ gs. IsGiven q gs p) k in
-          let size : length (wordsOf p) ≡ n = cc in
-          let wrote : exit ≡ over (wordsOf p) buffer = h .asks .words ∙ words-written q (rulesOf t) buffer (h .some) p g l in
-          let words : take n exit ≡ wordsOf p
-          = ap (take n) (h .asks .words) ∙ ap (λ (k : ℕ). take k (askWords q (rulesOf t) buffer)) (sym size) ∙ first-words q (rulesOf t) buffer (h .some) p g l in
           record {
             plan = p;
             is = let w = given-found q rules p g in subst IsPlan (sym (w .2)) (given-is-plan q rules few-names (w .0) (w .1));
             only = given-exactly q rules p .1 g;
-            within = omega (arith, size, ap length wrote, length-append (wordsOf p) (drop (length (wordsOf p)) buffer));
-            counted = sym (ap length words ∙ size);
-            words = words;
+            size = let z : n ≡ length (wordsOf p) = cc in z;
+            words = h .asks .words ∙ words-written q (rulesOf t) buffer (h .some) p g l;
           }
 
-  module _ (n : ℕ) (e : r .answer ≡ AskAnswer.Plan n) (found : PlanRead) (reads : Reads (take n exit) found) (names : Names) (are : names ≡ arraysOf (namesIn (rulesOf t))) where
+  module _ (n : ℕ) (e : r .answer ≡ AskAnswer.Plan n) where
     abbrev it : Wrote n
     it = plan-written n e
 
-    stored : Stored (found .plan) (it .plan)
-    stored = written-read (it .plan) (it .is) found (subst (λ (ws : List ℕ). Reads ws found) (it .words) reads) .1
+    given-text : planText (namesOf rules) (it .plan) ≡ rulesText q rules
+    unfolding rulesText
+    given-text = sym (ap (plansText (namesOf rules)) (it .only))
 
-    said : planText (knownOf names) (planBy (found .plan)) ≡ planText (namesIn (rulesOf t)) (it .plan)
-    said = ap₂ planText (ap knownOf are ∙ known-back (namesIn (rulesOf t))) (plan-again (found .plan) (it .plan) (it .is) stored)
+    pub plan-told : (names : Names) → names ≡ arraysOf (namesIn (rulesOf t)) → linesFrom (planLineAt (knownOf names) exit) 0 n ≡ rulesText q rules
+    unfolding namesIn over
+    plan-told names are =
+        ap₂ (λ (ns : List Name) (k : ℕ). linesFrom (planLineAt ns exit) 0 k) (ap knownOf are ∙ known-back (namesIn (rulesOf t))) (it .size)
+        ∙ plan-lines (namesOf rules) exit (it .plan) (it .is) (room-points q rules (it .plan) (it .only) few-names) (room-words q rules (it .plan) (it .only) few-names) _ (it .words)
+        ∙ given-text
 
-    pub plan-puttable : Puttable q names (found .plan) (formulasOf (rulesOf t))
-    unfolding rulesText namesIn
-    plan-puttable =
-        record {
-          kept = subst Kept (sym are) (kept-names (namesIn (rulesOf t)) few-names);
-          count = omega (arith, stored .count, room-points q rules (it .plan) (it .only) few-names);
-          fits = subst (λ (l : List ℕ). length l ≤ textRoom q) (sym said) (text-room (it .plan) (it .is) (it .only));
-          text = said ∙ sym (ap (plansText (namesOf rules)) (it .only));
-        }
+    pub plan-room : length (rulesText q rules) ≤ textRoom q
+    plan-room = subst (λ (l : List ℕ). length l ≤ textRoom q) given-text (text-room (it .plan) (it .is) (it .only))
 
 -- ---- a sheet
-
--- the line of a refusal has room too
-pub refusal-room : (q : Question) → 79 ≤ textRoom q
-refusal-room plain = omega arith
-refusal-room building = omega arith
 
 pub told-not-loaded : (a : LoadAnswer) → OneOf (1 ∷ 2 ∷ 3 ∷ []) (tagOf load-type a) → a ≡ LoadAnswer.Loaded → ⊥
 told-not-loaded a h e = miss (1 ∷ 2 ∷ 3 ∷ []) 0 tt (subst (λ (x : LoadAnswer). OneOf (1 ∷ 2 ∷ 3 ∷ []) (tagOf load-type x)) e h)
@@ -245,11 +220,3 @@ module _ (t : Table) (file : Text) (r : LoadResult) (loads : Loads t file r) whe
     loaded-text given =
         ap (λ (rs : List Text). given (formulasOf rs)) held
         ∙ sym (ap (λ (a : LoadAnswer). ifLoaded a (given (formulasOf (filled (linesOf file)))) (outcomeText (loadOutcome a))) good)
-
--- put at the first byte, a text is over the buffer
-pub puts-over : (text buffer exit : List ℕ) (end : ℕ) → Puts 0 text buffer exit end → Reports text buffer end exit
-unfolding over
-puts-over text buffer exit end p =
-    let z : end ≡ length text = omega (arith, p .place) in
-    let e : exit ≡ over text buffer = p .bytes ∙ written-over text buffer in
-    record { counted = z; fits = omega (arith, z, ap length e, length-append text (drop (length text) buffer)); bytes = e }

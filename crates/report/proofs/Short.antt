@@ -19,7 +19,7 @@ use Rattle.lists.proofs.Search.{none-in, uncons, placed, map-elim, any-intro, c
 use Rattle.contact.specs.Numbering.{allAtoms, sameName}
 use Rattle.contact.proofs.Naming.{same-name}
 use Rattle.names.specs.Gather.{ruleTokens}
-use Rattle.names.specs.Seventh.{namesAt, NameAt, placesOf}
+use Rattle.names.specs.Ninth.{namesAt, NameAt, placesOf}
 use Rattle.contact.proofs.Distinct.{distinct-in-list}
 use Rattle.names.proofs.Tokens.{past, token-within, at-name, at-other, at-end}
 use Rattle.names.proofs.Texts.{names-of-rule, atoms-names}

@@ -1,22 +1,40 @@
--- What is computed: the lines of a tree word by word, so that they can be given in pieces; and the contracts of `why` and `why_piece`. For
--- proofs: the depths of a tree's words. The claim `pieces-joined` of proofs/Claims.antt says that the pieces of a sheet, one after the other,
--- are its text. Assumes nothing.
+-- What is computed: the lines of a plan and of a tree word by word, so that they can be given in pieces; and the contracts of
+-- `report_building` and `why`, and of `building_piece` and `why_piece`. For proofs: the depths of a tree's words. The claim `pieces-joined` of
+-- proofs/Claims.antt says that the pieces of a sheet, one after the other, are its text. Assumes nothing.
 use mathlib.Core.Path.{_≡_}
 use mathlib.Core.Bool.{cond}
 use mathlib.Core.List.{List, [], _∷_, _++_}
-use Prim.Native.Nat.{ℕ, suc, _+_, _/_, _%_, _≤_, _<_}
+use Prim.Native.Nat.{ℕ, suc, _+_, _-_, _/_, _%_, _≤_, _<_}
 use lib.Dec.{eqb}
-use lib.ListN.{getD, take, drop}
+use lib.ListN.{length, getD, take, drop}
+use Rattle.contact.specs.Question.{Question}
+use Rattle.formula.specs.Formula.{Name}
 use Rattle.lists.specs.Search.{collect, from}
 use Rattle.trees.specs.Trees.{Tree, split, rule, floorless, missing, wordsOf}
 use Rattle.report.specs.declared.AtomText.{AtomText}
-use Rattle.report.specs.declared.WhyAnswer.{WhyAnswer}
-use Rattle.report.specs.declared.WhyAnswer.the-variants as WhyAnswer
+use Rattle.report.specs.declared.TextAnswer.{TextAnswer}
+use Rattle.report.specs.declared.TextAnswer.the-variants as TextAnswer
 use Rattle.report.specs.declared.Piece.{Piece}
-use Rattle.report.specs.Lines.{indented, splitText, ruleText, floorlessText}
-use Rattle.report.specs.Putting.{Puts, Reports}
+use Rattle.report.specs.Lines.{headLine, pointLine, contactLine, indented, splitText, ruleText, floorlessText}
+use Rattle.report.specs.Putting.{textRoom, Puts, Reports}
 
--- ---- the lines of words
+-- ---- the lines of a plan's words
+
+-- the line of the word at index i, by its kind and the rest of its bits; the last word has none
+abbrev pub kindLine : List Name → ℕ → ℕ → ℕ → List ℕ
+kindLine names i kind body =
+    cond (eqb kind 1) (headLine (body / 256) (body % 256))
+    (cond (eqb kind 8) (headLine (body / 65536) (body % 65536))
+    (cond (eqb kind 2) (pointLine names (i - 1) (body % 256))
+    (cond (eqb kind 3) (contactLine body) [])))
+
+unfoldable pub planLine : List Name → ℕ → ℕ → List ℕ
+planLine names i w = kindLine names i (w / 0x10000000) (w % 0x10000000)
+
+unfoldable pub planLineAt : List Name → List ℕ → ℕ → List ℕ
+planLineAt names words i = planLine names i (getD words i 0)
+
+-- ---- the lines of a tree's words
 
 -- what a word says, by its kind and the rest of its bits
 abbrev pub wordText : (ℕ → List ℕ) → ℕ → ℕ → List ℕ
@@ -35,10 +53,6 @@ heldAt atoms a = held (getD atoms a (record { bytes = []; len = 0 }))
 -- the line of the word at index i, from the words, their depths and the atoms' texts
 unfoldable pub lineAt : List ℕ → List ℕ → List AtomText → ℕ → List ℕ
 lineAt words depths atoms i = indented (getD depths i 0) (saying (heldAt atoms) (getD words i 0))
-
--- so many lines, from that of an index on
-unfoldable pub linesFrom : (ℕ → List ℕ) → ℕ → ℕ → List ℕ
-linesFrom line at count = collect line (from at count)
 
 -- ---- depths
 
@@ -63,17 +77,27 @@ DepthsSay words at depth buffer exit end =
 
 -- ---- the contracts
 
--- the text is in the buffer, or it is that of the lines of so many words
-pub data Answers (text : List ℕ) (line : ℕ → List ℕ) (buffer exit : List ℕ) : WhyAnswer → Type 0 where
-  short : {n : ℕ} → Reports text buffer n exit → Answers text line buffer exit (WhyAnswer.Text n)
-  lines : {n : ℕ} → linesFrom line 0 n ≡ text → Answers text line buffer exit (WhyAnswer.Tree n)
+-- so many lines, from that of an index on
+unfoldable pub linesFrom : (ℕ → List ℕ) → ℕ → ℕ → List ℕ
+linesFrom line at count = collect line (from at count)
 
--- the lines from an index to the next, which is past it where a line was left, are in the buffer
+-- the text is in the buffer, or it is that of the lines of so many words, and the buffer is as it was
+pub data Answers (text : List ℕ) (line : ℕ → List ℕ) (buffer exit : List ℕ) : TextAnswer → Type 0 where
+  short : {n : ℕ} → Reports text buffer n exit → Answers text line buffer exit (TextAnswer.Text n)
+  lines : {n : ℕ} → linesFrom line 0 n ≡ text → exit ≡ buffer → Answers text line buffer exit (TextAnswer.Lines n)
+
+-- for proofs: it is so answered, and the lines of a plan have at most so many bytes
+pub record Tells (q : Question) (text : List ℕ) (line : ℕ → List ℕ) (buffer exit : List ℕ) (answer : TextAnswer) : Type 0 where
+  pub answers : Answers text line buffer exit answer
+  pub room : (n : ℕ) → answer ≡ TextAnswer.Lines n → length text ≤ textRoom q
+
+-- the lines from an index to the next are in the buffer: all that are left, or so many that a line of 1,024 bytes has no room behind them
 pub record GivesPiece (line : ℕ → List ℕ) (count at : ℕ) (buffer : List ℕ) (r : Piece) (exit : List ℕ) : Type 0 where
   pub lines : ℕ
   pub next : r .next ≡ at + lines
   pub reports : Reports (linesFrom line at lines) buffer (r .len) exit
   pub within : at ≤ count → r .next ≤ count
+  pub full : r .next < count → 15360 < r .len
   pub forward : at < count → at < r .next
 
 -- pieces from an index on: each is what is given from where the one before it ended, until there is none left

@@ -1,5 +1,5 @@
 -- For proofs: what the private functions do: each puts a text into the buffer, from a place on, and answers the place after it; the rooms
--- that they are lent; and the contract of `report`, `report_building` and `as_read` (`Reports`). Assumes nothing.
+-- that they are lent; and the contract of `report` and `as_read` (`Reports`). Assumes nothing.
 use mathlib.Core.Path.{_≡_}
 use mathlib.Core.List.{List}
 use Prim.Native.Nat.{ℕ, _+_, _≤_}
@@ -8,15 +8,15 @@ use Rattle.contact.specs.Question.{Question, plain, building}
 use Rattle.plan.specs.Private.{written}
 use Rattle.plan.specs.Words.{over}
 
--- "an answered plan takes at most 530 words"; T-07: "a one-building plan now has at most 63 points and 2,018 words"
+-- "an answered plan takes at most 530 words"; T-08: "One-building plans then have up to 255 points", and so 32,642 words
 abbrev pub wordRoom : Question → ℕ
 wordRoom plain = 530
-wordRoom building = 2018
+wordRoom building = 32642
 
--- the text of the plan: a first line of 23 bytes, then 32 points of 112 and 496 contacts of 14, and for one building 63 and 1,953 of them
+-- the text of the plan: a first line of 24 bytes, then 32 points of 147 and 496 contacts of 16, and for one building 255 and 32,385
 abbrev pub textRoom : Question → ℕ
-textRoom plain = 10551
-textRoom building = 34421
+textRoom plain = 12664
+textRoom building = 555669
 
 -- there was room for the text, and it was put there; the other bytes keep their values
 pub record Puts (at : ℕ) (text buffer exit : List ℕ) (end : ℕ) : Type 0 where

@@ -1,19 +1,16 @@
 // The text that the program floorplan writes for a sheet (document 01, 'Worked sheets'), the one of building (document 02, T-04), that of
 // asread (T-02), and that of why (T-06). What is meant is in specs/Printed.antt, what is computed in specs/Output.antt: a function from the
 // sheet's bytes to the text's. Here the text is put into a buffer part by part: each private function puts one at a place, and answers the
-// place after it. The buffer has room for the text of every sheet, but for that of a tree, which is given in pieces (specs/Pieces.antt).
-// Assumes nothing.
+// place after it. The buffer has room for every text but those of a building and of a tree, which are given in pieces (specs/Pieces.antt): their
+// words are lent, and a piece has the lines of some of them, from any word on. Assumes nothing.
 ghost use mathlib.Core.Path.{_≡_};
 ghost use mathlib.Core.List.{[], _∷_};
-ghost use Prim.Native.Nat.{_+_, _*_, _≤_, _<_};
+ghost use Prim.Native.Nat.{_+_, _-_, _*_, _≤_, _<_};
 ghost use lib.ListN.{length, getD, replicate, take, drop};
 ghost use Rattle.contact.specs.Question.{plain, building};
 ghost use Rattle.evalset.specs.Bit.{bit};
 ghost use Rattle.lists.specs.Search.{collect};
-ghost use Rattle.evalset.specs.Sets.{mem, memAt};
-ghost use Rattle.names.specs.Gather.{bytesIn, knownOf, Kept};
-ghost use Rattle.plan.specs.Arrays.{planBy};
-ghost use Rattle.plan.specs.Links.{pairOf, rowTo, linksTo};
+ghost use Rattle.names.specs.Gather.{bytesIn, knownOf};
 ghost use Rattle.search.specs.Asked.{questionOf};
 ghost use Rattle.table.specs.Store.{rulesOf};
 ghost use Rattle.table.specs.Calls.{formulasOf, FromUs};
@@ -22,13 +19,11 @@ ghost use Rattle.table.specs.Rows.{SomeStand};
 ghost use Rattle.table.specs.Numbers.{CanCome, loadOutcome};
 ghost use Rattle.table.specs.AtomText.{atomTextOf};
 ghost use Rattle.report.specs.Output.{outcomeText, rulesText, outputOf, asReadOf, reasonsText, whyOf};
-ghost use Rattle.report.specs.Lines.{decimal, labelled, headLine, nameIf, pointNames, namesOrNone, blanked, pointLine, pointLines, contactLine, planText, ruleLines, refusedText, margin, indented};
-ghost use Rattle.report.specs.Pieces.{saying, held, heldAt, lineAt, DepthsSay, Answers, GivesPiece};
-ghost use Rattle.report.specs.Putting.{wordRoom, textRoom, Puts, Reports};
-use evalset::EvalSet;
+ghost use Rattle.report.specs.Lines.{decimal, labelled, headLine, nameIf, pointNames, namesOrNone, blanked, pointLine, contactLine, ruleLines, refusedText, margin, indented};
+ghost use Rattle.report.specs.Pieces.{planLine, planLineAt, saying, held, heldAt, lineAt, DepthsSay, Answers, Tells, GivesPiece};
+ghost use Rattle.report.specs.Putting.{wordRoom, Puts, Reports};
 use names::KeptName;
 use names::Names;
-use plan::PlanArrays;
 use printing::Printed;
 use search::Asked;
 use table::AskAnswer;
@@ -39,11 +34,47 @@ use table::Outcome;
 use table::PrintAnswer;
 use table::Table;
 
-// The bytes of the buffer: the text of a plan has 10,551 at most.
+// The bytes of the buffer: the text of a plan has 12,664 at most.
 pub const ROOM: usize = 16384;
 
-// The bytes of that for one building: the text of its plan has 34,421 at most.
-pub const BUILDING_ROOM: usize = 36864;
+// Room for a line: that of a plan has 164 bytes at most, that of a tree 510 blanks, and a text of 266 bytes.
+const LINE: usize = 1024;
+
+// The words of the largest building.
+pub const BUILDING: usize = 32642;
+
+// The kinds of words, in front of 28 bits: those of a plan, and those of a tree.
+const KIND: u32 = 0x1000_0000;
+
+const FIRST: u32 = 1;
+
+const POINT: u32 = 2;
+
+const CONTACT: u32 = 3;
+
+const LONG_FIRST: u32 = 8;
+
+const SPLIT: u32 = 5;
+
+const RULE: u32 = 6;
+
+// What is answered for a sheet: a text of so many bytes, which is in the buffer, or one of so many words, whose lines are given in pieces.
+pub enum TextAnswer {
+    Text(usize),
+    Lines(usize),
+}
+
+// A piece of a text: its bytes, and the index of the word whose line is next.
+pub struct Piece {
+    pub len: usize,
+    pub next: usize,
+}
+
+// What is handed back for a plan: with the answer, the names, of which the lines speak.
+pub struct PlanResult {
+    pub answer: TextAnswer,
+    pub names: Names,
+}
 
 // Some bytes.
 fn put_text(text: &[u8], out: &mut [u8], at: usize) -> usize
@@ -92,11 +123,11 @@ fn put_labelled(label: &[u8], n: usize, out: &mut [u8], at: usize) -> usize
 }
 
 // The first line of a plan.
-fn put_head(names: u8, points: usize, out: &mut [u8], at: usize) -> usize
+fn put_head(names: usize, points: usize, out: &mut [u8], at: usize) -> usize
     requires { ⌜ at + length (headLine names points) ≤ length (now out) ⌝ }
     ensures { λ r. ⌜ Puts at (headLine names points) (now (out .entry)) (now (out .exit)) r ⌝ }
 {
-    let end = put_labelled(b"PLAN names=", names as usize, out, at);
+    let end = put_labelled(b"PLAN names=", names, out, at);
     let end = put_labelled(b" points=", points, out, end);
     put_byte(b'\n', out, end)
 }
@@ -111,19 +142,22 @@ fn lies_in(e: u8, i: usize) -> bool
 
 // A name behind a blank.
 fn put_name(name: KeptName, out: &mut [u8], at: usize) -> usize
-    requires { ⌜ (name .len ≡ length (bytesIn name)) × (at + length (blanked (bytesIn name)) ≤ length (now out)) ⌝ }
-    ensures { λ r. ⌜ Puts at (blanked (bytesIn name)) (now (out .entry)) (now (out .exit)) r ⌝ }
+    requires { ⌜ at + 17 ≤ length (now out) ⌝ }
+    ensures { λ r. ⌜ Puts at (blanked (bytesIn name)) (now (out .entry)) (now (out .exit)) r × (r ≤ at + 17) ⌝ }
 {
-    let end = put_byte(b' ', out, at);
+    let end = put_text(b" ", out, at);
     let bytes = name.bytes;
     let len = name.len as usize;
-    put_text(&bytes[..len], out, end)
+    if len < 16 {
+        return put_text(&bytes[..len], out, end);
+    }
+    put_text(&bytes, out, end)
 }
 
 // Name i, if the point with this evaluation lies in it.
 fn put_name_if(names: Names, e: u8, i: usize, out: &mut [u8], at: usize) -> usize
-    requires { ⌜ Kept names × (i < names .count) × (at + length (collect blanked (nameIf (knownOf names) e i)) ≤ length (now out)) ⌝ }
-    ensures { λ r. ⌜ Puts at (collect blanked (nameIf (knownOf names) e i)) (now (out .entry)) (now (out .exit)) r ⌝ }
+    requires { ⌜ (i < length (knownOf names)) × (i < 8) × (at + 17 ≤ length (now out)) ⌝ }
+    ensures { λ r. ⌜ Puts at (collect blanked (nameIf (knownOf names) e i)) (now (out .entry)) (now (out .exit)) r × (r ≤ at + 17) ⌝ }
 {
     if lies_in(e, i) {
         let list = names.list;
@@ -134,12 +168,20 @@ fn put_name_if(names: Names, e: u8, i: usize, out: &mut [u8], at: usize) -> usiz
     }
 }
 
-// The names in which the point with this evaluation lies.
-fn put_names(names: Names, e: u8, out: &mut [u8], at: usize) -> usize
-    requires { ⌜ Kept names × (at + length (collect blanked (pointNames (knownOf names) e)) ≤ length (now out)) ⌝ }
-    ensures { λ r. ⌜ Puts at (collect blanked (pointNames (knownOf names) e)) (now (out .entry)) (now (out .exit)) r ⌝ }
+// How many names there are.
+fn count_of(names: Names) -> usize
+    ensures { λ r. ⌜ (r ≡ length (knownOf names)) × (r ≤ 8) ⌝ }
 {
     let count = names.count;
+    if count < 8 { count } else { 8 }
+}
+
+// The names in which the point with this evaluation lies.
+fn put_names(names: Names, e: u8, out: &mut [u8], at: usize) -> usize
+    requires { ⌜ at + 136 ≤ length (now out) ⌝ }
+    ensures { λ r. ⌜ Puts at (collect blanked (pointNames (knownOf names) e)) (now (out .entry)) (now (out .exit)) r × (r ≤ at + 136) ⌝ }
+{
+    let count = count_of(names);
     let mut end = at;
     let mut i: usize = 0;
     while i < count {
@@ -151,8 +193,8 @@ fn put_names(names: Names, e: u8, out: &mut [u8], at: usize) -> usize
 
 // These names, or a sign that there are none.
 fn put_point_names(names: Names, e: u8, out: &mut [u8], at: usize) -> usize
-    requires { ⌜ Kept names × (at + length (collect blanked (namesOrNone (knownOf names) e)) ≤ length (now out)) ⌝ }
-    ensures { λ r. ⌜ Puts at (collect blanked (namesOrNone (knownOf names) e)) (now (out .entry)) (now (out .exit)) r ⌝ }
+    requires { ⌜ at + 136 ≤ length (now out) ⌝ }
+    ensures { λ r. ⌜ Puts at (collect blanked (namesOrNone (knownOf names) e)) (now (out .entry)) (now (out .exit)) r × (r ≤ at + 136) ⌝ }
 {
     let end = put_names(names, e, out, at);
     if end <= at {
@@ -162,29 +204,15 @@ fn put_point_names(names: Names, e: u8, out: &mut [u8], at: usize) -> usize
     }
 }
 
-// The line of the point at a position.
+// The line of the point at a position: a number of at most 20 digits, and the names.
 fn put_point(names: Names, i: usize, e: u8, out: &mut [u8], at: usize) -> usize
-    requires { ⌜ Kept names × (at + length (pointLine (knownOf names) i e) ≤ length (now out)) ⌝ }
+    requires { ⌜ at + 164 ≤ length (now out) ⌝ }
     ensures { λ r. ⌜ Puts at (pointLine (knownOf names) i e) (now (out .entry)) (now (out .exit)) r ⌝ }
 {
     let end = put_labelled(b"point ", i, out, at);
-    let end = put_byte(b':', out, end);
+    let end = put_text(b":", out, end);
     let end = put_point_names(names, e, out, end);
-    put_byte(b'\n', out, end)
-}
-
-// The lines of the first n points.
-fn put_points(names: Names, points: [u8; 64], n: usize, out: &mut [u8], at: usize) -> usize
-    requires { ⌜ Kept names × (n ≤ 64) × (at + length (pointLines (knownOf names) (take n points)) ≤ length (now out)) ⌝ }
-    ensures { λ r. ⌜ Puts at (pointLines (knownOf names) (take n points)) (now (out .entry)) (now (out .exit)) r ⌝ }
-{
-    let mut end = at;
-    let mut i: usize = 0;
-    while i < n {
-        end = put_point(names, i, points[i], out, end);
-        i += 1;
-    }
-    end
+    put_text(b"\n", out, end)
 }
 
 // The line of a contact.
@@ -197,61 +225,59 @@ fn put_contact(i: usize, j: usize, out: &mut [u8], at: usize) -> usize
     put_byte(b'\n', out, end)
 }
 
-// The line of positions i and j, if j is later and in i's row.
-fn put_pair(row: EvalSet, i: usize, j: usize, out: &mut [u8], at: usize) -> usize
-    requires { ⌜ (j < 64) × (at + length (collect contactLine (pairOf i j (mem row))) ≤ length (now out)) ⌝ }
-    ensures { λ r. ⌜ Puts at (collect contactLine (pairOf i j (mem row))) (now (out .entry)) (now (out .exit)) r ⌝ }
+// The position of the point whose word is at an index.
+fn position_of(i: usize) -> usize
+    ensures { λ r. ⌜ r ≡ i - 1 ⌝ }
 {
-    if j <= i {
-        return at;
-    }
-    if evalset::contains(row, j) {
-        put_contact(i, j, out, at)
-    } else {
-        at
-    }
+    if 0 < i { i - 1 } else { 0 }
 }
 
-// The lines of one row.
-fn put_row(row: EvalSet, i: usize, n: usize, out: &mut [u8], at: usize) -> usize
-    requires { ⌜ (n ≤ 64) × (at + length (collect contactLine (rowTo n i (mem row))) ≤ length (now out)) ⌝ }
-    ensures { λ r. ⌜ Puts at (collect contactLine (rowTo n i (mem row))) (now (out .entry)) (now (out .exit)) r ⌝ }
+// The line of a plan's word at an index, which is one past a point's position.
+fn put_word(word: u32, i: usize, names: Names, out: &mut [u8], at: usize) -> usize
+    requires { ⌜ at + 1024 ≤ length (now out) ⌝ }
+    ensures { λ r. ⌜ Puts at (planLine (knownOf names) i word) (now (out .entry)) (now (out .exit)) r ⌝ }
 {
-    let mut end = at;
-    let mut j: usize = 0;
-    while j < n {
-        end = put_pair(row, i, j, out, end);
-        j += 1;
+    let kind = word / KIND;
+    let body = (word % KIND) as usize;
+    if kind == FIRST {
+        return put_head(body / 256, body % 256, out, at);
     }
-    end
+    if kind == LONG_FIRST {
+        return put_head(body / 65536, body % 65536, out, at);
+    }
+    if kind == POINT {
+        let place = position_of(i);
+        return put_point(names, place, (body % 256) as u8, out, at);
+    }
+    if kind == CONTACT {
+        return put_contact(body / 256, body % 256, out, at);
+    }
+    at
 }
 
-// The lines of all rows.
-fn put_rows(rows: [EvalSet; 64], n: usize, out: &mut [u8], at: usize) -> usize
-    requires { ⌜ (n ≤ 64) × (at + length (collect contactLine (linksTo n n (memAt rows))) ≤ length (now out)) ⌝ }
-    ensures { λ r. ⌜ Puts at (collect contactLine (linksTo n n (memAt rows))) (now (out .entry)) (now (out .exit)) r ⌝ }
+// The word at an index; 0 past the last.
+fn word_at(words: &[u32], i: usize) -> u32
+    ensures { λ r. ⌜ r ≡ getD (now (words .entry)) i 0 ⌝ }
 {
-    let mut end = at;
-    let mut i: usize = 0;
-    while i < n {
-        let row = rows[i];
-        end = put_row(row, i, n, out, end);
-        i += 1;
-    }
-    end
+    if i < words.len() { words[i] } else { 0 }
 }
 
-// A plan of at most 64 points over these names.
-fn put_plan(plan: PlanArrays, names: Names, out: &mut [u8], at: usize) -> usize
-    requires { ⌜ Kept names × (plan .count ≤ 64) × (at + length (planText (knownOf names) (planBy plan)) ≤ length (now out)) ⌝ }
-    ensures { λ r. ⌜ Puts at (planText (knownOf names) (planBy plan)) (now (out .entry)) (now (out .exit)) r ⌝ }
+// The next lines of a plan of so many words, from that of the word at an index on, as many as there is room for.
+fn put_words(words: &[u32], count: usize, names: Names, from: usize, out: &mut [u8]) -> Piece
+    requires { ⌜ 16384 ≤ length (now out) ⌝ }
+    ensures { λ r. ⌜ GivesPiece (planLineAt (knownOf names) (now (words .entry))) count from (now (out .entry)) r (now (out .exit)) ⌝ }
 {
-    let points = plan.points;
-    let rows = plan.rows;
-    let n = plan.count;
-    let end = put_head(plan.names, n, out, at);
-    let end = put_points(names, points, n, out, end);
-    put_rows(rows, n, out, end)
+    let mut end: usize = 0;
+    let mut next = from;
+    while next < count {
+        if ROOM < end + LINE {
+            return Piece { len: end, next };
+        }
+        let word = word_at(words, next);
+        end = put_word(word, next, names, out, end);
+        next += 1;
+    }
+    Piece { len: end, next }
 }
 
 // The line of a refusal: three numbers of at most 20 digits, 79 bytes at most.
@@ -288,32 +314,42 @@ fn ask(table: Table, asked: Asked, words: &mut [u32]) -> AskResult
     }
 }
 
-// The text for the rules that stand, by a question: its plan is put into the words first.
-fn put_rules(table: Table, asked: Asked, words: &mut [u32], out: &mut [u8]) -> usize
-    requires { ⌜ FromUs table × SomeStand (rulesOf table) × (wordRoom (questionOf asked) ≤ length (now words)) × (textRoom (questionOf asked) ≤ length (now out)) ⌝ }
-    ensures { λ r. ⌜ Puts 0 (rulesText (questionOf asked) (formulasOf (rulesOf table))) (now (out .entry)) (now (out .exit)) r ⌝ }
+// The text for the rules that stand, by a question: its plan is put into the words, or that there is none into the buffer.
+fn put_rules(table: Table, asked: Asked, words: &mut [u32], out: &mut [u8]) -> PlanResult
+    requires { ⌜ FromUs table × SomeStand (rulesOf table) × (wordRoom (questionOf asked) ≤ length (now words)) × (16384 ≤ length (now out)) ⌝ }
+    ensures { λ r. ⌜ Tells (questionOf asked) (rulesText (questionOf asked) (formulasOf (rulesOf table))) (planLineAt (knownOf (r .names)) (now (words .exit))) (now (out .entry)) (now (out .exit)) (r .answer) ⌝ }
 {
     let names = table.names();
     let given = ask(table, asked, words);
     let answer = given.answer;
     let AskAnswer::Plan(n) = answer else {
-        return put_text(b"NO PLAN\n", out, 0);
+        let len = put_text(b"NO PLAN\n", out, 0);
+        return PlanResult {
+            answer: TextAnswer::Text(len),
+            names,
+        };
     };
-    let read = plan::read_plan(&words[..n]);
-    let plan = read.plan;
-    put_plan(plan, names, out, 0)
+    PlanResult {
+        answer: TextAnswer::Lines(n),
+        names,
+    }
 }
 
 // The text for a sheet, by a question.
-fn put_report(file: &[u8], asked: Asked, words: &mut [u32], out: &mut [u8]) -> usize
-    requires { ⌜ (wordRoom (questionOf asked) ≤ length (now words)) × (textRoom (questionOf asked) ≤ length (now out)) ⌝ }
-    ensures { λ r. ⌜ Puts 0 (outputOf (questionOf asked) (now (file .entry))) (now (out .entry)) (now (out .exit)) r ⌝ }
+fn put_report(file: &[u8], asked: Asked, words: &mut [u32], out: &mut [u8]) -> PlanResult
+    requires { ⌜ (wordRoom (questionOf asked) ≤ length (now words)) × (16384 ≤ length (now out)) ⌝ }
+    ensures { λ r. ⌜ Tells (questionOf asked) (outputOf (questionOf asked) (now (file .entry))) (planLineAt (knownOf (r .names)) (now (words .exit))) (now (out .entry)) (now (out .exit)) (r .answer) ⌝ }
 {
     let t = Table::empty();
     let loaded = t.load(file);
     let answer = loaded.answer;
     let LoadAnswer::Loaded = answer else {
-        return put_refusal(answer, out, 0);
+        let len = put_refusal(answer, out, 0);
+        let names = names::no_names();
+        return PlanResult {
+            answer: TextAnswer::Text(len),
+            names,
+        };
     };
     let table = loaded.table;
     put_rules(table, asked, words, out)
@@ -339,29 +375,44 @@ pub fn report(file: &[u8], out: &mut [u8; ROOM]) -> usize
     ensures { λ r. ⌜ Reports (outputOf plain (now (file .entry))) (now (out .entry)) r (now (out .exit)) ⌝ }
 {
     let mut words = no_words();
-    put_report(file, Asked::Plain, &mut words, out)
+    let told = put_report(file, Asked::Plain, &mut words, out);
+    let answer = told.answer;
+    let names = told.names;
+    match answer {
+        TextAnswer::Text(len) => len,
+        TextAnswer::Lines(count) => {
+            let piece = put_words(&words, count, names, 0, out);
+            piece.len
+        }
+    }
 }
 
-// The two rooms for one building.
-pub fn no_building_text() -> [u8; BUILDING_ROOM]
-    ensures { λ r. ⌜ length r ≡ 36864 ⌝ }
-    ensures { λ r. ⌜ r ≡ replicate 36864 0 ⌝ }
+// Room for the words of a building.
+pub fn no_building() -> [u32; BUILDING]
+    ensures { λ r. ⌜ length r ≡ 32642 ⌝ }
 {
-    [0u8; BUILDING_ROOM]
+    [0u32; BUILDING]
 }
 
-fn no_building_words() -> [u32; 2018]
-    ensures { λ r. ⌜ length r ≡ 2018 ⌝ }
+// The text for one building for a sheet of any bytes: a short one over the first bytes of the buffer, where it is refused or has no plan, or the
+// plan, as the words that are lent and the names.
+pub fn report_building(file: &[u8], words: &mut [u32; BUILDING], out: &mut [u8; ROOM]) -> PlanResult
+    ensures { λ r. ⌜ Answers (outputOf building (now (file .entry))) (planLineAt (knownOf (r .names)) (now (words .exit))) (now (out .entry)) (now (out .exit)) (r .answer) ⌝ }
 {
-    [0u32; 2018]
+    put_report(file, Asked::Building, words, out)
 }
 
-// The text by the question of one building, in the same form.
-pub fn report_building(file: &[u8], out: &mut [u8; BUILDING_ROOM]) -> usize
-    ensures { λ r. ⌜ Reports (outputOf building (now (file .entry))) (now (out .entry)) r (now (out .exit)) ⌝ }
+// The next piece of a building's text, over the first bytes of the buffer: whole lines, from that of the word at an index on.
+pub fn building_piece(
+    words: &[u32; BUILDING],
+    count: usize,
+    names: Names,
+    from: usize,
+    out: &mut [u8; ROOM],
+) -> Piece
+    ensures { λ r. ⌜ GivesPiece (planLineAt (knownOf names) (now (words .entry))) count from (now (out .entry)) r (now (out .exit)) ⌝ }
 {
-    let mut words = no_building_words();
-    put_report(file, Asked::Building, &mut words, out)
+    put_words(words, count, names, from, out)
 }
 
 // The line of the rule at place i, from 0, as it was read, if one stands there.
@@ -419,18 +470,8 @@ pub fn as_read(file: &[u8], out: &mut [u8; ROOM]) -> usize
 // The words of the largest tree.
 pub const TREE: usize = 131071;
 
-// The kinds of words, in front of 28 bits.
-const KIND: u32 = 0x1000_0000;
-
-const SPLIT: u32 = 5;
-
-const RULE: u32 = 6;
-
 // How deep a split may lie: there are 16 atoms.
 const DEEPEST: u8 = 16;
-
-// Room for a line: 510 blanks at most, and a text of at most 266 bytes.
-const LINE: usize = 1024;
 
 // The text of an atom: its first bytes, as many as its length.
 pub struct AtomText {
@@ -438,22 +479,10 @@ pub struct AtomText {
     pub len: usize,
 }
 
-// What `why` answers: a text of so many bytes, which is in the buffer, or a tree of so many words, whose lines `why_piece` gives.
-pub enum WhyAnswer {
-    Text(usize),
-    Tree(usize),
-}
-
 // What `why` hands back: for a tree, the texts of the atoms by their numbers.
 pub struct WhyResult {
-    pub answer: WhyAnswer,
+    pub answer: TextAnswer,
     pub atoms: [AtomText; 16],
-}
-
-// A piece of a tree's text: its bytes, and the index of the word whose line is next.
-pub struct Piece {
-    pub len: usize,
-    pub next: usize,
 }
 
 // The blanks before a line of this depth.
@@ -523,13 +552,7 @@ fn put_reason(word: u32, depth: u8, atoms: [AtomText; 16], out: &mut [u8], at: u
     put_byte(b'\n', out, end)
 }
 
-// The word at an index, and its depth; 0 past the last.
-fn word_at(words: &[u32], i: usize) -> u32
-    ensures { λ r. ⌜ r ≡ getD (now (words .entry)) i 0 ⌝ }
-{
-    if i < words.len() { words[i] } else { 0 }
-}
-
+// The depth of the word at an index; 0 past the last.
 fn depth_at(depths: &[u8], i: usize) -> u8
     ensures { λ r. ⌜ r ≡ getD (now (depths .entry)) i 0 ⌝ }
 {
@@ -629,13 +652,13 @@ fn put_why(table: Table, words: &mut [u32], depths: &mut [u8], out: &mut [u8]) -
     let ExplainAnswer::Tree(n) = answer else {
         let len = put_text(b"PLAN EXISTS\n", out, 0);
         return WhyResult {
-            answer: WhyAnswer::Text(len),
+            answer: TextAnswer::Text(len),
             atoms,
         };
     };
     put_depths(&words[..n], 0, 0, depths);
     WhyResult {
-        answer: WhyAnswer::Tree(n),
+        answer: TextAnswer::Lines(n),
         atoms,
     }
 }
@@ -657,7 +680,7 @@ pub fn why(
         let len = put_refusal(answer, out, 0);
         let atoms = no_texts();
         return WhyResult {
-            answer: WhyAnswer::Text(len),
+            answer: TextAnswer::Text(len),
             atoms,
         };
     };

@@ -109,10 +109,10 @@ module _ (text : List ℕ) (rule : Rule) (k : Known) (kept code : List ℕ) (fro
   pub gathered-from : gathered text (knownOf (k .names)) ≡ gathered text (namesOf rules)
   gathered-from = ap (gathered text) (known-from (k .names) (namesOf rules) (m .so-far .names-are))
 
-  -- a seventh name
-  pub seventh : (g : Gathered) → g ≡ gathered text (knownOf (k .names)) → (p : ℕ) → g .answer ≡ NamesAnswer.SeventhName p
-      → RoomAnswer.SeventhName p ≡ roomAnswer (gathered text (namesOf rules) .answer) (length (differentAtoms every))
-  seventh g e p h =
+  -- a ninth name
+  pub ninth : (g : Gathered) → g ≡ gathered text (knownOf (k .names)) → (p : ℕ) → g .answer ≡ NamesAnswer.TooManyNames p
+      → RoomAnswer.TooManyNames p ≡ roomAnswer (gathered text (namesOf rules) .answer) (length (differentAtoms every))
+  ninth g e p h =
       sym (ap (λ (a : NamesAnswer). roomAnswer a (length (differentAtoms every))) (ap (λ (x : Gathered). x .answer) (sym (e ∙ gathered-from)) ∙ h))
 
   order-is : take (rule .len) (rule .order) ≡ codes (postfix f)
@@ -137,7 +137,7 @@ module _ (text : List ℕ) (rule : Rule) (k : Known) (kept code : List ℕ) (fro
     pub code-few : length (codeOf rules f) ≤ 256
     code-few = omega (arith, ap length (code-after rules f), code-short (numberOf every) f (rowAtoms rules), order-few)
 
-    -- six names are enough, and so many numbers are used
+    -- eight names are enough, and so many numbers are used
     module _ (g : Gathered) (gather-is : g ≡ gathered text (knownOf (k .names))) (enough : g .answer ≡ NamesAnswer.Enough) (used : ℕ)
         (counted : used ≡ nameCount (take (rule .len) (rule .order))) where
       abbrev order : List ℕ

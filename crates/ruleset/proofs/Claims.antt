@@ -7,7 +7,6 @@ use mathlib.Core.List.{List, [], _∷_, _++_, map, map-append}
 use Prim.Native.Nat.{ℕ, _+_, _*_, _≤_, _<_}
 use native.Mathlib.Omega.{arith}
 use lib.ListN.{length, take, length-map}
-use lib.Pow.{pow-mono}
 use lib.Seq.{length-take-le}
 use Rattle.formula.specs.Formula.{Formula, Name}
 use Rattle.syntax.specs.RuleText.{IsRule}
@@ -21,20 +20,20 @@ use Rattle.solver.specs.declared.RowAnswer.the-variants.{At, Nothing}
 use Rattle.solver.specs.Tree.{ComesFrom, Runnable, answerFor, FirstRowSays}
 use Rattle.solver.proofs.Claims.{runnable, answer-is, answer-found, answer-none}
 use Rattle.search.specs.declared.Chart.{Chart}
-use Rattle.search.specs.declared.RowPlan.{RowPlan}
 use Rattle.search.specs.Rows.{rowBits}
 use Rattle.search.specs.Compiled.{limit}
 use Rattle.search.specs.Planned.{marksIn, PlanSays}
-use Rattle.search.proofs.Claims.{planned-is, planned-room}
+use Rattle.search.proofs.Claims.{planned-is}
 use Rattle.plan.specs.declared.PlanArrays.{PlanArrays}
 use Rattle.plan.specs.Words.{Plan, IsPlan}
+use Rattle.evalset.specs.declared.EvalSet.{EvalSet}
+use Rattle.evalset.specs.Sets.{mem}
 use Rattle.evalset.specs.Most.{most}
-use Rattle.plan.specs.Arrays.{planBy}
+use Rattle.squares.specs.Square.{squareAt}
+use Rattle.plan.specs.Arrays.{pointsPlan}
 use Rattle.plan.specs.Stored.{Stored}
 use Rattle.plan.specs.Given.{givenPlan}
 use Rattle.plan.specs.Plans.{rowPlan, plansOf}
-use Rattle.plan.proofs.SamePlan.{plan-again}
-use Rattle.plan.proofs.Claims.{given-is-plan}
 use Rattle.judging.specs.declared.Judged.{Judged}
 use Rattle.judging.specs.Judges.{judgedPlan, JudgesSay}
 use Rattle.judging.proofs.Claims as judging
@@ -49,10 +48,10 @@ use Rattle.compile.proofs.Searched.{compiled-search}
 use Rattle.kleene.specs.Code.{atomSign}
 use Rattle.ruleset.specs.declared.AtomPlace.{AtomPlace}
 use Rattle.ruleset.specs.declared.Compiling.{Compiling}
-use Rattle.ruleset.specs.Texts.{Fits, CompiledRules, CompiledTexts, Another, Compilable, WithText, NothingCompiled, FirstRowIs, RowPlanIs, JudgedIs}
+use Rattle.ruleset.specs.Texts.{Fits, CompiledRules, CompiledTexts, Another, Compilable, WithText, NothingCompiled, FirstRowIs, JudgedIs}
 use Rattle.ruleset.specs.Places.{Writing, placeFrom}
 use Rattle.ruleset.proofs.Writings.{first-writing}
-use Rattle.ruleset.proofs.Planning.{rowArrays, plan-stored}
+use Rattle.ruleset.proofs.Planning.{plan-is-given}
 
 -- ---- for a caller of `with_text`: the texts
 
@@ -130,30 +129,27 @@ module _ (rules : List (Formula Name)) (c : Compiling) (kept code : List ℕ) (h
 
   -- ---- for a caller of the plan of a row
 
-  -- the chart has at most 6 names and 16 atoms, so `plan_of` may be called with it
+  -- the chart has at most 8 names and 16 atoms, so `points_of` may be called with it and a square that has room for them
   pub may-plan : (chart .names ≤ most) × (chart .atoms ≤ limit)
   may-plan = (omega (arith, h .known .names-counted, h .known .fits .names-fit), omega (arith, h .known .compiled .counted, h .known .compiled .few))
 
-  -- what `planned` answers is, beside the number of names, the plan of the row (Planning)
-  pub answer-row-plan : (q : Question) (row : ℕ) (r : RowPlan) → PlanSays q chart row r
-      → Stored (rowArrays (chart .names) r) (rowPlan q rules (rowBits (chart .atoms) row))
+  -- what search's `points_of` finds is the plan of the row (Planning)
+  pub answer-row-plan : (q : Question) (row : ℕ) (r : EvalSet) (ws : List ℕ) → PlanSays q chart row r ws
+      → pointsPlan (chart .names) (mem r) (squareAt ws) ≡ rowPlan q rules (rowBits (chart .atoms) row)
   unfolding rowPlan
-  answer-row-plan q row r says =
+  answer-row-plan q row r ws says =
       let atoms = rowAtoms rules in
-      let few = planned-room chart atoms (comes-from .compiled) q r row says in
-      subst (λ (n : ℕ). Stored (rowArrays (chart .names) r) (givenPlan n (marksIn chart atoms row) (pointsFor q n (marksIn chart atoms row)))) (h .known .names-counted)
-      (plan-stored q (chart .names) (marksIn chart atoms row) r (planned-is chart atoms (comes-from .compiled) q r row says) (omega (arith, few, pow-mono {i = chart .names} {j = 6} (may-plan .0))))
+      plan-is-given q (chart .names) (marksIn chart atoms row) r ws (planned-is chart atoms (comes-from .compiled) q r ws row says)
+      ∙ ap (λ (n : ℕ). givenPlan n (marksIn chart atoms row) (pointsFor q n (marksIn chart atoms row))) (h .known .names-counted)
 
-  -- where `row_of` finds a row, the arrays of `plan_of` hold the plan that is given, and no other
-  pub plan-given : (q : Question) (r : RowAnswer) (row : ℕ) (arrays : PlanArrays) → FirstRowIs q c code r → r ≡ At row → RowPlanIs q c row arrays
-      → plansOf q rules ≡ planBy arrays ∷ []
-  unfolding FirstRowIs RowPlanIs plansOf
-  plan-given q r row arrays says e holds =
-      let names = length (namesOf rules) in
-      let found = answer-found q names (rowAtoms rules) (numberedAtoms rules) (chart .atoms) row (h .known .compiled .counted)
-      (sym (says rules kept h) ∙ e) in
-      ap (map (rowPlan q rules)) found
-      ∙ ap (λ (p : Plan). p ∷ []) (sym (plan-again arrays _ (given-is-plan q rules (h .known .fits .names-fit) _ found) (holds rules kept code h)))
+  -- where `row_of` finds a row, its plan is given, and no other
+  pub plan-given : (q : Question) (r : RowAnswer) (row : ℕ) → FirstRowIs q c code r → r ≡ At row
+      → plansOf q rules ≡ rowPlan q rules (rowBits (chart .atoms) row) ∷ []
+  unfolding FirstRowIs plansOf
+  plan-given q r row says e =
+      ap (map (rowPlan q rules))
+      (answer-found q (length (namesOf rules)) (rowAtoms rules) (numberedAtoms rules) (chart .atoms) row (h .known .compiled .counted)
+      (sym (says rules kept h) ∙ e))
 
   -- ---- for a caller of the judgement
 

@@ -23,9 +23,13 @@ use Rattle.solver.specs.declared.RowAnswer.{RowAnswer}
 use Rattle.solver.specs.Coded.{Coded}
 use Rattle.solver.specs.Tree.{answerFor}
 use Rattle.search.specs.Rows.{rowBits}
+use Rattle.evalset.specs.declared.EvalSet.{EvalSet}
+use Rattle.evalset.specs.Sets.{mem}
+use Rattle.squares.specs.Square.{squareAt}
 use Rattle.plan.specs.declared.PlanArrays.{PlanArrays}
 use Rattle.plan.specs.Words.{Plan, IsPlan}
 use Rattle.plan.specs.Stored.{Stored}
+use Rattle.plan.specs.Arrays.{pointsPlan}
 use Rattle.plan.specs.Plans.{rowPlan}
 use Rattle.judging.specs.declared.Judged.{Judged}
 use Rattle.judging.specs.Judges.{judgedPlan}
@@ -41,10 +45,10 @@ use Rattle.ruleset.specs.declared.RoomAnswer.the-variants as RoomAnswer
 use Rattle.ruleset.specs.declared.Grown.{Grown}
 use Rattle.ruleset.specs.declared.Compiling.{Compiling}
 
--- "It holds at most 16 rules, 6 names and 16 atoms.", the atoms that are the same counted as one
+-- "It holds at most 16 rules, 6 names and 16 atoms.", the atoms that are the same counted as one; document 02, T-08: "Names go up to 8"
 pub record Fits (rules : List (Formula Name)) : Type 0 where
   pub rules-fit : length rules ≤ 16
-  pub names-fit : length (namesOf rules) ≤ 6
+  pub names-fit : length (namesOf rules) ≤ 8
   pub atoms-fit : length (differentAtoms rules) ≤ 16
 
 -- ---- what is known of rules
@@ -82,7 +86,7 @@ roomFor enough = cond enough RoomAnswer.Room RoomAnswer.ManyAtoms
 
 abbrev pub roomAnswer : NamesAnswer → ℕ → RoomAnswer
 roomAnswer NamesAnswer.Enough atoms = roomFor (leb atoms 16)
-roomAnswer (NamesAnswer.SeventhName p) atoms = RoomAnswer.SeventhName p
+roomAnswer (NamesAnswer.TooManyNames p) atoms = RoomAnswer.TooManyNames p
 
 -- the code of the rule put last
 abbrev pub codeOf : List (Formula Name) → Formula Name → List ℕ
@@ -146,10 +150,11 @@ pub record Whole (c : Compiling) (code : List ℕ) : Type 0 where
 unfoldable pub FirstRowIs : Question → Compiling → List ℕ → RowAnswer → Type 0
 FirstRowIs q c code r = (rules : List (Formula Name)) (kept : List ℕ) → CompiledRules rules c kept code → r ≡ answerFor (firstRowOf q rules)
 
--- the arrays hold the plan of a row of the rules that are compiled
-unfoldable pub RowPlanIs : Question → Compiling → ℕ → PlanArrays → Type 0
-RowPlanIs q c row r =
-    (rules : List (Formula Name)) (kept code : List ℕ) → CompiledRules rules c kept code → Stored r (rowPlan q rules (rowBits (c .known .atoms .chart .atoms) row))
+-- the plan of these points, by what the square has apart, is that of a row of the rules that are compiled
+unfoldable pub RowPlanIs : Question → Compiling → ℕ → EvalSet → List ℕ → Type 0
+RowPlanIs q c row r ws =
+    (rules : List (Formula Name)) (kept code : List ℕ) → CompiledRules rules c kept code
+    → pointsPlan (c .known .atoms .chart .names) (mem r) (squareAt ws) ≡ rowPlan q rules (rowBits (c .known .atoms .chart .atoms) row)
 
 -- the answer is the judgement, by the rules that are compiled, of the plan that the arrays hold
 unfoldable pub JudgedIs : Compiling → List ℕ → PlanArrays → Judged → Type 0

@@ -1,7 +1,7 @@
 // Rules known and compiled one behind the other: the names of one rule more behind those before it, its atoms behind the different ones
 // before it, and its code. "Names and atoms are numbered from 0 by first place, rules in order, left to right", so what is there does
 // not change. To know rules is enough to say whether there is room for one more; what the compiled rules answer is their first row, the
-// plan of a row, the judgement of a plan, the verdict on a tree, the tree of a writer, and where an atom is written first.
+// points of a row and what it separates, the judgement of a plan, the verdict on a tree, the tree of a writer, and where an atom is written first.
 // Only our own crates compile texts, and only rules: the requires say so. What is compiled so meets the other requires
 // (proofs/Claims.antt).
 ghost use mathlib.Core.Path.{_≡_};
@@ -9,7 +9,8 @@ ghost use Prim.Native.Nat.{_≤_, _<_};
 ghost use lib.ListN.{length, take};
 ghost use Rattle.search.specs.Asked.{questionOf};
 ghost use Rattle.search.specs.Compiled.{limit};
-ghost use Rattle.evalset.specs.Most.{most};
+ghost use Rattle.search.specs.Planned.{Lent};
+ghost use Rattle.squares.specs.Square.{Square};
 ghost use Rattle.lists.specs.Search.{elem};
 ghost use Rattle.solver.specs.Coded.{SafeFrom};
 ghost use Rattle.ruleset.specs.Ends.{lastEnd};
@@ -17,6 +18,7 @@ ghost use Rattle.ruleset.specs.Places.{WritingIs, signsTo, placeFrom};
 ghost use Rattle.ruleset.specs.Counted.{nameCount};
 ghost use Rattle.ruleset.specs.Texts.{NothingKnown, roomFor, Ready, WithRule, NothingCompiled, Compilable, WithText, Whole, FirstRowIs, RowPlanIs, JudgedIs, VerdictIs, ExplainedIs};
 use compile::Atoms;
+use evalset::EvalSet;
 use explaining::Explanation;
 use judging::Judged;
 use names::Names;
@@ -38,7 +40,7 @@ pub struct Known {
 // Whether there is room for a rule, or why not: refusals 7, with its place, and 8.
 pub enum RoomAnswer {
     Room,
-    SeventhName(usize),
+    TooManyNames(usize),
     ManyAtoms,
 }
 
@@ -135,8 +137,8 @@ pub fn with_rule(
     let before = known.names;
     let gathered = names::gather(text, rule, before);
     let enough = gathered.answer;
-    if let NamesAnswer::SeventhName(p) = enough {
-        let answer = RoomAnswer::SeventhName(p);
+    if let NamesAnswer::TooManyNames(p) = enough {
+        let answer = RoomAnswer::TooManyNames(p);
         return Grown {
             known,
             end: from,
@@ -192,21 +194,14 @@ pub fn row_of(c: Compiling, code: &[u8], asked: Asked) -> RowAnswer
     solver::first_row(code, &ends[..count], chart, asked)
 }
 
-// The plan of a row of the compiled rules, for what is asked. Its arrays have the number of names in a byte.
-pub fn plan_of(c: Compiling, row: usize, asked: Asked) -> PlanArrays
-    requires { ⌜ (c .known .atoms .chart .names ≤ most) × (c .known .atoms .chart .atoms ≤ limit) ⌝ }
-    ensures { λ r. ⌜ RowPlanIs (questionOf asked) c row r ⌝ }
+// The points of a row of the compiled rules, for what is asked; and in the square that is lent what the row separates. The plan of the row
+// is theirs.
+pub fn points_of(c: Compiling, row: usize, asked: Asked, square: &mut [u64]) -> EvalSet
+    requires { ⌜ (c .known .atoms .chart .atoms ≤ limit) × Lent (c .known .atoms .chart .names) (now square) ⌝ }
+    ensures { λ r. ⌜ Square (now (square .exit)) × RowPlanIs (questionOf asked) c row r (now (square .exit)) ⌝ }
 {
     let chart = c.known.atoms.chart;
-    let planned = search::planned(chart, row, asked);
-    let points = planned.points;
-    let rows = planned.rows;
-    PlanArrays {
-        names: chart.names as u8,
-        count: planned.count,
-        points,
-        rows,
-    }
+    search::points_of(chart, row, asked, square)
 }
 
 // The judgement of a plan by the compiled rules.

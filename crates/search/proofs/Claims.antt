@@ -1,61 +1,65 @@
--- The claims of this crate (Giving, Listing, Finding): the plan is the one that is given, for each question, and the piece of a building is the
+-- The claims of this crate (Giving, Listing, Finding): the points and what is separated are those of the plan that is given, for each question, and the piece of a building is the
 -- first that meets the row. A function's contract is what is assumed of its result here, under its name in specs/. Assumes nothing.
-use mathlib.Core.Bool.{Bool, true, not, _&&_}
-use mathlib.Core.Path.{_≡_, sym, ap, ap₂, _∙_}
+use mathlib.Core.Bool.{Bool, true, not}
+use mathlib.Core.Path.{_≡_, sym, ap, subst, _∙_}
 use mathlib.Core.List.{List, map}
 use Prim.Native.Nat.{ℕ, _^_, _≤_, _<_}
 use native.Mathlib.Omega.{arith}
 use lib.ListN.{length, getD}
-use borrow.Author.Tests.{lt-ltb}
-use Rattle.lists.proofs.Padded.{pad-at}
+use Rattle.lists.specs.Search.{keep, below}
 use Rattle.formula.specs.Formula.{Atom}
-use Rattle.evalset.specs.Sets.{memAt, room}
+use Rattle.evalset.specs.declared.EvalSet.{EvalSet}
+use Rattle.evalset.specs.Sets.{room, mem}
+use Rattle.squares.specs.Square.{squareAt}
 use Rattle.contact.specs.Row.{is}
 use Rattle.contact.specs.Question.{Question, plain, building}
 use Rattle.contact.specs.Plan.{Mark, separated}
-use Rattle.contact.specs.Check.{passes, pointsFor}
+use Rattle.contact.specs.Check.{passes}
 use Rattle.contact.proofs.Claims as contact
 use Rattle.contact.proofs.Floors.{marksFloor}
 use Rattle.search.specs.declared.Chart.{Chart}
-use Rattle.search.specs.declared.RowPlan.{RowPlan}
 use Rattle.search.specs.Rows.{rowBits}
 use Rattle.search.specs.Compiled.{limit, Compiled}
 use Rattle.search.specs.Planned.{marksIn, PlanOf, PlanSays}
 use Rattle.search.specs.Building.{BuildingSays}
-
--- for each question, the contact rows of a plan whose marks pass the check are the contacts of the plan's floor
-plan-touch : (q : Question) (n : ℕ) (ms : List Mark) (r : RowPlan) → PlanOf q n ms r → (h : passes q n ms ≡ true) → (i j : ℕ) → i < r .count
-    → j < r .count → memAt (r .rows) i j ≡ marksFloor q n ms h .touch i j
-plan-touch q n ms r p h i j li lj =
-    let at : (k : ℕ) → k < r .count → getD (r .points) k 0 ≡ getD (pointsFor q n ms) k 0 =
-    λ k l. ap (λ (xs : List ℕ). getD xs k 0) (p .listed) ∙ pad-at room (pointsFor q n ms) k (omega (arith, p .counted)) in
-    p .contacts i j
-    ∙ ap₂ (λ (a b : Bool). (a && b) && not (separated ms (getD (r .points) i 0) (getD (r .points) j 0))) (lt-ltb i (r .count) li)
-    (lt-ltb j (r .count) lj)
-    ∙ ap₂ (λ (e f : ℕ). not (separated ms e f)) (at i li) (at j lj) ∙ sym (contact.plan-touch q n ms h i j)
+use Rattle.search.proofs.Listing.{point-low}
 
 module _ (chart : Chart) (atoms : List (Atom ℕ)) (compiled : Compiled chart atoms) where
   -- ---- a plan
 
-  module _ (q : Question) (r : RowPlan) (row : ℕ) (says : PlanSays q chart row r) where
-    -- planned is the plan of the row's marks: the points, zeros after them, their number, and the contacts
-    pub planned-is : PlanOf q (chart .names) (marksIn chart atoms row) r
+  module _ (q : Question) (r : EvalSet) (ws : List ℕ) (row : ℕ) (says : PlanSays q chart row r ws) where
+    abbrev ms : List Mark
+    ms = marksIn chart atoms row
+
+    abbrev points : List ℕ
+    points = keep (mem r) (below room)
+
+    -- the set and the square are those of the row's marks: the points, and what is separated
+    pub planned-is : PlanOf q (chart .names) ms r ws
     unfolding PlanSays
     planned-is = says atoms compiled
 
     -- at most as many points as there are evaluations
-    pub planned-room : r .count ≤ 2 ^ chart .names
-    planned-room = omega (arith, planned-is .counted, contact.points-room q (chart .names) (marksIn chart atoms row))
+    pub planned-room : length points ≤ 2 ^ chart .names
+    planned-room = omega (arith, ap length (planned-is .listed), contact.points-room q (chart .names) ms)
 
-    -- of a row that passes the check, the contact rows are the contacts of the plan's floor
-    pub planned-touch : (h : passes q (chart .names) (marksIn chart atoms row) ≡ true) → (i j : ℕ) → i < r .count → j < r .count
-        → memAt (r .rows) i j ≡ marksFloor q (chart .names) (marksIn chart atoms row) h .touch i j
-    planned-touch h = plan-touch q (chart .names) (marksIn chart atoms row) r planned-is h
+    -- each is an evaluation
+    pub planned-low : (i : ℕ) → i < length points → getD points i 0 < 2 ^ chart .names
+    planned-low i l =
+        subst (λ (xs : List ℕ). getD xs i 0 < 2 ^ chart .names) (sym (planned-is .listed))
+        (point-low q (chart .names) ms i (omega (arith, l, ap length (planned-is .listed))))
+
+    -- of a row that passes the check, the pairs that are not separated are the contacts of the plan's floor
+    pub planned-touch : (h : passes q (chart .names) ms ≡ true) → (i j : ℕ) → i < length points → j < length points
+        → not (squareAt ws (getD points i 0) (getD points j 0)) ≡ marksFloor q (chart .names) ms h .touch i j
+    planned-touch h i j l m =
+        ap not (planned-is .apart _ _ (planned-low i l) (planned-low j m))
+        ∙ ap (λ (xs : List ℕ). not (separated ms (getD xs i 0) (getD xs j 0))) (planned-is .listed) ∙ sym (contact.plan-touch q (chart .names) ms h i j)
 
   -- at most 32 points of the plain question for as many atoms as a chart may have
-  pub planned-few : (r : RowPlan) (row : ℕ) → PlanSays plain chart row r → length atoms ≤ limit → r .count ≤ 32
-  planned-few r row says l =
-      omega (arith, planned-is plain r row says .counted, contact.points-at-most (chart .names) atoms (map is (rowBits (chart .atoms) row)) l)
+  pub planned-few : (r : EvalSet) (ws : List ℕ) (row : ℕ) → PlanSays plain chart row r ws → length atoms ≤ limit → length (keep (mem r) (below room)) ≤ 32
+  planned-few r ws row says l =
+      omega (arith, ap length (planned-is plain r ws row says .listed), contact.points-at-most (chart .names) atoms (map is (rowBits (chart .atoms) row)) l)
 
   -- ---- one building
 

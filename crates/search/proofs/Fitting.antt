@@ -17,12 +17,12 @@ use Rattle.evalset.specs.Sets.{room, mem, memAt, belowOf, meetOf, minusOf, drop
 use Rattle.evalset.specs.Most.{most}
 use Rattle.evalset.proofs.Members.{names-room, below-few, any-names}
 use Rattle.contact.specs.Meaning.{partTerm}
+use Rattle.squares.specs.Square.{squareAt, reach}
 use Rattle.contact.specs.Plan.{at, Means, Mark, zeroMark, mark, parts, separated, empties, may, allowed, fills, partners, leads}
 use Rattle.contact.proofs.Somewhere.{may-below, may-some, may-intro}
 use Rattle.contact.proofs.Realise.{allowed-below, fills-elim, partners-elim, leads-elim}
-use Rattle.search.specs.declared.State.{State}
 use Rattle.search.specs.Tests.{crossed, lessOf, partOf, startsOf}
-use Rattle.search.specs.Compiled.{AtomIs, Fit, Follows}
+use Rattle.search.specs.Compiled.{State, AtomIs, Fit, Follows}
 use Rattle.lists.proofs.Search.{any-last}
 
 -- ---- what is allowed, and all that is taken from it, is below 2 ^ n
@@ -69,7 +69,7 @@ possible-less n a b some h g l =
 
 -- ---- no marks
 
-pub fit-start : (n : ℕ) (s : State) → (n ≤ most → mem (s .allowed) ≡ may n) → ((p q : ℕ) → memAt (s .rows) p q ≡ false) → n ≤ most → Fit n s []
+pub fit-start : (n : ℕ) (s : State) → (n ≤ most → mem (s .allowed) ≡ may n) → ((p q : ℕ) → squareAt (s .rows) p q ≡ false) → n ≤ most → Fit n s []
 unfolding allowed separated
 fit-start n s h g l =
     record {
@@ -124,13 +124,14 @@ module _ (n : ℕ) (l : n ≤ most) (contact value : Bool) (x y : ℕ → Bool) 
       high b =
           ap (λ (c : Bool). c && not (lessOf contact value x y e)) (allowed-out n ms e b) ∙ sym (allowed-out n (ms ++ mark a value ∷ []) e b)
 
-  pub fit-step : (s r : State) → Fit n s ms → Follows contact value x y s r → Fit n r (ms ++ mark a value ∷ [])
+  pub fit-step : (all : ℕ → Bool) → all ≡ belowOf n → (s r : State) → 2 ^ n ≤ reach (s .rows) → Fit n s ms
+      → Follows contact value all x y s r → Fit n r (ms ++ mark a value ∷ [])
   unfolding separated
-  fit-step s r f g =
+  fit-step all are s r wide f g =
       record {
         allowed-is = g .less ∙ ap (λ (z : ℕ → Bool). minusOf z (lessOf contact value x y)) (f .allowed-is) ∙ fun-ext forbids;
         rows-are = λ p q lp lq.
-            g .more p q (omega (arith, names-room n l))
+            g .more p q (congr-fun are p ∙ below-few n l p ∙ lt-ltb p (2 ^ n) lp) (omega (arith, lp, wide)) (omega (arith, lq, wide))
             ∙ ap₂ _||_ (f .rows-are p q lp lq) (part-is n contact x y value a h p q lp lq) ∙ sym (any-last (parts p q) ms (mark a value));
       }
 
@@ -140,7 +141,7 @@ abbrev pub allowedIn : State → ℕ → Bool
 allowedIn s = mem (s .allowed)
 
 abbrev pub separatedIn : State → ℕ → ℕ → Bool
-separatedIn s = memAt (s .rows)
+separatedIn s = squareAt (s .rows)
 
 module _ (n : ℕ) (few : n ≤ most) (s : State) (ms : List Mark) (f : Fit n s ms) where
   pub fills-is : (x : ℕ → Bool) (t : Term ℕ) → Means n x t → meetOf (allowedIn s) x ≡ fills n ms t

@@ -14,9 +14,8 @@ use Rattle.lists.proofs.Search.{first-in, elem-intro, collect-same}
 use Rattle.lists.proofs.Truth.{clash}
 use Rattle.contact.specs.Meaning.{partTerm}
 use Rattle.contact.specs.Plan.{Means, evaluations, Mark, touching, zeroMark, mark, allowed, fills, partners, leads, withPartner, gives}
-use Rattle.search.specs.declared.State.{State}
 use Rattle.search.specs.Tests.{pairFrom, pairOf, givesOf}
-use Rattle.search.specs.Compiled.{AtomIs, Fit}
+use Rattle.search.specs.Compiled.{State, AtomIs, Fit}
 use Rattle.search.proofs.Fitting.{allowedIn, separatedIn, allowed-low, fills-low, partners-low, leads-low, fills-is, partners-is, leads-is}
 
 -- ---- what an atom with its value gives

@@ -17,12 +17,12 @@ use Rattle.lists.proofs.Truth.{clash, cases, or-cases}
 use Rattle.evalset.specs.Sets.{room, mem, memAt, noneOf, joinOf, minusOf, addOf}
 use Rattle.evalset.specs.Most.{most}
 use Rattle.evalset.proofs.Members.{names-room, add-in}
+use Rattle.squares.specs.Square.{squareAt}
 use Rattle.contact.specs.Plan.{Mark, separated, allowed, Linked, start, onward}
 use Rattle.contact.specs.Pieces.{wholePiece}
 use Rattle.contact.proofs.Claims as contact
 use Rattle.contact.proofs.Pieces.{linked-allowed}
-use Rattle.search.specs.declared.State.{State}
-use Rattle.search.specs.Compiled.{Fit}
+use Rattle.search.specs.Compiled.{State, Fit}
 use Rattle.search.proofs.Fitting.{allowed-low}
 
 -- ---- one more
@@ -73,7 +73,7 @@ module _ (n : ℕ) (few : n ≤ most) (s : State) (ms : List Mark) (f : Fit n s 
   -- p of the piece is looked at
   module _ (piece looked : ℕ → Bool) (so-far : Growing n ms e piece looked) (p : ℕ) (here : piece p ≡ true) where
     abbrev near : ℕ → Bool
-    near = minusOf (mem (s .allowed)) (memAt (s .rows) p)
+    near = minusOf (mem (s .allowed)) (squareAt (s .rows) p)
 
     brought : (h : ℕ) → allowed n ms h ≡ true → separated ms p h ≡ false → near h ≡ true
     brought h a q =
@@ -92,7 +92,7 @@ module _ (n : ℕ) (few : n ≤ most) (s : State) (ms : List Mark) (f : Fit n s 
       where
         reached : (g : ℕ) → near g ≡ true → Linked n ms e g
         reached g h =
-            let w = and-eq-true-iff (mem (s .allowed) g) (not (memAt (s .rows) p g)) .0 h in
+            let w = and-eq-true-iff (mem (s .allowed) g) (not (squareAt (s .rows) p g)) .0 h in
             let a : allowed n ms g ≡ true = congr-fun (sym (f .allowed-is)) g ∙ w .0 in
             onward (so-far .linked p here) a
             (sym (f .rows-are p g (low so-far p here) (allowed-low n ms g a)) ∙ not-true _ (w .1))

@@ -1,4 +1,5 @@
 pub mod Rows
+pub mod Parts
 pub mod Walks
 pub mod Fitting
 pub mod Giving

@@ -11,8 +11,8 @@ use Rattle.lists.specs.Search.{In, here, any, first, collect, below, elem}
 use Rattle.lists.proofs.Search.{any-intro, any-elim, first-some, first-none, below-elim, elem-intro, elem-elim}
 use Rattle.lists.proofs.Below.{any-at, any-none}
 use Rattle.lists.proofs.Truth.{cases}
-use Rattle.evalset.specs.declared.EvalSet.{EvalSet}
-use Rattle.evalset.specs.Sets.{room, memAt, meetOf, minusOf}
+use Rattle.evalset.specs.Sets.{room, meetOf, minusOf}
+use Rattle.squares.specs.Square.{squareAt}
 use Rattle.evalset.specs.Most.{most}
 use Rattle.evalset.proofs.Members.{names-room}
 use Rattle.contact.specs.Meaning.{partTerm}
@@ -75,7 +75,7 @@ module _ (g : ℕ → Bool) (set : List ℕ) (same : (e : ℕ) → g e ≡ elem 
 
 -- ---- the set meets a mark
 
-module _ (n : ℕ) (few : n ≤ most) (rows : List EvalSet) (ms : List Mark) (are : RowsAre n rows ms) (g : ℕ → Bool) (set : List ℕ)
+module _ (n : ℕ) (few : n ≤ most) (rows : List ℕ) (ms : List Mark) (are : RowsAre n rows ms) (g : ℕ → Bool) (set : List ℕ)
     (same : (e : ℕ) → g e ≡ elem e set) (ok : (e : ℕ) → In e set → allowed n ms e ≡ true) where
   named : (e : ℕ) → In e set → e < 2 ^ n
   named e i = allowed-low n ms e (ok e i)
@@ -84,21 +84,21 @@ module _ (n : ℕ) (few : n ≤ most) (rows : List EvalSet) (ms : List Mark) (ar
   low e i = omega (arith, named e i, names-room n few)
 
   touching-met : (x y : ℕ → Bool) (u t : Term ℕ) → Means n x u → Means n y t
-      → any (startsOf (meetOf g x) (meetOf g y) (memAt rows)) (below room) ≡ met ms set (touching u t)
+      → any (startsOf (meetOf g x) (meetOf g y) (squareAt rows)) (below room) ≡ met ms set (touching u t)
   touching-met x y u t hx hy =
-      starts-listed g set same low x y (at u) (at t) (memAt rows) (separated ms) (λ e i. hx e (named e i)) (λ e i. hy e (named e i))
+      starts-listed g set same low x y (at u) (at t) (squareAt rows) (separated ms) (λ e i. hx e (named e i)) (λ e i. hy e (named e i))
       (λ e f i j. are e f (named e i) (named f j))
 
   zero-met : (contact value : Bool) (x y : ℕ → Bool) (t : Term ℕ) → contact ≡ false → Means n x t
-      → metOf contact value g (memAt rows) x y ≡ met ms set (zeroMark value t)
-  zero-met contact true x y t h k = ap (λ (b : Bool). metOf b true g (memAt rows) x y) h
+      → metOf contact value g (squareAt rows) x y ≡ met ms set (zeroMark value t)
+  zero-met contact true x y t h k = ap (λ (b : Bool). metOf b true g (squareAt rows) x y) h
   zero-met contact false x y t h k =
-      ap (λ (b : Bool). metOf b false g (memAt rows) x y) h ∙ any-listed g set same low x (at t) (λ e i. k e (named e i))
+      ap (λ (b : Bool). metOf b false g (squareAt rows) x y) h ∙ any-listed g set same low x (at t) (λ e i. k e (named e i))
 
   pub met-is : (contact value : Bool) (x y : ℕ → Bool) (a : Atom ℕ) → AtomIs n contact x y a
-      → metOf contact value g (memAt rows) x y ≡ met ms set (mark a value)
+      → metOf contact value g (squareAt rows) x y ≡ met ms set (mark a value)
   met-is contact true x y (Atom.contact u t) h =
-      ap (λ (b : Bool). metOf b true g (memAt rows) x y) (h .0) ∙ touching-met x y u t (h .1) (h .2)
-  met-is contact false x y (Atom.contact u t) h = ap (λ (b : Bool). metOf b false g (memAt rows) x y) (h .0)
+      ap (λ (b : Bool). metOf b true g (squareAt rows) x y) (h .0) ∙ touching-met x y u t (h .1) (h .2)
+  met-is contact false x y (Atom.contact u t) h = ap (λ (b : Bool). metOf b false g (squareAt rows) x y) (h .0)
   met-is contact value x y (Atom.part u t) h = zero-met contact value x y (partTerm u t) (h .0) (h .1)
   met-is contact value x y (Atom.empty t) h = zero-met contact value x y t (h .0) (h .1)

@@ -18,40 +18,40 @@ use Rattle.search.specs.Tests.{Separates, startsOf, pairFrom, pairOf}
 
 -- ---- each of x is separated from each of y: done below i, and nothing changed from i up
 
-pub record SeparatedTo (i : ℕ) (sep r : ℕ → ℕ → Bool) (x y : ℕ → Bool) : Type 0 where
-  pub done : (p q : ℕ) → p < i → r p q ≡ (sep p q || (x p && y q))
+pub record SeparatedTo (i n : ℕ) (sep r : ℕ → ℕ → Bool) (x y : ℕ → Bool) : Type 0 where
+  pub done : (p q : ℕ) → p < i → p < n → q < n → r p q ≡ (sep p q || (x p && y q))
   pub kept : (p q : ℕ) → i ≤ p → r p q ≡ sep p q
 
-module _ (sep : ℕ → ℕ → Bool) (x y : ℕ → Bool) where
-  pub separate-none : SeparatedTo 0 sep sep x y
+module _ (n : ℕ) (sep : ℕ → ℕ → Bool) (x y : ℕ → Bool) where
+  pub separate-none : SeparatedTo 0 n sep sep x y
   separate-none = record { done = λ p q l. absurd (omega arith); kept = λ p q l. refl }
 
   out-of : (r : ℕ → ℕ → Bool) (p q : ℕ) → r p q ≡ sep p q → x p ≡ false → r p q ≡ (sep p q || (x p && y q))
   out-of r p q h g = h ∙ sym (ap (λ (b : Bool). sep p q || (b && y q)) g ∙ or-false (sep p q))
 
   -- evaluation e is taken: its row alone changes
-  module _ (i e : ℕ) (rest : ℕ → Bool) (t : Step room i e x rest) (r n : ℕ → ℕ → Bool) (so-far : SeparatedTo i sep r x y)
-      (here : (q : ℕ) → n e q ≡ (r e q || y q)) (other : (p q : ℕ) → (p ≡ e → ⊥) → n p q ≡ r p q) where
-    pub separate-on : SeparatedTo (e + 1) sep n x y
+  module _ (i e : ℕ) (rest : ℕ → Bool) (t : Step room i e x rest) (r m : ℕ → ℕ → Bool) (so-far : SeparatedTo i n sep r x y)
+      (here : (q : ℕ) → e < n → q < n → m e q ≡ (r e q || y q)) (other : (p q : ℕ) → (p ≡ e → ⊥) → m p q ≡ r p q) where
+    pub separate-on : SeparatedTo (e + 1) n sep m x y
     separate-on =
         record {
-          done = λ p q l. ⊎-elim (λ k. other p q (λ z. omega arith) ∙ under p q k) (λ k. there p q (omega arith)) (side p e);
+          done = λ p q l a b. ⊎-elim (λ k. other p q (λ z. omega arith) ∙ under p q k a b) (λ k. there p q (omega arith) a b) (side p e);
           kept = λ p q l. other p q (λ z. omega arith) ∙ so-far .kept p q (omega (arith, t .low));
         }
       where
-        under : (p q : ℕ) → p < e → r p q ≡ (sep p q || (x p && y q))
-        under p q k =
-            ⊎-elim (λ l. so-far .done p q l) (λ l. out-of r p q (so-far .kept p q l) (t .between p l k)) (side p i)
+        under : (p q : ℕ) → p < e → p < n → q < n → r p q ≡ (sep p q || (x p && y q))
+        under p q k a b =
+            ⊎-elim (λ l. so-far .done p q l a b) (λ l. out-of r p q (so-far .kept p q l) (t .between p l k)) (side p i)
 
-        there : (p q : ℕ) → e ≡ p → n p q ≡ (sep p q || (x p && y q))
-        there p q z =
-            subst (λ (d : ℕ). n d q ≡ (sep d q || (x d && y q))) z
-            (here q ∙ ap₂ (λ (a b : Bool). a || (b && y q)) (so-far .kept e q (t .low)) (sym (t .passes)))
+        there : (p q : ℕ) → e ≡ p → p < n → q < n → m p q ≡ (sep p q || (x p && y q))
+        there p q z a b =
+            subst (λ (d : ℕ). m d q ≡ (sep d q || (x d && y q))) z
+            (here q (omega arith) b ∙ ap₂ (λ (c d : Bool). c || (d && y q)) (so-far .kept e q (t .low)) (sym (t .passes)))
 
-  pub separate-ends : (i : ℕ) (r : ℕ → ℕ → Bool) → SeparatedTo i sep r x y → ((p : ℕ) → i ≤ p → p < room → x p ≡ false)
-      → Separates sep x y r
-  separate-ends i r h rest p q l =
-      ⊎-elim (λ k. h .done p q k) (λ k. out-of r p q (h .kept p q k) (rest p k l)) (side p i)
+  pub separate-ends : (i : ℕ) (r : ℕ → ℕ → Bool) → SeparatedTo i n sep r x y → n ≤ room
+      → ((p : ℕ) → i ≤ p → p < room → x p ≡ false) → Separates n sep x y r
+  separate-ends i r h small rest p q a b =
+      ⊎-elim (λ k. h .done p q k a b) (λ k. out-of r p q (h .kept p q k) (rest p k (omega arith))) (side p i)
 
 -- ---- the least of a set, as a set
 

@@ -4,18 +4,20 @@ use mathlib.Core.Bool.{Bool, true, false}
 use mathlib.Core.Path.{_≡_}
 use mathlib.Core.List.{List}
 use Prim.Native.Nat.{ℕ, _^_, _≤_, _<_}
+use lib.ListN.{take}
 use Rattle.formula.specs.Formula.{Atom}
 use Rattle.evalset.specs.declared.EvalSet.{EvalSet}
 use Rattle.lists.specs.Search.{In, any, all, below, elem}
-use Rattle.evalset.specs.Sets.{room, mem, memAt, meetOf}
+use Rattle.evalset.specs.Sets.{room, mem, meetOf}
 use Rattle.evalset.specs.Most.{most}
-use Rattle.contact.specs.Plan.{Mark, separated, allowed, met}
+use Rattle.squares.specs.Square.{squareAt}
+use Rattle.contact.specs.Plan.{Mark, rowMarks, separated, allowed, met}
 use Rattle.contact.specs.Pieces.{wholePiece, checkPieces, pieceGiven}
 use Rattle.search.specs.declared.Chart.{Chart}
-use Rattle.search.specs.declared.State.{State}
 use Rattle.search.specs.declared.FoundPiece.{FoundPiece}
+use Rattle.search.specs.Rows.{rowBits}
 use Rattle.search.specs.Tests.{startsOf}
-use Rattle.search.specs.Compiled.{Compiled, Fit}
+use Rattle.search.specs.Compiled.{Compiled, State, Fit}
 use Rattle.search.specs.Planned.{marksIn}
 
 -- the set has e, and is its piece where e is allowed
@@ -32,11 +34,11 @@ metOf false true set sep x y = true
 metOf false false set sep x y = any (meetOf set x) (below room)
 
 -- the rows have what the marks separate
-abbrev pub RowsAre : ℕ → List EvalSet → List Mark → Type 0
-RowsAre names rows ms = (p q : ℕ) → p < 2 ^ names → q < 2 ^ names → memAt rows p q ≡ separated ms p q
+abbrev pub RowsAre : ℕ → List ℕ → List Mark → Type 0
+RowsAre names rows ms = (p q : ℕ) → p < 2 ^ names → q < 2 ^ names → squareAt rows p q ≡ separated ms p q
 
 -- whether the set meets the row's marks, by the rows of any marks: as any list of allowed evaluations that has the same
-unfoldable pub MetSays : Chart → List EvalSet → EvalSet → ℕ → Bool → Type 0
+unfoldable pub MetSays : Chart → List ℕ → EvalSet → ℕ → Bool → Type 0
 MetSays chart rows piece row r =
     (atoms : List (Atom ℕ)) → Compiled chart atoms → (ms : List Mark) → RowsAre (chart .names) rows ms
     → (set : List ℕ) → ((f : ℕ) → mem piece f ≡ elem f set) → ((f : ℕ) → In f set → allowed (chart .names) ms f ≡ true)
@@ -56,3 +58,13 @@ FoundSays chart s row r =
 -- whether some piece meets the row's marks
 unfoldable pub BuildingSays : Chart → ℕ → Bool → Type 0
 BuildingSays chart row r = (atoms : List (Atom ℕ)) → Compiled chart atoms → r ≡ checkPieces (chart .names) (marksIn chart atoms row)
+
+-- with a square of so many rows
+unfoldable pub BuildingIn : Chart → ℕ → ℕ → Bool → Type 0
+BuildingIn chart rows row r =
+    (atoms : List (Atom ℕ)) → Compiled chart atoms → 2 ^ chart .names ≤ rows → r ≡ checkPieces (chart .names) (marksIn chart atoms row)
+
+-- whether some piece meets the marks of the first k atoms
+unfoldable pub PartSays : Chart → ℕ → ℕ → Bool → Type 0
+PartSays chart k row r =
+    (atoms : List (Atom ℕ)) → Compiled chart atoms → r ≡ checkPieces (chart .names) (rowMarks (take k atoms) (rowBits k row))

@@ -1,25 +1,23 @@
 -- For proofs: what the private functions on sets compute, with sets as tests on evaluations: f and g or x and y are sets, al the allowed
 -- set, sep p what is separated from p. Assumes nothing.
-use mathlib.Core.Bool.{Bool, true, false, not, _&&_, _||_}
+use mathlib.Core.Bool.{Bool, true, false, _&&_, _||_}
 use mathlib.Core.Path.{_≡_}
 use mathlib.Core.List.{List, [], _∷_}
-use Prim.Native.Nat.{ℕ, _≤_, _<_}
-use lib.ListN.{getD}
+use Prim.Native.Nat.{ℕ, _<_}
 use Rattle.lists.specs.Search.{any, first, collect, below}
 use Rattle.evalset.specs.Sets.{room, noneOf, meetOf, minusOf}
-use Rattle.evalset.specs.Arrays.{positionsOf}
 
--- each of x is separated from each of y
-abbrev pub Separates : (ℕ → ℕ → Bool) → (ℕ → Bool) → (ℕ → Bool) → (ℕ → ℕ → Bool) → Type 0
-Separates sep x y r = (p q : ℕ) → p < room → r p q ≡ (sep p q || (x p && y q))
+-- each of x is separated from each of y, of the evaluations below n
+abbrev pub Separates : ℕ → (ℕ → ℕ → Bool) → (ℕ → Bool) → (ℕ → Bool) → (ℕ → ℕ → Bool) → Type 0
+Separates n sep x y r = (p q : ℕ) → p < n → q < n → r p q ≡ (sep p q || (x p && y q))
 
 -- one is in the first set and the other in the second, either way round
 unfoldable pub crossed : (ℕ → Bool) → (ℕ → Bool) → ℕ → ℕ → Bool
 crossed x y p q = (x p && y q) || (y p && x q)
 
--- what a false contact separates is added
-abbrev pub Parts : (ℕ → ℕ → Bool) → (ℕ → Bool) → (ℕ → Bool) → (ℕ → ℕ → Bool) → Type 0
-Parts sep x y r = (p q : ℕ) → p < room → r p q ≡ (sep p q || crossed x y p q)
+-- what a false contact separates is added, of the evaluations below n, from those in `all`
+abbrev pub Parts : ℕ → (ℕ → Bool) → (ℕ → ℕ → Bool) → (ℕ → Bool) → (ℕ → Bool) → (ℕ → ℕ → Bool) → Type 0
+Parts n all sep x y r = (p q : ℕ) → all p ≡ true → p < n → q < n → r p q ≡ (sep p q || crossed x y p q)
 
 -- what an atom with its value forbids, and what it separates: whether it is a contact, then its value
 abbrev pub lessOf : Bool → Bool → (ℕ → Bool) → (ℕ → Bool) → ℕ → Bool
@@ -51,16 +49,3 @@ givesOf true true al sep x y = pairOf (meetOf al x) (meetOf al y) sep
 givesOf true false al sep x y = []
 givesOf false true al sep x y = []
 givesOf false false al sep x y = first (meetOf al x) (below room)
-
--- the positions below n of the points that are not in `apart`
-abbrev pub rowOf : ℕ → List ℕ → (ℕ → Bool) → ℕ → Bool
-rowOf n points apart = positionsOf n points (λ e. not (apart e))
-
--- the contact rows of n points, by what is separated from each evaluation
-abbrev pub rowsOf : ℕ → List ℕ → (ℕ → ℕ → Bool) → ℕ → ℕ → Bool
-rowsOf n points sep i = rowOf n points (sep (getD points i 0))
-
--- the first n of the sets r are those of f, and the others are empty
-pub record Filled (n : ℕ) (f r : ℕ → ℕ → Bool) : Type 0 where
-  pub done : (i : ℕ) → i < n → r i ≡ f i
-  pub past : (i e : ℕ) → n ≤ i → r i e ≡ false

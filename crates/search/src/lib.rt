@@ -1,23 +1,22 @@
-// The plan of a row of the rules' chart (document 01, 'The plan that is given'), and for one building (document 02's T-04) its first piece.
-// A row is a number: of k atoms, atom i is true where bit k - 1 - i is clear. Its state is what the row allows, and what it separates
-// from each evaluation. Contracts speak of every list of atoms that the chart is compiled from (specs/Compiled.antt). A requires asks
+// The points of a row of the rules' chart (document 01, 'The plan that is given'), and for one building (document 02's T-04) its first piece.
+// A row is a number: of k atoms, atom i is true where bit k - 1 - i is clear. Its state is what the row allows, and a square (crate
+// squares) of what it separates from each evaluation, in words that are lent. Contracts speak of every list of atoms that the chart is compiled from (specs/Compiled.antt). A requires asks
 // only that indices are in range: our own crates alone call these functions, with at most 16 atoms. Assumes nothing.
 ghost use mathlib.Core.Path.{_≡_};
-ghost use mathlib.Core.Bool.{false, cond};
-ghost use mathlib.Core.List.{[]};
+ghost use mathlib.Core.Bool.{false};
 ghost use Prim.Native.Nat.{ℕ, _≤_, _<_};
 ghost use lib.ListN.{length, getD};
-ghost use Rattle.lists.specs.Padded.{pad};
-ghost use Rattle.lists.specs.Search.{first, keep, below, elem};
-ghost use Rattle.evalset.specs.Sets.{room, mem, memAt, addOf};
+ghost use Rattle.lists.specs.Search.{first, below, elem};
+ghost use Rattle.evalset.specs.Sets.{room, mem};
+ghost use Rattle.squares.specs.Square.{Square, squareAt, reach, Clear};
 ghost use Rattle.evalset.specs.Most.{most};
 ghost use Rattle.contact.specs.Plan.{may};
 ghost use Rattle.search.specs.Rows.{rowBits};
-ghost use Rattle.search.specs.Tests.{Separates, Parts, pairOf, givesOf, rowOf, rowsOf, Filled};
-ghost use Rattle.search.specs.Compiled.{limit, Fit, Follows, StepSays};
+ghost use Rattle.search.specs.Tests.{Separates, Parts, pairOf, givesOf};
+ghost use Rattle.search.specs.Compiled.{limit, state, Follows, StepSays};
 ghost use Rattle.search.specs.Asked.{questionOf};
-ghost use Rattle.search.specs.Planned.{StateSays, GatheredSays, GivenSays, PointsSay, Positions, PlanFrom, PlanSays};
-ghost use Rattle.search.specs.Building.{PieceSays, metOf, MetSays, FoundSays, BuildingSays};
+ghost use Rattle.search.specs.Planned.{Lent, StateSays, GatheredSays, GivenSays, PointsSay, PlanSays};
+ghost use Rattle.search.specs.Building.{PieceSays, metOf, MetSays, FoundSays, BuildingSays, BuildingIn, PartSays};
 use evalset::EvalSet;
 use evalset::Found;
 use evalset::ROOM;
@@ -41,29 +40,10 @@ pub struct Chart {
     pub ys: [EvalSet; ATOMS],
 }
 
-// The evaluations that are allowed, and for each evaluation those separated from it.
-pub struct State {
-    pub allowed: EvalSet,
-    pub rows: [EvalSet; ROOM],
-}
-
-// The points of a plan, ascending, zeros after them, and a contact row for each point: "a square of bits".
-pub struct RowPlan {
-    pub count: usize,
-    pub points: [u8; ROOM],
-    pub rows: [EvalSet; ROOM],
-}
-
 // The first piece of a row: whether one meets the row, and its evaluations, none where there is no such piece.
 struct FoundPiece {
     found: bool,
     piece: EvalSet,
-}
-
-// A set as a list.
-struct Listed {
-    count: usize,
-    points: [u8; ROOM],
 }
 
 // Atom i's value in the row of k atoms.
@@ -74,56 +54,57 @@ pub fn value_in(row: usize, k: usize, i: usize) -> bool
     (row >> (k - 1 - i)) % 2 == 0
 }
 
-// The rows, once each of `first` is separated from each of `second`. The walk meets the evaluations of `first` alone.
-fn separate(rows: [EvalSet; ROOM], first: EvalSet, second: EvalSet) -> [EvalSet; ROOM]
-    ensures { λ r. ⌜ Separates (memAt rows) (mem first) (mem second) (memAt r) ⌝ }
+// The square, once each of `first` is separated from each of `second`. The walk meets the evaluations of `first` alone.
+fn separate(rows: &mut [u64], first: EvalSet, second: EvalSet)
+    requires { ⌜ Square (now rows) ⌝ }
+    ensures { λ _. ⌜ (length (now (rows .exit)) ≡ length (now (rows .entry))) × Separates (reach (now (rows .entry))) (squareAt (now (rows .entry))) (mem first) (mem second) (squareAt (now (rows .exit))) ⌝ }
 {
-    let mut out = rows;
     let mut rest = first;
     let mut from: usize = 0;
     while from < ROOM {
         let Found::At(p) = evalset::least(rest) else {
-            return out;
+            return;
         };
-        let r = out[p];
-        out[p] = evalset::join(r, second);
+        squares::join_at(rows, p, second);
         rest = evalset::without(rest, p);
         from = p + 1;
     }
-    out
 }
 
-// The rows, once a false contact has x and y for its terms: "either way round".
-fn parted(rows: [EvalSet; ROOM], x: EvalSet, y: EvalSet) -> [EvalSet; ROOM]
-    ensures { λ r. ⌜ Parts (memAt rows) (mem x) (mem y) (memAt r) ⌝ }
+// The square, once a false contact has x and y for its terms: "either way round". A term's set may have evaluations that the names do not
+// reach, so the walks go over `all` of those that they do.
+fn parted(rows: &mut [u64], all: EvalSet, x: EvalSet, y: EvalSet)
+    requires { ⌜ Square (now rows) ⌝ }
+    ensures { λ _. ⌜ (length (now (rows .exit)) ≡ length (now (rows .entry))) × Parts (reach (now (rows .entry))) (mem all) (squareAt (now (rows .entry))) (mem x) (mem y) (squareAt (now (rows .exit))) ⌝ }
 {
-    separate(separate(rows, x, y), y, x)
+    separate(rows, evalset::meet(x, all), y);
+    separate(rows, evalset::meet(y, all), x);
 }
 
-// The state, once an atom has its value. A true contact and a false zero atom leave it as it was.
-fn decided(s: State, contact: bool, x: EvalSet, y: EvalSet, value: bool) -> State
-    ensures { λ r. ⌜ Follows contact value (mem x) (mem y) s r ⌝ }
+// What is allowed, once an atom has its value, and what is separated. A true contact and a false zero atom leave both as they were.
+fn decided(
+    allowed: EvalSet,
+    rows: &mut [u64],
+    all: EvalSet,
+    contact: bool,
+    x: EvalSet,
+    y: EvalSet,
+    value: bool,
+) -> EvalSet
+    requires { ⌜ Square (now rows) ⌝ }
+    ensures { λ r. ⌜ Follows contact value (mem all) (mem x) (mem y) (state allowed (now (rows .entry))) (state r (now (rows .exit))) ⌝ }
 {
     if contact {
         if value {
-            s
+            allowed
         } else {
-            let old = s.rows;
-            let own = evalset::meet(x, y);
-            let rows = parted(old, x, y);
-            State {
-                allowed: evalset::minus(s.allowed, own),
-                rows,
-            }
+            parted(rows, all, x, y);
+            evalset::minus(allowed, evalset::meet(x, y))
         }
     } else if value {
-        let rows = s.rows;
-        State {
-            allowed: evalset::minus(s.allowed, x),
-            rows,
-        }
+        evalset::minus(allowed, x)
     } else {
-        s
+        allowed
     }
 }
 
@@ -139,42 +120,38 @@ fn possible(names: usize) -> EvalSet
     }
 }
 
-// The state before any atom is decided: the evaluations that a point may have, and none separated.
-fn start(names: usize) -> State
-    ensures { λ r. ⌜ (names ≤ most → Fit names r []) ⌝ }
-{
-    let none = evalset::empty();
-    let rows = [none; ROOM];
-    State {
-        allowed: possible(names),
-        rows,
-    }
-}
-
 // The state, once atom k has its value.
-fn step(chart: Chart, s: State, k: usize, value: bool) -> State
-    requires { ⌜ k < limit ⌝ }
-    ensures { λ r. ⌜ StepSays chart s k value r ⌝ }
+fn step(
+    chart: Chart,
+    allowed: EvalSet,
+    rows: &mut [u64],
+    all: EvalSet,
+    k: usize,
+    value: bool,
+) -> EvalSet
+    requires { ⌜ (k < limit) × Square (now rows) ⌝ }
+    ensures { λ r. ⌜ (length (now (rows .exit)) ≡ length (now (rows .entry))) × StepSays chart (mem all) (state allowed (now (rows .entry))) k value (state r (now (rows .exit))) ⌝ }
 {
     let contact = chart.contact[k];
     let x = chart.xs[k];
     let y = chart.ys[k];
-    decided(s, contact, x, y, value)
+    decided(allowed, rows, all, contact, x, y, value)
 }
 
-// The state of a whole row.
-fn state_of(chart: Chart, row: usize) -> State
-    requires { ⌜ chart .atoms ≤ limit ⌝ }
-    ensures { λ r. ⌜ StateSays chart row r ⌝ }
+// The state of a whole row: what it allows, and in a clear square what it separates.
+fn state_of(chart: Chart, row: usize, rows: &mut [u64]) -> EvalSet
+    requires { ⌜ (chart .atoms ≤ limit) × Square (now rows) × Clear (now rows) ⌝ }
+    ensures { λ r. ⌜ (length (now (rows .exit)) ≡ length (now (rows .entry))) × StateSays chart row (state r (now (rows .exit))) ⌝ }
 {
     let n = chart.atoms;
-    let mut s = start(chart.names);
+    let all = evalset::below(chart.names);
+    let mut allowed = possible(chart.names);
     let mut i: usize = 0;
     while i < n {
-        s = step(chart, s, i, value_in(row, n, i));
+        allowed = step(chart, allowed, rows, all, i, value_in(row, n, i));
         i += 1;
     }
-    s
+    allowed
 }
 
 // The least of a set, as a set.
@@ -188,8 +165,9 @@ fn least_of(s: EvalSet) -> EvalSet
 }
 
 // "p, the least allowed one in its first term with an allowed, unseparated partner in the second, and then its least partner."
-fn pair_of(first: EvalSet, second: EvalSet, rows: [EvalSet; ROOM]) -> EvalSet
-    ensures { λ r. ⌜ ((e : ℕ) → mem r e ≡ elem e (pairOf (mem first) (mem second) (memAt rows))) ⌝ }
+fn pair_of(first: EvalSet, second: EvalSet, rows: &[u64]) -> EvalSet
+    requires { ⌜ Square (now rows) ⌝ }
+    ensures { λ r. ⌜ ((e : ℕ) → mem r e ≡ elem e (pairOf (mem first) (mem second) (squareAt (now (rows .entry))))) ⌝ }
 {
     let none = evalset::empty();
     let mut rest = first;
@@ -198,7 +176,7 @@ fn pair_of(first: EvalSet, second: EvalSet, rows: [EvalSet; ROOM]) -> EvalSet
         let Found::At(p) = evalset::least(rest) else {
             return none;
         };
-        let r = rows[p];
+        let r = squares::row_at(rows, p);
         if let Found::At(q) = evalset::least(evalset::minus(second, r)) {
             return evalset::insert(evalset::insert(none, q), p);
         }
@@ -209,31 +187,34 @@ fn pair_of(first: EvalSet, second: EvalSet, rows: [EvalSet; ROOM]) -> EvalSet
 }
 
 // The evaluations that an atom with its value gives.
-fn gives(s: State, contact: bool, x: EvalSet, y: EvalSet, value: bool) -> EvalSet
-    ensures { λ r. ⌜ ((e : ℕ) → mem r e ≡ elem e (givesOf contact value (mem (s .allowed)) (memAt (s .rows)) (mem x) (mem y))) ⌝ }
+fn gives(
+    allowed: EvalSet,
+    rows: &[u64],
+    contact: bool,
+    x: EvalSet,
+    y: EvalSet,
+    value: bool,
+) -> EvalSet
+    requires { ⌜ Square (now rows) ⌝ }
+    ensures { λ r. ⌜ ((e : ℕ) → mem r e ≡ elem e (givesOf contact value (mem allowed) (squareAt (now (rows .entry))) (mem x) (mem y))) ⌝ }
 {
     if contact {
         if value {
-            let rows = s.rows;
-            pair_of(
-                evalset::meet(s.allowed, x),
-                evalset::meet(s.allowed, y),
-                rows,
-            )
+            pair_of(evalset::meet(allowed, x), evalset::meet(allowed, y), rows)
         } else {
             evalset::empty()
         }
     } else if value {
         evalset::empty()
     } else {
-        least_of(evalset::meet(s.allowed, x))
+        least_of(evalset::meet(allowed, x))
     }
 }
 
 // The evaluations that the atoms of a row give.
-fn gathered(chart: Chart, s: State, row: usize) -> EvalSet
-    requires { ⌜ chart .atoms ≤ limit ⌝ }
-    ensures { λ r. ⌜ GatheredSays chart s row r ⌝ }
+fn gathered(chart: Chart, allowed: EvalSet, rows: &[u64], row: usize) -> EvalSet
+    requires { ⌜ (chart .atoms ≤ limit) × Square (now rows) ⌝ }
+    ensures { λ r. ⌜ GatheredSays chart (state allowed (now (rows .entry))) row r ⌝ }
 {
     let n = chart.atoms;
     let mut acc = evalset::empty();
@@ -242,102 +223,32 @@ fn gathered(chart: Chart, s: State, row: usize) -> EvalSet
         let contact = chart.contact[i];
         let x = chart.xs[i];
         let y = chart.ys[i];
-        acc = evalset::join(acc, gives(s, contact, x, y, value_in(row, n, i)));
+        acc = evalset::join(
+            acc,
+            gives(allowed, rows, contact, x, y, value_in(row, n, i)),
+        );
         i += 1;
     }
     acc
 }
 
 // "The points are these evaluations ..; if there are none, the least allowed evaluation."
-fn given(chart: Chart, s: State, row: usize) -> EvalSet
-    requires { ⌜ chart .atoms ≤ limit ⌝ }
-    ensures { λ r. ⌜ GivenSays chart s row r ⌝ }
+fn given(chart: Chart, allowed: EvalSet, rows: &[u64], row: usize) -> EvalSet
+    requires { ⌜ (chart .atoms ≤ limit) × Square (now rows) ⌝ }
+    ensures { λ r. ⌜ GivenSays chart (state allowed (now (rows .entry))) row r ⌝ }
 {
-    let g = gathered(chart, s, row);
+    let g = gathered(chart, allowed, rows, row);
     if evalset::is_empty(g) {
-        least_of(s.allowed)
+        least_of(allowed)
     } else {
         g
     }
 }
 
-// The evaluations of a set, "ascending, each once"; zeros stand after them.
-fn ascending(s: EvalSet) -> Listed
-    ensures { λ r. ⌜ (r .count ≡ length (keep (mem s) (below room))) × (r .points ≡ pad room (keep (mem s) (below room))) ⌝ }
-{
-    let mut points = [0u8; ROOM];
-    let mut rest = s;
-    let mut from: usize = 0;
-    let mut count: usize = 0;
-    while from < ROOM {
-        let Found::At(e) = evalset::least(rest) else {
-            return Listed { count, points };
-        };
-        points[count] = e as u8;
-        rest = evalset::without(rest, e);
-        from = e + 1;
-        count += 1;
-    }
-    Listed { count, points }
-}
-
-// The set and j, unless it is held apart.
-fn insert_unless(apart: bool, s: EvalSet, j: usize) -> EvalSet
-    ensures { λ r. ⌜ mem r ≡ cond apart (mem s) (addOf (mem s) j) ⌝ }
-{
-    if apart { s } else { evalset::insert(s, j) }
-}
-
-// A contact row: the positions of the points that are not in `apart`.
-fn contact_row(points: [u8; ROOM], count: usize, apart: EvalSet) -> EvalSet
-    requires { ⌜ count ≤ room ⌝ }
-    ensures { λ r. ⌜ mem r ≡ rowOf count points (mem apart) ⌝ }
-{
-    let mut acc = evalset::empty();
-    let mut j: usize = 0;
-    while j < count {
-        let e = points[j] as usize;
-        acc = insert_unless(evalset::contains(apart, e), acc, j);
-        j += 1;
-    }
-    acc
-}
-
-// "All unseparated pairs are in contact": the contact rows of the points, from what is separated from each evaluation.
-fn contact_rows(points: [u8; ROOM], count: usize, apart: [EvalSet; ROOM]) -> [EvalSet; ROOM]
-    requires { ⌜ Positions count points ⌝ }
-    ensures { λ r. ⌜ Filled count (rowsOf count points (memAt apart)) (memAt r) ⌝ }
-{
-    let none = evalset::empty();
-    let mut out = [none; ROOM];
-    let mut i: usize = 0;
-    while i < count {
-        let e = points[i] as usize;
-        let row = apart[e];
-        out[i] = contact_row(points, count, row);
-        i += 1;
-    }
-    out
-}
-
-// The plan of a set of points: they ascend, and "all unseparated pairs are in contact".
-fn plan_of(given: EvalSet, apart: [EvalSet; ROOM]) -> RowPlan
-    ensures { λ r. ⌜ PlanFrom (mem given) (memAt apart) r ⌝ }
-{
-    let listed = ascending(given);
-    let count = listed.count;
-    let points = listed.points;
-    let rows = contact_rows(points, count, apart);
-    RowPlan {
-        count,
-        points,
-        rows,
-    }
-}
-
 // The piece that e lies in: what is allowed and unseparated from one of its own is joined to it, until each of them was looked at.
-fn piece(s: State, e: usize) -> EvalSet
-    ensures { λ r. ⌜ PieceSays s e r ⌝ }
+fn piece(allowed: EvalSet, rows: &[u64], e: usize) -> EvalSet
+    requires { ⌜ Square (now rows) ⌝ }
+    ensures { λ r. ⌜ PieceSays (state allowed (now (rows .entry))) e r ⌝ }
 {
     let mut looked = evalset::empty();
     let mut piece = evalset::insert(looked, e);
@@ -345,22 +256,16 @@ fn piece(s: State, e: usize) -> EvalSet
         let Found::At(p) = evalset::least(evalset::minus(piece, looked)) else {
             return piece;
         };
-        let r = s.rows[p];
-        piece = evalset::join(piece, evalset::minus(s.allowed, r));
+        let r = squares::row_at(rows, p);
+        piece = evalset::join(piece, evalset::minus(allowed, r));
         looked = evalset::insert(looked, p);
     }
 }
 
 // Whether a set meets an atom with its value: a true contact by two of it that are unseparated, a false zero atom by one in its term.
-fn met(
-    set: EvalSet,
-    rows: [EvalSet; ROOM],
-    contact: bool,
-    x: EvalSet,
-    y: EvalSet,
-    value: bool,
-) -> bool
-    ensures { λ r. ⌜ r ≡ metOf contact value (mem set) (memAt rows) (mem x) (mem y) ⌝ }
+fn met(set: EvalSet, rows: &[u64], contact: bool, x: EvalSet, y: EvalSet, value: bool) -> bool
+    requires { ⌜ Square (now rows) ⌝ }
+    ensures { λ r. ⌜ r ≡ metOf contact value (mem set) (squareAt (now (rows .entry))) (mem x) (mem y) ⌝ }
 {
     let first = evalset::meet(set, x);
     if contact {
@@ -378,9 +283,9 @@ fn met(
 }
 
 // Whether a piece meets the row's true contacts and false zero atoms.
-fn met_by(chart: Chart, rows: [EvalSet; ROOM], piece: EvalSet, row: usize) -> bool
-    requires { ⌜ chart .atoms ≤ limit ⌝ }
-    ensures { λ r. ⌜ MetSays chart rows piece row r ⌝ }
+fn met_by(chart: Chart, rows: &[u64], piece: EvalSet, row: usize) -> bool
+    requires { ⌜ (chart .atoms ≤ limit) × Square (now rows) ⌝ }
+    ensures { λ r. ⌜ MetSays chart (now (rows .entry)) piece row r ⌝ }
 {
     let n = chart.atoms;
     let mut i: usize = 0;
@@ -397,12 +302,11 @@ fn met_by(chart: Chart, rows: [EvalSet; ROOM], piece: EvalSet, row: usize) -> bo
 }
 
 // Of the pieces of a state, the one with the least evaluation that meets the row. A piece that does not is out of what is left.
-fn first_piece(chart: Chart, s: State, row: usize) -> FoundPiece
-    requires { ⌜ chart .atoms ≤ limit ⌝ }
-    ensures { λ r. ⌜ FoundSays chart s row r ⌝ }
+fn first_piece(chart: Chart, allowed: EvalSet, rows: &[u64], row: usize) -> FoundPiece
+    requires { ⌜ (chart .atoms ≤ limit) × Square (now rows) ⌝ }
+    ensures { λ r. ⌜ FoundSays chart (state allowed (now (rows .entry))) row r ⌝ }
 {
-    let rows = s.rows;
-    let mut left = s.allowed;
+    let mut left = allowed;
     loop {
         let Found::At(e) = evalset::least(left) else {
             return FoundPiece {
@@ -410,7 +314,7 @@ fn first_piece(chart: Chart, s: State, row: usize) -> FoundPiece
                 piece: evalset::empty(),
             };
         };
-        let piece = piece(s, e);
+        let piece = piece(allowed, rows, e);
         if met_by(chart, rows, piece, row) {
             return FoundPiece { found: true, piece };
         }
@@ -418,37 +322,61 @@ fn first_piece(chart: Chart, s: State, row: usize) -> FoundPiece
     }
 }
 
-// Whether some piece meets the row: whether some floor that hangs together gives the atoms its values.
+// Whether some piece meets the row, with a clear square lent.
+fn building_in(chart: Chart, row: usize, rows: &mut [u64]) -> bool
+    requires { ⌜ (chart .atoms ≤ limit) × Square (now rows) × Clear (now rows) ⌝ }
+    ensures { λ r. ⌜ BuildingIn chart (reach (now (rows .entry))) row r ⌝ }
+{
+    let allowed = state_of(chart, row, rows);
+    let first = first_piece(chart, allowed, rows, row);
+    first.found
+}
+
+// Whether some piece meets the row: whether some floor that hangs together gives the atoms its values. With at most six names no more is
+// cleared than their evaluations need.
 pub fn building(chart: Chart, row: usize) -> bool
     requires { ⌜ chart .atoms ≤ limit ⌝ }
     ensures { λ r. ⌜ BuildingSays chart row r ⌝ }
 {
-    let s = state_of(chart, row);
-    let first = first_piece(chart, s, row);
-    first.found
+    if chart.names <= 6 {
+        let mut few = [0u64; 64];
+        return building_in(chart, row, &mut few);
+    }
+    let mut many = [0u64; 1024];
+    building_in(chart, row, &mut many)
+}
+
+// The same of the first k atoms alone, by the row of these. Where it says no, it says no of each row of all atoms that begins so.
+pub fn building_of(chart: Chart, k: usize, row: usize) -> bool
+    requires { ⌜ (chart .atoms ≤ limit) × (k ≤ chart .atoms) ⌝ }
+    ensures { λ r. ⌜ PartSays chart k row r ⌝ }
+{
+    let mut part = chart;
+    part.atoms = k;
+    building(part, row)
 }
 
 // The points of a row, by its state: those given, or "the whole piece that meets the row's true contacts and false zero atoms; of several,
 // the one with the least evaluation".
-fn points(chart: Chart, s: State, row: usize, asked: Asked) -> EvalSet
-    requires { ⌜ chart .atoms ≤ limit ⌝ }
-    ensures { λ r. ⌜ PointsSay (questionOf asked) chart s row r ⌝ }
+fn points(chart: Chart, allowed: EvalSet, rows: &[u64], row: usize, asked: Asked) -> EvalSet
+    requires { ⌜ (chart .atoms ≤ limit) × Square (now rows) ⌝ }
+    ensures { λ r. ⌜ PointsSay (questionOf asked) chart (state allowed (now (rows .entry))) row r ⌝ }
 {
     match asked {
-        Asked::Plain => given(chart, s, row),
+        Asked::Plain => given(chart, allowed, rows, row),
         Asked::Building => {
-            let first = first_piece(chart, s, row);
+            let first = first_piece(chart, allowed, rows, row);
             first.piece
         }
     }
 }
 
-// The plan of a row.
-pub fn planned(chart: Chart, row: usize, asked: Asked) -> RowPlan
-    requires { ⌜ chart .atoms ≤ limit ⌝ }
-    ensures { λ r. ⌜ PlanSays (questionOf asked) chart row r ⌝ }
+// The points of a row, for what is asked; and in the square that is lent what the row separates. The plan of the row is theirs: "All
+// unseparated pairs are in contact."
+pub fn points_of(chart: Chart, row: usize, asked: Asked, rows: &mut [u64]) -> EvalSet
+    requires { ⌜ (chart .atoms ≤ limit) × Lent (chart .names) (now rows) ⌝ }
+    ensures { λ r. ⌜ Square (now (rows .exit)) × PlanSays (questionOf asked) chart row r (now (rows .exit)) ⌝ }
 {
-    let s = state_of(chart, row);
-    let apart = s.rows;
-    plan_of(points(chart, s, row, asked), apart)
+    let allowed = state_of(chart, row, rows);
+    points(chart, allowed, rows, row, asked)
 }

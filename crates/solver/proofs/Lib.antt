@@ -1,5 +1,6 @@
 pub mod Codes
 pub mod Choosing
+pub mod Shutting
 pub mod Blocks
 pub mod Whole
 pub mod Walks

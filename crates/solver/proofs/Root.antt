@@ -56,9 +56,9 @@ listable chart contacts top seen list few spelt z h =
     record {
       few = few;
       contacts-are = spelt;
-      some = omega (arith, z, pow-pos (min (chart .names) 6));
-      fits = omega (arith, z, pow-mono {i = min (chart .names) 6} {j = 6} (omega arith));
-      top-is = λ l. let y : min (chart .names) 6 ≡ chart .names = omega arith in z ∙ ap (λ (x : ℕ). 2 ^ x) y;
+      some = omega (arith, z, pow-pos (min (chart .names) most));
+      fits = omega (arith, z, pow-mono {i = min (chart .names) most} {j = most} (omega arith));
+      top-is = λ l. let y : min (chart .names) most ≡ chart .names = omega arith in z ∙ ap (λ (x : ℕ). 2 ^ x) y;
       none = h .unseen .none;
       bits = h .unseen .bits;
       places = subst (λ (x : ℕ). pairCount x ≤ length list) (sym z) (h .places);

@@ -21,6 +21,7 @@ use Rattle.search.specs.Asked.{questionOf}
 use Rattle.search.specs.Rows.{rowBits, rowNumber}
 use Rattle.search.specs.Compiled.{limit, Compiled}
 use Rattle.search.specs.Planned.{marksIn}
+use Rattle.search.specs.Building.{BuildingSays}
 use Rattle.pairing.specs.Words.{Contacts, lone, rowTest}
 use Rattle.pairing.specs.Listed.{seenAt, pairCount}
 use Rattle.solver.specs.declared.Cut.{Cut}
@@ -178,6 +179,19 @@ ChosenSays q chart set start r =
 -- for one building
 abbrev pub BuildingsSay : Chart → (ℕ → Bool) → ℕ → RowAnswer → Type 0
 BuildingsSay = ChosenSays building
+
+-- ---- rows that no piece meets
+
+-- none of the rows from one on, before another
+abbrev pub Shut : Chart → ℕ → ℕ → Type 0
+Shut chart from end =
+    (atoms : List (Atom ℕ)) → Compiled chart atoms → (f : ℕ) → from ≤ f → f < end → counts building (chart .names) (marksIn chart atoms f) ≡ false
+
+-- none of the rows from this one on, before the end; where that is the row itself, some piece meets it
+pub record ShutTo (chart : Chart) (row end : ℕ) : Type 0 where
+  pub on : row ≤ end
+  pub shut : Shut chart row end
+  pub met : end ≡ row → BuildingSays chart row true
 
 -- ---- the memory that is lent for the list
 

@@ -19,7 +19,7 @@ ghost use Rattle.search.specs.Compiled.{limit};
 ghost use Rattle.search.specs.Rows.{rowBits};
 ghost use Rattle.pairing.specs.Words.{Serving};
 ghost use Rattle.solver.specs.Coded.{SafeFrom, RefutedSays, TrueSays};
-ghost use Rattle.solver.specs.Tree.{decidedAt, Low, YesLeaves, NoLeaves, RowLeaves, WordLeaves, WholeSays, UnrefutedSays, answerOf, Fits, CutFor, Lent, Given, RowsTested, WordsTested, Left, Finds, BuildingsSay, ChosenSays, CutOf, evaluationCount, Unseen, Roomy, Runnable, SearchSays, FirstRowSays};
+ghost use Rattle.solver.specs.Tree.{decidedAt, Low, YesLeaves, NoLeaves, RowLeaves, WordLeaves, WholeSays, UnrefutedSays, answerOf, Fits, CutFor, Lent, Given, RowsTested, WordsTested, Left, Finds, BuildingsSay, ChosenSays, Shut, ShutTo, CutOf, evaluationCount, Unseen, Roomy, Runnable, SearchSays, FirstRowSays};
 use evalset::Found;
 use evalset::NAMES;
 use pairing::PLACES;
@@ -217,6 +217,59 @@ fn answer(set: u64, start: usize) -> RowAnswer
     RowAnswer::At(start + e)
 }
 
+// How many of the last atoms the first look leaves out: no more than r, and no more than those from the first on in which the row differs
+// from the last one that is passed. Any number would do.
+fn level_of(row: usize, till: usize, r: usize) -> usize
+    requires { ⌜ r ≤ 6 ⌝ }
+    ensures { λ d. ⌜ d ≤ r ⌝ }
+{
+    if till == 0 {
+        return r;
+    }
+    let last = till - 1;
+    let mut d: usize = 0;
+    while d < r {
+        if (row >> (d + 1)) == (last >> (d + 1)) {
+            return d;
+        }
+        d += 1;
+    }
+    d
+}
+
+// Up to where no piece meets the rows from this one on: the row itself, where one does. Where no piece meets its first atoms, none meets any
+// row that begins so; `top` atoms are left out at first, then fewer.
+fn shut_to(chart: Chart, row: usize, top: usize) -> usize
+    requires { ⌜ (chart .atoms ≤ limit) × (top ≤ 6) × (top ≤ chart .atoms) × (row < 4294967296) ⌝ }
+    ensures { λ r. ⌜ ShutTo chart row r ⌝ }
+{
+    let n = chart.atoms;
+    let mut d = top;
+    while d > 0 {
+        if !search::building_of(chart, n - d, row >> d) {
+            return ((row >> d) + 1) << d;
+        }
+        d -= 1;
+    }
+    if search::building(chart, row) {
+        row
+    } else {
+        row + 1
+    }
+}
+
+// The same, where the rows before `till` are passed.
+fn passed_to(chart: Chart, row: usize, till: usize) -> usize
+    requires { ⌜ (chart .atoms ≤ limit) × (row < 4294967296) ⌝ }
+    ensures { λ r. ⌜ (Shut chart row till → ShutTo chart row r) ⌝ }
+{
+    if row < till {
+        return till;
+    }
+    let r = least_of(chart.atoms, 6);
+    shut_to(chart, row, level_of(row, till, r))
+}
+
 // The first of a set of rows, counted from `start`, that some piece meets.
 fn first_building(chart: Chart, set: u64, start: usize) -> RowAnswer
     requires { ⌜ (start < 4294967232) × (chart .atoms ≤ limit) ⌝ }
@@ -224,12 +277,14 @@ fn first_building(chart: Chart, set: u64, start: usize) -> RowAnswer
 {
     let mut rest = set;
     let mut at: usize = 0;
+    let mut till: usize = 0;
     while at < 64 {
         let Found::At(e) = evalset::word_least(rest) else {
             return RowAnswer::Nothing;
         };
         let row = start + e;
-        if search::building(chart, row) {
+        till = passed_to(chart, row, till);
+        if till == row {
             return RowAnswer::At(row);
         }
         rest = evalset::word_without(rest, e);
@@ -422,7 +477,7 @@ fn cut_of(list: &[u16], contacts: u32, n: usize, asked: Asked) -> Cut
     }
 }
 
-// The number of evaluations of so many names: of six where there are more.
+// The number of evaluations of so many names: of eight where there are more.
 pub fn all_evaluations(names: usize) -> usize
     ensures { λ r. ⌜ r ≡ evaluationCount names ⌝ }
 {
@@ -461,8 +516,12 @@ fn listed(code: &[u8], ends: &[usize], chart: Chart, asked: Asked, seen: &mut [u
         let mut few = [0u16; 136];
         return searched(code, ends, chart, asked, seen, &mut few);
     }
-    let mut list = [0u16; 2080];
-    searched(code, ends, chart, asked, seen, &mut list)
+    if chart.names <= 6 {
+        let mut list = [0u16; 2080];
+        return searched(code, ends, chart, asked, seen, &mut list);
+    }
+    let mut many = [0u16; 32896];
+    searched(code, ends, chart, asked, seen, &mut many)
 }
 
 // "The first realisable row that makes all rules true"; for one building "the first that some such plan realises with all rules true". Our own crates alone call it, with code and chart that they made from

@@ -19,7 +19,7 @@ use Rattle.plan.specs.declared.Written.{Written}
 use Rattle.plan.specs.declared.Written.the-variants as Written
 use Rattle.plan.specs.Words.{Plan, IsPlan, wordsOf, over}
 use Rattle.plan.specs.Reader.{Reading, plan, refused, readOf, ReadingSays}
-use Rattle.plan.specs.Arrays.{answerOf, planIn, Reads, planBy, Writes}
+use Rattle.plan.specs.Arrays.{answerOf, planIn, Reads, Writes}
 use Rattle.plan.specs.Stored.{Stored}
 use Rattle.plan.specs.Plans.{plansOf}
 use Rattle.plan.specs.Judging.{Judgement, yes, unmet, judge, uncovered}
@@ -118,10 +118,10 @@ writtenAnswer (Written.Words n) = AskAnswer.Plan n
 writtenAnswer (Written.Needs n) = AskAnswer.ShortBuffer n
 
 -- what is written is what is asked for
-pub wrote-plan : (arrays : PlanArrays) (buffer : List ℕ) (w : Written) (exit : List ℕ) → Writes arrays buffer w exit
-    → (writtenAnswer w ≡ foundAnswer (planBy arrays ∷ []) (length buffer)) × (exit ≡ foundWords (planBy arrays ∷ []) buffer)
-wrote-plan arrays buffer w exit h =
-    let n = length (wordsOf (planBy arrays)) in
+pub wrote-plan : (p : Plan) (buffer : List ℕ) (w : Written) (exit : List ℕ) → Writes p buffer w exit
+    → (writtenAnswer w ≡ foundAnswer (p ∷ []) (length buffer)) × (exit ≡ foundWords (p ∷ []) buffer)
+wrote-plan p buffer w exit h =
+    let n = length (wordsOf p) in
     (ap writtenAnswer (h .answer) ∙ either n (leb n (length buffer)), h .words)
   where
     either : (n : ℕ) (b : Bool) → writtenAnswer (cond b (Written.Words n) (Written.Needs n)) ≡ cond b (AskAnswer.Plan n) (AskAnswer.ShortBuffer n)

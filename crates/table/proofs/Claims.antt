@@ -116,7 +116,7 @@ stands-some cs = (standing cs, Stands.standing-stands cs)
 pub stands-one : (cs : List Call) (rs ss : List Text) → Stands cs rs → Stands cs ss → rs ≡ ss
 stands-one cs rs ss h k = Stands.stands-standing cs rs h ∙ sym (Stands.stands-standing cs ss k)
 
--- "It holds at most 16 rules, 6 names and 16 atoms.": they are rules, and within these limits
+-- "It holds at most 16 rules, 6 names and 16 atoms."; document 02, T-08: "Names go up to 8": they are rules, and within these limits
 pub stands-within : (cs : List Call) (rs : List Text) → Stands cs rs → CanStand rs
 stands-within = Stands.stands-within
 

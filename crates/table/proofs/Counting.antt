@@ -84,7 +84,7 @@ unfolding judgeText
 text-formula s e = read-formula _ e
 
 -- the names with one text more
-pub names-with : (rs : List Text) (s : Text) → length (namesIn rs) ≤ 6 → ruleOf s .answer ≡ RuleAnswer.Formula → gathered s (namesIn rs) .answer ≡ NamesAnswer.Enough
+pub names-with : (rs : List Text) (s : Text) → length (namesIn rs) ≤ 8 → ruleOf s .answer ≡ RuleAnswer.Formula → gathered s (namesIn rs) .answer ≡ NamesAnswer.Enough
     → gathered s (namesIn rs) .names ≡ arraysOf (namesIn (rs ++ s ∷ []))
 unfolding namesIn
 names-with rs s h e f =
@@ -95,11 +95,11 @@ names-with rs s h e f =
 
 room-taken : (a : RoomAnswer) → roomAdd a ≡ AddAnswer.Added → a ≡ RoomAnswer.Room
 room-taken RoomAnswer.Room e = refl
-room-taken (RoomAnswer.SeventhName p) e = absurd (let z : _≡_ {A = ℕ} 0 1 = cc in omega arith)
+room-taken (RoomAnswer.TooManyNames p) e = absurd (let z : _≡_ {A = ℕ} 0 1 = cc in omega arith)
 room-taken RoomAnswer.ManyAtoms e = absurd (let z : _≡_ {A = ℕ} 0 1 = cc in omega arith)
 
-not-seventh : (p : ℕ) → NotAdded (AddAnswer.SeventhName p)
-not-seventh p e = let z : _≡_ {A = ℕ} 0 1 = cc in omega arith
+not-ninth : (p : ℕ) → NotAdded (AddAnswer.TooManyNames p)
+not-ninth p e = let z : _≡_ {A = ℕ} 0 1 = cc in omega arith
 
 -- the answer for the room is add's, of a rule where fewer than 16 stand
 module _ (rs : List Text) (s : Text) (read : judgeText s ≡ AddAnswer.Added) (few : length rs < 16) where
@@ -108,8 +108,8 @@ module _ (rs : List Text) (s : Text) (read : judgeText s ≡ AddAnswer.Added) (f
       cases (leb (atomsIn (rs ++ s ∷ [])) 16)
       (λ h. rw h (sym (judge-added rs s read few (names-are rs s NamesAnswer.Enough e) (leb-true _ _ h))))
       (λ h. rw h (sym (judge-atoms rs s read few (names-are rs s NamesAnswer.Enough e) (leb-false _ _ h))))
-  room-judged (NamesAnswer.SeventhName p) e =
-      sym (judge-names rs s read few (AddAnswer.SeventhName p) (names-are rs s (NamesAnswer.SeventhName p) e) (not-seventh p))
+  room-judged (NamesAnswer.TooManyNames p) e =
+      sym (judge-names rs s read few (AddAnswer.TooManyNames p) (names-are rs s (NamesAnswer.TooManyNames p) e) (not-ninth p))
 
 -- ---- a text put to what is known
 

@@ -68,7 +68,7 @@ refusal (AddAnswer.LongName i) m = (_, _, refl)
 refusal (AddAnswer.Measured i) m = (_, _, refl)
 refusal (AddAnswer.GrammarAt i) m = (_, _, refl)
 refusal AddAnswer.TableFull m = (_, _, refl)
-refusal (AddAnswer.SeventhName i) m = (_, _, refl)
+refusal (AddAnswer.TooManyNames i) m = (_, _, refl)
 refusal AddAnswer.TooManyAtoms m = (_, _, refl)
 
 one-more : (done : List Text) (l : Text) → length done + 1 + 1 ≡ length (done ++ l ∷ []) + 1

@@ -21,10 +21,10 @@ use Rattle.lists.proofs.Search.{in-right}
 use Rattle.lists.proofs.Truth.{cases}
 use Rattle.contact.specs.Numbering.{allAtoms, namesOf}
 use Rattle.names.specs.Gather.{ruleTokens, gathered}
-use Rattle.names.specs.Seventh.{SeventhAt, placesOf}
+use Rattle.names.specs.Ninth.{NinthAt, placesOf}
 use Rattle.names.specs.declared.NamesAnswer.{NamesAnswer}
 use Rattle.names.specs.declared.NamesAnswer.the-variants as NamesAnswer
-use Rattle.names.proofs.Claims.{rule-seventh}
+use Rattle.names.proofs.Claims.{rule-ninth}
 use Rattle.names.proofs.Tokens.{tokens-of-rule}
 use Rattle.table.specs.declared.AddAnswer.{AddAnswer}
 use Rattle.table.specs.declared.AddAnswer.the-variants as AddAnswer
@@ -35,7 +35,7 @@ use Rattle.table.specs.Rules.{AreRules, CanStand}
 use Rattle.table.specs.declared.Outcome.{Outcome}
 use Rattle.table.specs.declared.Outcome.the-variants as Outcome
 use Rattle.table.specs.Numbers.{addOutcome, withdrawOutcome, ruleOutcome}
-use Rattle.table.specs.Rows.{AddRow, full, seventh, many, stands, WithdrawRow, none, taken}
+use Rattle.table.specs.Rows.{AddRow, full, ninth, many, stands, WithdrawRow, none, taken}
 use Rattle.table.proofs.Rules.{rule-answer, are-read, are-formulas, formulas-are, are-names, are-atoms, can-read, can-rules, can-names}
 use Rattle.table.proofs.Standing.{NotAdded, read-formula, read-more, enough}
 use Rattle.table.proofs.Counting.{text-is, names-are, judge-text, judge-full, judge-names, judge-atoms, judge-added}
@@ -52,8 +52,8 @@ formula-or (RuleAnswer.LongName i) = inr (λ e. let z : _≡_ {A = ℕ} 0 1 = cc
 formula-or (RuleAnswer.Measured i) = inr (λ e. let z : _≡_ {A = ℕ} 0 1 = cc in omega arith)
 formula-or (RuleAnswer.GrammarAt i) = inr (λ e. let z : _≡_ {A = ℕ} 0 1 = cc in omega arith)
 
-not-seventh : (p : ℕ) → NotAdded (AddAnswer.SeventhName p)
-not-seventh p e = let z : _≡_ {A = ℕ} 0 1 = cc in omega arith
+not-ninth : (p : ℕ) → NotAdded (AddAnswer.TooManyNames p)
+not-ninth p e = let z : _≡_ {A = ℕ} 0 1 = cc in omega arith
 
 module _ (rs : List Text) (s : Text) (h : CanStand rs) where
   abbrev Holds : AddAnswer → Type 0
@@ -76,12 +76,12 @@ module _ (rs : List Text) (s : Text) (h : CanStand rs) where
     read : judgeText s ≡ AddAnswer.Added
     read = text-is s RuleAnswer.Formula e
 
-    seventh-row : (p : ℕ) → gathered s (namesIn rs) .answer ≡ NamesAnswer.SeventhName p → Holds (AddAnswer.SeventhName p)
+    ninth-row : (p : ℕ) → gathered s (namesIn rs) .answer ≡ NamesAnswer.TooManyNames p → Holds (AddAnswer.TooManyNames p)
     unfolding namesIn
-    seventh-row p f =
-        seventh rule (can-rules rs h) few
-        (subst (λ (ts : List Token). SeventhAt (collect atomNames (allAtoms (formulasOf rs))) (placesOf s ts) p) (tokens-of-rule s (meaningOf s) rule)
-        (rule-seventh (formulasOf rs) (can-names rs h) s (meaningOf s) rule p .0 f))
+    ninth-row p f =
+        ninth rule (can-rules rs h) few
+        (subst (λ (ts : List Token). NinthAt (collect atomNames (allAtoms (formulasOf rs))) (placesOf s ts) p) (tokens-of-rule s (meaningOf s) rule)
+        (rule-ninth (formulasOf rs) (can-names rs h) s (meaningOf s) rule p .0 f))
 
     counted : gathered s (namesIn rs) .answer ≡ NamesAnswer.Enough → Holds (judgeAdd rs s)
     unfolding namesIn atomsIn
@@ -95,8 +95,8 @@ module _ (rs : List Text) (s : Text) (h : CanStand rs) where
 
     named : (a : NamesAnswer) → gathered s (namesIn rs) .answer ≡ a → Holds (judgeAdd rs s)
     named NamesAnswer.Enough f = counted f
-    named (NamesAnswer.SeventhName p) f =
-        subst⁻¹ Holds (judge-names rs s read few (AddAnswer.SeventhName p) (names-are rs s (NamesAnswer.SeventhName p) f) (not-seventh p)) (seventh-row p f)
+    named (NamesAnswer.TooManyNames p) f =
+        subst⁻¹ Holds (judge-names rs s read few (AddAnswer.TooManyNames p) (names-are rs s (NamesAnswer.TooManyNames p) f) (not-ninth p)) (ninth-row p f)
 
   -- the answer is that of a row
   pub add-row : AddRow rs s (addOutcome (judgeAdd rs s))
@@ -120,18 +120,18 @@ module _ (rs : List Text) (s : Text) (h : CanStand rs) where
   of-last : {fs : List (Formula Name)} → AreRules (rs ++ s ∷ []) fs → ruleOf s .answer ≡ RuleAnswer.Formula
   of-last {fs} are = are-read (rs ++ s ∷ []) fs are s (in-right rs here)
 
-  last-names : {fs : List (Formula Name)} → AreRules (rs ++ s ∷ []) fs → length (namesOf fs) ≤ 6 → judgeNames rs s ≡ AddAnswer.Added
+  last-names : {fs : List (Formula Name)} → AreRules (rs ++ s ∷ []) fs → length (namesOf fs) ≤ 8 → judgeNames rs s ≡ AddAnswer.Added
   last-names {fs} are l =
       names-are rs s NamesAnswer.Enough (enough rs s (can-names rs h) (of-last are) .1 (omega (arith, ap length (are-names (rs ++ s ∷ []) fs are))))
 
-  seventh-found : {f : Formula Name} (p : ℕ) (r : IsRule s f) (fs : List (Formula Name)) → AreRules rs fs → SeventhAt (collect atomNames (allAtoms fs)) (placesOf s (r .tokens-of)) p
-      → judgeNames rs s ≡ AddAnswer.SeventhName p
+  ninth-found : {f : Formula Name} (p : ℕ) (r : IsRule s f) (fs : List (Formula Name)) → AreRules rs fs → NinthAt (collect atomNames (allAtoms fs)) (placesOf s (r .tokens-of)) p
+      → judgeNames rs s ≡ AddAnswer.TooManyNames p
   unfolding namesIn
-  seventh-found {f = f} p r fs are x =
-      names-are rs s (NamesAnswer.SeventhName p)
-      (rule-seventh (formulasOf rs) (can-names rs h) s (meaningOf s) (is-rule s (of-formula r)) p .1
-      (subst (λ (gs : List (Formula Name)). SeventhAt (collect atomNames (allAtoms gs)) (placesOf s (ruleTokens s)) p) (are-formulas rs fs are)
-      (subst (λ (ts : List Token). SeventhAt (collect atomNames (allAtoms fs)) (placesOf s ts) p) (sym (tokens-of-rule s f r)) x)))
+  ninth-found {f = f} p r fs are x =
+      names-are rs s (NamesAnswer.TooManyNames p)
+      (rule-ninth (formulasOf rs) (can-names rs h) s (meaningOf s) (is-rule s (of-formula r)) p .1
+      (subst (λ (gs : List (Formula Name)). NinthAt (collect atomNames (allAtoms gs)) (placesOf s (ruleTokens s)) p) (are-formulas rs fs are)
+      (subst (λ (ts : List Token). NinthAt (collect atomNames (allAtoms fs)) (placesOf s ts) p) (sym (tokens-of-rule s f r)) x)))
 
   unread-only : (a : RuleAnswer) → Answers s a → (a ≡ RuleAnswer.Formula → ⊥) → addOutcome (readAnswer a) ≡ addOutcome (judgeAdd rs s)
   unread-only a r n =
@@ -147,10 +147,10 @@ module _ (rs : List Text) (s : Text) (h : CanStand rs) where
   add-row-only o (AddRow.measured {p} r) = unread-only (RuleAnswer.Measured p) r (λ e. let z : _≡_ {A = ℕ} 0 1 = cc in omega arith)
   add-row-only o (AddRow.grammar {p} r) = unread-only (RuleAnswer.GrammarAt p) r (λ e. let z : _≡_ {A = ℕ} 0 1 = cc in omega arith)
   add-row-only o (full r k) = sym (ap addOutcome (judge-full rs s (text-is s RuleAnswer.Formula (of-formula r)) k))
-  add-row-only o (seventh {fs = fs} {p = p} r are few x) =
+  add-row-only o (ninth {fs = fs} {p = p} r are few x) =
       sym
       (ap addOutcome
-      (judge-names rs s (text-is s RuleAnswer.Formula (of-formula r)) few (AddAnswer.SeventhName p) (seventh-found p r fs are x) (not-seventh p)))
+      (judge-names rs s (text-is s RuleAnswer.Formula (of-formula r)) few (AddAnswer.TooManyNames p) (ninth-found p r fs are x) (not-ninth p)))
   add-row-only o (many {fs = fs} are few names k) =
       sym
       (ap addOutcome

@@ -68,13 +68,13 @@ module _ (rs : List Text) (h : CanStand rs) where
   pub can-rules : AreRules rs (formulasOf rs)
   can-rules = formulas-are rs can-read
 
-  pub can-names : length (namesIn rs) ≤ 6
+  pub can-names : length (namesIn rs) ≤ 8
   can-names = omega (arith, h .names, ap length (are-names rs (h .formulas) (h .rules)))
 
   pub can-atoms : atomsIn rs ≤ 16
   can-atoms = omega (arith, h .atoms, are-atoms rs (h .formulas) (h .rules))
 
 -- from what is computed
-pub can-stand : (rs : List Text) → length rs ≤ 16 → AllRead rs → length (namesIn rs) ≤ 6 → atomsIn rs ≤ 16 → CanStand rs
+pub can-stand : (rs : List Text) → length rs ≤ 16 → AllRead rs → length (namesIn rs) ≤ 8 → atomsIn rs ≤ 16 → CanStand rs
 unfolding namesIn atomsIn
 can-stand rs few read names atoms = record { formulas = formulasOf rs; rules = formulas-are rs read; few = few; names = names; atoms = atoms }

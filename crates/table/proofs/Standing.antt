@@ -49,7 +49,7 @@ refused-else (AddAnswer.LongName i) x y n = refl
 refused-else (AddAnswer.Measured i) x y n = refl
 refused-else (AddAnswer.GrammarAt i) x y n = refl
 refused-else AddAnswer.TableFull x y n = refl
-refused-else (AddAnswer.SeventhName i) x y n = refl
+refused-else (AddAnswer.TooManyNames i) x y n = refl
 refused-else AddAnswer.TooManyAtoms x y n = refl
 
 pub not-withdrawn : {A : Type 0} (a : WithdrawAnswer) (x y : A) → (a ≡ WithdrawAnswer.Withdrawn → ⊥) → ifWithdrawn a x y ≡ y
@@ -72,7 +72,7 @@ added-or (AddAnswer.LongName i) = inr (λ e. let z : _≡_ {A = ℕ} 0 1 = cc in
 added-or (AddAnswer.Measured i) = inr (λ e. let z : _≡_ {A = ℕ} 0 1 = cc in omega arith)
 added-or (AddAnswer.GrammarAt i) = inr (λ e. let z : _≡_ {A = ℕ} 0 1 = cc in omega arith)
 added-or AddAnswer.TableFull = inr (λ e. let z : _≡_ {A = ℕ} 0 1 = cc in omega arith)
-added-or (AddAnswer.SeventhName i) = inr (λ e. let z : _≡_ {A = ℕ} 0 1 = cc in omega arith)
+added-or (AddAnswer.TooManyNames i) = inr (λ e. let z : _≡_ {A = ℕ} 0 1 = cc in omega arith)
 added-or AddAnswer.TooManyAtoms = inr (λ e. let z : _≡_ {A = ℕ} 0 1 = cc in omega arith)
 
 both-added : (a b : AddAnswer) → firstRefusal a b ≡ AddAnswer.Added → (a ≡ AddAnswer.Added) × (b ≡ AddAnswer.Added)
@@ -99,7 +99,7 @@ read-formula (RuleAnswer.GrammarAt i) e = absurd (let z : _≡_ {A = ℕ} 0 1 = 
 
 pub names-enough : (a : NamesAnswer) → namesAnswer a ≡ AddAnswer.Added → a ≡ NamesAnswer.Enough
 names-enough NamesAnswer.Enough e = refl
-names-enough (NamesAnswer.SeventhName p) e = absurd (let z : _≡_ {A = ℕ} 0 1 = cc in omega arith)
+names-enough (NamesAnswer.TooManyNames p) e = absurd (let z : _≡_ {A = ℕ} 0 1 = cc in omega arith)
 
 -- ---- names and atoms of lists put together
 
@@ -156,9 +156,9 @@ room-added : (rs : List Text) (s : Text) → Room rs s → judgeAdd rs s ≡ Add
 unfolding judgeAdd judgeText judgeRoom judgeNames judgeAtoms
 room-added rs s h = rw (h .read, lt-leb 16 (length rs) (h .few), h .names, le-ltb 16 (atomsIn (rs ++ s ∷ [])) (h .atoms))
 
--- names are enough exactly if those with the text are at most six
-pub enough : (rs : List Text) (s : Text) → length (namesIn rs) ≤ 6 → ruleOf s .answer ≡ RuleAnswer.Formula
-    → (gathered s (namesIn rs) .answer ≡ NamesAnswer.Enough) ↔ (length (namesIn (rs ++ s ∷ [])) ≤ 6)
+-- names are enough exactly if those with the text are at most eight
+pub enough : (rs : List Text) (s : Text) → length (namesIn rs) ≤ 8 → ruleOf s .answer ≡ RuleAnswer.Formula
+    → (gathered s (namesIn rs) .answer ≡ NamesAnswer.Enough) ↔ (length (namesIn (rs ++ s ∷ [])) ≤ 8)
 unfolding namesIn
 enough rs s h e =
     let r = rule-enough (formulasOf rs) h s (meaningOf s) (is-rule s e) in

@@ -40,7 +40,7 @@ done-added (AddAnswer.LongName i) e = absurd (let z : _≡_ {A = ℕ} 0 1 = cc i
 done-added (AddAnswer.Measured i) e = absurd (let z : _≡_ {A = ℕ} 0 1 = cc in omega arith)
 done-added (AddAnswer.GrammarAt i) e = absurd (let z : _≡_ {A = ℕ} 0 1 = cc in omega arith)
 done-added AddAnswer.TableFull e = absurd (let z : _≡_ {A = ℕ} 0 1 = cc in omega arith)
-done-added (AddAnswer.SeventhName i) e = absurd (let z : _≡_ {A = ℕ} 0 1 = cc in omega arith)
+done-added (AddAnswer.TooManyNames i) e = absurd (let z : _≡_ {A = ℕ} 0 1 = cc in omega arith)
 done-added AddAnswer.TooManyAtoms e = absurd (let z : _≡_ {A = ℕ} 0 1 = cc in omega arith)
 
 module _ (rs : List Text) (s : Text) (h : CanStand rs) where

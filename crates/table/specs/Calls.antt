@@ -56,10 +56,10 @@ readAnswer (RuleAnswer.LongName i) = AddAnswer.LongName i
 readAnswer (RuleAnswer.Measured i) = AddAnswer.Measured i
 readAnswer (RuleAnswer.GrammarAt i) = AddAnswer.GrammarAt i
 
--- refusal 7: "a seventh name", at "that name's first byte"
+-- refusal 7: "the ninth name" (document 02, T-08), at "that name's first byte"
 abbrev pub namesAnswer : NamesAnswer → AddAnswer
 namesAnswer NamesAnswer.Enough = AddAnswer.Added
-namesAnswer (NamesAnswer.SeventhName p) = AddAnswer.SeventhName p
+namesAnswer (NamesAnswer.TooManyNames p) = AddAnswer.TooManyNames p
 
 -- one of two by an answer
 abbrev pub ifAdded : {A : Type 0} → AddAnswer → A → A → A
@@ -71,7 +71,7 @@ ifAdded (AddAnswer.LongName i) a b = b
 ifAdded (AddAnswer.Measured i) a b = b
 ifAdded (AddAnswer.GrammarAt i) a b = b
 ifAdded AddAnswer.TableFull a b = b
-ifAdded (AddAnswer.SeventhName i) a b = b
+ifAdded (AddAnswer.TooManyNames i) a b = b
 ifAdded AddAnswer.TooManyAtoms a b = b
 
 -- of two judgements the first that refuses

@@ -33,7 +33,7 @@ addOutcome (AddAnswer.LongName i) = Outcome.Refused 4 i
 addOutcome (AddAnswer.Measured i) = Outcome.Refused 5 i
 addOutcome (AddAnswer.GrammarAt i) = Outcome.Refused 6 i
 addOutcome AddAnswer.TableFull = Outcome.Refused 9 0
-addOutcome (AddAnswer.SeventhName i) = Outcome.Refused 7 i
+addOutcome (AddAnswer.TooManyNames i) = Outcome.Refused 7 i
 addOutcome AddAnswer.TooManyAtoms = Outcome.Refused 8 0
 
 abbrev pub withdrawOutcome : WithdrawAnswer → Outcome

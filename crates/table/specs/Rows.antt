@@ -17,7 +17,7 @@ use Rattle.contact.specs.Meaning.{Floor, meetsAll}
 use Rattle.contact.specs.Question.{Question, plain, Counts, NoFloor}
 use Rattle.plan.specs.Words.{Plan, IsPlan, wordsOf, Refusal}
 use Rattle.plan.specs.Floor.{namedFloor}
-use Rattle.names.specs.Seventh.{SeventhAt, placesOf}
+use Rattle.names.specs.Ninth.{NinthAt, placesOf}
 use Rattle.table.specs.Sheet.{Text, linesOf, blankLine, filled}
 use Rattle.table.specs.declared.Outcome.{Outcome}
 use Rattle.table.specs.declared.Outcome.the-variants as Outcome
@@ -43,14 +43,14 @@ pub data AddRow (rs : List Text) (s : Text) : Outcome → Type 0 where
   grammar : {p : ℕ} → Answers s (RuleAnswer.GrammarAt p) → AddRow rs s (Outcome.Refused 6 p)
   -- 9: "16 rules stand"
   full : {f : Formula Name} → IsRule s f → 16 ≤ length rs → AddRow rs s (Outcome.Refused 9 0)
-  -- 7: "a seventh name", at "that name's first byte", among the tokens that the text is cut into
-  seventh : {f : Formula Name} {fs : List (Formula Name)} {p : ℕ} → (h : IsRule s f) → AreRules rs fs → length rs < 16
-      → SeventhAt (collect atomNames (allAtoms fs)) (placesOf s (h .tokens-of)) p → AddRow rs s (Outcome.Refused 7 p)
+  -- 7: "the ninth name" (document 02, T-08), at "that name's first byte", among the tokens that the text is cut into
+  ninth : {f : Formula Name} {fs : List (Formula Name)} {p : ℕ} → (h : IsRule s f) → AreRules rs fs → length rs < 16
+      → NinthAt (collect atomNames (allAtoms fs)) (placesOf s (h .tokens-of)) p → AddRow rs s (Outcome.Refused 7 p)
   -- 8: "more than 16 atoms in all"; "for 7 and 8, add's text is first put at its end"; document 02, T-03: "8 now comes at the seventeenth
   -- different atom, in its old place"
-  many : {fs : List (Formula Name)} → AreRules (rs ++ s ∷ []) fs → length rs < 16 → length (namesOf fs) ≤ 6 → 16 < length (differentAtoms fs) → AddRow rs s (Outcome.Refused 8 0)
+  many : {fs : List (Formula Name)} → AreRules (rs ++ s ∷ []) fs → length rs < 16 → length (namesOf fs) ≤ 8 → 16 < length (differentAtoms fs) → AddRow rs s (Outcome.Refused 8 0)
   -- "No refusal comes in another case."
-  stands : {fs : List (Formula Name)} → AreRules (rs ++ s ∷ []) fs → length rs < 16 → length (namesOf fs) ≤ 6 → length (differentAtoms fs) ≤ 16 → AddRow rs s Outcome.Done
+  stands : {fs : List (Formula Name)} → AreRules (rs ++ s ∷ []) fs → length rs < 16 → length (namesOf fs) ≤ 8 → length (differentAtoms fs) ≤ 16 → AddRow rs s Outcome.Done
 
 -- withdraw k where the texts rs stand
 pub data WithdrawRow (rs : List Text) (k : ℕ) : Outcome → Type 0 where

@@ -1,5 +1,5 @@
--- For proofs: what the private functions do: what is known of standing texts, a text put to them, the rules of a table compiled, and the
--- answers of the judge of plans as those of judge. Assumes nothing.
+-- For proofs: what the private functions do: what is known of standing texts, a text put to them, the rules of a table compiled, the plan
+-- of a row written, and the answers of the judge of plans as those of judge. Assumes nothing.
 use Prim.Native.Nat.{ℕ, _≤_, _<_}
 use mathlib.Core.Path.{_≡_}
 use mathlib.Core.List.{List, [], _∷_, _++_}
@@ -13,7 +13,11 @@ use Rattle.ruleset.specs.declared.RoomAnswer.the-variants as RoomAnswer
 use Rattle.ruleset.specs.declared.Compiling.{Compiling}
 use Rattle.ruleset.specs.declared.AtomPlace.{AtomPlace}
 use Rattle.ruleset.specs.Places.{Writing}
-use Rattle.ruleset.specs.Texts.{KnownRules, CompiledTexts, FirstRowIs, ExplainedIs, VerdictIs}
+use Rattle.ruleset.specs.Texts.{KnownRules, CompiledRules, CompiledTexts, FirstRowIs, ExplainedIs, VerdictIs}
+use Rattle.search.specs.Rows.{rowBits}
+use Rattle.plan.specs.declared.Written.{Written}
+use Rattle.plan.specs.Arrays.{Writes}
+use Rattle.plan.specs.Plans.{rowPlan}
 use Rattle.explaining.specs.declared.Explanation.{Explanation}
 use Rattle.trees.specs.declared.Verdict.{Verdict}
 use Rattle.judging.specs.declared.Judged.{Judged}
@@ -44,7 +48,7 @@ pub record Knowing (k : Known) (kept : List ℕ) : Type 0 where
 -- the answer for the room as add's
 abbrev pub roomAdd : RoomAnswer → AddAnswer
 roomAdd RoomAnswer.Room = AddAnswer.Added
-roomAdd (RoomAnswer.SeventhName p) = AddAnswer.SeventhName p
+roomAdd (RoomAnswer.TooManyNames p) = AddAnswer.TooManyNames p
 roomAdd RoomAnswer.ManyAtoms = AddAnswer.TooManyAtoms
 
 -- whatever texts are known, the text is judged where they stand, and known with them if it is added
@@ -63,6 +67,12 @@ pub record TextsSearched (q : Question) (texts : List Text) (r : Searched) : Typ
   pub code : List ℕ
   pub compiled : TextsCompiled texts (r .compiled) code
   pub first : FirstRowIs q (r .compiled) code (r .found)
+
+-- what is written over the buffer is the plan of a row of the rules that are compiled
+unfoldable pub PlanPut : Question → Compiling → ℕ → List ℕ → Written → List ℕ → Type 0
+PlanPut q c row buffer r exit =
+    (rules : List (Formula Name)) (kept code : List ℕ) → CompiledRules rules c kept code
+    → Writes (rowPlan q rules (rowBits (c .known .atoms .chart .atoms) row)) buffer r exit
 
 -- or the writer puts their tree into a buffer
 pub record TextsTold (texts : List Text) (before after : List ℕ) (r : Explanation) : Type 0 where

@@ -6,18 +6,21 @@
 // is in proofs/Claims.antt.
 ghost use mathlib.Core.Path.{_≡_};
 ghost use mathlib.Core.List.{[], _∷_, _++_};
-ghost use Prim.Native.Nat.{_+_, _-_, _*_, _≤_, _<_};
+ghost use Prim.Native.Nat.{ℕ, _+_, _-_, _*_, _≤_, _<_};
 ghost use lib.ListN.{length, take, drop};
 ghost use Rattle.contact.specs.Question.{plain, building};
 ghost use Rattle.names.specs.Gather.{arraysOf};
+ghost use Rattle.evalset.specs.Most.{most};
 ghost use Rattle.search.specs.Asked.{questionOf};
+ghost use Rattle.search.specs.Compiled.{limit};
+ghost use Rattle.search.specs.Planned.{Lent};
 ghost use Rattle.table.specs.Store.{keptLine, tableOf, rulesOf};
 ghost use Rattle.table.specs.Calls.{formulasOf, namesIn, readAnswer, linesFrom, FromUs, Adds, Withdraws, Loads};
 ghost use Rattle.table.specs.Sheet.{blankLine, linesOf};
 ghost use Rattle.table.specs.Asking.{Asks, Judges};
 ghost use Rattle.table.specs.Printing.{Prints};
 ghost use Rattle.table.specs.Explaining.{explanationAnswer, Explains, verdictAnswer, Checks, GivesAtom};
-ghost use Rattle.table.specs.Steps.{KnownTexts, Knowing, roomAdd, Tries, TextsCompiled, TextsSearched, TextsTold, TextsChecked, FirstPlace, loadResult, judgedAnswer};
+ghost use Rattle.table.specs.Steps.{KnownTexts, Knowing, roomAdd, Tries, TextsCompiled, TextsSearched, PlanPut, TextsTold, TextsChecked, FirstPlace, loadResult, judgedAnswer};
 ghost use Rattle.table.specs.Numbers.{addOutcome, withdrawOutcome, onLine, CanCome, loadOutcome, askOutcome, judgeOutcome, printOutcome, explainOutcome, checkOutcome};
 use explaining::Explanation;
 use judging::Judged;
@@ -67,7 +70,7 @@ pub enum AddAnswer {
     Measured(usize),
     GrammarAt(usize),
     TableFull,
-    SeventhName(usize),
+    TooManyNames(usize),
     TooManyAtoms,
 }
 
@@ -270,7 +273,7 @@ fn room_answer(a: RoomAnswer) -> AddAnswer
 {
     match a {
         RoomAnswer::Room => AddAnswer::Added,
-        RoomAnswer::SeventhName(i) => AddAnswer::SeventhName(i),
+        RoomAnswer::TooManyNames(i) => AddAnswer::TooManyNames(i),
         RoomAnswer::ManyAtoms => AddAnswer::TooManyAtoms,
     }
 }
@@ -342,6 +345,50 @@ fn no_code() -> [u8; 4096]
     [0u8; 4096]
 }
 
+// A square that is clear, for the evaluations of up to six names.
+fn few_square() -> [u64; 64]
+    ensures { λ r. ⌜ ((names : ℕ) → names ≤ 6 → Lent names r) ⌝ }
+{
+    [0; 64]
+}
+
+// The same for those of eight.
+fn all_square() -> [u64; 1024]
+    ensures { λ r. ⌜ ((names : ℕ) → names ≤ most → Lent names r) ⌝ }
+{
+    [0; 1024]
+}
+
+// The plan of a row of the compiled rules for what is asked, its words written over the first ones of the buffer, with a square lent for
+// what the row separates; or how many words it needs.
+fn put_plan_in(
+    c: Compiling,
+    row: usize,
+    asked: Asked,
+    square: &mut [u64],
+    buffer: &mut [u32],
+) -> Written
+    requires { ⌜ (c .known .atoms .chart .names ≤ most) × (c .known .atoms .chart .atoms ≤ limit) × Lent (c .known .atoms .chart .names) (now square) ⌝ }
+    ensures { λ r. ⌜ PlanPut (questionOf asked) c row (now (buffer .entry)) r (now (buffer .exit)) ⌝ }
+{
+    let names = c.known.atoms.chart.names as u8;
+    let points = ruleset::points_of(c, row, asked, square);
+    plan::write_plan(names, points, square, buffer)
+}
+
+// The same. With at most six names no more is cleared than their evaluations need.
+fn put_plan(c: Compiling, row: usize, asked: Asked, buffer: &mut [u32]) -> Written
+    requires { ⌜ (c .known .atoms .chart .names ≤ most) × (c .known .atoms .chart .atoms ≤ limit) ⌝ }
+    ensures { λ r. ⌜ PlanPut (questionOf asked) c row (now (buffer .entry)) r (now (buffer .exit)) ⌝ }
+{
+    if c.known.atoms.chart.names <= 6 {
+        let mut few = few_square();
+        return put_plan_in(c, row, asked, &mut few, buffer);
+    }
+    let mut many = all_square();
+    put_plan_in(c, row, asked, &mut many, buffer)
+}
+
 // The answer of a writer.
 fn explanation_answer(told: Explanation) -> ExplainAnswer
     ensures { λ r. ⌜ r ≡ explanationAnswer told ⌝ }
@@ -387,7 +434,7 @@ pub fn add_outcome(answer: AddAnswer) -> Outcome
         AddAnswer::Measured(i) => Outcome::Refused(5, i),
         AddAnswer::GrammarAt(i) => Outcome::Refused(6, i),
         AddAnswer::TableFull => Outcome::Refused(9, 0),
-        AddAnswer::SeventhName(i) => Outcome::Refused(7, i),
+        AddAnswer::TooManyNames(i) => Outcome::Refused(7, i),
         AddAnswer::TooManyAtoms => Outcome::Refused(8, 0),
     }
 }
@@ -616,7 +663,10 @@ impl Table {
                     };
                 };
                 known = tried.known;
-                table = put_last(table, text);
+                let last = line_of(text);
+                let count = table.count;
+                table.lines[count] = last;
+                table.count = count + 1;
             }
             from = end + 1;
         }
@@ -687,8 +737,7 @@ impl Table {
                 answer: AskAnswer::NoPlan,
             };
         };
-        let plan = ruleset::plan_of(c, row, asked);
-        let written = plan::write_plan(plan, buffer);
+        let written = put_plan(c, row, asked, buffer);
         match written {
             Written::Words(n) => AskResult {
                 table: self,
@@ -710,7 +759,7 @@ impl Table {
         self.answered(Asked::Plain, buffer)
     }
 
-    // The same for one building: a plan in which every point can be reached from every other through contacts, of up to 2,018 words, or
+    // The same for one building: a plan in which every point can be reached from every other through contacts, of up to 32,642 words, or
     // that no such floor that hangs together meets the rules.
     pub fn ask_building(self, buffer: &mut [u32]) -> AskResult
         requires { ⌜ FromUs self ⌝ }

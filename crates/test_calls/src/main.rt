@@ -346,17 +346,35 @@ fn at_most(n: usize, most: usize) -> usize
     if n < most { n } else { most }
 }
 
-// Two to the power of a number of names.
-fn points_over(names: u8) -> u8 {
+// The last evaluation over some names.
+fn last_over(names: u8) -> u8 {
     match names {
-        0 => 1,
-        1 => 2,
-        2 => 4,
-        3 => 8,
-        4 => 16,
-        5 => 32,
-        _ => 64,
+        0 => 0,
+        1 => 1,
+        2 => 3,
+        3 => 7,
+        4 => 15,
+        5 => 31,
+        6 => 63,
+        7 => 127,
+        _ => 255,
     }
+}
+
+// The first word of a plan that has every point over some names: of kind 1 for up to six, of kind 8 for more (document 02, T-08).
+fn first_over(names: u8) -> u32 {
+    let points = last_over(names) as u32 + 1;
+    match names {
+        0..=6 => 0x1000_0000 + names as u32 * 256 + points,
+        _ => 0x8000_0000 + names as u32 * 0x1_0000 + points,
+    }
+}
+
+// Room for the words of the plan over eight names that has every point and every contact.
+fn no_every() -> [u32; 32898]
+    ensures { λ r. ⌜ length r ≡ 32898 ⌝ }
+{
+    [0u32; 32898]
 }
 
 // ---- the same table
@@ -502,14 +520,14 @@ fn judge_words(t: Table, rest: &[u8]) -> Table
     judge(t, &words[0..n])
 }
 
-// Judges the plan over some names, at most six, that has every point and every contact.
+// Judges the plan over some names, at most eight, that has every point and every contact.
 fn judge_every(t: Table, rest: &[u8]) -> Table
     requires { ⌜ FromUs t ⌝ }
     ensures { λ r. ⌜ FromUs r ⌝ }
 {
-    let mut words = no_words();
-    let names = at_most(number_of(rest), 6) as u8;
-    let n = put_every(&mut words, names, points_over(names));
+    let mut words = no_every();
+    let names = at_most(number_of(rest), 8) as u8;
+    let n = put_every(&mut words, first_over(names), last_over(names));
     judge(t, &words[0..n])
 }
 
@@ -728,15 +746,35 @@ fn fourth_withdrawn() -> Table
     w.table
 }
 
-// The plan over six names that has every point that is in one, 63, and every contact: that on the first 63 evaluations, with each of them
-// one more.
-fn every_somewhere() -> [u32; 2083]
-    ensures { λ r. ⌜ length r ≡ 2083 ⌝ }
+// Room for the words of the largest building, and one more.
+fn no_largest() -> [u32; 32643]
+    ensures { λ r. ⌜ length r ≡ 32643 ⌝ }
 {
-    let mut words = marked();
-    put_every(&mut words, 6, 63);
+    [0u32; 32643]
+}
+
+// Words that all differ, none of which a plan has.
+fn marked_largest() -> [u32; 32643]
+    ensures { λ r. ⌜ length r ≡ 32643 ⌝ }
+{
+    let mut words = no_largest();
+    let mut i: usize = 0;
+    while i < 32643 {
+        words[i] = 0xE000_0000 + i as u32;
+        i += 1;
+    }
+    words
+}
+
+// The plan over eight names that has every point that is in one, 255, and every contact: that on the first 255 evaluations, with each of
+// them one more.
+fn every_somewhere() -> [u32; 32643]
+    ensures { λ r. ⌜ length r ≡ 32643 ⌝ }
+{
+    let mut words = marked_largest();
+    put_every(&mut words, 0x8008_00FF, 254);
     let mut e: usize = 1;
-    while e < 64 {
+    while e < 256 {
         words[e] = 0x2000_0000 + e as u32;
         e += 1;
     }
@@ -744,7 +782,7 @@ fn every_somewhere() -> [u32; 2083]
 }
 
 // Writes whether the words of a building are those of this plan, also past it, and how it is judged.
-fn write_held(t: Table, words: [u32; 2083])
+fn write_held(t: Table, words: [u32; 32643])
     requires { ⌜ FromUs t ⌝ }
 {
     let every = every_somewhere();
@@ -753,7 +791,7 @@ fn write_held(t: Table, words: [u32; 2083])
     } else {
         write_bytes(b"; other words; judged ");
     }
-    let r = t.judge(&words[0..2018]);
+    let r = t.judge(&words[0..32642]);
     let answer = r.answer;
     write_outcome(b"", table::judge_outcome(answer));
     write_bytes(b"\n");
@@ -762,10 +800,10 @@ fn write_held(t: Table, words: [u32; 2083])
 // The largest building, with as many words lent as it has.
 fn write_largest() {
     let t = Table::empty();
-    let a = t.add(b"<=(a+b+c+d+e+f,1)");
+    let a = t.add(b"<=(a+b+c+d+e+f+g+h,1)");
     let t = a.table;
-    let mut words = marked();
-    let r = t.ask_building(&mut words[0..2018]);
+    let mut words = marked_largest();
+    let r = t.ask_building(&mut words[0..32642]);
     let answer = r.answer;
     write_outcome(b"", table::ask_outcome(answer));
     write_held(t, words);
@@ -778,6 +816,6 @@ fn main() {
     write_bytes(b"\n# P5 by calls in the code\n");
     let t = fourth_withdrawn();
     run_line(t, b"ask 530");
-    write_bytes(b"\n# One building of 63 points, by calls in the code\n");
+    write_bytes(b"\n# One building of 255 points, by calls in the code\n");
     write_largest();
 }

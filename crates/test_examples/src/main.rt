@@ -1,11 +1,17 @@
 // The test program of the output: the text for each sheet of the folder examples, for a contact, for no plan, for each refusal that
 // a sheet can get, and for the longest sheets; then some sheets as they were read, some for one building, and why some have no plan. The file
 // `stdout` has the texts that document 01 asks for, and T-02, T-03, T-04, T-06 and T-07 of document 02, worked out by hand.
-use report::WhyAnswer;
+ghost use mathlib.Core.Path.{_≡_};
+ghost use lib.ListN.{length};
+use names::Names;
+use report::TextAnswer;
 use test_kit::put_byte;
 use test_kit::put_bytes;
 use test_kit::write_bytes;
 use test_kit::write_labelled;
+
+// The bytes of the text of 255 points.
+const EVERY: usize = 494987;
 
 // The title of a sheet.
 fn show_title(title: &[u8]) {
@@ -30,12 +36,22 @@ fn show_read(title: &[u8], sheet: &[u8]) {
     write_bytes(&text[0..len]);
 }
 
-// It, and the sheet's text for one building.
+// It, and the sheet's text for one building: the plans shown fit in one piece.
 fn show_building(title: &[u8], sheet: &[u8]) {
     show_title(title);
-    let mut text = report::no_building_text();
-    let len = report::report_building(sheet, &mut text);
-    write_bytes(&text[0..len]);
+    let mut words = report::no_building();
+    let mut text = report::no_text();
+    let told = report::report_building(sheet, &mut words, &mut text);
+    let answer = told.answer;
+    let names = told.names;
+    match answer {
+        TextAnswer::Text(len) => write_bytes(&text[..len]),
+        TextAnswer::Lines(count) => {
+            let piece = report::building_piece(&words, count, names, 0, &mut text);
+            let len = piece.len;
+            write_bytes(&text[..len]);
+        }
+    }
 }
 
 // It, and why the sheet has no plan: the trees shown fit in one piece.
@@ -48,8 +64,8 @@ fn show_why(title: &[u8], sheet: &[u8]) {
     let answer = told.answer;
     let atoms = told.atoms;
     match answer {
-        WhyAnswer::Text(len) => write_bytes(&text[..len]),
-        WhyAnswer::Tree(count) => {
+        TextAnswer::Text(len) => write_bytes(&text[..len]),
+        TextAnswer::Lines(count) => {
             let piece = report::why_piece(&words, &depths, count, atoms, 0, &mut text);
             let len = piece.len;
             write_bytes(&text[..len]);
@@ -94,7 +110,8 @@ fn others() {
     show(b"refusal 4", b"abcdefghijklmnopq=0");
     show(b"refusal 5", b"a<=m b");
     show(b"refusal 6", b"\n\n(a=0)*b");
-    show(b"refusal 7", b"a=0&b=0&c=0&d=0&e=0&f=0\ng=0&T");
+    show(b"refusal 7", b"a=0&b=0&c=0&d=0&e=0&f=0&g=0&h=0\ni=0&T");
+    show(b"eight names", b"a=0&b=0&c=0&d=0&e=0&f=0&g=0\n~h=0&T");
     show(
         b"refusal 8",
         b"a=0&b=0&c=0&a*b=0&b*a=0&a*c=0&c*a=0&b*c=0\nC(a,b)|C(a,c)|C(b,c)|C(a,a)|<=(a,b)|<=(b,a)|--a=0|-a=0\nT\n-b=0",
@@ -176,14 +193,24 @@ fn reasons() {
     show_why(b"never empty, why", b"~0=0");
 }
 
-// A number below 100.
+// The last two digits of a number.
+fn put_two(text: &mut [u8], at: usize, n: usize) -> usize {
+    let digits = b"0123456789";
+    let end = put_byte(text, at, digits[n / 10 % 10]);
+    put_byte(text, end, digits[n % 10])
+}
+
+// A number below 1,000.
 fn put_number(text: &mut [u8], at: usize, n: usize) -> usize {
     let digits = b"0123456789";
     if n < 10 {
         return put_byte(text, at, digits[n]);
     }
-    let end = put_byte(text, at, digits[n / 10 % 10]);
-    put_byte(text, end, digits[n % 10])
+    if n < 100 {
+        return put_two(text, at, n);
+    }
+    let end = put_byte(text, at, digits[n / 100 % 10]);
+    put_two(text, end, n)
 }
 
 // A text and such a number behind it.
@@ -212,7 +239,8 @@ fn put_three(text: &mut [u8], at: usize, n: usize, names: &[u8; 3]) -> usize {
 fn put_names(text: &mut [u8], at: usize, e: usize) -> usize {
     let end = put_byte(text, at, b':');
     let end = put_three(text, end, e, b"abc");
-    put_three(text, end, e / 8, b"def")
+    let end = put_three(text, end, e / 8, b"def");
+    put_three(text, end, e / 64, b"gh-")
 }
 
 // The line of a point: its position, and the names of its evaluation.
@@ -236,7 +264,7 @@ fn put_pair(text: &mut [u8], at: usize, i: usize, j: usize) -> usize {
 fn put_points(text: &mut [u8], at: usize) -> usize {
     let mut end = at;
     let mut i: usize = 0;
-    while i < 63 {
+    while i < 255 {
         end = put_point(text, end, i, i + 1);
         i += 1;
     }
@@ -247,37 +275,68 @@ fn put_points(text: &mut [u8], at: usize) -> usize {
 fn put_pairs(text: &mut [u8], at: usize) -> usize {
     let mut end = at;
     let mut k: usize = 0;
-    while k < 3969 {
-        end = put_pair(text, end, k / 63, k % 63);
+    while k < 65025 {
+        end = put_pair(text, end, k / 255, k % 255);
         k += 1;
     }
     end
 }
 
-// The plan of all evaluations of six names but 0, each in contact with each.
+// The plan of all evaluations of eight names but 0, each in contact with each.
 fn put_every(text: &mut [u8]) -> usize {
-    let end = put_bytes(text, 0, b"PLAN names=6 points=63\n");
+    let end = put_bytes(text, 0, b"PLAN names=8 points=255\n");
     let end = put_points(text, end);
     put_pairs(text, end)
 }
 
-// Whether the buffer has it, and zeros behind it.
-fn is_every(text: &[u8; report::BUILDING_ROOM]) -> bool {
-    let mut worked_out = report::no_building_text();
-    put_every(&mut worked_out);
-    check::same(text, &worked_out)
+// Room for its text.
+fn no_bytes() -> [u8; EVERY]
+    ensures { λ r. ⌜ length r ≡ 494987 ⌝ }
+{
+    [0u8; EVERY]
 }
 
-// A rule over six names that rules nothing out, so that this is its plan: the length of its text, and whether it is the one that is put
-// together here. The first line has 23 bytes. The positions have 10 + 2 * 53 = 116 digits, and each name stands at 32 points, behind a
-// blank: the point lines have 63 * 8 + 116 + 6 * 32 * 2 bytes, 1,004. Each position is in 62 pairs: the contact lines have
-// 1,953 * 10 + 62 * 116 bytes, 26,722. In all 27,749.
+// The pieces of a plan of so many words, against a text: how many bytes of it they are, one after the other, up to a piece that it does not go on
+// with.
+fn same_pieces(words: &[u32; 32642], count: usize, names: Names, text: &[u8]) -> usize {
+    let mut bytes = report::no_text();
+    let mut at: usize = 0;
+    let mut next: usize = 0;
+    while next < count {
+        let piece = report::building_piece(words, count, names, next, &mut bytes);
+        let len = piece.len;
+        if text.len() - at < len {
+            return at;
+        }
+        let end = at + len;
+        if !check::same(&bytes[..len], &text[at..end]) {
+            return at;
+        }
+        at = end;
+        next = piece.next;
+    }
+    at
+}
+
+// A rule over eight names that rules nothing out, so that this is its plan: how many bytes of its text are those that are put together here,
+// which are all. The first line has 24 bytes. The positions have 10 + 2 * 90 + 3 * 155 = 655 digits, and each name stands at 128 points,
+// behind a blank: the point lines have 255 * 8 + 655 + 8 * 128 * 2 bytes, 4,743. Each position is in 254 pairs: the contact lines have
+// 32,385 * 10 + 254 * 655 bytes, 490,220. In all 494,987.
 fn every_point() {
-    show_title(b"63 points, one building");
-    let mut text = report::no_building_text();
-    let len = report::report_building(b"<=(a+b+c+d+e+f,1)", &mut text);
-    write_labelled(b"bytes ", len);
-    if is_every(&text) {
+    show_title(b"255 points, one building");
+    let mut worked_out = no_bytes();
+    put_every(&mut worked_out);
+    let mut words = report::no_building();
+    let mut text = report::no_text();
+    let told = report::report_building(b"<=(a+b+c+d+e+f+g+h,1)", &mut words, &mut text);
+    let answer = told.answer;
+    let names = told.names;
+    let same = match answer {
+        TextAnswer::Text(_) => 0,
+        TextAnswer::Lines(count) => same_pieces(&words, count, names, &worked_out),
+    };
+    write_labelled(b"bytes ", same);
+    if same == EVERY {
         write_bytes(b", as worked out\n");
     } else {
         write_bytes(b", not as worked out\n");

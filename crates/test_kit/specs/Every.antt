@@ -1,4 +1,4 @@
--- What is computed: the words of the plan over some names that has n points, on the first evaluations, each in contact with each
+-- What is computed: the words of the plan with a first word and n points, on the first evaluations, each in contact with each
 -- (document 01, 'Plan words'). Assumes nothing.
 use mathlib.Core.List.{List, [], _∷_, _++_}
 use Prim.Native.Nat.{ℕ, _+_, _-_, _*_}
@@ -11,7 +11,7 @@ contactsOf n i = from (0x30000001 + i * 257) (n - (i + 1))
 
 -- the words before the last one
 unfoldable pub everyBefore : ℕ → ℕ → List ℕ
-everyBefore names n = ((0x10000000 + (names * 256 + n)) ∷ from 0x20000000 n) ++ collect (contactsOf n) (below n)
+everyBefore first n = (first ∷ from 0x20000000 n) ++ collect (contactsOf n) (below n)
 
 unfoldable pub everyPlan : ℕ → ℕ → List ℕ
-everyPlan names n = everyBefore names n ++ (0x40000000 + length (everyBefore names n)) ∷ []
+everyPlan first n = everyBefore first n ++ (0x40000000 + length (everyBefore first n)) ∷ []

@@ -169,13 +169,13 @@ fn put_rising(words: &mut [u32], at: usize, first: u32, n: u32) -> usize
     end
 }
 
-// Puts the plan over so many names whose points, so many, stand on the first evaluations, each in contact with each.
-pub fn put_every(words: &mut [u32], names: u8, points: u8) -> usize
-    ensures { λ r. ⌜ Puts (everyPlan names points) 0 (now (words .entry)) (now (words .exit)) r ⌝ }
+// Puts the plan with this first word whose points stand on the evaluations up to the last, each in contact with each.
+pub fn put_every(words: &mut [u32], first: u32, last: u8) -> usize
+    ensures { λ r. ⌜ Puts (everyPlan first (last + 1)) 0 (now (words .entry)) (now (words .exit)) r ⌝ }
 {
-    let n = points as u32;
-    let first = put_word(words, 0, 0x1000_0000 + (names as u32 * 256 + n));
-    let mut end = put_rising(words, first, 0x2000_0000, n);
+    let n = last as u32 + 1;
+    let at = put_word(words, 0, first);
+    let mut end = put_rising(words, at, 0x2000_0000, n);
     let mut i: u32 = 0;
     while i < n {
         end = put_rising(words, end, 0x3000_0001 + i * 257, n - (i + 1));

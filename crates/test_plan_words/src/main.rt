@@ -1,7 +1,10 @@
 // The test program of plan words: for each list of words one line with the words, `=> `, and either the
 // plan that they are, written again and compared, or refusal 13 and its index; then plans written into
 // short and long buffers, and the largest plan. The file `stdout` has the lines that document 01 asks for.
+ghost use mathlib.Core.Path.{_≡_};
+ghost use lib.ListN.{length};
 use evalset::EvalSet;
+use evalset::ROOM;
 use plan::PlanAnswer;
 use plan::PlanArrays;
 use plan::Written;
@@ -93,10 +96,68 @@ fn same(words: &[u32], written: &[u32], n: usize) -> bool {
     false
 }
 
+// The set, and e unless it is left out.
+fn with_unless(set: EvalSet, e: usize, left_out: bool) -> EvalSet {
+    if left_out {
+        set
+    } else {
+        evalset::insert(set, e)
+    }
+}
+
+// The evaluations of the points whose positions are not in a row.
+fn others(points: [u8; ROOM], count: usize, row: EvalSet) -> EvalSet {
+    let mut set = evalset::empty();
+    let mut j: usize = 0;
+    while j < ROOM {
+        if count <= j {
+            return set;
+        }
+        set = with_unless(set, wide(points[j]), evalset::contains(row, j));
+        j += 1;
+    }
+    set
+}
+
+// No evaluation apart from another.
+fn no_square() -> [u64; 1024]
+    ensures { λ r. ⌜ length r ≡ 1024 ⌝ }
+{
+    [0; 1024]
+}
+
+// The square in which each point is apart from those that are not in its row.
+fn apart_in(p: PlanArrays) -> [u64; 1024]
+    ensures { λ r. ⌜ length r ≡ 1024 ⌝ }
+{
+    let points = p.points;
+    let rows = p.rows;
+    let count = p.count;
+    let mut square = no_square();
+    let mut i: usize = 0;
+    while i < ROOM {
+        if count <= i {
+            return square;
+        }
+        let row = rows[i];
+        squares::join_at(&mut square, wide(points[i]), others(points, count, row));
+        i += 1;
+    }
+    square
+}
+
+// Writes a plan that was read into a buffer.
+fn put_again(p: PlanArrays, buffer: &mut [u32]) -> Written {
+    let points = p.points;
+    let given = others(points, p.count, evalset::empty());
+    let apart = apart_in(p);
+    plan::write_plan(p.names, given, &apart, buffer)
+}
+
 // Writes a plan's words again and whether they are the same.
 fn write_again(words: &[u32], p: PlanArrays) {
-    let mut buffer = [0u32; 2082];
-    let w = plan::write_plan(p, &mut buffer);
+    let mut buffer = [0u32; 32898];
+    let w = put_again(p, &mut buffer);
     match w {
         Written::Words(n) => {
             if same(words, &buffer, n) {
@@ -155,7 +216,7 @@ fn write_written(w: Written) {
 fn into_buffer(buffer: &mut [u32]) {
     let r = plan::read_plan(&[0x1000_0202, 0x2000_0001, 0x2000_0002, 0x4000_0003]);
     let p = r.plan;
-    let w = plan::write_plan(p, buffer);
+    let w = put_again(p, buffer);
     write_written(w);
     write_words(b"", buffer, b" ");
     write_bytes(b"\n");
@@ -197,12 +258,48 @@ fn show_long(words: &[u32]) {
 // its last word one off.
 fn largest() {
     let mut words = no_words();
-    let n = put_every(&mut words, 6, 64);
+    let n = put_every(&mut words, 0x1000_0640, 63);
     show_long(&words[0..n]);
     show_long(&words[0..2081]);
     show_long(&words);
     let n = put_word(&mut words, 2081, 0x4000_0822);
     show_long(&words[0..n]);
+}
+
+// Every two of 255 points in contact, with their number of names in a first word of kind 1; then in one of kind 8.
+fn largest_of_eight() {
+    let mut words = [0u32; 32642];
+    put_every(&mut words, 0x1000_08FF, 254);
+    show_long(&words);
+    put_word(&mut words, 0, 0x8008_00FF);
+    show_long(&words);
+    show_long(&words[0..32641]);
+}
+
+// Shows what the first n words are.
+fn show_first(words: &[u32], n: usize) {
+    if n <= words.len() {
+        show_long(&words[0..n]);
+    }
+}
+
+// All 256 points of eight names, every two in contact; cut short in the points, after them, in the contacts and before the last word; with
+// one word more; with the hundredth point one evaluation on, which every evaluation forbids; and with a contact that stands there twice.
+fn all_of_eight() {
+    let mut words = [0u32; 32899];
+    put_every(&mut words, 0x8008_0100, 255);
+    show_first(&words, 32898);
+    show_first(&words, 200);
+    show_first(&words, 257);
+    show_first(&words, 20000);
+    show_first(&words, 32897);
+    show_long(&words);
+    put_word(&mut words, 100, 0x2000_0064);
+    show_first(&words, 32898);
+    put_word(&mut words, 100, 0x2000_0063);
+    let before = words[299];
+    put_word(&mut words, 300, before);
+    show_first(&words, 32898);
 }
 
 // The plans of document 01: P1, P2, P3 and P9.
@@ -471,6 +568,37 @@ fn last_words() {
     );
 }
 
+// Seven and eight names: the first word is of kind 8.
+fn kind_eight() {
+    show(&[0x8007_0001, 0x2000_0040, 0x4000_0002]);
+    show(&[0x8008_0001, 0x2000_00FF, 0x4000_0002]);
+    show(
+        &[
+            0x8008_0002,
+            0x2000_0000,
+            0x2000_00FF,
+            0x3000_0001,
+            0x4000_0004,
+        ],
+    );
+    show(&[0x8007_0001, 0x2000_0080]);
+    show(&[0x8007_0002, 0x2000_007F]);
+    show(&[0x8008_0100, 0x2000_0001]);
+    show(&[0x8008_0100, 0x2000_0000]);
+}
+
+// First words of kind 8: six names, none, nine, no point, more than 2^names points, an unnamed bit; of kind 1: eight names.
+fn kind_eight_wrong() {
+    show(&[0x8006_0001]);
+    show(&[0x8000_0001]);
+    show(&[0x8009_0001]);
+    show(&[0x8007_0000]);
+    show(&[0x8007_0081]);
+    show(&[0x8008_0101]);
+    show(&[0x8017_0001]);
+    show(&[0x1000_0801]);
+}
+
 fn main() {
     document_plans();
     few_names();
@@ -485,4 +613,8 @@ fn main() {
     last_words();
     buffers();
     largest();
+    kind_eight();
+    kind_eight_wrong();
+    largest_of_eight();
+    all_of_eight();
 }

@@ -140,7 +140,7 @@ plan-found q rules F counts m = go (plansOf q rules) refl (given-at-most-one q r
     go (p ∷ r ∷ ps) e l = absurd (omega arith)
 
 -- the words of the plan of the first row decode to it, and it meets the rules
-row-given : (q : Question) (rs : List Text) (fs : List (Formula Name)) → SomeStand rs → AreRules rs fs → length (namesOf fs) ≤ 6 → (row : Row) → firstRowOf q fs ≡ row ∷ [] → Given q rs (wordsOf (rowPlan q fs row))
+row-given : (q : Question) (rs : List Text) (fs : List (Formula Name)) → SomeStand rs → AreRules rs fs → length (namesOf fs) ≤ 8 → (row : Row) → firstRowOf q fs ≡ row ∷ [] → Given q rs (wordsOf (rowPlan q fs row))
 unfolding rowPlan givenPlan
 row-given q rs fs some are few row found =
     let is = given-is-plan q fs few row found in

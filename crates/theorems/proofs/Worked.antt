@@ -25,7 +25,7 @@ use Rattle.contact.specs.Question.{plain}
 use Rattle.contact.specs.Plan.{separated, may, allowed, fills, partners, leads, given}
 use Rattle.contact.specs.Check.{check, pointsFor, good, firstRow}
 use Rattle.names.specs.Gather.{ruleTokens, withName, namesAfter, gatheredOf, gathered}
-use Rattle.names.specs.Seventh.{placesOf}
+use Rattle.names.specs.Ninth.{placesOf}
 use Rattle.plan.specs.Words.{over, Plan, before, wordsOf}
 use Rattle.plan.specs.Links.{pairOf, rowTo, linksTo}
 use Rattle.plan.specs.Given.{givenPlan}

@@ -272,8 +272,12 @@ fn listed(words: &[u32], code: &[u8], ends: &[usize], chart: Chart, seen: &mut [
         let mut few = [0u16; 136];
         return judged(words, code, ends, chart, seen, &mut few);
     }
-    let mut list = [0u16; 2080];
-    judged(words, code, ends, chart, seen, &mut list)
+    if chart.names <= 6 {
+        let mut list = [0u16; 2080];
+        return judged(words, code, ends, chart, seen, &mut list);
+    }
+    let mut many = [0u16; 32896];
+    judged(words, code, ends, chart, seen, &mut many)
 }
 
 // "A separate small checker takes words from anyone against a table": whether the words are those of a closed tree of the rules.

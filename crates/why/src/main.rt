@@ -7,7 +7,7 @@
 use reading::Got;
 use report::AtomText;
 use report::Piece;
-use report::WhyAnswer;
+use report::TextAnswer;
 
 // The lines of a tree of so many words: whether all of them are written.
 fn write_tree(
@@ -44,8 +44,8 @@ fn main() {
     let answer = told.answer;
     let atoms = told.atoms;
     let written = match answer {
-        WhyAnswer::Text(len) => io::write_all(libc::STDOUT_FILENO, &text[..len]),
-        WhyAnswer::Tree(count) => write_tree(&words, &depths, count, atoms),
+        TextAnswer::Text(len) => io::write_all(libc::STDOUT_FILENO, &text[..len]),
+        TextAnswer::Lines(count) => write_tree(&words, &depths, count, atoms),
     };
     if !written {
         os::fail(b"why: the answer cannot be written");

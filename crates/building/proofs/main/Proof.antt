@@ -1,11 +1,12 @@
 -- `building::main` is safe: what was read is a part of the sheet, and the text a part of its buffer. Assumes nothing.
-use borrow.Author.Needs.{needs}
 use Prim.Native.Nat.{_≤_}
 use mathlib.Core.Path.{sym, subst}
 use native.Mathlib.Omega.{arith}
 use lib.ListN.{length}
 use lib.Seq.{length-take-le}
 use Rattle.reading.specs.Reading.{Within}
+use Rattle.report.proofs.Pieces.{answered-text}
+use borrow.Author.Needs.{needs}
 use Rattle.building.proofs.main.Statement.{statement}
 use Rattle.building.proofs.main.Tie as tie
 
@@ -37,26 +38,38 @@ fail-requires c κs = search needs
 returns : tie.Need-returns
 returns c = search needs
 
-no-building-text-requires : tie.Need-no-building-text-requires
-no-building-text-requires c κs = search needs
+no-building-requires : tie.Need-no-building-requires
+no-building-requires c κs = search needs
+
+no-text-requires : tie.Need-no-text-requires
+no-text-requires c κs = search needs
 
 array-share-prefix-sheet : tie.Need-array-share-prefix-sheet
-array-share-prefix-sheet c = read-within (c .before .before)
+array-share-prefix-sheet c = read-within (c .before .before .before)
 
 slice-aggregate-report-building : tie.Need-slice-aggregate-report-building
-slice-aggregate-report-building c = sym (length-take-le _ _ (read-within (c .before .before .before)))
+slice-aggregate-report-building c = sym (length-take-le _ _ (read-within (c .before .before .before .before)))
 
 report-building-requires : tie.Need-report-building-requires
 report-building-requires c κs = search needs
 
+enum-known-answer : tie.Need-enum-known-answer
+enum-known-answer c = search needs
+
 array-share-prefix-text : tie.Need-array-share-prefix-text
-array-share-prefix-text c = search needs
+array-share-prefix-text c = answered-text _ (c .before .before .before .before .report-building .ensures) _ (c .before .answer .given .1) .fits
 
 slice-aggregate-write-all : tie.Need-slice-aggregate-write-all
-slice-aggregate-write-all c = sym (length-take-le _ _ (c .before .report-building .ensures .fits))
+slice-aggregate-write-all c = sym (length-take-le _ _ (answered-text _ (c .before .before .before .before .before .report-building .ensures) _ (c .before .before .answer .given .1) .fits))
 
 write-all-requires : tie.Need-write-all-requires
 write-all-requires c κs = search needs
+
+enum-known-answer-2 : tie.Need-enum-known-answer-2
+enum-known-answer-2 c = search needs
+
+write-plan-requires : tie.Need-write-plan-requires
+write-plan-requires c κs = search needs
 
 slice-aggregate-fail-2 : tie.Need-slice-aggregate-fail-2
 slice-aggregate-fail-2 c = search needs
@@ -82,13 +95,17 @@ main-spec =
     slice-aggregate-fail
     fail-requires
     returns
-    no-building-text-requires
+    no-building-requires
+    no-text-requires
     array-share-prefix-sheet
     slice-aggregate-report-building
     report-building-requires
+    enum-known-answer
     array-share-prefix-text
     slice-aggregate-write-all
     write-all-requires
+    enum-known-answer-2
+    write-plan-requires
     slice-aggregate-fail-2
     fail-requires-2
     returns-2

@@ -1,35 +1,54 @@
--- `evalset::name_set` meets its contract: the table of masks passes its test, which antt computes; from NAMES up no evaluation has the bit.
+-- `evalset::name_set` meets its contract: four words of the name; from NAMES up no evaluation has the bit.
 -- Assumes nothing.
-use mathlib.Core.List.{List, [], _∷_}
-use Prim.Native.Nat.{ℕ}
-use mathlib.Core.Path.{refl, sym, _∙_, fun-ext}
+use mathlib.Core.Path.{_≡_, refl, sym, ap, _∙_}
+use mathlib.Core.Bool.{Bool, _&&_}
+use Prim.Native.Nat.{ℕ, _+_, _*_, _<_}
+use native.Mathlib.Omega.{arith}
+use borrow.Author.Tests.{lt-ltb, le-ltb}
 use borrow.Author.Needs.{needs}
-use Rattle.evalset.specs.Bit.{bit}
-use Rattle.evalset.specs.Sets.{mem, room}
+use Rattle.evalset.specs.Bit.{wordBits, bit}
+use Rattle.evalset.specs.Sets.{room, noneOf, nameSet}
 use Rattle.evalset.proofs.Bits.{bit-none}
 use Rattle.evalset.proofs.Members.{name-none}
-use Rattle.evalset.proofs.Table.{mask-bits}
+use Rattle.evalset.proofs.Words.{Bits, made}
 use Rattle.evalset.proofs.name_set.Statement.{statement}
 use Rattle.evalset.proofs.name_set.Tie as tie
 
-masks : List ℕ
-masks =
-    0xAAAA_AAAA_AAAA_AAAA ∷ 0xCCCC_CCCC_CCCC_CCCC ∷ 0xF0F0_F0F0_F0F0_F0F0 ∷ 0xFF00_FF00_FF00_FF00 ∷ 0xFFFF_0000_FFFF_0000
-    ∷ 0xFFFF_FFFF_0000_0000 ∷ []
+name-word-requires : tie.Need-name-word-requires
+name-word-requires c κs = search needs
 
-mul-t5 : tie.Need-mul-t5
-mul-t5 c = search needs
+name-word-requires-2 : tie.Need-name-word-requires-2
+name-word-requires-2 c κs = search needs
 
-array-read-t8 : tie.Need-array-read-t8
-array-read-t8 c = search needs
+name-word-requires-3 : tie.Need-name-word-requires-3
+name-word-requires-3 c κs = search needs
+
+name-word-requires-4 : tie.Need-name-word-requires-4
+name-word-requires-4 c κs = search needs
+
+-- a word of the name is one of its set
+word-in : (i k w : ℕ) → k < 4 → ((e : ℕ) → e < wordBits → bit w e ≡ bit (wordBits * k + e) i) → Bits (nameSet i) k w
+unfolding room
+word-in i k w l h e m = h e m ∙ sym (ap (λ (b : Bool). b && bit (wordBits * k + e) i) (lt-ltb (wordBits * k + e) room (omega arith)))
 
 returns : tie.Need-returns
-unfolding mem room bit masks
-returns c = fun-ext (mask-bits masks refl (c .before .args .i) (c .if1 .taken))
+returns c =
+    let i = c .before .before .before .before .before .args .i in
+    made (nameSet i) _ _ _ _ (word-in i 0 _ (omega arith) (c .before .before .before .name-word .ensures)) (word-in i 1 _ (omega arith) (c .before .before .name-word2 .ensures))
+    (word-in i 2 _ (omega arith) (c .before .name-word3 .ensures))
+    (word-in i 3 _ (omega arith) (c .name-word4 .ensures))
+    (λ e l. ap (λ (b : Bool). b && bit e i) (le-ltb e room l))
 
 returns-2 : tie.Need-returns-2
-unfolding mem
-returns-2 c = fun-ext bit-none ∙ sym (name-none _ (c .if1 .left))
+returns-2 c = made noneOf 0 0 0 0 (λ e l. bit-none e) (λ e l. bit-none e) (λ e l. bit-none e) (λ e l. bit-none e) (λ e l. refl) ∙ sym (name-none _ (c .if1 .left))
 
 pub name-set-spec : {M : Type 1} → statement M
-name-set-spec = tie.close (tie.spec mul-t5 array-read-t8 returns returns-2)
+name-set-spec =
+    tie.close
+    (tie.spec
+    name-word-requires
+    name-word-requires-2
+    name-word-requires-3
+    name-word-requires-4
+    returns
+    returns-2)

@@ -1,11 +1,13 @@
--- `judging::leaves` meets its contract: the atoms passed have their values. Assumes nothing.
-use mathlib.Core.Path.{_≡_, refl, ap, _∙_, subst}
+-- `judging::leaves` meets its contract: the atoms passed have their values, a contact the one that `plan::touches` answers of its sets, a
+-- zero atom the one that `plan::is_vacant` answers of its first. Assumes nothing.
+use mathlib.Core.Path.{_≡_, refl, sym, ap, _∙_, subst}
+use mathlib.Core.Bool.{Bool}
 use Prim.Native.Nat.{ℕ, _-_, _≤_}
 use native.Mathlib.Omega.{arith}
 use lib.ListN.{length, length-set}
 use borrow.Author.Needs.{needs}
 use Rattle.evalset.specs.Sets.{memAt}
-use Rattle.judging.specs.Values.{valueOf, Sure, LeavesSay}
+use Rattle.judging.specs.Values.{atomOf, valueOf, Sure, LeavesSay}
 use Rattle.judging.proofs.Atoms.{sure-none, sure-more}
 use Rattle.judging.proofs.leaves.Statement.{statement}
 use Rattle.judging.proofs.leaves.Tie as tie
@@ -19,9 +21,6 @@ abbrev μ-loop : tie.MeasureT-loop
 loop-holds : tie.Need-loop-holds Inv-loop μ-loop
 loop-holds c = (omega arith, refl, sure-none _ _)
 
-element-copy-out-contact : tie.Need-element-copy-out-contact Inv-loop μ-loop
-element-copy-out-contact c = omega arith
-
 mul-x : tie.Need-mul-x Inv-loop μ-loop
 mul-x c = omega arith
 
@@ -34,8 +33,11 @@ mul-y c = omega arith
 element-copy-out-y : tie.Need-element-copy-out-y Inv-loop μ-loop
 element-copy-out-y c = omega arith
 
-atom-value-requires : tie.Need-atom-value-requires Inv-loop μ-loop
-atom-value-requires c κs = search needs
+element-copy-out-if1 : tie.Need-element-copy-out-if1 Inv-loop μ-loop
+element-copy-out-if1 c = omega arith
+
+touches-requires : tie.Need-touches-requires Inv-loop μ-loop
+touches-requires c κs = search needs
 
 settled-requires : tie.Need-settled-requires Inv-loop μ-loop
 settled-requires c κs = search needs
@@ -55,10 +57,43 @@ loop-less c = omega arith
 loop-again : tie.Need-loop-again Inv-loop μ-loop
 unfolding valueOf memAt
 loop-again c =
-    let loop = c .before .before .before .before .before .before .loop in (
+    let a = c .before .before .before .before .before .before .before .before .args in
+    let loop = c .before .before .before .before .before .before .before .loop in (
       omega arith,
       length-set (loop .out) (loop .i) _ ∙ loop .inv .1,
-      sure-more (loop .out) (loop .i) _ _ (omega arith) (loop .inv .2) (c .settled .ensures 0 (omega arith) ∙ c .before .atom-value .ensures),
+      sure-more (loop .out) (loop .i) _ _ (omega arith) (loop .inv .2)
+          (c .settled .ensures 0 (omega arith) ∙ c .before .touches .ensures
+          ∙ sym (ap (λ (b : Bool). atomOf (a .plan) b (memAt (a .t2 .xs) (loop .i)) (memAt (a .t2 .ys) (loop .i))) (c .before .before .if1 .taken))),
+    )
+
+is-vacant-requires : tie.Need-is-vacant-requires Inv-loop μ-loop
+is-vacant-requires c κs = search needs
+
+settled-requires-2 : tie.Need-settled-requires-2 Inv-loop μ-loop
+settled-requires-2 c κs = search needs
+
+mul-out-2 : tie.Need-mul-out-2 Inv-loop μ-loop
+mul-out-2 c = omega arith
+
+array-write-out-2 : tie.Need-array-write-out-2 Inv-loop μ-loop
+array-write-out-2 c = omega arith
+
+add-i-2 : tie.Need-add-i-2 Inv-loop μ-loop
+add-i-2 c = omega arith
+
+loop-less-2 : tie.Need-loop-less-2 Inv-loop μ-loop
+loop-less-2 c = omega arith
+
+loop-again-2 : tie.Need-loop-again-2 Inv-loop μ-loop
+unfolding valueOf memAt
+loop-again-2 c =
+    let a = c .before .before .before .before .before .before .before .before .args in
+    let loop = c .before .before .before .before .before .before .before .loop in (
+      omega arith,
+      length-set (loop .out) (loop .i) _ ∙ loop .inv .1,
+      sure-more (loop .out) (loop .i) _ _ (omega arith) (loop .inv .2)
+          (c .settled2 .ensures 0 (omega arith) ∙ c .before .is-vacant .ensures
+          ∙ sym (ap (λ (b : Bool). atomOf (a .plan) b (memAt (a .t2 .xs) (loop .i)) (memAt (a .t2 .ys) (loop .i))) (c .before .before .if1 .left))),
     )
 
 returns : tie.Need-returns Inv-loop μ-loop
@@ -76,16 +111,23 @@ leaves-spec =
     Inv-loop
     μ-loop
     loop-holds
-    element-copy-out-contact
     mul-x
     element-copy-out-x
     mul-y
     element-copy-out-y
-    atom-value-requires
+    element-copy-out-if1
+    touches-requires
     settled-requires
     mul-out
     array-write-out
     add-i
     loop-less
     loop-again
+    is-vacant-requires
+    settled-requires-2
+    mul-out-2
+    array-write-out-2
+    add-i-2
+    loop-less-2
+    loop-again-2
     returns)

@@ -7,7 +7,7 @@ use native.Mathlib.Omega.{arith}
 use borrow.Author.Needs.{needs}
 use lib.Arith.{lt-of-le-ne}
 use lib.ListN.{length, getD, take, drop, length-take}
-use Rattle.names.proofs.Gathering.{Going, going-first, few-tokens, few-names, number-few, going-end, token-inside, token-short, going-other, going-seventh, going-name}
+use Rattle.names.proofs.Gathering.{Going, going-first, few-tokens, few-names, number-few, going-end, token-inside, token-short, going-other, going-ninth, going-name}
 use Rattle.names.proofs.gather.Statement.{statement}
 use Rattle.names.proofs.gather.Tie as tie
 
@@ -95,7 +95,7 @@ number-of-requires c κs = (few-names (c .before .before .before .before .before
 returns : tie.Need-returns Inv-loop μ-loop
 returns c =
     let cut = c .before .before .before in
-    going-seventh (cut .before .before .before .before .loop .inv) (cut .before .before .before .loop-test .taken) _ _ _ (cut .before .before .if1 .left) (cut .before .wide .ensures) (ap (lent cut) (size-is cut)) (c .before .number-of .ensures) (c .if2 .taken)
+    going-ninth (cut .before .before .before .before .loop .inv) (cut .before .before .before .loop-test .taken) _ _ _ (cut .before .before .if1 .left) (cut .before .wide .ensures) (ap (lent cut) (size-is cut)) (c .before .number-of .ensures) (c .if2 .taken)
 
 sub-with-name : tie.Need-sub-with-name Inv-loop μ-loop
 sub-with-name c = omega arith

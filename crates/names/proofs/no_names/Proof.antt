@@ -1,4 +1,4 @@
--- `names::no_names` meets its contract: six empty entries are what no name is padded with. Assumes nothing.
+-- `names::no_names` meets its contract: eight empty entries are what no name is padded with. Assumes nothing.
 use mathlib.Core.Path.{refl}
 use Rattle.lists.specs.Padded.{pad}
 use Rattle.names.specs.Gather.{keptName, arraysOf}

@@ -12,13 +12,13 @@ use Rattle.pairing.proofs.masks_of.Statement.{statement}
 use Rattle.pairing.proofs.masks_of.Tie as tie
 
 abbrev Inv-loop : tie.InvT-loop
-Inv-loop n top xs ys masks₀ i₀ masks i = (i ≤ n) × (length masks ≡ 64) × MasksAre xs ys i top masks
+Inv-loop n top xs ys masks₀ i₀ masks i = (i ≤ n) × (length masks ≡ 256) × MasksAre xs ys i top masks
 
 abbrev μ-loop : tie.MeasureT-loop
 μ-loop n top xs ys masks₀ i₀ masks i = n - i
 
 loop-holds : tie.Need-loop-holds Inv-loop μ-loop
-loop-holds c = (omega arith, refl, λ e l. repeated-at (MaskIs _ _ 0 e) (mask-none _ _ e) (mask-none _ _ e) 64 e)
+loop-holds c = (omega arith, refl, λ e l. repeated-at (MaskIs _ _ 0 e) (mask-none _ _ e) (mask-none _ _ e) 256 e)
 
 mul-x : tie.Need-mul-x Inv-loop μ-loop
 mul-x c = omega arith

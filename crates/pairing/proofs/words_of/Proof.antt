@@ -17,7 +17,7 @@ use Rattle.pairing.proofs.words_of.Tie as tie
 
 abbrev Inv-loop : tie.InvT-loop
 Inv-loop contacts top seen₀ list₀ masks classes zeros words₀ count₀ e₀ seen list words count e =
-    (e ≤ classes) × (length words ≡ 64) × Noted (allPairs zeros masks e) seen₀ list₀ 0 seen list count
+    (e ≤ classes) × (length words ≡ 256) × Noted (allPairs zeros masks e) seen₀ list₀ 0 seen list count
 
 abbrev μ-loop : tie.MeasureT-loop
 μ-loop contacts top seen₀ list₀ masks classes zeros words₀ count₀ e₀ seen list words count e = classes - e

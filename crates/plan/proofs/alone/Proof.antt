@@ -1,38 +1,29 @@
 -- `plan::alone` meets its contract: one row after the other gets its own position. Assumes nothing.
-use mathlib.Core.Path.{_≡_, ap, _∙_}
-use Prim.Native.Nat.{_-_, _≤_}
+use mathlib.Core.Path.{_≡_, refl, ap, _∙_, subst}
+use mathlib.Core.Bool.{Bool}
+use Prim.Native.Nat.{ℕ, _-_, _≤_}
 use native.Mathlib.Omega.{arith}
-use lib.ListN.{length, length-set}
-use borrow.Author.Needs.{needs}
-use Rattle.evalset.specs.Sets.{room, memAt}
-use Rattle.plan.specs.Private.{selfOf}
+use Rattle.squares.proofs.Rows.{same-reach, same-square}
+use Rattle.plan.specs.Private.{addAt, selfOf, Grown}
 use Rattle.plan.proofs.Squares.{self-more}
 use Rattle.plan.proofs.alone.Statement.{statement}
 use Rattle.plan.proofs.alone.Tie as tie
 
 abbrev Inv-loop : tie.InvT-loop
-Inv-loop count none rows₀ i₀ rows i = (i ≤ count) × (length rows ≡ 64) × (memAt rows ≡ selfOf i)
+Inv-loop square₀ count i₀ square i = (i ≤ count) × Grown (selfOf i) square₀ square
 
 abbrev μ-loop : tie.MeasureT-loop
-μ-loop count none rows₀ i₀ rows i = count - i
-
-empty-requires : tie.Need-empty-requires Inv-loop μ-loop
-empty-requires c κs = search needs
-
-no-rows-requires : tie.Need-no-rows-requires Inv-loop μ-loop
-no-rows-requires c κs = search needs
+μ-loop square₀ count i₀ square i = count - i
 
 loop-holds : tie.Need-loop-holds Inv-loop μ-loop
-loop-holds c = (omega arith, search needs, c .no-rows .ensures)
+loop-holds c = (omega arith, record { long = refl; rows = c .before .pre .2 })
 
-insert-requires : tie.Need-insert-requires Inv-loop μ-loop
-insert-requires c κs = search needs
-
-mul-rows : tie.Need-mul-rows Inv-loop μ-loop
-mul-rows c = omega arith
-
-array-set-from-rows : tie.Need-array-set-from-rows Inv-loop μ-loop
-array-set-from-rows c = omega arith
+set-bit-requires : tie.Need-set-bit-requires Inv-loop μ-loop
+set-bit-requires c κs =
+    let s = c .before .before .before .before in
+    let loop = c .before .before .loop in
+    let r = same-reach (loop .square) (s .args .square .now) (loop .inv .1 .long) in
+    (same-square (loop .square) (s .args .square .now) (loop .inv .1 .long) (s .pre .0), omega (arith, r, s .pre .1), omega (arith, r, s .pre .1))
 
 add-i : tie.Need-add-i Inv-loop μ-loop
 add-i c = omega arith
@@ -41,20 +32,25 @@ loop-less : tie.Need-loop-less Inv-loop μ-loop
 loop-less c = omega arith
 
 loop-again : tie.Need-loop-again Inv-loop μ-loop
-unfolding room
 loop-again c =
-    let loop = c .before .before .loop in (
+    let loop = c .before .before .before .before .before .loop in
+    let g = c .before .before .set-bit .ensures in (
       omega arith,
-      length-set (loop .rows) (loop .i) (c .insert .result) ∙ loop .inv .1,
-      self-more (loop .rows) (loop .i) (c .before .before .before .before .empty .result) (c .insert .result) (omega arith) (omega arith)
-          (c .before .before .before .before .empty .ensures) (c .insert .ensures) (loop .inv .2),
+      record {
+        long = g .long ∙ loop .inv .1 .long;
+        rows = g .rows ∙ ap (λ (t : ℕ → ℕ → Bool). addAt t (loop .i) (loop .i)) (loop .inv .1 .rows) ∙ self-more (loop .i);
+      },
     )
+
+same-length : tie.Need-same-length Inv-loop μ-loop
+same-length c = c .before .loop .inv .1 .long
 
 returns : tie.Need-returns Inv-loop μ-loop
 returns c =
+    let a = c .before .before .before .args in
     let loop = c .before .loop in
-    let e : loop .i ≡ c .before .before .before .before .args .count = omega arith in
-    loop .inv .2 ∙ ap selfOf e
+    let e : loop .i ≡ a .count = omega arith in
+    subst (λ (n : ℕ). Grown (selfOf n) (a .square .now) (loop .square)) e (loop .inv .1)
 
 pub alone-spec : {M : Type 1} → statement M
 alone-spec =
@@ -62,13 +58,10 @@ alone-spec =
     (tie.spec
     Inv-loop
     μ-loop
-    empty-requires
-    no-rows-requires
     loop-holds
-    insert-requires
-    mul-rows
-    array-set-from-rows
+    set-bit-requires
     add-i
     loop-less
     loop-again
+    same-length
     returns)

@@ -1,4 +1,4 @@
--- `plan::evaluations` meets its contract: the seven powers are written out. Assumes nothing.
+-- `plan::evaluations` meets its contract: the nine powers are written out. Assumes nothing.
 use native.Mathlib.Omega.{arith}
 use Prim.Native.Nat.{ℕ, _^_, _≤_, _<_}
 use native.Mathlib.Nat.{le-antisymm}
@@ -29,12 +29,19 @@ returns-6 : tie.Need-returns-6
 returns-6 c = ap (λ (x : ℕ). 2 ^ x) (sym (c .match .keys6))
 
 returns-7 : tie.Need-returns-7
-returns-7 c =
+returns-7 c = ap (λ (x : ℕ). 2 ^ x) (sym (c .match .keys7))
+
+returns-8 : tie.Need-returns-8
+returns-8 c = ap (λ (x : ℕ). 2 ^ x) (sym (c .match .keys8))
+
+returns-9 : tie.Need-returns-9
+returns-9 c =
     let n = c .before .args .names in
     let r = c .match .rest in
-    let low : 6 ≤ n = above (above (above (above (above (above (omega arith) (r .0 .0 .0 .0 .0 .1)) (r .0 .0 .0 .0 .1)) (r .0 .0 .0 .1)) (r .0 .0 .1)) (r .0 .1)) (r .1) in
+    let some : 4 ≤ n = above (above (above (above (omega arith) (r .0 .0 .0 .0 .0 .0 .0 .1)) (r .0 .0 .0 .0 .0 .0 .1)) (r .0 .0 .0 .0 .0 .1)) (r .0 .0 .0 .0 .1) in
+    let low : 8 ≤ n = above (above (above (above some (r .0 .0 .0 .1)) (r .0 .0 .1)) (r .0 .1)) (r .1) in
     ap (λ (x : ℕ). 2 ^ x) (le-antisymm low (c .before .pre))
 
 pub evaluations-spec : {M : Type 1} → statement M
 evaluations-spec =
-    tie.close (tie.spec returns returns-2 returns-3 returns-4 returns-5 returns-6 returns-7)
+    tie.close (tie.spec returns returns-2 returns-3 returns-4 returns-5 returns-6 returns-7 returns-8 returns-9)

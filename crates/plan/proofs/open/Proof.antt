@@ -4,6 +4,7 @@ use lib.Pow.{pow-mono}
 use Prim.Native.Nat.{_≤_}
 use Rattle.plan.proofs.ReadLoop.{not-first, open-many, open-none, open-over, open-good}
 use borrow.Author.Needs.{needs}
+use Rattle.evalset.specs.Most.{most}
 use Rattle.plan.proofs.open.Statement.{statement}
 use Rattle.plan.proofs.open.Tie as tie
 
@@ -47,11 +48,11 @@ returns-4 c =
           (omega arith) (omega arith);
     }
 
--- more than 64 points, and so more than 2^names
+-- more than 256 points, and so more than 2^names
 returns-5 : tie.Need-returns-5
 returns-5 c =
     let given = c .before .before .before .before .word .given in
-    let few : given .0 .0 ≤ 6 = omega arith in
+    let few : given .0 .0 ≤ most = omega arith in
     record {
       to = open-over (c .before .before .before .before .before .before .args .word) (given .0 .0) (given .0 .1 .0) (given .1)
           few (omega arith) (omega (arith, pow-mono few));

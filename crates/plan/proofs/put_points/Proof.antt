@@ -5,7 +5,7 @@ use mathlib.Core.Path.{_≡_, refl, ap, ap₂, _∙_}
 use mathlib.Core.List.{List, map}
 use borrow.Author.Needs.{needs}
 use lib.ListN.{length, set, take, length-set}
-use Rattle.plan.specs.Words.{pointWord}
+use Rattle.plan.specs.Words.{pointWord, mostPoints}
 use Rattle.plan.specs.Private.{written}
 use Rattle.plan.proofs.Buffer.{written-none, points-more}
 use Rattle.plan.proofs.put_points.Statement.{statement}
@@ -54,7 +54,7 @@ loop-again : tie.Need-loop-again Inv-loop μ-loop
 loop-again c =
     let k = c .before .before .loop in
     let a = c .before .before .before .before .args in
-    let size : length (a .t1) ≡ 64 = search needs in
+    let size : length (a .t1) ≡ mostPoints = search needs in
     let fits : 1 + a .n ≤ length (a .buffer .now) = c .before .before .before .before .pre .1 in (
       omega arith,
       simp length-set (k .inv .1),

@@ -1,11 +1,31 @@
--- `plan::read_plan` meets its contract: the first word, the points and the contacts, each read from where the machine then stands.
+-- `plan::read_plan` meets its contract: the first word, the points and the rest, each read from where the machine then stands.
 -- Assumes nothing.
+use mathlib.Core.Logic.{inl, inr}
 use native.Mathlib.Omega.{arith}
 use lib.Pow.{pow-mono}
-use Rattle.plan.proofs.ReadLoop.{words-none, opens-wrong, opens-points, points-passed, points-refused, links-come, links-refused, reads-refused, reads-plan}
 use borrow.Author.Needs.{needs}
+use Rattle.squares.proofs.Rows.{narrow-reach, wide-reach}
+use Rattle.plan.specs.declared.PointsAnswer.the-variants as points-are
+use Rattle.plan.specs.Private.{PointsCome, PointsSay}
+use Rattle.plan.proofs.ReadLoop.{words-none, opens-wrong, opens-points, points-passed, points-refused, reads-refused}
 use Rattle.plan.proofs.read_plan.Statement.{statement}
 use Rattle.plan.proofs.read_plan.Tie as tie
+
+-- the first word is good, and then the points are
+come : (c : tie.After-known-told) → PointsCome (c .before .before .before .before .before .before .before .before .args .words .now) (c .before .opening .given .0 .0) (c .before .opening .given .0 .1 .0)
+come c =
+    let given = c .before .opening .given in
+    let kind = c .before .before .before .before .kind-of in
+    opens-points (c .before .before .before .before .before .before .before .before .args .words .now) (kind .result) (kind .ensures) (omega arith) (c .before .before .before .«open» .result) (c .before .before .before .«open» .ensures .to)
+    (given .0 .0) (given .0 .1 .0) (given .1)
+
+held : (c : tie.After-points)
+    → PointsSay (c .before .before .before .before .before .before .before .before .before .before .before .before .args .words .now) (c .before .before .before .before .before .opening .given .0 .0) (c .before .before .before .before .before .opening .given .0 .1 .0) points-are.All (c .before .before .before .read-points .result .points)
+held c =
+    let given = c .before .before .before .before .before .opening .given in
+    let points = c .before .before .before .read-points in
+    points-passed (c .before .before .before .before .before .before .before .before .before .before .before .before .args .words .now) (given .0 .0) (given .0 .1 .0) (points .result .answer) (points .result .points) (points .ensures)
+    (c .before .enum-told2 .given .1)
 
 refused-requires : tie.Need-refused-requires
 refused-requires c κs = search needs
@@ -43,14 +63,7 @@ returns-2 c =
     (c .refused2 .ensures)
 
 read-points-requires : tie.Need-read-points-requires
-read-points-requires c κs =
-    let a = c .before .before .before .before .before .before .before .before .args in
-    let given = c .before .opening .given in
-    let opened = c .before .before .before .«open» in
-    let kind = c .before .before .before .before .kind-of in
-    let come = opens-points (a .words .now) (kind .result) (kind .ensures) (omega arith) (opened .result) (opened .ensures .to)
-    (given .0 .0) (given .0 .1 .0) (given .1) in
-    come
+read-points-requires c κs = come c
 
 enum-known-passed : tie.Need-enum-known-passed
 enum-known-passed c = search needs
@@ -72,68 +85,44 @@ returns-3 c =
 enum-told-2 : tie.Need-enum-told-2
 enum-told-2 c = search needs
 
-alone-requires : tie.Need-alone-requires
-alone-requires c κs =
-    let a = c .before .before .before .before .before .before .before .before .before .before .before .args in
-    let given = c .before .before .before .before .opening .given in
-    let opened = c .before .before .before .before .before .before .«open» in
-    let kind = c .before .before .before .before .before .before .before .kind-of in
-    let come = opens-points (a .words .now) (kind .result) (kind .ensures) (omega arith) (opened .result) (opened .ensures .to)
-    (given .0 .0) (given .0 .1 .0) (given .1) in
-    omega (arith, come .room, pow-mono (come .few))
+few-bits-requires : tie.Need-few-bits-requires
+few-bits-requires c κs = search needs
 
-read-contacts-requires : tie.Need-read-contacts-requires
-read-contacts-requires c κs =
-    let a = c .before .before .before .before .before .before .before .before .before .before .before .before .args in
-    let given = c .before .before .before .before .before .opening .given in
-    let opened = c .before .before .before .before .before .before .before .«open» in
-    let kind = c .before .before .before .before .before .before .before .before .kind-of in
-    let come = opens-points (a .words .now) (kind .result) (kind .ensures) (omega arith) (opened .result) (opened .ensures .to)
-    (given .0 .0) (given .0 .1 .0) (given .1) in
-    let points = c .before .before .before .read-points in
-    let held = points-passed (a .words .now) (given .0 .0) (given .0 .1 .0) (points .result .answer) (points .result .points)
-    (points .ensures) (c .before .enum-told2 .given .1) in
-    (omega (arith, come .room, pow-mono (come .few)), held .1 .within)
+slice-aggregate-read-rest : tie.Need-slice-aggregate-read-rest
+slice-aggregate-read-rest c = search needs
 
-enum-known-answer : tie.Need-enum-known-answer
-enum-known-answer c = search needs
-
-refused-requires-4 : tie.Need-refused-requires-4
-refused-requires-4 c κs = search needs
+read-rest-requires : tie.Need-read-rest-requires
+read-rest-requires c κs =
+    let bits = c .before .few-bits in
+    record {
+      held = held (c .before .before .before);
+      is = inl (bits .ensures .0);
+      few = omega (arith, c .before .before .if2 .taken, narrow-reach (bits .result) (bits .ensures .0));
+      none = bits .ensures .1;
+    }
 
 returns-4 : tie.Need-returns-4
-returns-4 c =
-    let a = c .before .before .before .before .before .before .before .before .before .before .before .before .before .before .before .before .before .args in
-    let given = c .before .before .before .before .before .before .before .before .before .before .opening .given in
-    let points = c .before .before .before .before .before .before .before .before .read-points in
-    let held = points-passed (a .words .now) (given .0 .0) (given .0 .1 .0) (points .result .answer) (points .result .points)
-    (points .ensures) (c .before .before .before .before .before .before .enum-told2 .given .1) in
-    let contacts = c .before .before .before .before .read-contacts in
-    let say = contacts .ensures (given .0 .0) (held .1 .pts)
-    (links-come (a .words .now) (given .0 .0) (given .0 .1 .0) (held .0) (points .result .points) (held .1)
-    (c .before .before .before .before .before .alone .result) (c .before .before .before .before .before .alone .ensures)) in
-    let answer = c .before .before .answer .given in
-    reads-refused (a .words .now) (answer .0 .0) _
-    (links-refused (a .words .now) (given .0 .0) (held .1 .pts) (contacts .result .answer) (contacts .result .rows) say
-    (answer .0 .0) (answer .1))
-    (c .refused4 .ensures)
+returns-4 c = search needs
 
-enum-told-3 : tie.Need-enum-told-3
-enum-told-3 c = search needs
+all-bits-requires : tie.Need-all-bits-requires
+all-bits-requires c κs = search needs
+
+slice-aggregate-read-rest-2 : tie.Need-slice-aggregate-read-rest-2
+slice-aggregate-read-rest-2 c = search needs
+
+read-rest-requires-2 : tie.Need-read-rest-requires-2
+read-rest-requires-2 c κs =
+    let bits = c .before .all-bits in
+    let p = come (c .before .before .before .before .before .before .before) in
+    record {
+      held = held (c .before .before .before);
+      is = inr (bits .ensures .0);
+      few = omega (arith, p .room, pow-mono (p .few), wide-reach (bits .result) (λ z. omega (arith, z, bits .ensures .0)));
+      none = bits .ensures .1;
+    }
 
 returns-5 : tie.Need-returns-5
-returns-5 c =
-    let a = c .before .before .before .before .before .before .before .before .before .before .before .before .before .before .before .before .before .args in
-    let given = c .before .before .before .before .before .before .before .before .before .before .opening .given in
-    let points = c .before .before .before .before .before .before .before .before .read-points in
-    let held = points-passed (a .words .now) (given .0 .0) (given .0 .1 .0) (points .result .answer) (points .result .points)
-    (points .ensures) (c .before .before .before .before .before .before .enum-told2 .given .1) in
-    let contacts = c .before .before .before .before .read-contacts in
-    let say = contacts .ensures (given .0 .0) (held .1 .pts)
-    (links-come (a .words .now) (given .0 .0) (given .0 .1 .0) (held .0) (points .result .points) (held .1)
-    (c .before .before .before .before .before .alone .result) (c .before .before .before .before .before .alone .ensures)) in
-    reads-plan (a .words .now) (given .0 .0) (given .0 .1 .0) (held .0) (points .result .points) (held .1)
-    (contacts .result .answer) (contacts .result .rows) say (c .before .before .enum-told3 .given .1)
+returns-5 c = search needs
 
 pub read-plan-spec : {M : Type 1} → statement M
 read-plan-spec =
@@ -153,10 +142,11 @@ read-plan-spec =
     refused-requires-3
     returns-3
     enum-told-2
-    alone-requires
-    read-contacts-requires
-    enum-known-answer
-    refused-requires-4
+    few-bits-requires
+    slice-aggregate-read-rest
+    read-rest-requires
     returns-4
-    enum-told-3
+    all-bits-requires
+    slice-aggregate-read-rest-2
+    read-rest-requires-2
     returns-5)

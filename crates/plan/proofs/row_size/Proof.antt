@@ -1,64 +1,68 @@
--- `plan::row_size` meets its contract: a row is its pairs one after the other. Assumes nothing.
+-- `plan::row_size` meets its contract: so far the positions below j are counted. Assumes nothing.
 use native.Mathlib.Omega.{arith}
-use Prim.Native.Nat.{ℕ, _+_, _-_, _≤_}
-use mathlib.Core.Path.{_≡_, sym, ap, ap₂, _∙_}
+use Prim.Native.Nat.{ℕ, _+_, _-_, _*_, _≤_, _<_}
+use mathlib.Core.Path.{_≡_, sym, ap, _∙_}
+use mathlib.Core.Bool.{true}
+use mathlib.Core.List.{[], _∷_}
 use lib.ListN.{length, length-append}
 use Rattle.evalset.specs.Sets.{mem}
 use Rattle.plan.specs.Links.{rowTo}
-use Rattle.plan.proofs.Contacts.{row-none, row-more, row-small, pair-small}
+use Rattle.plan.proofs.Contacts.{row-first, row-next, row-small}
 use Rattle.plan.proofs.row_size.Statement.{statement}
 use Rattle.plan.proofs.row_size.Tie as tie
 
 abbrev Inv-loop : tie.InvT-loop
-Inv-loop row i n size₀ j₀ size j = (j ≤ n) × (size ≡ length (rowTo j i (mem row)))
+Inv-loop row i n size₀ j₀ size j = (i < j) × (j ≤ n) × (j < n → mem row j ≡ true) × (size ≡ length (rowTo j i (mem row)))
 
 abbrev μ-loop : tie.MeasureT-loop
 μ-loop row i n size₀ j₀ size j = n - j
 
+add-next : tie.Need-add-next Inv-loop μ-loop
+add-next c = omega arith
+
+next-requires : tie.Need-next-requires Inv-loop μ-loop
+next-requires c κs = (omega arith, omega arith)
+
 loop-holds : tie.Need-loop-holds Inv-loop μ-loop
 loop-holds c =
-    let a = c .args in
-    (omega arith, sym (ap length (row-none (a .i) (mem (a .row)))))
-
-pair-size-requires : tie.Need-pair-size-requires Inv-loop μ-loop
-pair-size-requires c κs =
-    (omega arith, omega arith)
+    let a = c .before .args in
+    let next = c .next .ensures in
+    (omega (arith, next .least), next .most, next .present, sym (ap length (row-first (a .n) (c .next .result) (a .i) (mem (a .row)) next)))
 
 add-size : tie.Need-add-size Inv-loop μ-loop
 add-size c =
     let a = c .before .before .before .args in
-    let loop = c .before .before .loop in
-    omega (
-      arith,
-      c .pair-size .ensures,
-      pair-small (a .i) (loop .j) (mem (a .row)),
-      loop .inv .1,
-      row-small (loop .j) (a .i)
-          (mem (a .row)),
-    )
+    let loop = c .before .loop in
+    omega (arith, loop .inv .3, row-small (loop .j) (a .i) (mem (a .row)))
 
-add-j : tie.Need-add-j Inv-loop μ-loop
-add-j c =
-    omega arith
+add-next-2 : tie.Need-add-next-2 Inv-loop μ-loop
+add-next-2 c = omega arith
+
+next-requires-2 : tie.Need-next-requires-2 Inv-loop μ-loop
+next-requires-2 c κs = (omega arith, omega arith)
 
 loop-less : tie.Need-loop-less Inv-loop μ-loop
-loop-less c =
-    omega arith
+loop-less c = let next = c .next2 .ensures in omega (arith, next .least, next .most)
 
 loop-again : tie.Need-loop-again Inv-loop μ-loop
 loop-again c =
-    let a = c .before .before .before .args in
-    let loop = c .before .before .loop in (
-      omega arith,
-      ap₂ _+_ (loop .inv .1) (c .pair-size .ensures) ∙ sym (length-append (rowTo (loop .j) (a .i) (mem (a .row))) _)
-          ∙ ap length (row-more (loop .j) (a .i) (mem (a .row))),
+    let a = c .before .before .before .before .args in
+    let loop = c .before .before .loop in
+    let next = c .next2 .ensures in
+    let t = mem (a .row) in (
+      omega (arith, next .least),
+      next .most,
+      next .present,
+      ap (λ (x : ℕ). x + 1) (loop .inv .3)
+          ∙ sym (length-append (rowTo (loop .j) (a .i) t) ((a .i * 256 + loop .j) ∷ []))
+          ∙ ap length (row-next (loop .j) (a .n) (c .next2 .result) (a .i) t (loop .inv .0) (loop .inv .2 (omega arith)) next),
     )
 
 returns : tie.Need-returns Inv-loop μ-loop
 returns c =
-    let a = c .before .before .args in
+    let a = c .before .before .before .args in
     let loop = c .before .loop in
-    let e : loop .j ≡ a .n = omega arith in loop .inv .1 ∙ ap (λ (x : ℕ). length (rowTo x (a .i) (mem (a .row)))) e
+    let e : loop .j ≡ a .n = omega arith in loop .inv .3 ∙ ap (λ (x : ℕ). length (rowTo x (a .i) (mem (a .row)))) e
 
 pub row-size-spec : {M : Type 1} → statement M
 row-size-spec =
@@ -66,10 +70,12 @@ row-size-spec =
     (tie.spec
     Inv-loop
     μ-loop
+    add-next
+    next-requires
     loop-holds
-    pair-size-requires
     add-size
-    add-j
+    add-next-2
+    next-requires-2
     loop-less
     loop-again
     returns)

@@ -1,6 +1,6 @@
 -- `report::as_read` meets its contract: what is put at the first byte is over the buffer. Assumes nothing.
+use Rattle.report.proofs.Putting.{puts-over}
 use borrow.Author.Needs.{needs}
-use Rattle.report.proofs.Reporting.{puts-over}
 use Rattle.report.proofs.as_read.Statement.{statement}
 use Rattle.report.proofs.as_read.Tie as tie
 

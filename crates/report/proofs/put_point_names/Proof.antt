@@ -1,29 +1,20 @@
 -- `report::put_point_names` meets its contract: where no byte was put there are no names. Assumes nothing.
-use mathlib.Core.Path.{ap}
 use native.Mathlib.Omega.{arith}
-use lib.ListN.{length, length-append}
 use Rattle.names.specs.Gather.{knownOf}
-use Rattle.report.proofs.Putting.{puts-text, fits-next, puts-more}
-use Rattle.report.proofs.Parts.{no-names, some-names, names-within}
+use Rattle.report.proofs.Putting.{puts-text, puts-length, puts-more}
+use Rattle.report.proofs.Parts.{no-names, some-names}
 use borrow.Author.Needs.{needs}
 use Rattle.report.proofs.put_point_names.Statement.{statement}
 use Rattle.report.proofs.put_point_names.Tie as tie
 
 put-names-requires : tie.Need-put-names-requires
-put-names-requires c κs =
-    let s = c .before .before in
-    (s .pre .0, omega (arith, s .pre .1, names-within (knownOf (s .args .names)) (s .args .e)))
+put-names-requires c κs = search needs
 
 slice-aggregate-put-text : tie.Need-slice-aggregate-put-text
 slice-aggregate-put-text c = search needs
 
 put-text-requires : tie.Need-put-text-requires
-put-text-requires c κs =
-    let s = c .before .before .before .before .before .before .before .before in
-    let a = s .args in
-    let first = c .before .before .before .before .before .put-names .ensures in
-    let e = no-names (knownOf (a .names)) (a .e) (omega (arith, first .place)) in
-    fits-next first _ (omega (arith, s .pre .1, simp length-append at (ap length e)))
+put-text-requires c κs = let first = c .before .before .before .before .before .put-names .ensures in omega (arith, c .before .before .before .before .before .before .before .before .pre, c .before .before .if1 .taken, puts-length (first .0))
 
 same-length : tie.Need-same-length
 same-length c = search needs
@@ -31,8 +22,8 @@ same-length c = search needs
 returns : tie.Need-returns
 returns c =
     let a = c .before .before .before .before .before .before .before .before .before .before .before .args in
-    let first = c .before .before .before .before .before .before .before .before .put-names .ensures in
-    puts-text (no-names (knownOf (a .names)) (a .e) (omega (arith, first .place))) (puts-more first (c .before .before .put-text .ensures))
+    let first = c .before .before .before .before .before .before .before .before .put-names .ensures .0 in
+    (puts-text (no-names (knownOf (a .names)) (a .e) (omega (arith, first .place, c .before .before .before .before .before .if1 .taken))) (puts-more first (c .before .before .put-text .ensures)), omega (arith, c .before .before .put-text .ensures .place, c .before .before .before .before .before .if1 .taken))
 
 same-length-2 : tie.Need-same-length-2
 same-length-2 c = search needs
@@ -41,7 +32,7 @@ returns-2 : tie.Need-returns-2
 returns-2 c =
     let a = c .before .before .before .before .before .before .args in
     let first = c .before .before .before .put-names .ensures in
-    puts-text (some-names (knownOf (a .names)) (a .e) (omega (arith, first .place))) first
+    (puts-text (some-names (knownOf (a .names)) (a .e) (omega (arith, first .0 .place, c .if1 .left))) (first .0), first .1)
 
 pub put-point-names-spec : {M : Type 1} → statement M
 put-point-names-spec =

@@ -5,7 +5,8 @@ use borrow.Author.Needs.{needs}
 use Rattle.report.specs.Putting.{Puts}
 use Rattle.report.specs.Pieces.{lineAt, linesFrom}
 use Rattle.report.proofs.Putting.{puts-none, puts-text, puts-length, puts-more}
-use Rattle.report.proofs.Reasons.{line-is, lines-none, lines-next, not-empty, gives}
+use Rattle.report.proofs.Pieces.{lines-none, lines-next, not-empty, gives}
+use Rattle.report.proofs.Reasons.{line-is}
 use Rattle.report.proofs.put_reasons.Statement.{statement}
 use Rattle.report.proofs.put_reasons.Tie as tie
 
@@ -26,7 +27,7 @@ same-length : tie.Need-same-length Inv-loop μ-loop
 same-length c = puts-length (c .before .before .loop .inv .2)
 
 returns : tie.Need-returns Inv-loop μ-loop
-returns c = let k = c .before .before .loop in gives _ (k .inv .0) (k .inv .2) _ (k .inv .1) (λ h. not-empty _ (k .inv .0) (k .inv .2) (omega (arith, c .if1 .taken)))
+returns c = let k = c .before .before .loop in gives _ (k .inv .0) (k .inv .2) _ (k .inv .1) (λ h. omega (arith, c .if1 .taken)) (λ h. not-empty _ (k .inv .0) (k .inv .2) (omega (arith, c .if1 .taken)))
 
 word-at-requires : tie.Need-word-at-requires Inv-loop μ-loop
 word-at-requires c κs = search needs
@@ -52,7 +53,7 @@ same-length-2 : tie.Need-same-length-2 Inv-loop μ-loop
 same-length-2 c = puts-length (c .before .loop .inv .2)
 
 returns-2 : tie.Need-returns-2 Inv-loop μ-loop
-returns-2 c = let k = c .before .loop in gives _ (k .inv .0) (k .inv .2) _ (k .inv .1) (λ h l. omega arith)
+returns-2 c = let k = c .before .loop in gives _ (k .inv .0) (k .inv .2) _ (k .inv .1) (λ h. omega arith) (λ h l. omega arith)
 
 pub put-reasons-spec : {M : Type 1} → statement M
 put-reasons-spec =

@@ -1,10 +1,10 @@
 -- `report::put_report` meets its contract: the sheet is loaded or refused, and each has its text (Reporting.antt). Assumes nothing.
-use borrow.Author.Needs.{needs}
-use native.Mathlib.Omega.{arith}
 use Rattle.search.specs.Asked.{questionOf}
 use Rattle.report.specs.Output.{rulesText}
-use Rattle.report.proofs.Putting.{puts-text}
-use Rattle.report.proofs.Reporting.{told-not-loaded, answer-comes, refused-text, loaded-some, loaded-text, refusal-room}
+use Rattle.report.proofs.Putting.{puts-text, puts-over}
+use Rattle.report.proofs.Pieces.{tells-short, tells-text}
+use Rattle.report.proofs.Reporting.{told-not-loaded, answer-comes, refused-text, loaded-some, loaded-text}
+use borrow.Author.Needs.{needs}
 use Rattle.report.proofs.put_report.Statement.{statement}
 use Rattle.report.proofs.put_report.Tie as tie
 
@@ -18,13 +18,16 @@ enum-told : tie.Need-enum-told
 enum-told c = search needs
 
 put-refusal-requires : tie.Need-put-refusal-requires
-put-refusal-requires c κs = (answer-comes _ _ _ (c .before .before .load .ensures), omega (arith, refusal-room (questionOf (c .before .before .before .before .before .before .before .args .asked)), c .before .before .before .before .before .before .before .pre .1))
+put-refusal-requires c κs = (answer-comes _ _ _ (c .before .before .load .ensures), search needs)
+
+no-names-requires : tie.Need-no-names-requires
+no-names-requires c κs = search needs
 
 same-length : tie.Need-same-length
 same-length c = search needs
 
 returns : tie.Need-returns
-returns c = puts-text (refused-text _ _ _ (c .before .before .before .before .before .load .ensures) (rulesText (questionOf (c .before .before .before .before .before .before .before .before .before .before .args .asked))) (told-not-loaded _ (c .before .before .before .before .match .keys2))) (c .before .before .put-refusal .ensures)
+returns c = tells-short (puts-over _ _ _ _ (puts-text (refused-text _ _ _ (c .before .before .before .before .before .before .load .ensures) (rulesText (questionOf (c .before .before .before .before .before .before .before .before .before .before .before .args .asked))) (told-not-loaded _ (c .before .before .before .before .before .match .keys2))) (c .before .before .before .put-refusal .ensures)))
 
 put-rules-requires : tie.Need-put-rules-requires
 put-rules-requires c κs =
@@ -38,7 +41,7 @@ same-length-3 : tie.Need-same-length-3
 same-length-3 c = search needs
 
 returns-2 : tie.Need-returns-2
-returns-2 c = puts-text (loaded-text _ _ _ (c .before .before .before .before .before .before .before .before .before .before .load .ensures) (c .before .before .before .before .before .before .before .before .enum-told .given .1) (rulesText (questionOf (c .before .before .before .before .before .before .before .before .before .before .before .before .before .before .before .args .asked)))) (c .before .before .before .before .put-rules .ensures)
+returns-2 c = tells-text (loaded-text _ _ _ (c .before .before .before .before .before .before .before .before .before .before .load .ensures) (c .before .before .before .before .before .before .before .before .enum-told .given .1) (rulesText (questionOf (c .before .before .before .before .before .before .before .before .before .before .before .before .before .before .before .args .asked)))) (c .before .before .before .before .put-rules .ensures)
 
 pub put-report-spec : {M : Type 1} → statement M
 put-report-spec =
@@ -48,6 +51,7 @@ put-report-spec =
     load-requires
     enum-told
     put-refusal-requires
+    no-names-requires
     same-length
     returns
     put-rules-requires

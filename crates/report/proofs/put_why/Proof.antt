@@ -1,8 +1,8 @@
 -- `report::put_why` meets its contract: the lines of what was written are the text, or a plan exists (Told.antt). Assumes nothing.
+use mathlib.Core.Path.{refl}
 use native.Mathlib.Omega.{arith}
 use Rattle.report.specs.Pieces.{Answers}
-use Rattle.report.proofs.Putting.{puts-text}
-use Rattle.report.proofs.Reporting.{puts-over}
+use Rattle.report.proofs.Putting.{puts-text, puts-over}
 use Rattle.report.proofs.Told.{told-no-tree, Explaining, no-tree-text, ToldTree, tree-told, tree-text}
 use borrow.Author.Needs.{needs}
 use Rattle.report.proofs.put_why.Statement.{statement}
@@ -56,7 +56,7 @@ same-length-4 c = search needs
 returns-2 : tie.Need-returns-2
 returns-2 c =
     let e = c .before .before .before .before .before .before .answer .given .1 in
-    Answers.lines (tree-text (explaining (c .before .before .before .before .before .before .before .before .before .before)) _ e _ _ _ (c .before .before .put-depths .ensures .1) _ (c .before .before .before .before .before .before .before .before .before .before .before .before .atom-texts .ensures))
+    Answers.lines (tree-text (explaining (c .before .before .before .before .before .before .before .before .before .before)) _ e _ _ _ (c .before .before .put-depths .ensures .1) _ (c .before .before .before .before .before .before .before .before .before .before .before .before .atom-texts .ensures)) refl
 
 pub put-why-spec : {M : Type 1} → statement M
 put-why-spec =

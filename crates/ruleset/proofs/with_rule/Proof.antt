@@ -7,7 +7,7 @@ use lib.ListN.{length, length-map}
 use lib.Seq.{length-take-le}
 use borrow.Author.Needs.{needs}
 use Rattle.ruleset.specs.Texts.{WithRule}
-use Rattle.ruleset.proofs.Adding.{gather-asked, seventh, rule-few, used-few, compile-asked, answer-now, grows-now, room-enough}
+use Rattle.ruleset.proofs.Adding.{gather-asked, ninth, rule-few, used-few, compile-asked, answer-now, grows-now, room-enough}
 use Rattle.ruleset.proofs.with_rule.Statement.{statement}
 use Rattle.ruleset.proofs.with_rule.Tie as tie
 
@@ -37,7 +37,7 @@ enum-known-enough c = search needs
 returns : tie.Need-returns
 unfolding WithRule
 returns c = λ rules f m. (
-  seventh _ _ _ _ _ _ rules f m _ (c .before .before .before .gather .ensures) _ (c .before .enough .given .1),
+  ninth _ _ _ _ _ _ rules f m _ (c .before .before .before .gather .ensures) _ (c .before .enough .given .1),
   λ e. absurd (let z : _≡_ {A = ℕ} 0 1 = cc in omega arith),
 )
 

@@ -13,7 +13,7 @@ use Rattle.evalset.proofs.Walk.{found-least, found-nothing}
 use Rattle.contact.specs.Plan.{met}
 use Rattle.contact.specs.Pieces.{wholePiece}
 use Rattle.contact.proofs.Pieces.{piece-allowed}
-use Rattle.search.specs.Compiled.{Compiled, Fit}
+use Rattle.search.specs.Compiled.{Compiled, state, Fit}
 use Rattle.search.specs.Planned.{marksIn}
 use Rattle.search.specs.Building.{MetSays, FoundSays}
 use Rattle.search.proofs.Finding.{leftOver, left-less, Sought, sought-start, sought-on, sought-found, sought-none}
@@ -21,12 +21,12 @@ use Rattle.search.proofs.first_piece.Statement.{statement}
 use Rattle.search.proofs.first_piece.Tie as tie
 
 abbrev Inv-loop : tie.InvT-loop
-Inv-loop chart s row rows left₀ left =
-    (atoms : List (Atom ℕ)) → Compiled chart atoms → Fit (chart .names) s (marksIn chart atoms row)
+Inv-loop chart allowed rows row left₀ left =
+    (atoms : List (Atom ℕ)) → Compiled chart atoms → Fit (chart .names) (state allowed rows) (marksIn chart atoms row)
     → Sought (chart .names) (marksIn chart atoms row) (mem left)
 
 abbrev μ-loop : tie.MeasureT-loop
-μ-loop chart s row rows left₀ left = leftOver (mem left)
+μ-loop chart allowed rows row left₀ left = leftOver (mem left)
 
 -- the evaluation whose piece is tried: the least that is left
 taken : (c : tie.After-known-told Inv-loop μ-loop) → Least room (c .before .e .given .0 .0) (mem (c .before .before .before .before .loop .left))
@@ -34,9 +34,9 @@ taken c = found-least _ room _ (sym (c .before .before .before .least .ensures) 
 
 -- its piece, and whether that meets the row
 tried : (c : tie.After-met-by Inv-loop μ-loop)
-    → let a = c .before .before .before .before .before .before .before .before .before .args in
+    → let a = c .before .before .before .before .before .before .before .before .args in
     let e = c .before .before .before .e .given .0 .0 in
-    (atoms : List (Atom ℕ)) → Compiled (a .chart) atoms → Fit (a .chart .names) (a .s) (marksIn (a .chart) atoms (a .row))
+    (atoms : List (Atom ℕ)) → Compiled (a .chart) atoms → Fit (a .chart .names) (state (a .allowed) (a .rows .now)) (marksIn (a .chart) atoms (a .row))
     → let whole = wholePiece (a .chart .names) (marksIn (a .chart) atoms (a .row)) e in
     ((f : ℕ) → mem (c .before .piece .result) f ≡ elem f whole)
     × (c .met-by .result ≡ all (met (marksIn (a .chart) atoms (a .row)) whole) (marksIn (a .chart) atoms (a .row)))

@@ -12,7 +12,7 @@ use Rattle.lists.specs.Search.{collect, elem}
 use Rattle.evalset.specs.Sets.{mem, memAt}
 use Rattle.contact.specs.Plan.{Mark, mark, rowMarks, gives}
 use Rattle.search.specs.Rows.{rowBits}
-use Rattle.search.specs.Compiled.{atomAt, Compiled, Fit}
+use Rattle.search.specs.Compiled.{atomAt, Compiled, state, Fit}
 use Rattle.search.specs.Planned.{GatheredSays}
 use Rattle.contact.proofs.Searching.{no-marks}
 use Rattle.search.proofs.Rows.{row-length, marks-take, marks-whole}
@@ -22,13 +22,13 @@ use Rattle.search.proofs.gathered.Statement.{statement}
 use Rattle.search.proofs.gathered.Tie as tie
 
 abbrev Inv-loop : tie.InvT-loop
-Inv-loop s row chart n acc₀ i₀ acc i =
+Inv-loop allowed rows row chart n acc₀ i₀ acc i =
     (i ≤ n) × (n ≡ chart .atoms)
-    × ((atoms : List (Atom ℕ)) → Compiled chart atoms → (ms : List Mark) → Fit (chart .names) s ms
+    × ((atoms : List (Atom ℕ)) → Compiled chart atoms → (ms : List Mark) → Fit (chart .names) (state allowed rows) ms
     → (e : ℕ) → mem acc e ≡ elem e (collect (gives (chart .names) ms) (rowMarks atoms (take i (rowBits n row)))))
 
 abbrev μ-loop : tie.MeasureT-loop
-μ-loop s row chart n acc₀ i₀ acc i = n - i
+μ-loop allowed rows row chart n acc₀ i₀ acc i = n - i
 
 empty-requires : tie.Need-empty-requires Inv-loop μ-loop
 empty-requires c κs = search needs
@@ -38,7 +38,7 @@ loop-holds c = (
   omega arith,
   refl,
   λ atoms h ms f e.
-      congr-fun (c .empty .ensures) e ∙ sym (ap (λ (marks : List Mark). elem e (collect (gives (c .before .args .t1 .names) ms) marks)) (no-marks atoms)),
+      congr-fun (c .empty .ensures) e ∙ sym (ap (λ (marks : List Mark). elem e (collect (gives (c .before .before .args .t1 .names) ms) marks)) (no-marks atoms)),
 )
 
 element-copy-out-contact : tie.Need-element-copy-out-contact Inv-loop μ-loop
@@ -74,7 +74,7 @@ loop-less c = omega arith
 loop-again : tie.Need-loop-again Inv-loop μ-loop
 unfolding memAt
 loop-again c =
-    let a = c .before .before .before .before .before .before .before .before .before .args in
+    let a = c .before .before .before .before .before .before .before .before .before .before .args in
     let loop = c .before .before .before .before .before .before .before .loop in
     let row = rowBits (a .t1 .atoms) (a .row) in
     let long = row-length (a .t1 .atoms) (a .row) in (
@@ -95,7 +95,7 @@ loop-again c =
 returns : tie.Need-returns Inv-loop μ-loop
 unfolding GatheredSays
 returns c = λ atoms h ms f e.
-    let a = c .before .before .before .args in
+    let a = c .before .before .before .before .args in
     let loop = c .before .loop in
     loop .inv .2 atoms h ms f e
     ∙ ap (λ (marks : List Mark). elem e (collect (gives (a .t1 .names) ms) marks)) (marks-whole atoms (a .t1 .atoms) (a .row) (loop .i) (omega arith))

@@ -25,19 +25,19 @@ least-of-requires c κs = search needs
 returns : tie.Need-returns
 unfolding GivenSays GatheredSays given room
 returns c = λ atoms h f e.
-    let a = c .before .before .before .before .args in
+    let a = c .before .before .before .before .before .args in
     let g = c .before .before .before .gathered .result in
     let ms = marksIn (a .chart) atoms (a .row) in
     let none : any (mem g) (below room) ≡ false = not-true _ (sym (c .before .before .is-empty .ensures) ∙ c .before .if1 .taken) in
     c .least-of .ensures e
     ∙ ap (elem e) (least-is _ (h .few) _ ms f
     ∙ sym (or-else-none (collect (gives (a .chart .names) ms) ms) _ (mem g) (c .before .before .before .gathered .ensures atoms h ms f)
-    (mem-below g (omega arith)) none))
+    (mem-below g) none))
 
 returns-2 : tie.Need-returns-2
 unfolding GivenSays GatheredSays given
 returns-2 c = λ atoms h f e.
-    let a = c .before .before .before .args in
+    let a = c .before .before .before .before .args in
     let g = c .before .before .gathered .result in
     let ms = marksIn (a .chart) atoms (a .row) in
     let here = c .before .before .gathered .ensures atoms h ms f in

@@ -6,7 +6,8 @@ use mathlib.Mathlib.Logic.Function.Defs.{congr-fun}
 use Prim.Native.Nat.{ℕ}
 use borrow.Author.Needs.{needs}
 use Rattle.lists.specs.Search.{first, below, elem}
-use Rattle.evalset.specs.Sets.{room, memAt}
+use Rattle.evalset.specs.Sets.{room}
+use Rattle.squares.specs.Square.{squareAt}
 use Rattle.search.specs.Tests.{pairOf}
 use Rattle.search.proofs.gives.Statement.{statement}
 use Rattle.search.proofs.gives.Tie as tie
@@ -35,9 +36,9 @@ least-of-requires c κs = search needs
 returns : tie.Need-returns
 returns c = λ e.
     let a = c .before .before .before .before .before .before .args in
-    rw (c .before .before .before .before .before .if1 .taken, c .before .before .before .before .if2 .taken)
+    rw (c .before .before .before .before .if1 .taken, c .before .before .before .if2 .taken)
     (c .pair-of .ensures e
-    ∙ ap₂ (λ (f g : ℕ → Bool). elem e (pairOf f g (memAt (a .s .rows)))) (c .before .before .meet .ensures) (c .before .meet2 .ensures))
+    ∙ ap₂ (λ (f g : ℕ → Bool). elem e (pairOf f g (squareAt (a .rows .now)))) (c .before .before .meet .ensures) (c .before .meet2 .ensures))
 
 returns-2 : tie.Need-returns-2
 returns-2 c = λ e. rw (c .before .before .if1 .taken, c .before .if2 .left) (congr-fun (c .empty .ensures) e)

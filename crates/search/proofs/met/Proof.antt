@@ -4,7 +4,8 @@ use mathlib.Core.Path.{ap, ap₂, _∙_, fun-ext}
 use Prim.Native.Nat.{ℕ}
 use borrow.Author.Needs.{needs}
 use Rattle.lists.specs.Search.{any, below}
-use Rattle.evalset.specs.Sets.{room, memAt}
+use Rattle.evalset.specs.Sets.{room}
+use Rattle.squares.specs.Square.{squareAt}
 use Rattle.search.specs.Tests.{startsOf}
 use Rattle.search.proofs.Meeting.{pair-some}
 use Rattle.search.proofs.met.Statement.{statement}
@@ -27,11 +28,11 @@ is-empty-requires-2 c κs = search needs
 
 returns : tie.Need-returns
 returns c =
-    let a = c .before .before .before .before .before .before .args in
+    let a = c .before .before .before .before .before .before .before .args in
     rw (c .before .before .before .before .if1 .taken, c .before .before .before .if2 .taken)
     (ap not (c .is-empty .ensures) ∙ Bool·not-not _
     ∙ ap (λ (p : ℕ → Bool). any p (below room)) (fun-ext (c .before .pair-of .ensures)) ∙ pair-some _ _ _
-    ∙ ap₂ (λ (f g : ℕ → Bool). any (startsOf f g (memAt (a .rows))) (below room)) (c .before .before .before .before .before .meet .ensures)
+    ∙ ap₂ (λ (f g : ℕ → Bool). any (startsOf f g (squareAt (a .rows .now))) (below room)) (c .before .before .before .before .before .meet .ensures)
     (c .before .before .meet2 .ensures))
 
 returns-2 : tie.Need-returns-2

@@ -35,18 +35,18 @@ abbrev μ-loop : tie.MeasureT-loop
 
 -- whether the mark of the atom at hand is met
 here : (c : tie.After-met Inv-loop μ-loop)
-    → let a = c .before .before .before .before .before .before .before .args in
+    → let a = c .before .before .before .before .before .before .before .before .args in
     let i = c .before .before .before .before .before .before .loop .i in
-    (atoms : List (Atom ℕ)) → Compiled (a .t1) atoms → (ms : List Mark) → RowsAre (a .t1 .names) (a .rows) ms
+    (atoms : List (Atom ℕ)) → Compiled (a .t1) atoms → (ms : List Mark) → RowsAre (a .t1 .names) (a .rows .now) ms
     → (set : List ℕ) → ((f : ℕ) → mem (a .piece) f ≡ elem f set) → ((f : ℕ) → In f set → allowed (a .t1 .names) ms f ≡ true)
     → c .met .result ≡ met ms set (mark (atomAt atoms i) (getD (rowBits (a .t1 .atoms) (a .row)) i false))
 unfolding memAt
 here c = λ atoms h ms are set same ok.
-    let a = c .before .before .before .before .before .before .before .args in
+    let a = c .before .before .before .before .before .before .before .before .args in
     let i = c .before .before .before .before .before .before .loop .i in
     let within : i < length atoms = omega (arith, h .counted) in
     c .met .ensures
-    ∙ met-is (a .t1 .names) (h .few) (a .rows) ms are _ set same ok _ _ _ _ (atomAt atoms i) (h .atom-is i within)
+    ∙ met-is (a .t1 .names) (h .few) (a .rows .now) ms are _ set same ok _ _ _ _ (atomAt atoms i) (h .atom-is i within)
     ∙ ap (λ (v : Bool). met ms set (mark (atomAt atoms i) v)) (c .before .value-in .ensures)
 
 loop-holds : tie.Need-loop-holds Inv-loop μ-loop
@@ -80,7 +80,7 @@ met-requires c κs = search needs
 returns : tie.Need-returns Inv-loop μ-loop
 unfolding MetSays
 returns c = λ atoms h ms are set same ok.
-    let a = c .before .before .before .before .before .before .before .before .args in
+    let a = c .before .before .before .before .before .before .before .before .before .args in
     let i = c .before .before .before .before .before .before .before .loop .i in
     let long = row-length (a .t1 .atoms) (a .row) in
     let unmet = sym (here (c .before) atoms h ms are set same ok) ∙ not-true _ (c .if1 .taken) in
@@ -96,7 +96,7 @@ loop-less c = omega arith
 
 loop-again : tie.Need-loop-again Inv-loop μ-loop
 loop-again c =
-    let a = c .before .before .before .before .before .before .before .before .args in
+    let a = c .before .before .before .before .before .before .before .before .before .args in
     let loop = c .before .before .before .before .before .before .before .loop in
     let row = rowBits (a .t1 .atoms) (a .row) in
     let long = row-length (a .t1 .atoms) (a .row) in (
@@ -112,7 +112,7 @@ loop-again c =
 returns-2 : tie.Need-returns-2 Inv-loop μ-loop
 unfolding MetSays
 returns-2 c = λ atoms h ms are set same ok.
-    let a = c .before .before .args in
+    let a = c .before .before .before .args in
     let loop = c .before .loop in
     sym (ap (all (met ms set)) (sym (marks-whole atoms (a .t1 .atoms) (a .row) (loop .i) (omega arith))) ∙ loop .inv .2 atoms h ms are set same ok)
 

@@ -9,15 +9,16 @@ use borrow.Author.Count.{below-none}
 use borrow.Author.Needs.{needs}
 use Rattle.lists.proofs.Below.{any-at, any-none}
 use Rattle.lists.specs.Search.{first, below}
-use Rattle.evalset.specs.Sets.{room, mem, memAt, minusOf, addOf, fromOf, foundOf}
+use Rattle.evalset.specs.Sets.{room, mem, minusOf, addOf, fromOf, foundOf}
 use Rattle.evalset.proofs.Walk.{from-zero, Step, step, stop, found-least, found-nothing}
+use Rattle.squares.specs.Square.{squareAt}
 use Rattle.search.proofs.Walks.{Passed, starts-alone, starts-yes, walk-on, walk-found, walk-ends, pair-found, pair-none}
 use Rattle.search.proofs.pair_of.Statement.{statement}
 use Rattle.search.proofs.pair_of.Tie as tie
 
 abbrev Inv-loop : tie.InvT-loop
 Inv-loop second rows none rest₀ from₀ rest from =
-    (from ≤ room) × (mem rest ≡ fromOf from (mem rest₀)) × Passed (mem rest₀) (mem second) (memAt rows) from
+    (from ≤ room) × (mem rest ≡ fromOf from (mem rest₀)) × Passed (mem rest₀) (mem second) (squareAt rows) from
 
 abbrev μ-loop : tie.MeasureT-loop
 μ-loop second rows none rest₀ from₀ rest from = room - from
@@ -25,17 +26,19 @@ abbrev μ-loop : tie.MeasureT-loop
 -- the evaluation that was taken
 taken : (c : tie.After-known-told Inv-loop μ-loop)
     → Step room (c .before .before .before .before .before .loop .from) (c .before .p .given .0 .0)
-    (mem (c .before .before .before .before .before .before .before .args .first)) (mem (c .before .before .before .before .before .loop .rest))
+    (mem (c .before .before .before .before .before .before .before .before .args .first)) (mem (c .before .before .before .before .before .loop .rest))
 taken c =
     step room _ _ _ (c .before .before .before .before .before .loop .inv .1) _
     (sym (c .before .before .before .least .ensures) ∙ c .before .p .given .1)
 
 -- the least of its partners
 partner : (c : tie.After-least2 Inv-loop μ-loop)
-    → let a = c .before .before .before .before .before .before .before .before .before .before .args in
-    c .least2 .result ≡ foundOf (first (minusOf (mem (a .second)) (memAt (a .t3) (c .before .before .before .before .p .given .0 .0))) (below room))
-unfolding memAt
-partner c = c .least2 .ensures ∙ ap (λ (p : ℕ → Bool). foundOf (first p (below room))) (c .before .minus .ensures)
+    → let a = c .before .before .before .before .before .before .before .before .before .before .before .args in
+    c .least2 .result ≡ foundOf (first (minusOf (mem (a .second)) (squareAt (a .rows .now) (c .before .before .before .before .p .given .0 .0))) (below room))
+partner c =
+    let a = c .before .before .before .before .before .before .before .before .before .before .before .args in
+    c .least2 .ensures
+    ∙ ap (λ (p : ℕ → Bool). foundOf (first p (below room))) (c .before .minus .ensures ∙ ap (minusOf (mem (a .second))) (c .before .before .row-at .ensures))
 
 empty-requires : tie.Need-empty-requires Inv-loop μ-loop
 empty-requires c κs = search needs
@@ -60,13 +63,8 @@ returns c = λ e.
     ∙ pair-none _ _ _ (walk-ends _ _ _ (loop .from) (loop .inv .2)
     (stop room (loop .from) _ _ (loop .inv .1) (sym (c .before .before .least .ensures) ∙ c .enum-told .given .1))) e
 
-mul-r : tie.Need-mul-r Inv-loop μ-loop
-unfolding room
-mul-r c = omega (arith, taken c .within)
-
-array-copy-out-r : tie.Need-array-copy-out-r Inv-loop μ-loop
-unfolding room
-array-copy-out-r c = taken c .within
+row-at-requires : tie.Need-row-at-requires Inv-loop μ-loop
+row-at-requires c κs = search needs
 
 minus-requires : tie.Need-minus-requires Inv-loop μ-loop
 minus-requires c κs = search needs
@@ -140,8 +138,7 @@ pair-of-spec =
     enum-known-p
     enum-told
     returns
-    mul-r
-    array-copy-out-r
+    row-at-requires
     minus-requires
     least-requires-2
     enum-known-q

@@ -8,25 +8,26 @@ use native.Mathlib.Omega.{arith}
 use borrow.Author.Needs.{needs}
 use Rattle.lists.specs.Search.{first, below}
 use Rattle.lists.proofs.Below.{Least}
-use Rattle.evalset.specs.Sets.{room, mem, memAt, joinOf, minusOf, addOf, foundOf}
+use Rattle.evalset.specs.Sets.{room, mem, joinOf, minusOf, addOf, foundOf}
 use Rattle.evalset.specs.Most.{most}
 use Rattle.evalset.proofs.Members.{names-room}
 use Rattle.evalset.proofs.Walk.{found-least, found-nothing}
-use Rattle.contact.specs.Plan.{Mark, allowed}
-use Rattle.search.specs.Compiled.{Fit}
+use Rattle.squares.specs.Square.{squareAt}
+use Rattle.contact.specs.Plan.{Mark, allowed as allowedBy}
+use Rattle.search.specs.Compiled.{state, Fit}
 use Rattle.search.proofs.Fitting.{allowed-low}
 use Rattle.search.proofs.Growing.{Growing, unseen, unseen-less, add-own, join-own, fresh, grow-start, grow-on, grow-ends}
 use Rattle.search.proofs.piece.Statement.{statement}
 use Rattle.search.proofs.piece.Tie as tie
 
 abbrev Inv-loop : tie.InvT-loop
-Inv-loop e s looked₀ piece₀ looked piece =
+Inv-loop allowed rows e looked₀ piece₀ looked piece =
     (e < room → mem piece e ≡ true)
-    × ((names : ℕ) → names ≤ most → (ms : List Mark) → Fit names s ms → allowed names ms e ≡ true
+    × ((names : ℕ) → names ≤ most → (ms : List Mark) → Fit names (state allowed rows) ms → allowedBy names ms e ≡ true
     → Growing names ms e (mem piece) (mem looked))
 
 abbrev μ-loop : tie.MeasureT-loop
-μ-loop e s looked₀ piece₀ looked piece = unseen (mem looked)
+μ-loop allowed rows e looked₀ piece₀ looked piece = unseen (mem looked)
 
 -- the evaluation that is looked at: the least that was not
 taken : (c : tie.After-known-told Inv-loop μ-loop)
@@ -51,7 +52,7 @@ insert-requires c κs = search needs
 loop-holds : tie.Need-loop-holds Inv-loop μ-loop
 loop-holds c =
     let looked = c .before .empty .ensures in
-    let piece = c .insert .ensures ∙ ap (λ (set : ℕ → Bool). addOf set (c .before .before .args .e)) looked in (
+    let piece = c .insert .ensures ∙ ap (λ (set : ℕ → Bool). addOf set (c .before .before .before .args .e)) looked in (
       λ l. add-own _ _ piece l,
       λ names few ms f ok. growing (sym piece) (sym looked) (grow-start names ms _),
     )
@@ -81,13 +82,8 @@ returns c =
           ∙ sym (c .before .before .least .ensures) ∙ c .enum-told .given .1));
     }
 
-mul-r : tie.Need-mul-r Inv-loop μ-loop
-unfolding room
-mul-r c = omega (arith, taken c .within)
-
-element-copy-out-r : tie.Need-element-copy-out-r Inv-loop μ-loop
-unfolding room
-element-copy-out-r c = taken c .within
+row-at-requires : tie.Need-row-at-requires Inv-loop μ-loop
+row-at-requires c κs = search needs
 
 minus-requires-2 : tie.Need-minus-requires-2 Inv-loop μ-loop
 minus-requires-2 c κs = search needs
@@ -100,20 +96,20 @@ insert-requires-2 c κs = search needs
 
 loop-less : tie.Need-loop-less Inv-loop μ-loop
 loop-less c =
-    let t = taken (c .before .before .before .before .before) in
-    let loop = c .before .before .before .before .before .before .before .before .before .before .loop in
+    let t = taken (c .before .before .before .before) in
+    let loop = c .before .before .before .before .before .before .before .before .before .loop in
     subst (λ (set : ℕ → Bool). unseen set < unseen (mem (loop .looked))) (sym (c .insert2 .ensures))
     (unseen-less (mem (loop .looked)) _ (t .within) (fresh (mem (loop .piece)) (mem (loop .looked)) _ (t .passes) .1))
 
 loop-again : tie.Need-loop-again Inv-loop μ-loop
-unfolding memAt
 loop-again c =
     let a = c .before .before .before .before .before .before .before .before .before .before .before .before .before .args in
-    let t = taken (c .before .before .before .before .before) in
-    let loop = c .before .before .before .before .before .before .before .before .before .before .loop in
-    let near : ℕ → Bool = minusOf (mem (a .t1 .allowed)) (memAt (a .t1 .rows) (c .before .before .before .before .before .before .p .given .0 .0)) in
+    let t = taken (c .before .before .before .before) in
+    let loop = c .before .before .before .before .before .before .before .before .before .loop in
+    let near : ℕ → Bool = minusOf (mem (a .allowed)) (squareAt (a .rows .now) (c .before .before .before .before .before .p .given .0 .0)) in
     let piece : mem (c .before .join .result) ≡ joinOf (mem (loop .piece)) near =
-    c .before .join .ensures ∙ ap (joinOf (mem (loop .piece))) (c .before .before .minus2 .ensures) in (
+    c .before .join .ensures ∙ ap (joinOf (mem (loop .piece)))
+    (c .before .before .minus2 .ensures ∙ ap (minusOf (mem (a .allowed))) (c .before .before .before .row-at .ensures)) in (
       λ l. congr-fun piece _ ∙ join-own (mem (loop .piece)) near (a .e) (loop .inv .0 l),
       λ names few ms f ok.
           growing (sym piece) (sym (c .insert2 .ensures))
@@ -135,8 +131,7 @@ piece-spec =
     enum-known-p
     enum-told
     returns
-    mul-r
-    element-copy-out-r
+    row-at-requires
     minus-requires-2
     join-requires
     insert-requires-2

@@ -25,14 +25,14 @@ first-piece-requires c κs = search needs
 returns : tie.Need-returns
 unfolding PointsSay GivenSays
 returns c = λ atoms h f e.
-    let a = c .before .before .before .args in
+    let a = c .before .before .before .before .args in
     c .given .ensures atoms h f e
     ∙ ap (λ (x : Asked). elem e (givenBy (questionOf x) (a .chart .names) (marksIn (a .chart) atoms (a .row)))) (sym (c .before .enum-told .given .1))
 
 returns-2 : tie.Need-returns-2
 unfolding PointsSay FoundSays
 returns-2 c = λ atoms h f e.
-    let a = c .before .before .before .before .args in
+    let a = c .before .before .before .before .before .args in
     c .before .first-piece .ensures atoms h f .given e
     ∙ ap (λ (x : Asked). elem e (givenBy (questionOf x) (a .chart .names) (marksIn (a .chart) atoms (a .row)))) (sym (c .before .before .enum-told2 .given .1))
 

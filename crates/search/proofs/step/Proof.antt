@@ -24,11 +24,17 @@ element-copy-out-y c = search needs
 decided-requires : tie.Need-decided-requires
 decided-requires c κs = search needs
 
+same-length : tie.Need-same-length
+same-length c = search needs
+
 returns : tie.Need-returns
 unfolding StepSays memAt
-returns c = λ atoms h l ms f.
-    let a = c .before .before .before .before .args in
-    fit-step _ (h .few) _ _ _ _ (atomAt atoms (a .k)) (h .atom-is (a .k) l) ms _ _ f (c .decided .ensures)
+returns c = (
+  c .before .before .decided .ensures .long,
+  λ atoms h l are wide ms f.
+      let a = c .before .before .before .before .before .before .before .before .args in
+      fit-step _ (h .few) _ _ _ _ (atomAt atoms (a .k)) (h .atom-is (a .k) l) ms _ are _ _ wide f (c .before .before .decided .ensures),
+)
 
 pub step-spec : {M : Type 1} → statement M
 step-spec =
@@ -40,4 +46,5 @@ step-spec =
     mul-y
     element-copy-out-y
     decided-requires
+    same-length
     returns)

@@ -7,13 +7,13 @@ use Rattle.test_calls.proofs.every_somewhere.Statement.{statement}
 use Rattle.test_calls.proofs.every_somewhere.Tie as tie
 
 abbrev Inv-loop : tie.InvT-loop
-Inv-loop words₀ e₀ words e = length words ≡ 2083
+Inv-loop words₀ e₀ words e = length words ≡ 32643
 
 abbrev μ-loop : tie.MeasureT-loop
-μ-loop words₀ e₀ words e = 64 - e
+μ-loop words₀ e₀ words e = 256 - e
 
-marked-requires : tie.Need-marked-requires Inv-loop μ-loop
-marked-requires c κs = search needs
+marked-largest-requires : tie.Need-marked-largest-requires Inv-loop μ-loop
+marked-largest-requires c κs = search needs
 
 slice-aggregate-put-every : tie.Need-slice-aggregate-put-every Inv-loop μ-loop
 slice-aggregate-put-every c = search needs
@@ -54,7 +54,7 @@ every-somewhere-spec =
     (tie.spec
     Inv-loop
     μ-loop
-    marked-requires
+    marked-largest-requires
     slice-aggregate-put-every
     put-every-requires
     loop-holds

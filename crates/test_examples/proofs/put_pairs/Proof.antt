@@ -10,7 +10,7 @@ abbrev Inv-loop : tie.InvT-loop
 Inv-loop text₀ at end₀ k₀ text end k = length text ≡ length text₀
 
 abbrev μ-loop : tie.MeasureT-loop
-μ-loop text₀ at end₀ k₀ text end k = 3969 - k
+μ-loop text₀ at end₀ k₀ text end k = 65025 - k
 
 loop-holds : tie.Need-loop-holds Inv-loop μ-loop
 loop-holds c = search needs

@@ -10,7 +10,7 @@ abbrev Inv-loop : tie.InvT-loop
 Inv-loop text₀ at end₀ i₀ text end i = length text ≡ length text₀
 
 abbrev μ-loop : tie.MeasureT-loop
-μ-loop text₀ at end₀ i₀ text end i = 63 - i
+μ-loop text₀ at end₀ i₀ text end i = 255 - i
 
 loop-holds : tie.Need-loop-holds Inv-loop μ-loop
 loop-holds c = search needs

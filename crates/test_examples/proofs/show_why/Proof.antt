@@ -1,7 +1,7 @@
 -- `test_examples::show_why` is safe: the text, and the piece of a tree's, is a part of its buffer. Assumes nothing.
 use mathlib.Core.Path.{sym}
 use lib.Seq.{length-take-le}
-use Rattle.report.proofs.Reasons.{answered-text}
+use Rattle.report.proofs.Pieces.{answered-text}
 use borrow.Author.Needs.{needs}
 use Rattle.test_examples.proofs.show_why.Statement.{statement}
 use Rattle.test_examples.proofs.show_why.Tie as tie

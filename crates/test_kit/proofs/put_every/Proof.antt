@@ -2,7 +2,7 @@
 -- Assumes nothing.
 use borrow.Author.Needs.{needs}
 use mathlib.Core.Path.{_≡_, ap}
-use Prim.Native.Nat.{ℕ, _-_, _≤_, _<_, _^_}
+use Prim.Native.Nat.{ℕ, _+_, _-_, _≤_, _<_, _^_}
 use native.Mathlib.Omega.{arith}
 use Rattle.lists.specs.Search.{collect, below}
 use Rattle.lists.proofs.Below.{collect-more}
@@ -14,34 +14,28 @@ use Rattle.test_kit.proofs.put_every.Statement.{statement}
 use Rattle.test_kit.proofs.put_every.Tie as tie
 
 abbrev Inv-loop : tie.InvT-loop
-Inv-loop words₀ names points n first end₀ i₀ words end i = (i ≤ n) × Puts (collect (contactsOf n) (below i)) end₀ words₀ words end
+Inv-loop words₀ first last n at end₀ i₀ words end i = (i ≤ n) × Puts (collect (contactsOf n) (below i)) end₀ words₀ words end
 
 abbrev μ-loop : tie.MeasureT-loop
-μ-loop words₀ names points n first end₀ i₀ words end i = n - i
+μ-loop words₀ first last n at end₀ i₀ words end i = n - i
 
-before-last : (c : tie.After-loop Inv-loop μ-loop) → let k = c .before in let a = k .before .before .before .before .before .before .before .before .before .before .args in Puts (everyBefore (a .names) (a .points)) 0 (a .words .now) (k .loop .words) (k .loop .end)
+before-last : (c : tie.After-loop Inv-loop μ-loop) → let k = c .before in let a = k .before .before .before .before .before .before .before .before .before .before .args in Puts (everyBefore (a .first) (a .last + 1)) 0 (a .words .now) (k .loop .words) (k .loop .end)
 unfolding everyBefore
 before-last c =
     let k = c .before in
     let rising = k .before .before .before in
     let word = rising .before .before .before .before in
-    let n = word .before .before .before .args .points in
+    let n = word .before .before .before .args .last + 1 in
     let all : k .loop .i ≡ n = omega arith in
     puts-more (puts-more (word .put-word .ensures) (rising .put-rising .ensures)) (puts-as (ap (λ (i : ℕ). collect (contactsOf n) (below i)) all) (k .loop .inv .1))
 
 few : (c : tie.After-loop Inv-loop μ-loop) → c .before .loop .end < 2 ^ 28
 few c =
     let a = c .before .before .before .before .before .before .before .before .before .before .before .args in
-    omega (arith, before-last c .place, every-few (a .names) (a .points) (omega arith))
+    omega (arith, before-last c .place, every-few (a .first) (a .last + 1) (omega arith))
 
-mul-put-word : tie.Need-mul-put-word Inv-loop μ-loop
-mul-put-word c = search needs
-
-add-put-word : tie.Need-add-put-word Inv-loop μ-loop
-add-put-word c = search needs
-
-add-put-word-2 : tie.Need-add-put-word-2 Inv-loop μ-loop
-add-put-word-2 c = search needs
+add-n : tie.Need-add-n Inv-loop μ-loop
+add-n c = search needs
 
 put-word-requires : tie.Need-put-word-requires Inv-loop μ-loop
 put-word-requires c κs = search needs
@@ -76,14 +70,14 @@ loop-less c = search needs
 loop-again : tie.Need-loop-again Inv-loop μ-loop
 loop-again c =
     let k = c .before .before .before .before .before in
-    let n = k .before .before .before .before .before .before .before .before .before .before .args .points in
+    let n = k .before .before .before .before .before .before .before .before .before .before .args .last + 1 in
     (omega arith, puts-as (collect-more (contactsOf n) (k .loop .i)) (puts-more (k .loop .inv .1) (c .before .before .put-rising2 .ensures)))
 
 cast-put-word : tie.Need-cast-put-word Inv-loop μ-loop
 cast-put-word c = omega (arith, few (c .before))
 
-add-put-word-3 : tie.Need-add-put-word-3 Inv-loop μ-loop
-add-put-word-3 c = omega (arith, few (c .before))
+add-put-word : tie.Need-add-put-word Inv-loop μ-loop
+add-put-word c = omega (arith, few (c .before))
 
 put-word-requires-2 : tie.Need-put-word-requires-2 Inv-loop μ-loop
 put-word-requires-2 c κs = search needs
@@ -100,9 +94,7 @@ put-every-spec =
     (tie.spec
     Inv-loop
     μ-loop
-    mul-put-word
-    add-put-word
-    add-put-word-2
+    add-n
     put-word-requires
     put-rising-requires
     loop-holds
@@ -115,7 +107,7 @@ put-every-spec =
     loop-less
     loop-again
     cast-put-word
-    add-put-word-3
+    add-put-word
     put-word-requires-2
     same-length
     returns)

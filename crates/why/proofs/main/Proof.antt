@@ -5,7 +5,7 @@ use native.Mathlib.Omega.{arith}
 use lib.ListN.{length}
 use lib.Seq.{length-take-le}
 use Rattle.reading.specs.Reading.{Within}
-use Rattle.report.proofs.Reasons.{answered-text}
+use Rattle.report.proofs.Pieces.{answered-text}
 use borrow.Author.Needs.{needs}
 use Rattle.why.proofs.main.Statement.{statement}
 use Rattle.why.proofs.main.Tie as tie

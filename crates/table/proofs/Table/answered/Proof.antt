@@ -1,15 +1,15 @@
 -- `table::Table::answered` meets its contract: the rules are compiled, the search finds the first row or none, and its plan is written. Assumes nothing.
 use borrow.Author.Needs.{needs}
 use mathlib.Core.Path.{_≡_, refl, sym, ap, _∙_}
-use mathlib.Core.List.{[], _∷_}
-use Rattle.plan.specs.Arrays.{planBy}
+use mathlib.Core.List.{[]}
 use Rattle.ruleset.specs.Texts.{CompiledRules}
-use Rattle.ruleset.proofs.Claims.{none-given, plan-given}
+use Rattle.ruleset.proofs.Claims.{may-plan, none-given, plan-given}
 use Rattle.search.specs.Asked.{questionOf}
 use Rattle.table.specs.Store.{rulesOf}
 use Rattle.table.specs.declared.AskAnswer.{AskAnswer}
 use Rattle.table.specs.Calls.{formulasOf}
 use Rattle.table.specs.Asking.{Asks}
+use Rattle.table.specs.Steps.{PlanPut}
 use Rattle.table.proofs.Compiled.{reached-all}
 use Rattle.table.proofs.Asking.{askResult, asks-none, asks-some, writtenAnswer, wrote-plan}
 use Rattle.table.proofs.Table.answered.Statement.{statement}
@@ -37,24 +37,23 @@ returns-2 c =
     asks-some _ t (c .before .before .before .before .before .before .pre) _ (c .before .before .before .before .if1 .left) []
     (none-given (formulasOf (rulesOf t)) _ _ _ (all-compiled (c .before .before .before)) _ _ (c .before .before .before .searched .ensures .first) (c .enum-told .given .1)) _ _ refl refl
 
-plan-of-requires : tie.Need-plan-of-requires
-plan-of-requires c κs = search needs
-
-write-plan-requires : tie.Need-write-plan-requires
-write-plan-requires c κs = search needs
+put-plan-requires : tie.Need-put-plan-requires
+put-plan-requires c κs = may-plan _ _ _ _ (all-compiled (c .before .before .before .before .before))
 
 -- the answer is the writer's
 abbrev start : tie.After-slice-known2 → tie.Start
-start c = c .before .before .before .before .before .before .before .before .before .before .before .before
+start c = c .before .before .before .before .before .before .before .before .before .before .before
 
-wrote : (c : tie.After-slice-known2) (a : AskAnswer) → writtenAnswer (c .before .before .write-plan .result) ≡ a
-    → Asks (questionOf (start c .args .asked)) (start c .args .self) (start c .args .buffer .now) (askResult (start c .args .self) a) (c .before .before .write-plan .last .1 .0)
+wrote : (c : tie.After-slice-known2) (a : AskAnswer) → writtenAnswer (c .before .before .put-plan .result) ≡ a
+    → Asks (questionOf (start c .args .asked)) (start c .args .self) (start c .args .buffer .now) (askResult (start c .args .self) a) (c .before .before .put-plan .last .1 .1 .1 .0)
+unfolding PlanPut
 wrote c a e =
     let t = start c .args .self in
-    let plan = c .before .before .before .before .plan-of .result in
-    let out = wrote-plan plan (start c .args .buffer .now) (c .before .before .write-plan .result) (c .before .before .write-plan .last .1 .0) (c .before .before .write-plan .ensures) in
-    asks-some _ t (start c .pre) _ (c .before .before .before .before .before .before .before .before .before .before .if1 .left) (planBy plan ∷ [])
-    (plan-given (formulasOf (rulesOf t)) _ _ _ (all-compiled (c .before .before .before .before .before .before .before .before .before)) _ _ _ _ (c .before .before .before .before .before .before .before .before .before .searched .ensures .first) (c .before .before .before .before .before .before .found .given .1) (c .before .before .before .before .plan-of .ensures)) _ _ (sym e ∙ out .0) (out .1)
+    let s = c .before .before .before .before .before .before .before .before in
+    let put = c .before .before .put-plan in
+    let out = wrote-plan _ (start c .args .buffer .now) (put .result) (put .last .1 .1 .1 .0) (put .ensures _ _ _ (all-compiled s)) in
+    asks-some _ t (start c .pre) _ (s .before .if1 .left) _
+    (plan-given (formulasOf (rulesOf t)) _ _ _ (all-compiled s) _ _ _ (s .searched .ensures .first) (c .before .before .before .before .before .found .given .1)) _ _ (sym e ∙ out .0) (out .1)
 
 enum-known-written : tie.Need-enum-known-written
 enum-known-written c = search needs
@@ -83,8 +82,7 @@ answered-spec =
     enum-known-found
     enum-told
     returns-2
-    plan-of-requires
-    write-plan-requires
+    put-plan-requires
     enum-known-written
     enum-known-written-2
     same-length

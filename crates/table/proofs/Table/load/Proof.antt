@@ -1,16 +1,17 @@
--- `table::Table::load` meets its contract: so far each line is judged and those that are not blank are held; a refused line ends the load, and the old table comes back. Assumes nothing.
+-- `table::Table::load` meets its contract: so far each line is judged and those that are not blank are held, the last one put in its place; a refused line ends the load, and the old table comes back. Assumes nothing.
 use borrow.Author.Needs.{needs}
-use Prim.Native.Nat.{ℕ, _+_, _-_}
+use Prim.Native.Nat.{ℕ, _+_, _-_, _<_}
 use mathlib.Core.List.{List}
 use mathlib.Core.Path.{_≡_, sym, subst, _∙_}
 use mathlib.Core.Logic.{⊎-elim}
 use borrow.Author.Tests.{not-true, not-false}
-use lib.ListN.{length}
+use lib.ListN.{length, set}
 use Rattle.table.specs.declared.Table.{Table}
 use Rattle.ruleset.specs.declared.Known.{Known}
 use Rattle.table.specs.declared.LoadAnswer.the-variants as LoadAnswer
 use Rattle.table.specs.Calls.{Loads}
 use Rattle.table.specs.Steps.{loadResult}
+use Rattle.table.proofs.Lines.{put-table, tableWith}
 use Rattle.table.proofs.Refusals.{told-refused}
 use Rattle.table.proofs.Results.{may-put, loaded-by}
 use Rattle.table.proofs.Loading.{Progress, start, after-blank, after-added, line-refused, nothing-kept, something-kept, kept-table, too-long}
@@ -78,10 +79,24 @@ returns-2 c =
     (line-refused _ _ _ _ _ _ _ (at .inv) (c .before .before .before .before .before .before .before .loop-test .taken) (cut .0) (cut .1) (cut .2) _ filled _ (c .before .with-text .ensures) (told-refused _ (c .match .keys2)))
     (old .pre .same)
 
-put-last-requires : tie.Need-put-last-requires Inv-loop μ-loop
-put-last-requires c κs =
+line-of-requires : tie.Need-line-of-requires Inv-loop μ-loop
+line-of-requires c κs =
     let inv = c .before .before .before .before .before .before .before .before .before .before .loop .inv in
-    may-put _ _ _ _ _ _ (inv .from-us) (inv .known) (c .before .before .before .with-text .ensures) (c .before .enum-told .given .1)
+    may-put _ _ _ _ _ _ (inv .from-us) (inv .known) (c .before .before .before .with-text .ensures) (c .before .enum-told .given .1) .2
+
+few : (c : tie.After-line-of Inv-loop μ-loop) → c .before .before .before .before .before .before .before .before .before .before .before .loop .table .count < 16
+few c =
+    let inv = c .before .before .before .before .before .before .before .before .before .before .before .loop .inv in
+    may-put _ _ _ _ _ _ (inv .from-us) (inv .known) (c .before .before .before .before .with-text .ensures) (c .before .before .enum-told .given .1) .1
+
+mul-last : tie.Need-mul-last Inv-loop μ-loop
+mul-last c = omega (arith, few c)
+
+element-set-from-last : tie.Need-element-set-from-last Inv-loop μ-loop
+element-set-from-last c = few c
+
+add-table : tie.Need-add-table Inv-loop μ-loop
+add-table c = omega (arith, few c)
 
 add-from : tie.Need-add-from Inv-loop μ-loop
 add-from c = omega (arith, c .before .before .before .line-end .ensures .1, c .before .before .before .before .before .loop .inv .short)
@@ -98,10 +113,13 @@ loop-again c =
     let cut = c .before .before .before .line-end .ensures in
     let h = c .before .before .before .before .loop-test .taken in
     ⊎-elim
-    (λ w. subst (λ (t : Table). Progress file t (c .if2 .known) (c .if2 .symbols) line from) (sym (w .7))
-    (subst (λ (x : Known). Progress file (w .6 .result) x (c .if2 .symbols) line from) (sym (w .8))
-    (subst (λ (x : List ℕ). Progress file (w .6 .result) (w .2 .result .known) x line from) (sym (w .9))
-    (after-added _ _ _ _ _ _ _ (at .inv) h (cut .0) (cut .1) (cut .2) _ (sym (c .before .blank-line .ensures) ∙ not-true _ (w .0 .taken)) _ (w .2 .ensures) (w .4 .given .1) _ (w .6 .ensures)))))
+    (λ w. let more = tableWith (set (at .table .lines) (at .table .count) (w .6 .result)) (at .table .count + 1) in
+    let room = may-put _ _ _ _ _ _ (at .inv .from-us) (at .inv .known) (w .2 .ensures) (w .4 .given .1) .1 in
+    subst (λ (t : Table). Progress file t (c .if2 .known) (c .if2 .symbols) line from) (sym (w .7))
+    (subst (λ (x : Known). Progress file more x (c .if2 .symbols) line from) (sym (w .8))
+    (subst (λ (x : List ℕ). Progress file more (w .2 .result .known) x line from) (sym (w .9))
+    (after-added _ _ _ _ _ _ _ (at .inv) h (cut .0) (cut .1) (cut .2) _ (sym (c .before .blank-line .ensures) ∙ not-true _ (w .0 .taken)) _ (w .2 .ensures) (w .4 .given .1) _
+    (put-table (at .table) _ _ (at .inv .from-us) (w .6 .ensures) room)))))
     (λ w. subst (λ (t : Table). Progress file t (c .if2 .known) (c .if2 .symbols) line from) (sym (w .1))
     (subst (λ (x : Known). Progress file (at .table) x (c .if2 .symbols) line from) (sym (w .2))
     (subst (λ (x : List ℕ). Progress file (at .table) (at .known) x line from) (sym (w .3))
@@ -113,16 +131,16 @@ kept-requires-2 c κs = search needs
 
 returns-3 : tie.Need-returns-3 Inv-loop μ-loop
 returns-3 c =
-    let old = c .before .before .before .before .before .before .before .before .before .before in
+    let old = c .before .before .before .before .before .before .before .before .before in
     let same : c .kept2 .result ≡ loadResult (old .args .self) LoadAnswer.AllBlank = c .kept2 .ensures in
     subst (Loads (old .args .self) (old .args .file .now)) (sym same)
-    (loaded-by (old .args .self) _ _ _ (old .pre) (nothing-kept _ _ _ _ _ _ (c .before .before .before .before .loop .inv) (c .before .before .before .loop-test .left) (c .before .if3 .taken)) (old .pre .same))
+    (loaded-by (old .args .self) _ _ _ (old .pre) (nothing-kept _ _ _ _ _ _ (c .before .before .before .loop .inv) (c .before .before .loop-test .left) (c .before .if3 .taken)) (old .pre .same))
 
 returns-4 : tie.Need-returns-4 Inv-loop μ-loop
 returns-4 c =
-    let old = c .before .before .before .before .before .before .before .before .before in
-    let end = c .before .before .loop-test .left in
-    loaded-by (old .args .self) _ _ _ (old .pre) (something-kept _ _ _ _ _ _ (c .before .before .before .loop .inv) end (c .if3 .left)) (kept-table _ _ _ _ _ _ (c .before .before .before .loop .inv) end)
+    let old = c .before .before .before .before .before .before .before .before in
+    let end = c .before .loop-test .left in
+    loaded-by (old .args .self) _ _ _ (old .pre) (something-kept _ _ _ _ _ _ (c .before .before .loop .inv) end (c .if3 .left)) (kept-table _ _ _ _ _ _ (c .before .before .loop .inv) end)
 
 pub load-spec : {M : Type 1} → statement M
 load-spec =
@@ -145,7 +163,10 @@ load-spec =
     with-text-requires
     enum-told
     returns-2
-    put-last-requires
+    line-of-requires
+    mul-last
+    element-set-from-last
+    add-table
     add-from
     loop-less
     loop-again

@@ -1,0 +1,29 @@
+-- `plan::link` meets its contract: one bit, and then the other. Assumes nothing.
+use native.Mathlib.Omega.{arith}
+use borrow.Author.Needs.{needs}
+use Rattle.squares.proofs.Rows.{same-reach, same-square}
+use Rattle.plan.proofs.Flat.{both-set}
+use Rattle.plan.proofs.link.Statement.{statement}
+use Rattle.plan.proofs.link.Tie as tie
+
+set-bit-requires : tie.Need-set-bit-requires
+set-bit-requires c κs = search needs
+
+set-bit-requires-2 : tie.Need-set-bit-requires-2
+set-bit-requires-2 c κs =
+    let s = c .before .before .before .before .before .before in
+    let g = c .before .before .before .set-bit .ensures in
+    let us = c .before .before .before .set-bit .last .0 in
+    let r = same-reach us (s .args .square .now) (g .long) in
+    (same-square us (s .args .square .now) (g .long) (s .pre .0), omega (arith, r, s .pre .2), omega (arith, r, s .pre .1))
+
+same-length : tie.Need-same-length
+same-length c = search needs
+
+returns : tie.Need-returns
+returns c =
+    let a = c .before .before .before .before .before .before .before .before .before .args in
+    both-set (a .square .now) _ _ (a .i) (a .j) (c .before .before .before .before .before .before .set-bit .ensures) (c .before .before .set-bit2 .ensures)
+
+pub link-spec : {M : Type 1} → statement M
+link-spec = tie.close (tie.spec set-bit-requires set-bit-requires-2 same-length returns)
