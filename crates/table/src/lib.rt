@@ -457,20 +457,19 @@ fn drawn(c: Compiling, code: &[u8], words: &[u32]) -> bool
     requires { ⌜ Whole c (now code) ⌝ }
     ensures { λ r. ⌜ DrawnIs c (now (code .entry)) (now (words .entry)) r ⌝ }
 {
-    let read = plan::read_plan(words);
+    let mut read = plan::read_plan(words);
     let reading = read.answer;
     let PlanAnswer::Plan = reading else {
         return false;
     };
-    let chart = c.known.atoms.chart;
-    let names = chart.names;
-    let mut plan = read.plan;
-    let lent = plan.names as usize;
+    let names = c.known.atoms.chart.names;
+    let lent = read.plan.names as usize;
     if names < lent {
         return false;
     }
-    plan.names = names as u8;
-    let judged = ruleset::judged(c, code, plan);
+    let all = names as u8;
+    read.plan.names = all;
+    let judged = ruleset::judged(c, code, read.plan);
     is_met(judged)
 }
 

@@ -22,10 +22,10 @@ cast-lent : tie.Need-cast-lent
 cast-lent c = search needs
 
 returns-2 : tie.Need-returns-2
-returns-2 c = drawn-more _ _ (c .before .before .before .before .before .before .read-plan .ensures) _ _ (c .before .before .before .before .enum-told .given .1) (omega arith)
+returns-2 c = drawn-more _ _ (c .before .before .before .before .read-plan .ensures) _ _ (c .before .before .enum-told .given .1) (omega arith)
 
-cast-plan : tie.Need-cast-plan
-cast-plan c = search needs
+cast-all : tie.Need-cast-all
+cast-all c = search needs
 
 judged-requires : tie.Need-judged-requires
 judged-requires c κs = search needs
@@ -34,7 +34,7 @@ is-met-requires : tie.Need-is-met-requires
 is-met-requires c κs = search needs
 
 returns-3 : tie.Need-returns-3
-returns-3 c = drawn-judged _ _ (c .before .before .before .before .before .before .before .before .read-plan .ensures) _ _ (c .before .before .before .before .before .before .enum-told .given .1) (omega arith) _ (c .before .judged .ensures) _ (c .is-met .ensures)
+returns-3 c = drawn-judged _ _ (c .before .before .before .before .before .before .before .read-plan .ensures) _ _ (c .before .before .before .before .before .enum-told .given .1) (omega arith) _ (c .before .judged .ensures) _ (c .is-met .ensures)
 
 pub drawn-spec : {M : Type 1} → statement M
 drawn-spec =
@@ -46,7 +46,7 @@ drawn-spec =
     returns
     cast-lent
     returns-2
-    cast-plan
+    cast-all
     judged-requires
     is-met-requires
     returns-3)
