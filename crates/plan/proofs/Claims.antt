@@ -22,7 +22,7 @@ use Rattle.plan.specs.declared.PlanAnswer.the-variants as answer-is
 use Rattle.plan.specs.declared.PlanRead.{PlanRead}
 use Rattle.plan.specs.Words.{Plan, mostPoints, Ascends, IsPlan, shortFirst, longFirst, wordsOf, Refusal}
 use Rattle.plan.specs.Short.{shortWords}
-use Rattle.plan.specs.Floor.{touching, planFloor, namedFloor}
+use Rattle.plan.specs.Floor.{touching, liesIn, planFloor, namedFloor}
 use Rattle.plan.specs.Judging.{yes, unmet, judge, uncovered}
 use Rattle.plan.specs.Reader.{Reading, plan, refused, readOf, ReadingSays}
 use Rattle.plan.specs.Arrays.{answerOf, planIn, Reads, countOf, planBy, pointsPlan, touchesOf, vacantOf}
@@ -38,6 +38,7 @@ use Rattle.plan.proofs.Judged.{touches-meant, vacant-meant}
 use Rattle.plan.proofs.Given
 use Rattle.plan.proofs.Unmet.{yes-exactly, unmet-exactly}
 use Rattle.plan.proofs.Covered
+use Rattle.plan.proofs.Wider
 use Rattle.plan.specs.Meant.{FirstUnmet, IsGiven}
 
 -- what is read is a plan whose words these are (Sound, Exact)
@@ -121,6 +122,10 @@ uncovered-exactly = Covered.uncovered-exactly
 pub covered-exactly : (rules : List (Formula Name)) (p : Plan) (h : IsPlan p) → p .names ≡ length (namesOf rules)
     → (uncovered p ≡ false) ↔ Counts plain (namesOf rules) (namedFloor rules p h)
 covered-exactly rules p h named = (Covered.covered-counts rules p h named, Covered.counts-covered rules p h named)
+
+-- "missing names are taken as empty": on a plan's floor a name that it lacks has no point (Wider)
+pub missing-empty : (p : Plan) → IsPlan p → (i : ℕ) → p .names ≤ i → (a : ℕ) → a < length (p .points) → liesIn p i a ≡ false
+missing-empty = Wider.missing-empty
 
 -- "Judge answers yes" exactly if every rule is met (Unmet)
 pub judge-yes : {N : Type 0} (F : Floor N) (rules : List (Formula N))

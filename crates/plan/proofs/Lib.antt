@@ -13,6 +13,7 @@ pub mod Nexts
 pub mod Writing
 pub mod Positions
 pub mod Judged
+pub mod Wider
 pub mod Unmet
 pub mod Covered
 pub mod SamePlan

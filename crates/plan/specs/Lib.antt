@@ -4,6 +4,7 @@ pub mod Floor
 pub mod Judging
 pub mod Reader
 pub mod Stored
+pub mod Wider
 pub mod Links
 pub mod Arrays
 pub mod Private

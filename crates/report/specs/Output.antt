@@ -44,6 +44,8 @@ outcomeText (Outcome.Unmet rule) = []
 outcomeText (Outcome.Text n) = []
 outcomeText (Outcome.Tree n) = []
 outcomeText Outcome.Closed = []
+outcomeText Outcome.AsDrawn = []
+outcomeText Outcome.No = []
 outcomeText (Outcome.Refused number carried) = []
 outcomeText (Outcome.RefusedLine number line place) = refusedText number line place
 

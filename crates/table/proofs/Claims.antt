@@ -19,6 +19,8 @@ use Rattle.table.specs.Printing.{printAnswer, Prints}
 use Rattle.table.specs.declared.ExplainResult.{ExplainResult}
 use Rattle.table.specs.declared.CheckResult.{CheckResult}
 use Rattle.table.specs.Explaining.{explainAnswer, Explains, checkAnswer, Checks}
+use Rattle.table.specs.declared.StillResult.{StillResult}
+use Rattle.table.specs.Still.{stillAnswer, StillDoes}
 use Rattle.table.specs.Store.{tableOf, rulesOf}
 use Rattle.table.specs.Sheet.{Text}
 use Rattle.table.specs.Calls.{formulasOf, judgeAdd, judgeWithdraw, judgeLoad, FromUs, Adds, Withdraws, Loads}
@@ -33,9 +35,9 @@ use Rattle.plan.specs.Words.{Refusal}
 use Rattle.plan.specs.Arrays.{Reads}
 use Rattle.table.specs.declared.Outcome.{Outcome}
 use Rattle.table.specs.declared.Outcome.the-variants as Outcome
-use Rattle.table.specs.Numbers.{addOutcome, withdrawOutcome, CanCome, loadOutcome, askOutcome, judgeOutcome, printOutcome, explainOutcome, checkOutcome, ruleOutcome, planOutcome}
-use Rattle.table.specs.Rows.{AddRow, WithdrawRow, LoadRow, AskRow, JudgeRow, PrintRow, ExplainRow, CheckRow}
-use Rattle.table.specs.Stands.{Call, add, withdraw, load, ask, judge, print, explain, check, adds, Stands}
+use Rattle.table.specs.Numbers.{addOutcome, withdrawOutcome, CanCome, loadOutcome, askOutcome, judgeOutcome, printOutcome, explainOutcome, checkOutcome, stillOutcome, ruleOutcome, planOutcome}
+use Rattle.table.specs.Rows.{AddRow, WithdrawRow, LoadRow, AskRow, JudgeRow, PrintRow, ExplainRow, CheckRow, StillRow}
+use Rattle.table.specs.Stands.{Call, add, withdraw, load, ask, judge, print, explain, check, still, adds, Stands}
 use Rattle.table.specs.Runs.{step, run, after, standing, Faithful}
 use Rattle.table.proofs.Stored as Stored
 use Rattle.table.proofs.Rules as Rules
@@ -46,6 +48,7 @@ use Rattle.table.proofs.LoadRows as LoadRows
 use Rattle.table.proofs.AskRows as AskRows
 use Rattle.table.proofs.PrintRows as PrintRows
 use Rattle.table.proofs.TreeRows as TreeRows
+use Rattle.table.proofs.StillRows as StillRows
 use Rattle.table.proofs.AtomText as AtomText
 use Rattle.table.proofs.Stands as Stands
 
@@ -102,6 +105,9 @@ explain-steps = Running.by-explain
 
 pub check-steps : (t : Table) (words : List ℕ) (r : CheckResult) → Checks t words r → r .table ≡ step t (check words)
 check-steps = Running.by-check
+
+pub still-steps : (t : Table) (words : List ℕ) (r : StillResult) → StillDoes t words r → r .table ≡ step t (still words)
+still-steps = Running.by-still
 
 -- every call maps the table of a list to the table of the list after it
 pub call-maps : (rs : List Text) (c : Call) → step (tableOf rs) c ≡ tableOf (after rs c)
@@ -198,6 +204,12 @@ check-answered words rs h = TreeRows.check-row words rs (Rules.are-read rs (h .f
 
 pub check-answered-only : (words : List ℕ) (rs : List Text) → CanStand rs → (o : Outcome) → CheckRow rs words o → o ≡ checkOutcome (checkAnswer rs words)
 check-answered-only words rs h = TreeRows.check-row-only words rs (TreeRows.few-for rs h)
+
+pub still-answered : (words : List ℕ) (rs : List Text) → CanStand rs → StillRow rs words (stillOutcome (stillAnswer rs words))
+still-answered = StillRows.still-row
+
+pub still-answered-only : (words : List ℕ) (rs : List Text) → CanStand rs → (o : Outcome) → StillRow rs words o → o ≡ stillOutcome (stillAnswer rs words)
+still-answered-only = StillRows.still-row-only
 
 -- ---- the texts of atoms
 

@@ -18,6 +18,8 @@ pub mod LoadRows
 pub mod PrintRows
 pub mod TreeRows
 pub mod Explaining
+pub mod StillRows
+pub mod Still
 pub mod Printing
 pub mod AtomText
 pub mod Stands

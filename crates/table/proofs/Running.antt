@@ -22,8 +22,10 @@ use Rattle.table.specs.Asking.{Asks, Judges}
 use Rattle.table.specs.Explaining.{Explains, Checks}
 use Rattle.table.specs.declared.ExplainResult.{ExplainResult}
 use Rattle.table.specs.declared.CheckResult.{CheckResult}
+use Rattle.table.specs.Still.{StillDoes}
+use Rattle.table.specs.declared.StillResult.{StillResult}
 use Rattle.table.specs.Printing.{Prints}
-use Rattle.table.specs.Stands.{Call, add, withdraw, load, ask, judge, print, explain, check, adds}
+use Rattle.table.specs.Stands.{Call, add, withdraw, load, ask, judge, print, explain, check, still, adds}
 use Rattle.table.specs.Runs.{step, runFrom, run, after, standingFrom, standing, Faithful}
 use Rattle.table.proofs.Stored.{rules-table, from-us-table}
 use Rattle.table.proofs.Standing.{stand-none, stand-first, stand-added, stand-add, stand-withdraw, stand-load, added-taken}
@@ -61,6 +63,10 @@ pub by-check : (t : Table) (words : List ℕ) (r : CheckResult) → Checks t wor
 unfolding step
 by-check t words r h = h .same
 
+pub by-still : (t : Table) (words : List ℕ) (r : StillResult) → StillDoes t words r → r .table ≡ step t (still words)
+unfolding step
+by-still t words r h = h .same
+
 -- one call, from the table of a list
 pub step-table : (rs : List Text) (c : Call) → step (tableOf rs) c ≡ tableOf (after rs c)
 unfolding step after added withdrawn loaded
@@ -72,6 +78,7 @@ step-table rs (judge words) = refl
 step-table rs (print k buffer) = refl
 step-table rs (explain buffer) = refl
 step-table rs (check words) = refl
+step-table rs (still words) = refl
 
 pub stand-after : (rs : List Text) (c : Call) → CanStand rs → CanStand (after rs c)
 unfolding after
@@ -83,6 +90,7 @@ stand-after rs (judge words) h = h
 stand-after rs (print k buffer) h = h
 stand-after rs (explain buffer) h = h
 stand-after rs (check words) h = h
+stand-after rs (still words) h = h
 
 -- a list of calls
 run-table : (cs : List Call) (rs : List Text) → runFrom (tableOf rs) cs ≡ tableOf (standingFrom rs cs)

@@ -11,3 +11,4 @@ pub mod Asking
 pub mod Printing
 pub mod AtomText
 pub mod Explaining
+pub mod Still

@@ -1,4 +1,4 @@
--- What is meant: document 01's number of each answer, and what it carries, by the table of calls; of print, explain and check_tree, that of document 02. Assumes nothing.
+-- What is meant: document 01's number of each answer, and what it carries, by the table of calls; of print, explain, check_tree and still, that of document 02. Assumes nothing.
 use Prim.Native.Nat.{ℕ}
 use mathlib.Core.Path.{_≡_}
 use Rattle.syntax.specs.declared.RuleAnswer.{RuleAnswer}
@@ -23,6 +23,8 @@ use Rattle.table.specs.declared.ExplainAnswer.{ExplainAnswer}
 use Rattle.table.specs.declared.ExplainAnswer.the-variants as ExplainAnswer
 use Rattle.table.specs.declared.CheckAnswer.{CheckAnswer}
 use Rattle.table.specs.declared.CheckAnswer.the-variants as CheckAnswer
+use Rattle.table.specs.declared.StillAnswer.{StillAnswer}
+use Rattle.table.specs.declared.StillAnswer.the-variants as StillAnswer
 
 abbrev pub addOutcome : AddAnswer → Outcome
 addOutcome AddAnswer.Added = Outcome.Done
@@ -50,6 +52,8 @@ onLine n (Outcome.Unmet k) = Outcome.Unmet k
 onLine n (Outcome.Text b) = Outcome.Text b
 onLine n (Outcome.Tree w) = Outcome.Tree w
 onLine n Outcome.Closed = Outcome.Closed
+onLine n Outcome.AsDrawn = Outcome.AsDrawn
+onLine n Outcome.No = Outcome.No
 onLine n (Outcome.Refused k p) = Outcome.RefusedLine k n p
 onLine n (Outcome.RefusedLine k l p) = Outcome.RefusedLine k l p
 
@@ -97,6 +101,13 @@ abbrev pub checkOutcome : CheckAnswer → Outcome
 checkOutcome CheckAnswer.Closed = Outcome.Closed
 checkOutcome CheckAnswer.NoRule = Outcome.Refused 11 0
 checkOutcome (CheckAnswer.NotClosed j) = Outcome.Refused 16 j
+
+-- "Refused: 11 only."
+abbrev pub stillOutcome : StillAnswer → Outcome
+stillOutcome StillAnswer.AsDrawn = Outcome.AsDrawn
+stillOutcome StillAnswer.Yes = Outcome.Yes
+stillOutcome StillAnswer.No = Outcome.No
+stillOutcome StillAnswer.NoRule = Outcome.Refused 11 0
 
 -- ---- the same of the readers' answers
 

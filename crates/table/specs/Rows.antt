@@ -128,6 +128,29 @@ pub data JudgeRow (rs : List Text) (words : List ℕ) : Outcome → Type 0 where
   unmet : {fs : List (Formula Name)} {p : Plan} {k : ℕ} → SomeStand rs → AreRules rs fs → (d : Decodes fs words p) → Counts plain (namesOf fs) (floorOf d) → FirstUnmet (floorOf d) 1 fs k
       → JudgeRow rs words (Outcome.Unmet k)
 
+-- document 02, T-09: the words "are a plan of no more names than the table", and "it then meets the table"
+pub record Drawn (fs : List (Formula Name)) (words : List ℕ) : Type 0 where
+  pub plan : Plan
+  pub is : IsPlan plan
+  pub words-are : wordsOf plan ≡ words
+  pub no-more : plan .names ≤ length (namesOf fs)
+  -- "with no point at evaluation 0 where the table uses a name"
+  pub somewhere : 0 < length (namesOf fs) → In 0 (plan .points) → ⊥
+  -- names are matched by number, and "missing names are taken as empty": a name that the plan lacks has no point on its floor, since each
+  -- evaluation is below 2^names (`missing-empty` of plan/proofs/Claims.antt)
+  pub meets : meetsAll (namedFloor fs plan is) fs ≡ true
+
+-- still, with these words: "Refused: 11 only."
+pub data StillRow (rs : List Text) (words : List ℕ) : Outcome → Type 0 where
+  none : rs ≡ [] → StillRow rs words (Outcome.Refused 11 0)
+  -- "exactly if it then meets the table .. the answer is "yes, as drawn""
+  drawn : {fs : List (Formula Name)} → SomeStand rs → AreRules rs fs → Drawn fs words → StillRow rs words Outcome.AsDrawn
+  -- "Otherwise .. the answer is "yes" or "no"."
+  yes : {fs : List (Formula Name)} → SomeStand rs → AreRules rs fs → (Drawn fs words → ⊥) → (F : Floor Name) → Counts plain (namesOf fs) F → meetsAll F fs ≡ true
+      → StillRow rs words Outcome.Yes
+  -- "It is "no" exactly when the full question would have no plan, for any lent words, damaged ones too."
+  no : {fs : List (Formula Name)} → SomeStand rs → AreRules rs fs → NoFloor plain fs → StillRow rs words Outcome.No
+
 -- print k, with a buffer of so many bytes: document 02, T-02
 pub data PrintRow (rs : List Text) (k room : ℕ) : Outcome → Type 0 where
   -- "10 for a bad k", "as now": "k is 0 or above the number of rules"

@@ -6,9 +6,9 @@ use Rattle.table.specs.declared.Table.{Table}
 use Rattle.table.specs.Store.{tableOf, rulesOf}
 use Rattle.table.specs.Sheet.{Text}
 use Rattle.table.specs.Calls.{FromUs, addRules, added, withdrawRules, withdrawn, loadRules, loaded}
-use Rattle.table.specs.Stands.{Call, add, withdraw, load, ask, judge, print, explain, check, adds}
+use Rattle.table.specs.Stands.{Call, add, withdraw, load, ask, judge, print, explain, check, still, adds}
 
--- the table that a call gives back, by the functions that the contracts cite; "Ask passes the table on unchanged", and so do judge, print, explain and check_tree
+-- the table that a call gives back, by the functions that the contracts cite; "Ask passes the table on unchanged", and so do judge, print, explain, check_tree and still
 unfoldable pub step : Table → Call → Table
 step t (add s) = added (rulesOf t) s .table
 step t (withdraw k) = withdrawn (rulesOf t) k .table
@@ -18,6 +18,7 @@ step t (judge words) = t
 step t (print k buffer) = t
 step t (explain buffer) = t
 step t (check words) = t
+step t (still words) = t
 
 unfoldable pub runFrom : Table → List Call → Table
 runFrom t [] = t
@@ -37,6 +38,7 @@ after rs (judge words) = rs
 after rs (print k buffer) = rs
 after rs (explain buffer) = rs
 after rs (check words) = rs
+after rs (still words) = rs
 
 unfoldable pub standingFrom : List Text → List Call → List Text
 standingFrom rs [] = rs

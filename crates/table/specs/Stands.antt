@@ -19,6 +19,7 @@ pub data Call : Type 0 where
   print : ℕ → List ℕ → Call
   explain : List ℕ → Call
   check : List ℕ → Call
+  still : List ℕ → Call
 
 -- "The run it is compared with has one add for each standing rule, with that rule's text"
 unfoldable pub adds : List Text → List Call
@@ -53,6 +54,7 @@ pub data StandsAfter (rs : List Text) : Call → List Text → Type 0 where
   printed : {k : ℕ} {buffer : List ℕ} → StandsAfter rs (print k buffer) rs
   explained : {buffer : List ℕ} → StandsAfter rs (explain buffer) rs
   checked : {words : List ℕ} → StandsAfter rs (check words) rs
+  still-done : {words : List ℕ} → StandsAfter rs (still words) rs
 
 -- where rs stand, these stand after the calls, one after the other
 pub data StandsFrom : List Text → List Call → List Text → Type 0 where

@@ -14,14 +14,16 @@ ghost use Rattle.evalset.specs.Most.{most};
 ghost use Rattle.search.specs.Asked.{questionOf};
 ghost use Rattle.search.specs.Compiled.{limit};
 ghost use Rattle.search.specs.Planned.{Lent};
+ghost use Rattle.ruleset.specs.Texts.{Whole};
 ghost use Rattle.table.specs.Store.{keptLine, tableOf, rulesOf};
 ghost use Rattle.table.specs.Calls.{formulasOf, namesIn, readAnswer, linesFrom, FromUs, Adds, Withdraws, Loads};
 ghost use Rattle.table.specs.Sheet.{blankLine, linesOf};
 ghost use Rattle.table.specs.Asking.{Asks, Judges};
 ghost use Rattle.table.specs.Printing.{Prints};
 ghost use Rattle.table.specs.Explaining.{explanationAnswer, Explains, verdictAnswer, Checks, GivesAtom};
+ghost use Rattle.table.specs.Still.{StillDoes, isMet, foundStill, DrawnIs, InHandIs, TextsInHand};
 ghost use Rattle.table.specs.Steps.{KnownTexts, Knowing, roomAdd, Tries, TextsCompiled, TextsSearched, PlanPut, TextsTold, TextsChecked, FirstPlace, loadResult, judgedAnswer};
-ghost use Rattle.table.specs.Numbers.{addOutcome, withdrawOutcome, onLine, CanCome, loadOutcome, askOutcome, judgeOutcome, printOutcome, explainOutcome, checkOutcome};
+ghost use Rattle.table.specs.Numbers.{addOutcome, withdrawOutcome, onLine, CanCome, loadOutcome, askOutcome, judgeOutcome, printOutcome, explainOutcome, checkOutcome, stillOutcome};
 use explaining::Explanation;
 use judging::Judged;
 use names::Names;
@@ -179,8 +181,23 @@ pub struct CheckResult {
     pub answer: CheckAnswer,
 }
 
-// What an answer says: done, a plan of so many words, no plan, yes, the lowest unmet rule, a text of so many bytes, a tree of so many words, or
-// that words are those of a closed tree; or a refusal, by the papers' number and what it carries, and for a load by its number, line and place.
+// How still answers: the plan in hand meets the rules as it is drawn, it does not and another plan does, or none does; or no rule stands.
+pub enum StillAnswer {
+    AsDrawn,
+    Yes,
+    No,
+    NoRule,
+}
+
+// What still hands back.
+pub struct StillResult {
+    pub table: Table,
+    pub answer: StillAnswer,
+}
+
+// What an answer says: done, a plan of so many words, no plan, yes, the lowest unmet rule, a text of so many bytes, a tree of so many words,
+// that words are those of a closed tree, "yes, as drawn", or no; or a refusal, by the papers' number and what it carries, and for a load by
+// its number, line and place.
 pub enum Outcome {
     Done,
     Plan(usize),
@@ -190,6 +207,8 @@ pub enum Outcome {
     Text(usize),
     Tree(usize),
     Closed,
+    AsDrawn,
+    No,
     Refused(usize, usize),
     RefusedLine(usize, usize, usize),
 }
@@ -421,6 +440,61 @@ fn judged_answer(j: Judged) -> JudgeAnswer
     }
 }
 
+// Whether the plan was judged to meet every rule.
+fn is_met(j: Judged) -> bool
+    ensures { λ r. ⌜ r ≡ isMet j ⌝ }
+{
+    match j {
+        Judged::Yes => true,
+        Judged::Unmet(_) => false,
+        Judged::Uncovered => false,
+    }
+}
+
+// Whether the words are a plan of no more names than the compiled rules that meets them: the names that it lacks are empty, so its points
+// and contacts are those of a plan with all names. Words that are no plan are not drawn.
+fn drawn(c: Compiling, code: &[u8], words: &[u32]) -> bool
+    requires { ⌜ Whole c (now code) ⌝ }
+    ensures { λ r. ⌜ DrawnIs c (now (code .entry)) (now (words .entry)) r ⌝ }
+{
+    let mut read = plan::read_plan(words);
+    let reading = read.answer;
+    let PlanAnswer::Plan = reading else {
+        return false;
+    };
+    let names = c.known.atoms.chart.names;
+    let lent = read.plan.names as usize;
+    if names < lent {
+        return false;
+    }
+    let all = names as u8;
+    read.plan.names = all;
+    let judged = ruleset::judged(c, code, read.plan);
+    is_met(judged)
+}
+
+// The search's answer as still's: a first row has a plan.
+fn found_still(found: RowAnswer) -> StillAnswer
+    ensures { λ r. ⌜ r ≡ foundStill found ⌝ }
+{
+    match found {
+        RowAnswer::At(_) => StillAnswer::Yes,
+        RowAnswer::Nothing => StillAnswer::No,
+    }
+}
+
+// What still answers by the compiled rules: nothing is searched where the words are drawn, and no plan is made where they are not.
+fn in_hand(c: Compiling, code: &[u8], words: &[u32]) -> StillAnswer
+    requires { ⌜ Whole c (now code) ⌝ }
+    ensures { λ r. ⌜ InHandIs c (now (code .entry)) (now (words .entry)) r ⌝ }
+{
+    if drawn(c, code, words) {
+        return StillAnswer::AsDrawn;
+    }
+    let found = ruleset::row_of(c, code, Asked::Plain);
+    found_still(found)
+}
+
 // Document 01's number of add's answer, and what it carries.
 pub fn add_outcome(answer: AddAnswer) -> Outcome
     ensures { λ r. ⌜ r ≡ addOutcome answer ⌝ }
@@ -528,6 +602,18 @@ pub fn check_outcome(answer: CheckAnswer) -> Outcome
         CheckAnswer::Closed => Outcome::Closed,
         CheckAnswer::NoRule => Outcome::Refused(11, 0),
         CheckAnswer::NotClosed(j) => Outcome::Refused(16, j),
+    }
+}
+
+// That of still's answer: document 02, T-09.
+pub fn still_outcome(answer: StillAnswer) -> Outcome
+    ensures { λ r. ⌜ r ≡ stillOutcome answer ⌝ }
+{
+    match answer {
+        StillAnswer::AsDrawn => Outcome::AsDrawn,
+        StillAnswer::Yes => Outcome::Yes,
+        StillAnswer::No => Outcome::No,
+        StillAnswer::NoRule => Outcome::Refused(11, 0),
     }
 }
 
@@ -878,6 +964,43 @@ impl Table {
         let verdict = self.tree_checked(count, words);
         let answer = verdict_answer(verdict);
         CheckResult {
+            table: self,
+            answer,
+        }
+    }
+
+    // The first so many of the standing rules compiled, and what still answers by them.
+    fn in_hand(self, rules: usize, words: &[u32]) -> StillAnswer
+        requires { ⌜ FromUs self × (rules ≤ self .count) ⌝ }
+        ensures { λ r. ⌜ TextsInHand (take rules (rulesOf self)) (now (words .entry)) r ⌝ }
+    {
+        if rules <= HALF {
+            let mut code = half_code();
+            let c = self.compiled(rules, &mut code);
+            return in_hand(c, &code, words);
+        }
+        let mut code = no_code();
+        let c = self.compiled(rules, &mut code);
+        in_hand(c, &code, words)
+    }
+
+    // Whether the plan in hand still does: as drawn, where the words are a plan of no more names than the rules that meets them, the names
+    // that it lacks taken as empty, and no point lies in none where the rules use a name; then nothing is searched. Otherwise whether some
+    // plan does, by the first row and with no plan made, for any words. Where no rule stands the answer says so. The table comes back as
+    // it was.
+    pub fn still(self, words: &[u32]) -> StillResult
+        requires { ⌜ FromUs self ⌝ }
+        ensures { λ r. ⌜ StillDoes self (now (words .entry)) r ⌝ }
+    {
+        let count = self.count;
+        if count <= 0 {
+            return StillResult {
+                table: self,
+                answer: StillAnswer::NoRule,
+            };
+        }
+        let answer = self.in_hand(count, words);
+        StillResult {
             table: self,
             answer,
         }

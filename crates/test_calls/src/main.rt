@@ -9,6 +9,7 @@
 //     print K N, which prints rule K into N bytes that are lent
 //     every N, which judges the plan over N names that has every point and every contact
 //     explain N, with N words lent, and check WORDS, the writer and the checker of trees (document 02, T-06)
+//     still WORDS, whether the plan in hand still does (document 02, T-09)
 //
 // In a text `/` is byte 10, a backslash and two hexadecimal digits are that byte, and `{N:PART}` is N times PART. A refusal has
 // document 01's number and what it carries. `same`: the table has as many rules as before the call, and gives the same plans, also
@@ -51,6 +52,7 @@ enum Command {
     Every,
     Explain,
     Check,
+    Still,
 }
 
 // ---- writing
@@ -84,6 +86,12 @@ fn write_outcome(done: &[u8], said: Outcome) {
         }
         Outcome::Closed => {
             write_bytes(b"closed");
+        }
+        Outcome::AsDrawn => {
+            write_bytes(b"yes, as drawn");
+        }
+        Outcome::No => {
+            write_bytes(b"no");
         }
         Outcome::Refused(number, carried) => {
             write_refusal(number, carried);
@@ -148,6 +156,7 @@ fn command_of(line: &[u8]) -> Command {
         b'j' => Command::Judge,
         b'p' => Command::Print,
         b'c' => Command::Check,
+        b's' => Command::Still,
         b'e' => match byte_at(line, 1) {
             b'v' => Command::Every,
             _ => Command::Explain,
@@ -624,6 +633,20 @@ fn check_words(t: Table, rest: &[u8]) -> Table
     next
 }
 
+fn still_words(t: Table, rest: &[u8]) -> Table
+    requires { ⌜ FromUs t ⌝ }
+    ensures { λ r. ⌜ FromUs r ⌝ }
+{
+    let mut words = no_words();
+    let n = put_words(&mut words, rest);
+    let r = t.still(&words[0..n]);
+    let next = r.table;
+    let answer = r.answer;
+    write_outcome(b"", table::still_outcome(answer));
+    write_same(t, next);
+    next
+}
+
 // Writes whether bytes are those that were lent, none of which a text has.
 fn write_bytes_kept(bytes: &[u8]) {
     let lent = [255u8; 300];
@@ -685,6 +708,7 @@ fn call(t: Table, c: Command, rest: &[u8]) -> Table
         Command::Every => judge_every(t, rest),
         Command::Explain => explain_rules(t, rest),
         Command::Check => check_words(t, rest),
+        Command::Still => still_words(t, rest),
     }
 }
 

@@ -8,6 +8,8 @@
 // them differ. Every sheet is asked for one building as well, document 02, T-04, and that answer is held to the same floors as far as they
 // hang together. Merged points leave a floor that hangs together, so that for up to two names these are all such floors, too. A floor with
 // a point in no name counts only where a sheet has no name, document 02, T-07, and no plan of a sheet with one may have such a point.
+// Ask's plan must still do as drawn, document 02, T-09, and so must every plan of one or two points whose floor meets the rules by the
+// same evaluation, of no more names than the sheet, and no other one: of those still must say what ask says, yes or no.
 // A sheet that disagrees is written, and why. The file `stdout` has the documents' answers to P1 to P12 and the counts that separate
 // computations gave, those of a program in Python: it makes each sheet's text again, reads it by a reader of its own, and takes the first row
 // by the documents' words, with floors sought on all evaluations that a branch leaves; for up to two names it tries all floors on distinct
@@ -42,6 +44,7 @@ use small_sheets::operands;
 use small_sheets::sheet_at;
 use table::AddAnswer;
 use table::AskAnswer;
+use table::StillAnswer;
 use table::Table;
 use test_kit::write_bytes;
 use test_kit::write_labelled;
@@ -1148,6 +1151,162 @@ fn check(
     check_answer(code, numbers, names, found, answer, words)
 }
 
+// ---- the checks: the plan in hand
+
+// What still says; of a refusal, and of words that are too many, that it says nothing.
+const NO: u8 = 0;
+
+const YES: u8 = 1;
+
+const AS_DRAWN: u8 = 2;
+
+const NOTHING_SAID: u8 = 3;
+
+// What still says of the first n words.
+fn still_says(table: Table, words: &[u32], n: usize) -> u8
+    requires { ⌜ FromUs table ⌝ }
+{
+    if words.len() < n {
+        return NOTHING_SAID;
+    }
+    let r = table.still(&words[0..n]);
+    let answer = r.answer;
+    match answer {
+        StillAnswer::AsDrawn => AS_DRAWN,
+        StillAnswer::Yes => YES,
+        StillAnswer::No => NO,
+        StillAnswer::NoRule => NOTHING_SAID,
+    }
+}
+
+// The words of a plan of so many names with these points, of which there are one or two, in contact with each other or not.
+fn small_plan(names: usize, points: u8, touching: bool) -> Words {
+    let first = with_word(no_words(), 1, two_bytes(names, position(points, 8)));
+    let drawn = with_points(first, points);
+    if touching {
+        let joined = with_word(drawn, 3, two_bytes(0, 1));
+        return with_word(joined, 4, joined.count);
+    }
+    with_word(drawn, 4, drawn.count)
+}
+
+// What still must say of a plan of so many names.
+fn must_say(names: usize, lent: usize, points: u8, met: bool, otherwise: u8) -> u8 {
+    let fits = points & (255 - evaluations(lent)) == 0;
+    if met && fits && lent <= names && stand_somewhere(points, names) {
+        return AS_DRAWN;
+    }
+    otherwise
+}
+
+// Whether still says what it must of the plan of a floor, with so many names in its first word, and of the same words with one after them.
+fn says_rightly(
+    table: Table,
+    names: usize,
+    lent: usize,
+    floor: Floor,
+    met: bool,
+    touching: bool,
+    otherwise: u8,
+) -> bool
+    requires { ⌜ FromUs table ⌝ }
+{
+    let points = floor.points;
+    let plan = small_plan(lent, points, touching);
+    let words = plan.words;
+    let count = plan.count % 64;
+    if still_says(table, &words, count) != must_say(names, lent, points, met, otherwise) {
+        return false;
+    }
+    still_says(table, &words, count + 1) == otherwise
+}
+
+// The same of a floor, for the sheet's number of names and for one that the points choose, from none to four.
+fn floor_agrees(
+    table: Table,
+    code: &[u8],
+    numbers: Numbers,
+    names: usize,
+    floor: Floor,
+    touching: bool,
+    otherwise: u8,
+) -> bool
+    requires { ⌜ FromUs table ⌝ }
+{
+    let m = on_floor(code, numbers, floor);
+    let met = m.met;
+    let other = floor.points as usize % 5;
+    if !says_rightly(table, names, names, floor, met, touching, otherwise) {
+        return false;
+    }
+    says_rightly(table, names, other, floor, met, touching, otherwise)
+}
+
+// The same of the floors of these points, where there are one or two.
+fn points_agree(
+    table: Table,
+    code: &[u8],
+    numbers: Numbers,
+    names: usize,
+    points: u8,
+    otherwise: u8,
+) -> bool
+    requires { ⌜ FromUs table ⌝ }
+{
+    let count = position(points, 8);
+    if count != 1 && count != 2 {
+        return true;
+    }
+    let apart = floor_of(points, 0);
+    if !floor_agrees(table, code, numbers, names, apart, false, otherwise) {
+        return false;
+    }
+    if count == 1 {
+        return true;
+    }
+    let touching = floor_of(points, 1);
+    floor_agrees(table, code, numbers, names, touching, true, otherwise)
+}
+
+// The same of all floors of one or two points.
+fn floors_agree(table: Table, code: &[u8], numbers: Numbers, names: usize, otherwise: u8) -> bool
+    requires { ⌜ FromUs table ⌝ }
+{
+    let all = evaluations(names);
+    let mut points: u8 = 0;
+    while points < all {
+        points += 1;
+        if !points_agree(table, code, numbers, names, points, otherwise) {
+            return false;
+        }
+    }
+    true
+}
+
+// The same of the plan that ask gave, and of all these, by what was found of ask's answer.
+fn still_agrees(
+    table: Table,
+    code: &[u8],
+    numbers: Numbers,
+    names: usize,
+    f: Finding,
+    words: &[u32; 530],
+) -> bool
+    requires { ⌜ FromUs table ⌝ }
+{
+    match f {
+        Finding::Plan(n) => {
+            if still_says(table, words, n) != AS_DRAWN {
+                return false;
+            }
+            floors_agree(table, code, numbers, names, YES)
+        }
+        Finding::NoPlan => floors_agree(table, code, numbers, names, NO),
+        Finding::TooManyAtoms => true,
+        Finding::Disagrees => true,
+    }
+}
+
 // ---- the checks: counts
 
 // What is counted: the sheets, the answers to the plain question and its words, the sheets that disagree, and the answers and words for one
@@ -1269,6 +1428,9 @@ fn test_question(
         write_answer(k, f, &words);
     }
     count_finding(counts, PLANS, f, file);
+    if !still_agrees(table, code, numbers, names, f, &words) {
+        count_finding(counts, PLANS, disagree(b"the plan in hand"), file);
+    }
 }
 
 // Tests sheet k: its lines, the number of the one that is withdrawn or 0, its form without that one, and how many names.

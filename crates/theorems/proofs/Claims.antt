@@ -13,7 +13,7 @@ use Rattle.table.specs.Sheet.{Text}
 use Rattle.table.specs.Stands.{Call, Stands}
 use Rattle.table.specs.Runs.{run}
 use Rattle.table.proofs.Claims as table
-use Rattle.theorems.specs.Demands.{Leaves, Answered, Meant, Same, Reasons}
+use Rattle.theorems.specs.Demands.{Leaves, Answered, Meant, Same, Reasons, InHand}
 use Rattle.theorems.specs.Worked.{WorkedSheet, workedSheets, Holds}
 use Rattle.theorems.proofs.Demands as Demands
 use Rattle.theorems.proofs.Worked as Worked
@@ -49,6 +49,11 @@ demand-three = Demands.demand-three
 -- exactly where ask says "no plan"
 pub reasons-hold : (cs : List Call) (t : Table) (rs : List Text) → Leaves cs t → Stands cs rs → Reasons rs t
 reasons-hold = Demands.reasons-hold
+
+-- document 02, T-09: after any calls, still answers "yes, as drawn" exactly where the words are a plan that meets the rules, and "no" exactly
+-- where ask says "no plan", for any words
+pub plan-in-hand : (cs : List Call) (t : Table) (rs : List Text) → Leaves cs t → Stands cs rs → InHand rs t
+plan-in-hand = Demands.in-hand-holds
 
 -- P1 to P12
 pub worked-sheets : (row : WorkedSheet) → In row workedSheets → Holds row

@@ -32,6 +32,8 @@ use Rattle.table.specs.declared.JudgeResult.{JudgeResult}
 use Rattle.table.specs.declared.PrintResult.{PrintResult}
 use Rattle.table.specs.declared.ExplainResult.{ExplainResult}
 use Rattle.table.specs.declared.CheckResult.{CheckResult}
+use Rattle.table.specs.declared.StillResult.{StillResult}
+use Rattle.table.specs.Still.{stillAnswer, stillGiven, StillDoes}
 use Rattle.table.specs.Explaining.{explainAnswer, explainWords, explained, Explains, checkAnswer, treeChecked, Checks}
 use Rattle.trees.specs.Trees.{Tree, wordsOf as treeWords}
 use Rattle.trees.specs.OfRules.{IsWrittenTree}
@@ -44,8 +46,8 @@ use Rattle.table.specs.Calls.{formulasOf, namesIn, judgeAdd, addRules, added, j
 use Rattle.table.specs.Rules.{AreRules, CanStand}
 use Rattle.table.proofs.Rules.{of-computed, can-rules, can-names}
 use Rattle.table.specs.Asking.{askAnswer, askWords, asked, Asks, judgeAnswer, judged, Judges}
-use Rattle.table.specs.Numbers.{addOutcome, withdrawOutcome, loadOutcome, askOutcome, judgeOutcome, printOutcome, explainOutcome, checkOutcome}
-use Rattle.table.specs.Rows.{AddRow, WithdrawRow, LoadRow, SomeStand, AskRow, floorOf, JudgeRow, PrintRow, ExplainRow, CheckRow}
+use Rattle.table.specs.Numbers.{addOutcome, withdrawOutcome, loadOutcome, askOutcome, judgeOutcome, printOutcome, explainOutcome, checkOutcome, stillOutcome}
+use Rattle.table.specs.Rows.{AddRow, WithdrawRow, LoadRow, SomeStand, AskRow, floorOf, JudgeRow, PrintRow, ExplainRow, CheckRow, Drawn, StillRow}
 use Rattle.table.specs.Stands.{Call, adds, Stands}
 use Rattle.table.specs.Runs.{step, runFrom, run, standing}
 use Rattle.table.proofs.Standing.{refused-else, not-withdrawn, not-loaded, stand-none, stand-first}
@@ -53,10 +55,11 @@ use Rattle.table.proofs.Results.{adds-of, withdraws-of, loads-of}
 use Rattle.table.proofs.Printing.{prints-of}
 use Rattle.table.proofs.PrintRows.{bytes-written, had-text, bytes-kept}
 use Rattle.table.proofs.Explaining.{explains-of, checks-of}
+use Rattle.table.proofs.Still.{stills-of}
 use Rattle.table.proofs.TreeRows.{had-tree, tree-written, first-tree, tree-kept}
 use Rattle.table.proofs.Asking.{asks-of, judges-of, words-none, words-written, words-short, first-words}
 use Rattle.table.proofs.Claims as table
-use Rattle.theorems.specs.Demands.{Called, Leaves, Exactly, Answered, Met, NotMet, Nowhere, Given, Meant, Same, Reasons}
+use Rattle.theorems.specs.Demands.{Called, Leaves, Exactly, Answered, Met, NotMet, Nowhere, Given, Meant, Same, Reasons, InHand}
 use Rattle.plan.specs.Meant.{IsGiven, FirstUnmet}
 
 -- ---- calls of the code leave the table of the run
@@ -72,10 +75,11 @@ called-runs t cs u (Called.judge {words = words} {r = r} {cs = ds} h l) = called
 called-runs t cs u (Called.print {k = k} {buffer = buffer} {r = r} {exit = exit} {cs = ds} h l) = called-runs (r .table) ds u l ∙ ap (λ (x : Table). runFrom x ds) (table.print-steps t k buffer r exit h)
 called-runs t cs u (Called.explain {buffer = buffer} {r = r} {exit = exit} {cs = ds} h l) = called-runs (r .table) ds u l ∙ ap (λ (x : Table). runFrom x ds) (table.explain-steps t buffer r exit h)
 called-runs t cs u (Called.check {words = words} {r = r} {cs = ds} h l) = called-runs (r .table) ds u l ∙ ap (λ (x : Table). runFrom x ds) (table.check-steps t words r h)
+called-runs t cs u (Called.still {words = words} {r = r} {cs = ds} h l) = called-runs (r .table) ds u l ∙ ap (λ (x : Table). runFrom x ds) (table.still-steps t words r h)
 
 -- and every list of calls leaves one: the contracts can be met
 calls-run : (cs : List Call) (t : Table) → FromUs t → Called t cs (runFrom t cs)
-unfolding runFrom step asked judged printed explained treeChecked
+unfolding runFrom step asked judged printed explained treeChecked stillGiven
 calls-run [] t v = Called.none
 calls-run (Call.add s ∷ cs) t v = let h = adds-of t s (added (rulesOf t) s) v refl in Called.add h (calls-run cs (added (rulesOf t) s .table) (h .from-us))
 calls-run (Call.withdraw k ∷ cs) t v = let h = withdraws-of t k (withdrawn (rulesOf t) k) v refl in Called.withdraw h (calls-run cs (withdrawn (rulesOf t) k .table) (h .from-us))
@@ -88,6 +92,7 @@ calls-run (Call.print k buffer ∷ cs) t v =
 calls-run (Call.explain buffer ∷ cs) t v =
     Called.explain (explains-of t v buffer (explainAnswer (rulesOf t) (length buffer)) (explainWords (rulesOf t) buffer) refl refl) (calls-run cs t v)
 calls-run (Call.check words ∷ cs) t v = Called.check (checks-of t v words (checkAnswer (rulesOf t) words) refl) (calls-run cs t v)
+calls-run (Call.still words ∷ cs) t v = Called.still (stills-of t v words (stillAnswer (rulesOf t) words) refl) (calls-run cs t v)
 
 pub left : (cs : List Call) (t : Table) → Leaves cs t → t ≡ run cs
 unfolding run
@@ -189,6 +194,12 @@ module _ (cs : List Call) where
   judge-exactly words r h =
       by-row (JudgeRow (standing cs) words) judgeOutcome (judged-by words r h) (table.judge-answered words (standing cs) fs are) (table.judge-answered-only words (standing cs))
 
+  still-exactly : (words : List ℕ) (r : StillResult) → StillDoes (run cs) words r → Exactly (StillRow (standing cs) words) (stillOutcome (r .answer))
+  unfolding stillGiven
+  still-exactly words r h =
+      by-row (StillRow (standing cs) words) stillOutcome (ap (λ (x : StillResult). x .answer) (h .result) ∙ ap (λ (rs : List Text). stillAnswer rs words) held)
+      (table.still-answered words (standing cs) stands) (table.still-answered-only words (standing cs) stands)
+
   printed-by : (k : ℕ) (buffer : List ℕ) (r : PrintResult) (exit : List ℕ) → Prints (run cs) k buffer r exit
       → (r .answer ≡ printAnswer (standing cs) k (length buffer)) × (exit ≡ printBytes (standing cs) k buffer)
   unfolding printed
@@ -270,6 +281,8 @@ module _ (cs : List Call) where
         explain-kept = λ buffer r exit h n. explained-by buffer r exit h .1 ∙ tree-kept (standing cs) buffer (explainOutcome (r .answer)) (explain-exactly buffer r exit h .row) n;
         check = check-exactly;
         check-same = λ words r h. h .same;
+        still = still-exactly;
+        still-same = λ words r h. h .same;
       }
 
   -- ---- demand 2
@@ -438,6 +451,41 @@ module _ (cs : List Call) where
       go o (ExplainRow.short t also rules w l) f none = absurd (let z : _≡_ {A = ℕ} 12 17 = cc in omega arith)
       go o (ExplainRow.tree t also rules w l) f none = absurd (let z : _≡_ {A = ℕ} 0 1 = cc in omega arith)
 
+  -- ---- document 02, T-09
+
+  in-hand : InHand (standing cs) (run cs)
+  in-hand =
+      record {
+        drawn = λ some words r h gs rules. (
+          λ e. drawn-so words (stillOutcome (r .answer)) (still-exactly words r h .row) e gs rules,
+          λ d. sym (still-exactly words r h .only Outcome.AsDrawn (StillRow.drawn some rules d)),
+        );
+        no = λ words r h lent s exit k. (
+          λ e. not-so words (stillOutcome (r .answer)) (still-exactly words r h .row) e lent s exit k,
+          λ e. said-none words r h (askOutcome (s .answer)) (ask-exactly plain lent s exit k .row) e,
+        );
+      }
+    where
+      drawn-so : (words : List ℕ) (o : Outcome) → StillRow (standing cs) words o → o ≡ Outcome.AsDrawn → (gs : List (Formula Name)) → AreRules (standing cs) gs → Drawn gs words
+      drawn-so words o (StillRow.none z) f gs rules = absurd (let z : _≡_ {A = ℕ} 0 1 = cc in omega arith)
+      drawn-so words o (StillRow.drawn {fs = hs} some others d) f gs rules = subst (λ (x : List (Formula Name)). Drawn x words) (table.formulas-one (standing cs) hs gs others rules) d
+      drawn-so words o (StillRow.yes some others n F c m) f gs rules = absurd (let z : _≡_ {A = ℕ} 0 1 = cc in omega arith)
+      drawn-so words o (StillRow.no some others n) f gs rules = absurd (let z : _≡_ {A = ℕ} 0 1 = cc in omega arith)
+
+      not-so : (words : List ℕ) (o : Outcome) → StillRow (standing cs) words o → o ≡ Outcome.No → (lent : List ℕ) (s : AskResult) (exit : List ℕ) → Asks plain (run cs) lent s exit
+          → askOutcome (s .answer) ≡ Outcome.NoPlan
+      not-so words o (StillRow.none z) f lent s exit k = absurd (let z : _≡_ {A = ℕ} 0 1 = cc in omega arith)
+      not-so words o (StillRow.drawn some others d) f lent s exit k = absurd (let z : _≡_ {A = ℕ} 0 1 = cc in omega arith)
+      not-so words o (StillRow.yes some others n F c m) f lent s exit k = absurd (let z : _≡_ {A = ℕ} 0 1 = cc in omega arith)
+      not-so words o (StillRow.no some others n) f lent s exit k = sym (ask-exactly plain lent s exit k .only Outcome.NoPlan (AskRow.without some others n))
+
+      said-none : (words : List ℕ) (r : StillResult) → StillDoes (run cs) words r → {room : ℕ} (o : Outcome) → AskRow plain (standing cs) room o → o ≡ Outcome.NoPlan
+          → stillOutcome (r .answer) ≡ Outcome.No
+      said-none words r h o (AskRow.none z) f = absurd (let z : _≡_ {A = ℕ} 0 1 = cc in omega arith)
+      said-none words r h o (AskRow.without some rules never) f = sym (still-exactly words r h .only Outcome.No (StillRow.no some rules never))
+      said-none words r h o (AskRow.short some rules g l) f = absurd (let z : _≡_ {A = ℕ} 0 1 = cc in omega arith)
+      said-none words r h o (AskRow.given some rules g l) f = absurd (let z : _≡_ {A = ℕ} 0 1 = cc in omega arith)
+
   reasons : Reasons (standing cs) (run cs)
   reasons = record { accepted = accepted; written = tree-closed; told = tree-or-plan }
 
@@ -461,3 +509,6 @@ demand-three cs t rs l s q buffer r exit =
 
 pub reasons-hold : (cs : List Call) (t : Table) (rs : List Text) → Leaves cs t → Stands cs rs → Reasons rs t
 reasons-hold cs = carried cs Reasons (reasons cs)
+
+pub in-hand-holds : (cs : List Call) (t : Table) (rs : List Text) → Leaves cs t → Stands cs rs → InHand rs t
+in-hand-holds cs = carried cs InHand (in-hand cs)

@@ -1,7 +1,7 @@
 -- What is meant: the customer's three demands, each as one statement about a list of calls from the empty table. The list is any list of
--- add, withdraw, load, ask for either question, judge, print, explain and check_tree, refused ones included, each with any text, number, buffer or plan words; the standing rules rs are those that
+-- add, withdraw, load, ask for either question, judge, print, explain, check_tree and still, refused ones included, each with any text, number, buffer or plan words; the standing rules rs are those that
 -- `Stands` makes of the calls alone, by the rows of the table of calls, and their formulas those that the grammar derives. The calls of
--- the code come in by their contracts (Adds, Withdraws, Loads, Asks, Judges, Prints, Explains, Checks, Reads): what holds of every result that a contract allows
+-- the code come in by their contracts (Adds, Withdraws, Loads, Asks, Judges, Prints, Explains, Checks, StillDoes, Reads): what holds of every result that a contract allows
 -- holds of what the code gives. Assumes nothing.
 use Prim.Native.Nat.{ℕ, _≤_, _<_}
 use mathlib.Core.Path.{_≡_}
@@ -31,6 +31,7 @@ use Rattle.table.specs.declared.JudgeResult.{JudgeResult}
 use Rattle.table.specs.declared.PrintResult.{PrintResult}
 use Rattle.table.specs.declared.ExplainResult.{ExplainResult}
 use Rattle.table.specs.declared.CheckResult.{CheckResult}
+use Rattle.table.specs.declared.StillResult.{StillResult}
 use Rattle.table.specs.Store.{tableOf}
 use Rattle.table.specs.Sheet.{Text}
 use Rattle.table.specs.Rules.{AreRules}
@@ -38,11 +39,12 @@ use Rattle.table.specs.Calls.{FromUs, Adds, Withdraws, Loads}
 use Rattle.table.specs.Asking.{Asks, Judges}
 use Rattle.table.specs.Printing.{Prints}
 use Rattle.table.specs.Explaining.{Explains, Checks}
+use Rattle.table.specs.Still.{StillDoes}
 use Rattle.trees.specs.Trees.{Tree, wordsOf as treeWords}
 use Rattle.trees.specs.OfRules.{IsWrittenTree}
 use Rattle.printing.specs.Text.{textOf}
-use Rattle.table.specs.Numbers.{addOutcome, withdrawOutcome, loadOutcome, askOutcome, judgeOutcome, printOutcome, explainOutcome, checkOutcome}
-use Rattle.table.specs.Rows.{AddRow, WithdrawRow, LoadRow, SomeStand, AskRow, Decodes, floorOf, JudgeRow, IsKth, PrintRow, ExplainRow, CheckRow}
+use Rattle.table.specs.Numbers.{addOutcome, withdrawOutcome, loadOutcome, askOutcome, judgeOutcome, printOutcome, explainOutcome, checkOutcome, stillOutcome}
+use Rattle.table.specs.Rows.{AddRow, WithdrawRow, LoadRow, SomeStand, AskRow, Decodes, floorOf, JudgeRow, IsKth, PrintRow, ExplainRow, CheckRow, Drawn, StillRow}
 use Rattle.table.specs.Stands.{Call, adds}
 use Rattle.plan.specs.Meant.{IsGiven, FirstUnmet}
 
@@ -58,6 +60,7 @@ pub data Called : Table → List Call → Table → Type 0 where
       → Called t (Call.print k buffer ∷ cs) u
   explain : {t : Table} {buffer : List ℕ} {r : ExplainResult} {exit : List ℕ} {cs : List Call} {u : Table} → Explains t buffer r exit → Called (r .table) cs u → Called t (Call.explain buffer ∷ cs) u
   check : {t : Table} {words : List ℕ} {r : CheckResult} {cs : List Call} {u : Table} → Checks t words r → Called (r .table) cs u → Called t (Call.check words ∷ cs) u
+  still : {t : Table} {words : List ℕ} {r : StillResult} {cs : List Call} {u : Table} → StillDoes t words r → Called (r .table) cs u → Called t (Call.still words ∷ cs) u
 
 -- "from an empty table", which is what `Table::empty` gives
 abbrev pub Leaves : List Call → Table → Type 0
@@ -106,6 +109,9 @@ pub record Answered (rs : List Text) (t : Table) : Type 0 where
   pub explain-kept : (buffer : List ℕ) (r : ExplainResult) (exit : List ℕ) → Explains t buffer r exit → ((n : ℕ) → explainOutcome (r .answer) ≡ Outcome.Tree n → ⊥) → exit ≡ buffer
   pub check : (words : List ℕ) (r : CheckResult) → Checks t words r → Exactly (CheckRow rs words) (checkOutcome (r .answer))
   pub check-same : (words : List ℕ) (r : CheckResult) → Checks t words r → r .table ≡ t
+  -- document 02, T-09
+  pub still : (words : List ℕ) (r : StillResult) → StillDoes t words r → Exactly (StillRow rs words) (stillOutcome (r .answer))
+  pub still-same : (words : List ℕ) (r : StillResult) → StillDoes t words r → r .table ≡ t
 
 -- ---- demand 2: "Rule text is read as the grammar of document 01 has it, and a plan given meets every standing rule .. Plan words read
 -- back give the plan that was written, and a stranger's plan is judged by the same definition."
@@ -199,3 +205,13 @@ pub record Reasons (rs : List Text) (t : Table) : Type 0 where
   pub told : SomeStand rs → (buffer : List ℕ) (r : ExplainResult) (exit : List ℕ) → Explains t buffer r exit
       → (lent : List ℕ) (s : AskResult) (words : List ℕ) → Asks plain t lent s words
       → (explainOutcome (r .answer) ≡ Outcome.Refused 17 0 → ⊥) ↔ (askOutcome (s .answer) ≡ Outcome.NoPlan)
+
+-- ---- document 02, T-09: the plan in hand
+
+pub record InHand (rs : List Text) (t : Table) : Type 0 where
+  -- "exactly if it then meets the table .. the answer is "yes, as drawn""
+  pub drawn : SomeStand rs → (words : List ℕ) (r : StillResult) → StillDoes t words r → (fs : List (Formula Name)) → AreRules rs fs
+      → (stillOutcome (r .answer) ≡ Outcome.AsDrawn) ↔ Drawn fs words
+  -- "It is "no" exactly when the full question would have no plan, for any lent words, damaged ones too."
+  pub no : (words : List ℕ) (r : StillResult) → StillDoes t words r → (lent : List ℕ) (s : AskResult) (exit : List ℕ) → Asks plain t lent s exit
+      → (stillOutcome (r .answer) ≡ Outcome.No) ↔ (askOutcome (s .answer) ≡ Outcome.NoPlan)
