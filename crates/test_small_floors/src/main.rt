@@ -8,73 +8,54 @@
 // them differ. Every sheet is asked for one building as well, document 02, T-04, and that answer is held to the same floors as far as they
 // hang together. Merged points leave a floor that hangs together, so that for up to two names these are all such floors, too. A floor with
 // a point in no name counts only where a sheet has no name, document 02, T-07, and no plan of a sheet with one may have such a point.
-// Ask's plan must still do as drawn, document 02, T-09, and so must every plan of one or two points whose floor meets the rules by the
-// same evaluation, of no more names than the sheet, and no other one: of those still must say what ask says, yes or no.
 // A sheet that disagrees is written, and why. The file `stdout` has the documents' answers to P1 to P12 and the counts that separate
 // computations gave, those of a program in Python: it makes each sheet's text again, reads it by a reader of its own, and takes the first row
 // by the documents' words, with floors sought on all evaluations that a branch leaves; for up to two names it tries all floors on distinct
 // evaluations as well.
 ghost use Rattle.small_sheets.specs.Bounds.{Bounded};
 ghost use Rattle.table.specs.Calls.{FromUs};
-use small_sheets::ALL;
-use small_sheets::AND;
-use small_sheets::COMMON;
+use small_floors::Floor;
+use small_floors::Machine;
+use small_floors::UNWRITTEN;
+use small_floors::Words;
+use small_floors::apart;
+use small_floors::bit;
+use small_floors::coming;
+use small_floors::evaluations;
+use small_floors::floor_in;
+use small_floors::floor_of;
+use small_floors::has;
+use small_floors::is_pair;
+use small_floors::joined;
+use small_floors::no_words;
+use small_floors::on_floor;
+use small_floors::operand;
+use small_floors::position;
+use small_floors::stand_somewhere;
+use small_floors::start;
+use small_floors::step;
+use small_floors::touching;
+use small_floors::two_bytes;
+use small_floors::weight;
+use small_floors::with_points;
+use small_floors::with_word;
 use small_sheets::CONTACT;
-use small_sheets::EITHER;
-use small_sheets::EMPTY;
-use small_sheets::FALSE;
-use small_sheets::IF;
-use small_sheets::NAME;
-use small_sheets::NOT;
-use small_sheets::NOTHING;
 use small_sheets::Numbers;
-use small_sheets::OR;
 use small_sheets::PART;
-use small_sheets::REST;
-use small_sheets::RULE;
-use small_sheets::SECOND;
-use small_sheets::SPACED_EMPTY;
 use small_sheets::Sheet;
-use small_sheets::THIRD;
-use small_sheets::TRUE;
 use small_sheets::WORKED;
 use small_sheets::is_atom;
 use small_sheets::numbers_of;
-use small_sheets::operands;
 use small_sheets::sheet_at;
 use table::AddAnswer;
 use table::AskAnswer;
-use table::StillAnswer;
 use table::Table;
 use test_kit::write_bytes;
 use test_kit::write_labelled;
 use test_kit::write_number;
 use test_kit::write_words;
 
-// ---- floors, and what rules mean on them
-
-// The definitions are those of document 01, 'Meaning'. Points stand on distinct evaluations below 8, and a set of points is a byte,
-// bit e for evaluation e.
-
-// The points of a floor, and for each evaluation those in contact with it.
-struct Floor {
-    points: u8,
-    touch: [u8; 8],
-}
-
-// What is known after some signs of a form, which are taken from the last to the first: the values that are still wanted, the
-// uppermost that of the first operand; the numbers of the form's atoms, and how many atoms are still to come; the row so far, a number
-// with atom 0 as its highest bit, so that of two rows the first is the larger; whether every rule so far is met; and whether all of it
-// was evaluated.
-struct Machine {
-    values: [u8; 32],
-    height: usize,
-    numbers: [u8; 32],
-    left: usize,
-    row: u32,
-    met: bool,
-    whole: bool,
-}
+// ---- the search over small floors
 
 // Whether a floor is found that meets the rules, for one building one that hangs together, and the first of the rows of such floors.
 struct Found {
@@ -90,108 +71,6 @@ struct Both {
     building: Found,
 }
 
-// The set of each evaluation alone.
-const BITS: [u8; 8] = [1, 2, 4, 8, 16, 32, 64, 128];
-
-// The set of evaluation e alone.
-fn bit(e: usize) -> u8 {
-    BITS[e % 8]
-}
-
-// Whether e is in the set.
-fn has(set: u8, e: usize) -> bool {
-    set & bit(e) != 0
-}
-
-// How many points stand on evaluations below e: the position of the point on e.
-fn position(points: u8, e: usize) -> usize {
-    let mut n: usize = 0;
-    let mut f: usize = 0;
-    while f < 8 {
-        if f < e {
-            if has(points, f) {
-                n = n % 8 + 1;
-            }
-        }
-        f += 1;
-    }
-    n
-}
-
-// The evaluations below 2^names.
-fn evaluations(names: usize) -> u8 {
-    match names {
-        0 => 1,
-        1 => 3,
-        2 => 15,
-        _ => 255,
-    }
-}
-
-// The evaluations in which a name holds: those with the bit of its number.
-fn name_set(name: u8) -> u8 {
-    match name {
-        NAME => 0xAA,
-        SECOND => 0xCC,
-        _ => 0xF0,
-    }
-}
-
-// "Where a table uses at least one name, each point of a plan must lie in at least one of them; with no names the old meaning stays."
-// The evaluations of points that do.
-fn somewhere(names: usize) -> u8 {
-    match names {
-        0 => 1,
-        1 => name_set(NAME),
-        2 => name_set(NAME) | name_set(SECOND),
-        _ => name_set(NAME) | name_set(SECOND) | name_set(THIRD),
-    }
-}
-
-// Whether all points do.
-fn stand_somewhere(points: u8, names: usize) -> bool {
-    points & (255 - somewhere(names)) == 0
-}
-
-// A floor whose points are in contact with themselves alone.
-fn apart(points: u8) -> Floor {
-    Floor {
-        points,
-        touch: BITS,
-    }
-}
-
-// A floor on which e and f are in contact too.
-fn joined(floor: Floor, e: usize, f: usize) -> Floor {
-    let points = floor.points;
-    let mut touch = floor.touch;
-    touch[e % 8] = touch[e % 8] | bit(f);
-    touch[f % 8] = touch[f % 8] | bit(e);
-    Floor { points, touch }
-}
-
-// Whether e and f are two points, e the smaller.
-fn is_pair(points: u8, e: usize, f: usize) -> bool {
-    e < f && has(points, e) && has(points, f)
-}
-
-// The floor of these points whose pairs, in order, are in contact where the bits of a number are set.
-fn floor_of(points: u8, contacts: usize) -> Floor {
-    let mut floor = apart(points);
-    let mut bits = contacts;
-    let mut i: usize = 0;
-    while i < 64 {
-        if is_pair(points, i / 8, i % 8) {
-            if bits % 2 == 1 {
-                floor = joined(floor, i / 8, i % 8);
-            }
-            bits = bits / 2;
-        }
-        i += 1;
-    }
-    floor
-}
-
 // How many floors have these points, of which there are at most four; of more none is gone through, nor where one is in no name.
 fn floors_on(points: u8, names: usize) -> usize {
     if !stand_somewhere(points, names) {
@@ -204,179 +83,6 @@ fn floors_on(points: u8, names: usize) -> usize {
         4 => 64,
         _ => 0,
     }
-}
-
-// What an atom weighs in a row: atom 0 the most of the sixteen.
-fn weight(number: usize) -> u32 {
-    0x8000 >> (number % 16)
-}
-
-// Nothing evaluated yet.
-fn start(numbers: Numbers) -> Machine {
-    let values = [0u8; 32];
-    let of = numbers.of;
-    Machine {
-        values,
-        height: 0,
-        numbers: of,
-        left: numbers.places,
-        row: 0,
-        met: true,
-        whole: true,
-    }
-}
-
-// The value at a depth below the uppermost.
-fn operand(m: Machine, depth: usize) -> u8 {
-    let values = m.values;
-    let height = m.height;
-    if depth < height {
-        if height <= 32 {
-            return values[height - 1 - depth];
-        }
-    }
-    0
-}
-
-// "C(x,y) holds if a point of x is in contact with a point of y."
-fn touching(x: u8, y: u8, touch: [u8; 8]) -> bool {
-    let mut e: usize = 0;
-    while e < 8 {
-        if has(x, e) {
-            if touch[e] & y != 0 {
-                return true;
-            }
-        }
-        e += 1;
-    }
-    false
-}
-
-fn one_if(b: bool) -> u8 {
-    if b { 1 } else { 0 }
-}
-
-// What a term is on a floor, from its operands: "- is complement, * intersection, + union".
-fn term_value(sign: u8, x: u8, y: u8, points: u8) -> u8 {
-    match sign {
-        NOTHING => 0,
-        ALL => points,
-        REST => points & (255 - x),
-        COMMON => x & y,
-        EITHER => x | y,
-        _ => points & name_set(sign),
-    }
-}
-
-// 1 if a formula holds, else 0, from its operands: "t=0 holds if t is empty. <=(x,y) means x*-y=0."
-fn formula_value(sign: u8, a: u8, b: u8, touch: [u8; 8]) -> u8 {
-    match sign {
-        TRUE => 1,
-        FALSE => 0,
-        NOT => one_if(a == 0),
-        EMPTY | SPACED_EMPTY => one_if(a == 0),
-        CONTACT => one_if(touching(a, b, touch)),
-        PART => one_if(a & (255 - b) == 0),
-        AND => a & b,
-        OR => a | b,
-        IF => one_if(a == 0) | b,
-        _ => one_if(a == b),
-    }
-}
-
-fn is_term(sign: u8) -> bool {
-    match sign {
-        NOTHING | ALL | REST | COMMON | EITHER => true,
-        _ => NAME <= sign,
-    }
-}
-
-fn value_of(sign: u8, a: u8, b: u8, floor: Floor) -> u8 {
-    let points = floor.points;
-    let touch = floor.touch;
-    if is_term(sign) {
-        return term_value(sign, a, b, points);
-    }
-    formula_value(sign, a, b, touch)
-}
-
-// The number of the atom that comes next.
-fn coming(m: Machine) -> usize {
-    let numbers = m.numbers;
-    let left = m.left;
-    if 0 < left {
-        if left <= 32 {
-            return numbers[left - 1] as usize;
-        }
-    }
-    0
-}
-
-// The row with an atom's value.
-fn with_atom_value(m: Machine, value: u8) -> Machine {
-    let mut next = m;
-    if value == 1 {
-        next.row = m.row | weight(coming(m));
-    }
-    if 0 < m.left {
-        next.left = m.left - 1;
-    }
-    next
-}
-
-// A value in place of so many operands.
-fn with_value(m: Machine, taken: usize, value: u8) -> Machine {
-    let mut next = m;
-    let height = m.height;
-    if taken <= height {
-        let place = height - taken;
-        if place < 32 {
-            next.values[place] = value;
-            next.height = place + 1;
-            return next;
-        }
-    }
-    next.whole = false;
-    next
-}
-
-// The end of a rule, whose value is all that is left.
-fn with_rule_end(m: Machine, value: u8) -> Machine {
-    let mut next = m;
-    if m.height != 1 {
-        next.whole = false;
-    }
-    if value != 1 {
-        next.met = false;
-    }
-    next.height = 0;
-    next
-}
-
-// One sign more.
-fn step(m: Machine, sign: u8, floor: Floor) -> Machine {
-    let a = operand(m, 0);
-    let b = operand(m, 1);
-    if sign == RULE {
-        return with_rule_end(m, a);
-    }
-    let value = value_of(sign, a, b, floor);
-    let taken = operands(sign);
-    if is_atom(sign) {
-        return with_value(with_atom_value(m, value), taken, value);
-    }
-    with_value(m, taken, value)
-}
-
-// The rules on a floor.
-fn on_floor(code: &[u8], numbers: Numbers, floor: Floor) -> Machine {
-    let mut m = start(numbers);
-    let mut i: usize = 0;
-    while i < code.len() {
-        m = step(m, code[code.len() - 1 - i], floor);
-        i += 1;
-    }
-    m
 }
 
 // The points of a set and all that can be reached from them through contacts, on a way of at most seven: eight times each point of the
@@ -481,9 +187,6 @@ fn search(code: &[u8], numbers: Numbers, names: usize) -> Both {
 // 'The plan that is given' and 'Plan words', for a row of a sheet's atoms over at most three names; and the floor that a plan's words
 // have.
 
-// A word that no plan has: what the buffer holds before ask.
-const UNWRITTEN: u32 = 0xFFFF_FFFF;
-
 // What an atom is in a row; an atom that is no contact is a zero atom.
 const NO_ATOM: u8 = 0;
 
@@ -507,19 +210,6 @@ struct Atoms {
     list: [RowAtom; 16],
     names: usize,
     vacant: u8,
-}
-
-// The first words of a buffer, so many.
-struct Words {
-    words: [u32; 64],
-    count: usize,
-}
-
-// The floor that some words have, and the evaluations of its points in the words' order.
-struct Reading {
-    floor: Floor,
-    order: [u8; 8],
-    count: usize,
 }
 
 fn no_atoms(names: usize) -> Atoms {
@@ -767,40 +457,6 @@ fn given(atoms: Atoms, building: bool) -> u8 {
     }
 }
 
-// No word yet.
-fn no_words() -> Words {
-    let words = [UNWRITTEN; 64];
-    Words { words, count: 0 }
-}
-
-// One word more: its kind and what it carries.
-fn with_word(w: Words, kind: u32, carried: usize) -> Words {
-    let mut next = w;
-    let at = w.count;
-    if at < 64 {
-        next.words[at] = kind % 16 * 0x1000_0000 + (carried % 0x1_0000) as u32;
-        next.count = at + 1;
-    }
-    next
-}
-
-fn with_points(w: Words, points: u8) -> Words {
-    let mut next = w;
-    let mut e: usize = 0;
-    while e < 8 {
-        if has(points, e) {
-            next = with_word(next, 2, e);
-        }
-        e += 1;
-    }
-    next
-}
-
-// Two positions or counts in one word.
-fn two_bytes(high: usize, low: usize) -> usize {
-    high % 256 * 256 + low % 256
-}
-
 // "All unseparated pairs are in contact."
 fn with_contacts(w: Words, points: u8, atoms: Atoms) -> Words {
     let mut next = w;
@@ -826,60 +482,6 @@ fn words_of(atoms: Atoms, building: bool) -> Words {
     let first = with_word(no_words(), 1, two_bytes(atoms.names, position(points, 8)));
     let whole = with_contacts(with_points(first, points), points, atoms);
     with_word(whole, 4, whole.count)
-}
-
-fn with_read_point(r: Reading, e: usize) -> Reading {
-    let floor = r.floor;
-    let count = r.count;
-    let mut order = r.order;
-    if 8 <= count {
-        return r;
-    }
-    order[count] = (e % 8) as u8;
-    Reading {
-        floor: apart(floor.points | bit(e)),
-        order,
-        count: count + 1,
-    }
-}
-
-fn with_read_contact(r: Reading, i: usize, j: usize) -> Reading {
-    let floor = r.floor;
-    let count = r.count;
-    let order = r.order;
-    Reading {
-        floor: joined(floor, order[i % 8] as usize, order[j % 8] as usize),
-        order,
-        count,
-    }
-}
-
-fn with_read_word(r: Reading, word: u32) -> Reading {
-    let low = (word % 256) as usize;
-    let high = (word / 256 % 256) as usize;
-    match word / 0x1000_0000 {
-        2 => with_read_point(r, low),
-        3 => with_read_contact(r, high, low),
-        _ => r,
-    }
-}
-
-// The floor that the first n words have. Words that are no plan are found out where words are compared.
-fn floor_in(words: &[u32; 530], n: usize) -> Floor {
-    let order = [0u8; 8];
-    let mut r = Reading {
-        floor: apart(0),
-        order,
-        count: 0,
-    };
-    let mut i: usize = 0;
-    while i < 530 {
-        if i < n {
-            r = with_read_word(r, words[i]);
-        }
-        i += 1;
-    }
-    r.floor
 }
 
 fn word_at(list: [u32; 64], i: usize) -> u32 {
@@ -1151,162 +753,6 @@ fn check(
     check_answer(code, numbers, names, found, answer, words)
 }
 
-// ---- the checks: the plan in hand
-
-// What still says; of a refusal, and of words that are too many, that it says nothing.
-const NO: u8 = 0;
-
-const YES: u8 = 1;
-
-const AS_DRAWN: u8 = 2;
-
-const NOTHING_SAID: u8 = 3;
-
-// What still says of the first n words.
-fn still_says(table: Table, words: &[u32], n: usize) -> u8
-    requires { ⌜ FromUs table ⌝ }
-{
-    if words.len() < n {
-        return NOTHING_SAID;
-    }
-    let r = table.still(&words[0..n]);
-    let answer = r.answer;
-    match answer {
-        StillAnswer::AsDrawn => AS_DRAWN,
-        StillAnswer::Yes => YES,
-        StillAnswer::No => NO,
-        StillAnswer::NoRule => NOTHING_SAID,
-    }
-}
-
-// The words of a plan of so many names with these points, of which there are one or two, in contact with each other or not.
-fn small_plan(names: usize, points: u8, touching: bool) -> Words {
-    let first = with_word(no_words(), 1, two_bytes(names, position(points, 8)));
-    let drawn = with_points(first, points);
-    if touching {
-        let joined = with_word(drawn, 3, two_bytes(0, 1));
-        return with_word(joined, 4, joined.count);
-    }
-    with_word(drawn, 4, drawn.count)
-}
-
-// What still must say of a plan of so many names.
-fn must_say(names: usize, lent: usize, points: u8, met: bool, otherwise: u8) -> u8 {
-    let fits = points & (255 - evaluations(lent)) == 0;
-    if met && fits && lent <= names && stand_somewhere(points, names) {
-        return AS_DRAWN;
-    }
-    otherwise
-}
-
-// Whether still says what it must of the plan of a floor, with so many names in its first word, and of the same words with one after them.
-fn says_rightly(
-    table: Table,
-    names: usize,
-    lent: usize,
-    floor: Floor,
-    met: bool,
-    touching: bool,
-    otherwise: u8,
-) -> bool
-    requires { ⌜ FromUs table ⌝ }
-{
-    let points = floor.points;
-    let plan = small_plan(lent, points, touching);
-    let words = plan.words;
-    let count = plan.count % 64;
-    if still_says(table, &words, count) != must_say(names, lent, points, met, otherwise) {
-        return false;
-    }
-    still_says(table, &words, count + 1) == otherwise
-}
-
-// The same of a floor, for the sheet's number of names and for one that the points choose, from none to four.
-fn floor_agrees(
-    table: Table,
-    code: &[u8],
-    numbers: Numbers,
-    names: usize,
-    floor: Floor,
-    touching: bool,
-    otherwise: u8,
-) -> bool
-    requires { ⌜ FromUs table ⌝ }
-{
-    let m = on_floor(code, numbers, floor);
-    let met = m.met;
-    let other = floor.points as usize % 5;
-    if !says_rightly(table, names, names, floor, met, touching, otherwise) {
-        return false;
-    }
-    says_rightly(table, names, other, floor, met, touching, otherwise)
-}
-
-// The same of the floors of these points, where there are one or two.
-fn points_agree(
-    table: Table,
-    code: &[u8],
-    numbers: Numbers,
-    names: usize,
-    points: u8,
-    otherwise: u8,
-) -> bool
-    requires { ⌜ FromUs table ⌝ }
-{
-    let count = position(points, 8);
-    if count != 1 && count != 2 {
-        return true;
-    }
-    let apart = floor_of(points, 0);
-    if !floor_agrees(table, code, numbers, names, apart, false, otherwise) {
-        return false;
-    }
-    if count == 1 {
-        return true;
-    }
-    let touching = floor_of(points, 1);
-    floor_agrees(table, code, numbers, names, touching, true, otherwise)
-}
-
-// The same of all floors of one or two points.
-fn floors_agree(table: Table, code: &[u8], numbers: Numbers, names: usize, otherwise: u8) -> bool
-    requires { ⌜ FromUs table ⌝ }
-{
-    let all = evaluations(names);
-    let mut points: u8 = 0;
-    while points < all {
-        points += 1;
-        if !points_agree(table, code, numbers, names, points, otherwise) {
-            return false;
-        }
-    }
-    true
-}
-
-// The same of the plan that ask gave, and of all these, by what was found of ask's answer.
-fn still_agrees(
-    table: Table,
-    code: &[u8],
-    numbers: Numbers,
-    names: usize,
-    f: Finding,
-    words: &[u32; 530],
-) -> bool
-    requires { ⌜ FromUs table ⌝ }
-{
-    match f {
-        Finding::Plan(n) => {
-            if still_says(table, words, n) != AS_DRAWN {
-                return false;
-            }
-            floors_agree(table, code, numbers, names, YES)
-        }
-        Finding::NoPlan => floors_agree(table, code, numbers, names, NO),
-        Finding::TooManyAtoms => true,
-        Finding::Disagrees => true,
-    }
-}
-
 // ---- the checks: counts
 
 // What is counted: the sheets, the answers to the plain question and its words, the sheets that disagree, and the answers and words for one
@@ -1428,9 +874,6 @@ fn test_question(
         write_answer(k, f, &words);
     }
     count_finding(counts, PLANS, f, file);
-    if !still_agrees(table, code, numbers, names, f, &words) {
-        count_finding(counts, PLANS, disagree(b"the plan in hand"), file);
-    }
 }
 
 // Tests sheet k: its lines, the number of the one that is withdrawn or 0, its form without that one, and how many names.
