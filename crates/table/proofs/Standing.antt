@@ -109,7 +109,7 @@ names-last rs s = ap namesOf (map-append meaningOf rs (s ∷ []))
 
 -- ---- part of a list that can stand
 
-stand-part : (rs ss : List Text) → CanStand ss → ((s : Text) → In s rs → In s ss) → length rs ≤ length ss → CanStand rs
+pub stand-part : (rs ss : List Text) → CanStand ss → ((s : Text) → In s rs → In s ss) → length rs ≤ length ss → CanStand rs
 unfolding namesIn atomsIn
 stand-part rs ss h among few =
     can-stand rs (omega (arith, h .few)) (λ s i. can-read ss h s (among s i))
