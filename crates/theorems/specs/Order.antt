@@ -46,14 +46,14 @@ abbrev pub wordsEnough : Question → ℕ
 wordsEnough plain = 530
 wordsEnough building = 32642
 
--- "plan, or both no plan"; "The plans may differ, since names are numbered by place.", and so may their lengths
+-- "Both answers are then plan, or both no plan"; "The plans may differ, since names are numbered by place.", and so may their lengths
 pub data BothSay : Outcome → Outcome → Type 0 where
   plan : {m n : ℕ} → BothSay (Outcome.Plan m) (Outcome.Plan n)
   no-plan : BothSay Outcome.NoPlan Outcome.NoPlan
 
 -- ask on the tables that these calls leave, in which rs and ss stand
 pub record AnswersAlike (rs ss : List Text) (cs ds : List Call) : Type 0 where
-  -- "Both answers are then plan, or both no plan, for the plain question and for the one-building question, given buffers that are long enough."
+  -- "for the plain question and for the one-building question, given buffers that are long enough"
   pub said : (q : Question) (t u : Table) → Leaves cs t → Leaves ds u → (lent other : List ℕ) → LongEnough q rs lent → LongEnough q ss other
       → (x : AskResult) (exit : List ℕ) → Asks q t lent x exit → (y : AskResult) (words : List ℕ) → Asks q u other y words
       → BothSay (askOutcome (x .answer)) (askOutcome (y .answer))
@@ -68,8 +68,8 @@ pub record InAnyOrder (rs ss : List Text) : Type 0 where
 
 -- ---- sheets: beyond T-10's words, the same for load
 
--- two sheets of the same lines that are not blank, at least one and each equally often, neither or both of more than 8,192 bytes: so are any
--- two of which one has the lines of the other in another order, since both have as many bytes
+-- two sheets of the same lines that are not blank, at least one and each equally often, neither or both of more than 8,192 bytes. Such are two
+-- of which one has the lines of the other in another order, if not all are blank: they have as many bytes
 pub record SameLines (f g : Text) : Type 0 where
   pub lines : SameRules (filled (linesOf f)) (filled (linesOf g))
   pub within : (length f ≤ 8192) ↔ (length g ≤ 8192)
