@@ -4,15 +4,14 @@ use mathlib.Core.Bool.{true}
 use mathlib.Core.Path.{_≡_, subst}
 use mathlib.Core.List.{List}
 use Rattle.formula.specs.Formula.{Formula, Name}
-use Rattle.formula.specs.Atoms.{atomsOf}
 use Rattle.formula.specs.Names.{atomNames}
 use Rattle.lists.specs.Search.{In, collect}
-use Rattle.lists.proofs.Search.{any-intro, any-elim, all-intro, all-elim, collect-intro, collect-elim}
+use Rattle.lists.proofs.Search.{any-intro, any-elim, all-intro, all-elim}
 use Rattle.contact.specs.Meaning.{Floor, meets, meetsAll}
 use Rattle.contact.specs.Question.{Question, Counts, NoFloor}
 use Rattle.contact.specs.Numbering.{allAtoms, sameName, namesOf}
 use Rattle.contact.proofs.Distinct.{from-distinct, in-distinct}
-use Rattle.contact.proofs.Naming.{same-name, name-alike}
+use Rattle.contact.proofs.Naming.{same-name, name-alike, names-among}
 
 -- each rule is one of the others
 abbrev pub Among : List (Formula Name) → List (Formula Name) → Type 0
@@ -21,9 +20,7 @@ Among rules others = (f : Formula Name) → In f rules → In f others
 -- then each of its names is one of theirs
 name-among : (rules others : List (Formula Name)) → Among rules others → (x : Name) → In x (namesOf rules) → In x (namesOf others)
 name-among rules others among x i =
-    let a = collect-elim atomNames (allAtoms rules) (from-distinct sameName (collect atomNames (allAtoms rules)) i) in
-    let f = collect-elim atomsOf rules (a .1) in
-    let j : In x (collect atomNames (allAtoms others)) = collect-intro atomNames (collect-intro atomsOf (among (f .0) (f .1)) (f .2)) (a .2) in
+    let j = names-among rules others among x (from-distinct sameName (collect atomNames (allAtoms rules)) i) in
     let r = any-elim (λ y. sameName y x) (namesOf others) (in-distinct sameName name-alike (collect atomNames (allAtoms others)) x j) in
     subst (λ (y : Name). In y (namesOf others)) (same-name (r .0) x .0 (r .2)) (r .1)
 
