@@ -31,6 +31,7 @@ use Rattle.contact.proofs.Same
 use Rattle.contact.proofs.Numbered
 use Rattle.contact.proofs.Answer
 use Rattle.contact.proofs.Naming
+use Rattle.contact.proofs.Order
 use Rattle.contact.proofs.SameFloor
 use Rattle.contact.proofs.Searching
 use Rattle.contact.proofs.Count
@@ -168,6 +169,10 @@ plan-meets-named = Naming.plan-meets-named
 -- and no row is found exactly if no floor over names that counts meets all of them
 pub no-plan-named : (q : Question) (rules : List (Formula Name)) → (firstRowOf q rules ≡ []) ↔ NoFloor q rules
 no-plan-named = Naming.no-plan-named
+
+-- rules that are the same in another order have such a floor, for each question, exactly where the others have (Order)
+pub no-plan-order : (rules others : List (Formula Name)) → Order.Among rules others → Order.Among others rules → (q : Question) → NoFloor q rules ↔ NoFloor q others
+no-plan-order rules others into back q = (Order.no-floor-order rules others into back q, Order.no-floor-order others rules back into q)
 
 -- with no names: exactly if no floor at all does
 pub no-plan-unnamed : (rules : List (Formula Name)) → namesOf rules ≡ []

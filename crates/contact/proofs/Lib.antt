@@ -11,6 +11,7 @@ pub mod Same
 pub mod Numbered
 pub mod Answer
 pub mod Naming
+pub mod Order
 pub mod Searching
 pub mod Count
 pub mod SameFloor

@@ -281,9 +281,15 @@ no-plan-unnamed rules none =
       λ no. w .1 (λ F c h. no F h),
     )
 
--- rules that are all among others have no more different atoms
+-- rules that are all among others have no atoms and no names but theirs, and no more different atoms
+pub atoms-among : (rules others : List (Formula Name)) → ((f : Formula Name) → In f rules → In f others) → (a : Atom Name) → In a (allAtoms rules) → In a (allAtoms others)
+atoms-among rules others h a i = let r = collect-elim atomsOf rules i in collect-intro atomsOf (h (r .0) (r .1)) (r .2)
+
+pub names-among : (rules others : List (Formula Name)) → ((f : Formula Name) → In f rules → In f others)
+    → (x : Name) → In x (collect atomNames (allAtoms rules)) → In x (collect atomNames (allAtoms others))
+names-among rules others h x i = let r = collect-elim atomNames (allAtoms rules) i in collect-intro atomNames (atoms-among rules others h (r .0) (r .1)) (r .2)
+
 pub atoms-fewer : (rules others : List (Formula Name)) → ((f : Formula Name) → In f rules → In f others)
     → length (differentAtoms rules) ≤ length (differentAtoms others)
 atoms-fewer rules others h =
-    distinct-fewer (sameAtom name-discrete) (same-alike name-discrete) (allAtoms rules) (allAtoms others)
-    (λ a i. let r = collect-elim atomsOf rules i in collect-intro atomsOf (h (r .0) (r .1)) (r .2))
+    distinct-fewer (sameAtom name-discrete) (same-alike name-discrete) (allAtoms rules) (allAtoms others) (atoms-among rules others h)

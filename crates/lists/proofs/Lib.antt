@@ -1,5 +1,6 @@
 pub mod Truth
 pub mod Search
+pub mod Often
 pub mod Lists
 pub mod Padded
 pub mod Entries

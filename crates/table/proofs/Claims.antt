@@ -26,7 +26,9 @@ use Rattle.table.specs.Sheet.{Text}
 use Rattle.table.specs.Calls.{formulasOf, judgeAdd, judgeWithdraw, judgeLoad, FromUs, Adds, Withdraws, Loads}
 use Rattle.table.specs.Rules.{AreRules, CanStand}
 use Rattle.table.specs.AtomText.{atomTextOf}
-use Rattle.contact.specs.Question.{Question}
+use Rattle.contact.specs.Question.{Question, NoFloor}
+use Rattle.lists.specs.Often.{EquallyOften}
+use Rattle.lists.proofs.Often.{often-back}
 use Rattle.table.specs.Asking.{askAnswer, Asks, judgeAnswer, Judges}
 use Rattle.formula.specs.Formula.{Formula, Name}
 use Rattle.syntax.specs.Rule.{ruleOf}
@@ -42,6 +44,7 @@ use Rattle.table.specs.Runs.{step, run, after, standing, Faithful}
 use Rattle.table.proofs.Stored as Stored
 use Rattle.table.proofs.Rules as Rules
 use Rattle.table.proofs.Standing as Standing
+use Rattle.table.proofs.Order as Order
 use Rattle.table.proofs.Running as Running
 use Rattle.table.proofs.Rows as Rows
 use Rattle.table.proofs.LoadRows as LoadRows
@@ -66,6 +69,10 @@ may-stand = Stored.from-us-table
 pub added-exactly : (rs : List Text) (s : Text) → CanStand rs → (judgeAdd rs s ≡ AddAnswer.Added) ↔ CanStand (rs ++ s ∷ [])
 added-exactly rs s h = (Standing.stand-more rs s h, Standing.stand-added rs s)
 
+-- texts that can stand can stand in any order: document 02, T-10
+pub stand-order : (rs ss : List Text) → EquallyOften rs ss → CanStand rs ↔ CanStand ss
+stand-order rs ss often = (Order.stand-order rs ss often, Order.stand-order ss rs (often-back rs ss often))
+
 -- ---- formulas
 
 -- texts that can stand mean formulas by the grammar, one list of them only
@@ -78,6 +85,10 @@ formulas-one = Rules.are-one
 -- they are those that are computed from the texts
 pub formulas-computed : (rs : List Text) (fs : List (Formula Name)) → AreRules rs fs → fs ≡ formulasOf rs
 formulas-computed = Rules.are-formulas
+
+-- in another order the same texts have a floor that counts and meets them exactly where they have one in this
+pub no-floor-order : (rs ss : List Text) → EquallyOften rs ss → (q : Question) → NoFloor q (formulasOf rs) ↔ NoFloor q (formulasOf ss)
+no-floor-order rs ss often q = (Order.no-floor-order rs ss often q, Order.no-floor-order ss rs (often-back rs ss often) q)
 
 -- ---- calls
 

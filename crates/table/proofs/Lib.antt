@@ -2,6 +2,7 @@ pub mod Fewer
 pub mod Stored
 pub mod Rules
 pub mod Standing
+pub mod Order
 pub mod Running
 pub mod Lines
 pub mod Shift

@@ -109,17 +109,19 @@ names-last rs s = ap namesOf (map-append meaningOf rs (s ∷ []))
 
 -- ---- part of a list that can stand
 
-stand-part : (rs ss : List Text) → CanStand ss → ((s : Text) → In s rs → In s ss) → length rs ≤ length ss → CanStand rs
+-- the formulas of texts that are all among others are among theirs
+pub formulas-among : (rs ss : List Text) → ((s : Text) → In s rs → In s ss) → (f : Formula Name) → In f (formulasOf rs) → In f (formulasOf ss)
+formulas-among rs ss among f i =
+    let r = map-elim meaningOf rs i in
+    subst (λ (g : Formula Name). In g (formulasOf ss)) (sym (r .1)) (map-intro meaningOf (among (r .0) (r .2)))
+
+pub stand-part : (rs ss : List Text) → CanStand ss → ((s : Text) → In s rs → In s ss) → length rs ≤ length ss → CanStand rs
 unfolding namesIn atomsIn
 stand-part rs ss h among few =
+    let formulas = formulas-among rs ss among in
     can-stand rs (omega (arith, h .few)) (λ s i. can-read ss h s (among s i))
     (omega (arith, can-names ss h, names-fewer (formulasOf rs) (formulasOf ss) formulas))
     (omega (arith, can-atoms ss h, atoms-fewer (formulasOf rs) (formulasOf ss) formulas))
-  where
-    formulas : (f : Formula Name) → In f (formulasOf rs) → In f (formulasOf ss)
-    formulas f i =
-        let r = map-elim meaningOf rs i in
-        subst (λ (g : Formula Name). In g (formulasOf ss)) (sym (r .1)) (map-intro meaningOf (among (r .0) (r .2)))
 
 pub stand-none : CanStand []
 unfolding namesIn atomsIn

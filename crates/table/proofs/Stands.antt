@@ -31,7 +31,7 @@ use Rattle.table.proofs.PrintRows.{kth-is}
 -- ---- add
 
 -- only what is added is done
-done-added : (a : AddAnswer) → addOutcome a ≡ Outcome.Done → a ≡ AddAnswer.Added
+pub done-added : (a : AddAnswer) → addOutcome a ≡ Outcome.Done → a ≡ AddAnswer.Added
 done-added AddAnswer.Added e = refl
 done-added AddAnswer.TooLong e = absurd (let z : _≡_ {A = ℕ} 0 1 = cc in omega arith)
 done-added AddAnswer.NoToken e = absurd (let z : _≡_ {A = ℕ} 0 1 = cc in omega arith)

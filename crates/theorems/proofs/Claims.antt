@@ -1,6 +1,6 @@
 -- The three demands and the worked sheets, in one place. Each demand is one claim about every list of calls from the empty table, the
--- table that the calls leave and the rules that stand after them; what it says is in specs/Demands.antt, and what a worked sheet says in
--- specs/Worked.antt. Nothing is assumed.
+-- table that the calls leave and the rules that stand after them; what it says is in specs/Demands.antt, what the order of a sheet leaves as
+-- it is in specs/Order.antt, and what a worked sheet says in specs/Worked.antt. Nothing is assumed.
 use mathlib.Core.Path.{_≡_}
 use mathlib.Core.List.{List}
 use Prim.Native.Nat.{ℕ}
@@ -14,8 +14,10 @@ use Rattle.table.specs.Stands.{Call, Stands}
 use Rattle.table.specs.Runs.{run}
 use Rattle.table.proofs.Claims as table
 use Rattle.theorems.specs.Demands.{Leaves, Answered, Meant, Same, Reasons, InHand}
+use Rattle.theorems.specs.Order.{SameRules, InAnyOrder, SameLines, LinesInAnyOrder}
 use Rattle.theorems.specs.Worked.{WorkedSheet, workedSheets, Holds}
 use Rattle.theorems.proofs.Demands as Demands
+use Rattle.theorems.proofs.Order as Order
 use Rattle.theorems.proofs.Worked as Worked
 
 -- every list of calls leaves a table: what the demands say of the tables that are left is said of some
@@ -54,6 +56,15 @@ reasons-hold = Demands.reasons-hold
 -- where ask says "no plan", for any words
 pub plan-in-hand : (cs : List Call) (t : Table) (rs : List Text) → Leaves cs t → Stands cs rs → InHand rs t
 plan-in-hand = Demands.in-hand-holds
+
+-- document 02, T-10: of two lists of the same rules, at least one and each equally often, an empty table accepts all of one exactly if it
+-- accepts all of the other, and ask then, for either question with buffers that are long enough, says a plan for both or no plan for both
+pub order-of-the-sheet : (rs ss : List Text) → SameRules rs ss → InAnyOrder rs ss
+order-of-the-sheet = Order.in-any-order
+
+-- and of two sheets of the same lines both are loaded or both refused, and ask then says a plan for both or no plan for both
+pub order-of-the-lines : (f g : Text) → SameLines f g → LinesInAnyOrder f g
+order-of-the-lines = Order.lines-in-any-order
 
 -- P1 to P12
 pub worked-sheets : (row : WorkedSheet) → In row workedSheets → Holds row

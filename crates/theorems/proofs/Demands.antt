@@ -381,7 +381,7 @@ module _ (cs : List Call) where
   -- ---- demand 3
 
   -- none of the adds that put the standing rules into the empty table is refused
-  taken : (before : List Text) (s : Text) (later : List Text) → standing cs ≡ before ++ s ∷ later
+  pub taken : (before : List Text) (s : Text) (later : List Text) → standing cs ≡ before ++ s ∷ later
       → (u : Table) → Leaves (adds before) u → (r : AddResult) → Adds u s r → addOutcome (r .answer) ≡ Outcome.Done
   unfolding added
   taken before s later e u l r h =

@@ -1,3 +1,4 @@
 pub mod Demands
+pub mod Order
 pub mod Worked
 pub mod Claims
