@@ -1,6 +1,6 @@
 /* A small plug-in: reads a sheet from the file that is named, and prints its plan, that there is none, or why the sheet is refused.
  *
- *     cc -I drawing drawing/example.c target/staticlib/libdrawing.a -o example && ./example examples/air_lock.sheet
+ *     cc -I drawing drawing/example.c target/staticlib/libdrawing.a -o target/example && target/example examples/air_lock.sheet
  */
 #include <stdio.h>
 
