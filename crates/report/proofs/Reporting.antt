@@ -119,27 +119,30 @@ module _ {q : Question} {t : Table} {buffer : List ℕ} {r : AskResult} {exit : 
       subst (λ (a : AskAnswer). AskRow q (rulesOf t) (length buffer) (askOutcome a)) (sym (ap (λ (x : AskResult). x .answer) (h .asks .result)))
       (ask-answered q (length buffer) (rulesOf t) (h .from-us .standing .formulas) (h .from-us .standing .rules))
 
-  -- where ask gives no plan
-  pub no-text : ((n : ℕ) → r .answer ≡ AskAnswer.Plan n → ⊥) → ended (bytes "NO PLAN") ≡ rulesText q rules
-  unfolding rulesText
-  no-text other = go (askOutcome (r .answer)) row refl
+  -- where ask gives no plan there is none
+  pub no-plans : ((n : ℕ) → r .answer ≡ AskAnswer.Plan n → ⊥) → plansOf q rules ≡ []
+  no-plans other = go (askOutcome (r .answer)) row refl
     where
-      go : (o : Outcome) → AskRow q (rulesOf t) (length buffer) o → askOutcome (r .answer) ≡ o → ended (bytes "NO PLAN") ≡ plansText (namesOf rules) (plansOf q rules)
+      go : (o : Outcome) → AskRow q (rulesOf t) (length buffer) o → askOutcome (r .answer) ≡ o → plansOf q rules ≡ []
       go o (AskRow.none e) f = absurd (h .some e)
-      go o (AskRow.without {fs} z are never) f = sym (ap (plansText (namesOf rules)) (of-computed (rulesOf t) fs are (λ gs. plansOf q gs ≡ []) (no-plan-given q fs .1 never)))
+      go o (AskRow.without {fs} z are never) f = of-computed (rulesOf t) fs are (λ gs. plansOf q gs ≡ []) (no-plan-given q fs .1 never)
       go o (AskRow.short {fs} {p} z are g l) f =
           absurd (omega (arith, h .room, words-room p (given-exactly q rules p .1 (of-computed (rulesOf t) fs are (λ gs. IsGiven q gs p) g))))
       go o (AskRow.given {p = p} z are g l) f = absurd (other (length (wordsOf p)) (is-plan (r .answer) f))
 
-  -- where it gives one
-  record Wrote (n : ℕ) : Type 0 where
-    plan : Plan
-    is : IsPlan plan
-    only : plansOf q rules ≡ plan ∷ []
-    size : n ≡ length (wordsOf plan)
-    words : exit ≡ over (wordsOf plan) buffer
+  pub no-text : ((n : ℕ) → r .answer ≡ AskAnswer.Plan n → ⊥) → ended (bytes "NO PLAN") ≡ rulesText q rules
+  unfolding rulesText
+  no-text other = sym (ap (plansText (namesOf rules)) (no-plans other))
 
-  plan-written : (n : ℕ) → r .answer ≡ AskAnswer.Plan n → Wrote n
+  -- where it gives one
+  pub record Wrote (n : ℕ) : Type 0 where
+    pub plan : Plan
+    pub is : IsPlan plan
+    pub only : plansOf q rules ≡ plan ∷ []
+    pub size : n ≡ length (wordsOf plan)
+    pub words : exit ≡ over (wordsOf plan) buffer
+
+  pub plan-written : (n : ℕ) → r .answer ≡ AskAnswer.Plan n → Wrote n
   plan-written n e = go (askOutcome (r .answer)) row (ap askOutcome e)
     where
       go : (o : Outcome) → AskRow q (rulesOf t) (length buffer) o → o ≡ Outcome.Plan n → Wrote n
@@ -180,7 +183,7 @@ pub told-not-loaded : (a : LoadAnswer) → OneOf (1 ∷ 2 ∷ 3 ∷ []) (tagOf l
 told-not-loaded a h e = miss (1 ∷ 2 ∷ 3 ∷ []) 0 tt (subst (λ (x : LoadAnswer). OneOf (1 ∷ 2 ∷ 3 ∷ []) (tagOf load-type x)) e h)
 
 module _ (t : Table) (file : Text) (r : LoadResult) (loads : Loads t file r) where
-  answer-is : r .answer ≡ judgeLoad file
+  pub answer-is : r .answer ≡ judgeLoad file
   unfolding loaded
   answer-is = ap (λ (x : LoadResult). x .answer) (loads .result)
 
@@ -197,10 +200,10 @@ module _ (t : Table) (file : Text) (r : LoadResult) (loads : Loads t file r) whe
       ∙ sym (not-loaded (judgeLoad file) (given (formulasOf (filled (linesOf file)))) (outcomeText (loadOutcome (judgeLoad file))) (λ e. other (answer-is ∙ e)))
 
   module _ (e : r .answer ≡ LoadAnswer.Loaded) where
-    good : judgeLoad file ≡ LoadAnswer.Loaded
+    pub good : judgeLoad file ≡ LoadAnswer.Loaded
     good = sym answer-is ∙ e
 
-    held : rulesOf (r .table) ≡ filled (linesOf file)
+    pub held : rulesOf (r .table) ≡ filled (linesOf file)
     unfolding loaded loadRules
     held =
         ap (λ (x : LoadResult). rulesOf (x .table)) (loads .result) ∙ rules-back (loadRules (rulesOf t) file)

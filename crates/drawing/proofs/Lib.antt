@@ -1,0 +1,4 @@
+pub mod Bounds
+pub mod Sizes
+pub mod Drawing
+pub mod Claims
