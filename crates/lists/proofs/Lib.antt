@@ -4,3 +4,5 @@ pub mod Lists
 pub mod Padded
 pub mod Entries
 pub mod Below
+pub mod Buffer
+pub mod Putting

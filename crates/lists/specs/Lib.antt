@@ -1,2 +1,4 @@
 pub mod Search
 pub mod Padded
+pub mod Buffer
+pub mod Putting
