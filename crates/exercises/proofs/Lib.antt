@@ -1,0 +1,12 @@
+pub mod Rising
+pub mod Walks
+pub mod Rules
+pub mod Claims
+pub mod Tables
+pub mod KindRows
+pub mod Judging
+pub mod Branches
+pub mod Lines
+pub mod Sizes
+pub mod Given
+pub mod First

@@ -1,0 +1,5 @@
+pub mod Tokens
+pub mod Meant
+pub mod Order
+pub mod Book
+pub mod Answer
