@@ -8,7 +8,8 @@ use lib.ListN.{length}
 use Rattle.lists.specs.Search.{collect, below}
 use Rattle.lists.proofs.Search.{collect-collect}
 use Rattle.exercises.specs.Tokens.{count}
-use Rattle.exercises.specs.Book.{whole, begun, walk, line}
+use Rattle.exercises.specs.Lines.{line}
+use Rattle.exercises.specs.Book.{whole, begun, walk}
 use Rattle.lists.specs.Putting.{Puts}
 use Rattle.lists.proofs.Putting.{puts-none, turn-fits, turn-puts}
 

@@ -13,7 +13,8 @@ use Rattle.syntax.specs.Machine.{Sym, Frame, Result, accepted, refused, State, 
 use Rattle.syntax.proofs.MachineLaws.{run-dead}
 use Rattle.syntax.proofs.Claims.{derived-read}
 use Rattle.exercises.specs.Tokens.{table, entry, count, tokenAt, tokensAt, spelling}
-use Rattle.exercises.specs.Book.{isAccepted, reachesEnd, whole, begun, walk, book, gap, parted, line, text}
+use Rattle.exercises.specs.Lines.{parted, line}
+use Rattle.exercises.specs.Book.{isAccepted, reachesEnd, whole, begun, walk, book, gap, text}
 use Rattle.lists.specs.Putting.{Puts}
 use Rattle.lists.proofs.Putting.{puts-none, puts-text, turn-fits, turn-puts}
 use Rattle.exercises.proofs.Lines.{parted-more}

@@ -1,5 +1,6 @@
 pub mod Tokens
 pub mod Meant
 pub mod Order
+pub mod Lines
 pub mod Book
 pub mod Answer

@@ -12,7 +12,8 @@ ghost use Rattle.lists.specs.Putting.{Puts};
 ghost use Rattle.syntax.specs.Machine.{reading};
 ghost use Rattle.syntax.specs.Reader.{code, withoutOrder};
 ghost use Rattle.exercises.specs.Tokens.{entry, tokenAt, tokensAt, spelling};
-ghost use Rattle.exercises.specs.Book.{whole, begun, walk, gap, parted, line, text};
+ghost use Rattle.exercises.specs.Lines.{parted, line};
+ghost use Rattle.exercises.specs.Book.{whole, begun, walk, gap, text};
 ghost use Rattle.exercises.specs.Answer.{Gives};
 use syntax::Judged;
 

@@ -8,7 +8,8 @@ use Prim.Native.Nat.{ℕ, _-_, _≤_, _<_}
 use native.Mathlib.Omega.{arith}
 use lib.ListN.{length, take}
 use Rattle.lists.specs.Search.{collect}
-use Rattle.exercises.specs.Book.{begun, walk, line}
+use Rattle.exercises.specs.Lines.{line}
+use Rattle.exercises.specs.Book.{begun, walk}
 use Rattle.lists.specs.Putting.{Puts}
 use Rattle.exercises.proofs.Branches.{branches, begun-text, unbegun-text, branches-none, branch-fits, branch-puts}
 use Rattle.lists.proofs.Putting.{puts-none, puts-text, puts-length}

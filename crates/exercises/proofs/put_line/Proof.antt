@@ -3,7 +3,7 @@ use borrow.Author.Needs.{needs}
 use mathlib.Core.List.{[], _∷_}
 use native.Mathlib.Omega.{arith}
 use lib.ListN.{take, length-append}
-use Rattle.exercises.specs.Book.{parted}
+use Rattle.exercises.specs.Lines.{parted}
 use Rattle.lists.proofs.Putting.{puts-byte, puts-length}
 use Rattle.exercises.proofs.put_line.Statement.{statement}
 use Rattle.exercises.proofs.put_line.Tie as tie

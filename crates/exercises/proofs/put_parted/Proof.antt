@@ -6,7 +6,8 @@ use Prim.Native.Nat.{ℕ, _+_, _-_, _≤_}
 use native.Mathlib.Omega.{arith}
 use lib.ListN.{length, take, getD, length-append}
 use Rattle.exercises.specs.Tokens.{spelling}
-use Rattle.exercises.specs.Book.{gap, parted}
+use Rattle.exercises.specs.Lines.{parted}
+use Rattle.exercises.specs.Book.{gap}
 use Rattle.lists.specs.Putting.{Puts}
 use Rattle.exercises.proofs.Lines.{parted-next, parted-within}
 use Rattle.lists.proofs.Putting.{puts-none, puts-text, puts-length, puts-more, fits-next}
