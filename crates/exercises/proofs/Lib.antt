@@ -7,6 +7,8 @@ pub mod KindRows
 pub mod Judging
 pub mod Branches
 pub mod Lines
+pub mod States
 pub mod Sizes
+pub mod Next
 pub mod Given
 pub mod First

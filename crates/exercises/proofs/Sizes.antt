@@ -1,24 +1,22 @@
 -- How many bytes the book of 6 tokens has: they are counted by a walk that carries the reader's state, so that each
 -- string is read by one step; that count is computed. Assumes nothing.
-use mathlib.Core.Path.{_≡_, refl, sym, ap, _∙_, subst}
+use mathlib.Core.Path.{_≡_, refl, sym, ap, _∙_}
 use mathlib.Core.Bool.{Bool, true, false, true≢false, cond}
-use mathlib.Core.List.{List, [], _∷_, _++_, append-assoc, append-nil, map-append}
+use mathlib.Core.List.{List, [], _∷_, _++_}
 use Prim.Native.Nat.{ℕ, zero, suc, _+_, _≤_, _<_}
 use native.Mathlib.Omega.{arith}
 use lib.ListN.{length, length-append}
 use borrow.Author.Tests.{eq-eqb}
-use Rattle.lists.specs.Search.{In, here, collect, below}
+use Rattle.lists.specs.Search.{collect, below}
+use Rattle.lists.specs.Putting.{Puts}
 use Rattle.lists.proofs.Search.{collect-collect}
-use Rattle.syntax.specs.Machine.{Sym, Frame, Result, accepted, refused, State, want, have, call, dead, pop, step, done, unlessTerm, finish, run, reading}
-use Rattle.syntax.proofs.MachineLaws.{run-dead}
-use Rattle.syntax.proofs.Claims.{derived-read}
-use Rattle.exercises.specs.Tokens.{table, entry, count, tokenAt, tokensAt, spelling}
+use Rattle.lists.proofs.Putting.{puts-none, puts-text, turn-fits, turn-puts}
+use Rattle.syntax.specs.Machine.{Sym, Frame, State, want, have, call, dead, pop, step, done, unlessTerm, finish, run, reading}
+use Rattle.exercises.specs.Tokens.{table, entry, count, tokenAt, spelling}
 use Rattle.exercises.specs.Lines.{parted, line}
 use Rattle.exercises.specs.Book.{isAccepted, reachesEnd, whole, begun, walk, book, gap, text}
-use Rattle.lists.specs.Putting.{Puts}
-use Rattle.lists.proofs.Putting.{puts-none, puts-text, turn-fits, turn-puts}
 use Rattle.exercises.proofs.Lines.{parted-more}
-use Rattle.exercises.proofs.Walks.{walk-elim}
+use Rattle.exercises.proofs.States.{Leads, leads-next, whole-by, begun-by, dead-none}
 
 abbrev total : (ℕ → ℕ) → List ℕ → ℕ
 total f [] = 0
@@ -35,48 +33,9 @@ size : ℕ → State → ℕ → ℕ → ℕ
 size zero s i b = cond (isAccepted (finish s i)) b 0
 size (suc m) s i b = unlessDead s (λ u. total (λ k. size m (step s (tokenAt k) i) (i + 1) (b + length (spelling k) + 1)) (below count))
 
--- the tokens of ks lead to the state s
-abbrev Leads : List ℕ → State → Type 0
-Leads ks s = (xs : List Sym) → reading (tokensAt ks ++ xs) ≡ run xs (length ks) s
-
-leads-next : (ks : List ℕ) (s : State) (k : ℕ) → Leads ks s → Leads (ks ++ k ∷ []) (step s (tokenAt k) (length ks))
-unfolding run
-leads-next ks s k h xs =
-    let n : length ks + 1 ≡ length (ks ++ k ∷ []) = sym (length-append ks (k ∷ [])) in
-    ap reading (ap (λ (l : List Sym). l ++ xs) (map-append tokenAt ks (k ∷ [])) ∙ append-assoc (tokensAt ks) (tokenAt k ∷ []) xs)
-    ∙ h (tokenAt k ∷ xs) ∙ ap (λ (i : ℕ). run xs i (step s (tokenAt k) (length ks))) n
-
 total-same : (g : ℕ → List ℕ) (h : ℕ → ℕ) (xs : List ℕ) → ((k : ℕ) → length (g k) ≡ h k) → length (collect g xs) ≡ total h xs
 total-same g h [] f = refl
 total-same g h (x ∷ xs) f = omega (arith, length-append (g x) (collect g xs), f x, total-same g h xs f)
-
--- a list without elements
-bare : (xs : List (List ℕ)) → ((x : List ℕ) → In x xs → ⊥) → length (collect line xs) ≡ 0
-bare [] h = refl
-bare (x ∷ xs) h = absurd (h x here)
-
-refused≢accepted : {i : ℕ} {o : List Sym} → refused i ≡ accepted o → ⊥
-refused≢accepted e = subst (λ (r : Result). accepting r) e tt
-  where
-    accepting : Result → Type 0
-    accepting (accepted o) = ⊥
-    accepting (refused i) = Unit {0}
-
--- from a dead state nothing is found
-dead-bare : (m : ℕ) (ks : List ℕ) (j : ℕ) → Leads ks (dead j) → (x : List ℕ) → In x (walk m ks) → ⊥
-dead-bare m ks j h x i =
-    let r = walk-elim m ks i in
-    let e : tokensAt x ≡ tokensAt ks ++ tokensAt (r .rest) = ap tokensAt (r .parts) ∙ map-append tokenAt ks (r .rest) in
-    refused≢accepted
-    (sym (run-dead (tokensAt (r .rest)) (length ks) j) ∙ sym (h (tokensAt (r .rest))) ∙ ap reading (sym e) ∙ derived-read (tokensAt x) (r .formula) (r .derived))
-
-whole-by : (ks : List ℕ) (s : State) → Leads ks s → whole ks ≡ isAccepted (finish s (length ks))
-unfolding whole run
-whole-by ks s h = ap isAccepted (ap reading (sym (append-nil (tokensAt ks))) ∙ h [])
-
-begun-by : (ks : List ℕ) (s : State) → Leads ks s → begun ks ≡ reachesEnd (length ks) (finish s (length ks))
-unfolding begun run
-begun-by ks s h = ap (reachesEnd (length ks)) (ap reading (sym (append-nil (tokensAt ks))) ∙ h [])
 
 -- a state that is not dead is refused at the end alone
 done-reaches : (t : Bool) (K : List Frame) (o : List Sym) (n : ℕ) → reachesEnd n (unlessTerm t (done K o n) n) ≡ true
@@ -118,7 +77,7 @@ sized (suc m) ks s b l h =
         (λ k. r k ∙ ap (λ (i : ℕ). size m (step s (tokenAt k) (length ks)) i (b + length (spelling k) + 1)) (length-append ks (k ∷ [])))
 
     by : (s : State) → Leads ks s → Sized s → length (collect line (walk (suc m) ks)) ≡ unlessDead s (λ u. onward s)
-    by (dead j) l r = bare _ (dead-bare (suc m) ks j l)
+    by (dead j) l r = ap (λ (x : List (List ℕ)). length (collect line x)) (dead-none (suc m) ks j l)
     by (want K o) l r = live (want K o) (begun-by ks (want K o) l ∙ eq-eqb (length ks) (length ks) refl) r
     by (have t K o) l r = live (have t K o) (begun-by ks (have t K o) l ∙ done-reaches t (pop 0 K o .stack) (pop 0 K o .order) (length ks)) r
     by (call c K o) l r = live (call c K o) (begun-by ks (call c K o) l ∙ eq-eqb (length ks) (length ks) refl) r

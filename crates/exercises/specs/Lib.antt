@@ -3,4 +3,5 @@ pub mod Meant
 pub mod Order
 pub mod Lines
 pub mod Book
+pub mod Next
 pub mod Answer

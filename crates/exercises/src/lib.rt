@@ -3,8 +3,10 @@
 // proofs/Claims.antt. Here the book's text is put into a buffer line by line: each private function puts one piece at a place, and
 // answers the place after it. A string is the numbers of its tokens, in their order. Assumes nothing.
 ghost use mathlib.Core.Path.{_≡_};
+ghost use mathlib.Core.Bool.{true};
 ghost use mathlib.Core.List.{[], _∷_, _++_};
 ghost use Prim.Native.Nat.{_+_, _≤_, _<_};
+ghost use lib.Dec.{eqb};
 ghost use lib.ListN.{length, take, getD};
 ghost use Rattle.lists.specs.Padded.{pad};
 ghost use Rattle.lists.specs.Search.{collect};
@@ -14,6 +16,7 @@ ghost use Rattle.syntax.specs.Reader.{code, withoutOrder};
 ghost use Rattle.exercises.specs.Tokens.{entry, tokenAt, tokensAt, spelling};
 ghost use Rattle.exercises.specs.Lines.{parted, line};
 ghost use Rattle.exercises.specs.Book.{whole, begun, walk, gap, text};
+ghost use Rattle.exercises.specs.Next.{awaits, awaiting, flag, nexts};
 ghost use Rattle.exercises.specs.Answer.{Gives};
 use syntax::Judged;
 
@@ -56,6 +59,18 @@ const KINDS: [u8; 20] = [
     0,
     1,
 ];
+
+// Whether behind each a value comes.
+const AWAITS: [u8; 20] = [0, 0, 1, 0, 0, 0, 0, 1, 0, 1, 1, 1, 1, 1, 1, 1, 1, 0, 1, 1];
+
+// Which may come where a value does, and as the last token; and where none does.
+const VALUES: [u8; 20] = [1, 1, 1, 1, 1, 1, 1, 1, 0, 0, 0, 0, 1, 0, 0, 1, 1, 0, 0, 0];
+
+const LAST_VALUES: [u8; 20] = [1, 1, 0, 0, 0, 0, 0, 0, 0, 0, 0, 0, 0, 0, 0, 0, 0, 0, 0, 0];
+
+const SIGNS: [u8; 20] = [0, 0, 0, 0, 0, 0, 0, 0, 1, 1, 1, 1, 0, 1, 1, 0, 0, 1, 1, 1];
+
+const LAST_SIGNS: [u8; 20] = [0, 0, 0, 0, 0, 0, 0, 0, 1, 0, 0, 0, 0, 0, 0, 0, 0, 1, 0, 0];
 
 // How many bytes each has.
 const LENGTHS: [u8; 20] = [1, 1, 1, 1, 1, 1, 1, 1, 1, 1, 1, 1, 1, 1, 1, 1, 2, 2, 2, 3];
@@ -138,6 +153,43 @@ fn kind(k: u8) -> u8
     let kinds = KINDS;
     let i = place(k);
     kinds[i]
+}
+
+// Whether behind a token a value comes.
+fn awaits(k: u8) -> u8
+    ensures { λ r. ⌜ r ≡ flag (awaits (tokenAt k)) ⌝ }
+{
+    let table = AWAITS;
+    let i = place(k);
+    table[i]
+}
+
+// Whether a value comes behind a string.
+fn awaiting(ks: [u8; 6], n: usize) -> bool
+    requires { ⌜ n ≤ 6 ⌝ }
+    ensures { λ r. ⌜ r ≡ awaiting true (take n ks) ⌝ }
+{
+    if n == 0 {
+        return true;
+    }
+    let a = awaits(ks[n - 1]);
+    a == 1
+}
+
+// Which tokens may come behind a string, with so many to come: 1 for each of them. The others lead nowhere, so that nothing need be read.
+fn next_tokens(awaited: bool, left: usize) -> [u8; 20]
+    ensures { λ r. ⌜ r ≡ nexts awaited (eqb left 1) ⌝ }
+{
+    if awaited {
+        if left == 1 {
+            return LAST_VALUES;
+        }
+        return VALUES;
+    }
+    if left == 1 {
+        return LAST_SIGNS;
+    }
+    SIGNS
 }
 
 // How many bytes a token has.
@@ -297,9 +349,14 @@ fn put_walk(left: usize, ks: [u8; 6], n: usize, out: &mut [u8], at: usize) -> us
         return put_whole(ks, n, out, at);
     }
     if is_begun(ks, n) {
+        let nexts = next_tokens(awaiting(ks, n), left);
         let mut end = at;
         let mut k: u8 = 0;
         while k < 20 {
+            if nexts[k as usize] == 0 {
+                k += 1;
+                continue;
+            }
             let next = longer(ks, n, k);
             end = put_walk(left - 1, next, n + 1, out, end);
             k += 1;
