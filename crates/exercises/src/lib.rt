@@ -1,13 +1,13 @@
 // The course's exercise book (document 02, T-12): all rules of at most 6 tokens over the names a and b, a line for each. What is meant is in
-// specs/Meant.antt and specs/Order.antt, the walk that finds them in specs/Book.antt, and what is proved of it in
-// proofs/Claims.antt. Here the book's text is put into a buffer line by line: each private function puts one piece at a place, and
-// answers the place after it. A string is the numbers of its tokens, in their order. Assumes nothing.
+// specs/Tokens.antt, Meant.antt, Order.antt and Lines.antt, the walk that finds them in specs/Book.antt, and what is proved of it in
+// proofs/Claims.antt. Here the book's text is put into a buffer line by line: each private function puts one piece at a place, and answers
+// the place after it. A string is the numbers of its tokens, in their order. Assumes nothing.
 ghost use mathlib.Core.Path.{_≡_};
 ghost use mathlib.Core.Bool.{true};
 ghost use mathlib.Core.List.{[], _∷_, _++_};
 ghost use Prim.Native.Nat.{_+_, _≤_, _<_};
 ghost use lib.Dec.{eqb};
-ghost use lib.ListN.{length, take, getD};
+ghost use lib.ListN.{length, replicate, take, getD};
 ghost use Rattle.lists.specs.Padded.{pad};
 ghost use Rattle.lists.specs.Search.{collect};
 ghost use Rattle.lists.specs.Putting.{Puts};
@@ -32,8 +32,9 @@ pub enum BookAnswer {
 // Room for the book.
 pub fn no_text() -> [u8; ROOM]
     ensures { λ r. ⌜ length r ≡ 56520 ⌝ }
+    ensures { λ r. ⌜ r ≡ replicate 56520 0 ⌝ }
 {
-    [0u8; 56520]
+    [0u8; ROOM]
 }
 
 // The kind of each token: T F C 0 1 a b ( ) , * + - & | ~ <= =0 -> <->.
