@@ -14,7 +14,8 @@ use Rattle.formula.specs.Formula.{Formula, Name}
 use Rattle.lists.specs.Search.{collect}
 use Rattle.lists.proofs.Search.{collect-append}
 use Rattle.lists.proofs.Lists.{take-next}
-use Rattle.plan.specs.Words.{Plan, shortFirst, longFirst, before, wordsOf, over}
+use Rattle.lists.specs.Buffer.{over}
+use Rattle.plan.specs.Words.{Plan, shortFirst, longFirst, before, wordsOf}
 use Rattle.plan.specs.Plans.{plansOf}
 use Rattle.plan.proofs.Claims.{given-points, given-words}
 use Rattle.contact.specs.Question.{plain}

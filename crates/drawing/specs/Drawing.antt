@@ -8,7 +8,8 @@ use lib.Dec.{ltb, leb}
 use lib.ListN.{length}
 use Rattle.formula.specs.Formula.{Formula, Name}
 use Rattle.contact.specs.Question.{plain}
-use Rattle.plan.specs.Words.{Plan, wordsOf, over}
+use Rattle.lists.specs.Buffer.{over}
+use Rattle.plan.specs.Words.{Plan, wordsOf}
 use Rattle.plan.specs.Plans.{plansOf}
 use Rattle.table.specs.Sheet.{Text, linesOf, filled}
 use Rattle.table.specs.Calls.{formulasOf, judgeLoad, ifLoaded}

@@ -7,7 +7,8 @@ use lib.ListN.{length}
 use Rattle.formula.specs.Formula.{Formula, Name}
 use Rattle.lists.specs.Search.{collect}
 use Rattle.contact.specs.Question.{plain, NoFloor}
-use Rattle.plan.specs.Words.{Plan, wordsOf, over}
+use Rattle.lists.specs.Buffer.{over}
+use Rattle.plan.specs.Words.{Plan, wordsOf}
 use Rattle.plan.specs.Meant.{IsGiven}
 use Rattle.table.specs.Sheet.{Text, linesOf, filled}
 use Rattle.table.specs.Rules.{AreRules}

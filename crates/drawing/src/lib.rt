@@ -8,7 +8,7 @@ ghost use Rattle.table.specs.Store.{rulesOf};
 ghost use Rattle.table.specs.Calls.{formulasOf, FromUs};
 ghost use Rattle.table.specs.Rows.{SomeStand};
 ghost use Rattle.table.specs.Numbers.{CanCome, loadOutcome};
-ghost use Rattle.report.specs.Putting.{Puts};
+ghost use Rattle.lists.specs.Putting.{Puts};
 ghost use Rattle.drawing.specs.Drawn.{wordBytes, bytesOf, refusalNumber};
 ghost use Rattle.drawing.specs.Drawing.{drawing, drawRules, outcomeNumber, drawn, DrawsWords, Fits};
 use table::AskAnswer;

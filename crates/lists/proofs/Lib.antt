@@ -5,3 +5,5 @@ pub mod Lists
 pub mod Padded
 pub mod Entries
 pub mod Below
+pub mod Buffer
+pub mod Putting

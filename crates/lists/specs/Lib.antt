@@ -1,3 +1,5 @@
 pub mod Search
 pub mod Often
 pub mod Padded
+pub mod Buffer
+pub mod Putting

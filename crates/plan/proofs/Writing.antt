@@ -16,17 +16,20 @@ use Rattle.lists.proofs.Below.{keep-length}
 use Rattle.lists.proofs.Padded.{pad-at, pad-taken}
 use Rattle.lists.proofs.Search.{placed, keep-elim}
 use Rattle.lists.proofs.Truth.{side}
+use Rattle.lists.specs.Buffer.{over}
+use Rattle.lists.specs.Putting.{written}
+use Rattle.lists.proofs.Buffer.{written-none, written-length, written-set, written-more, written-over}
 use Rattle.evalset.specs.Sets.{room, minusOf}
 use Rattle.evalset.proofs.Arrays.{inside}
 use Rattle.plan.specs.declared.Written.the-variants.{Words, Needs}
-use Rattle.plan.specs.Words.{Plan, firstWord, pointWord, contactWord, lastWord, before, wordsOf, over, mostPoints}
+use Rattle.plan.specs.Words.{Plan, firstWord, pointWord, contactWord, lastWord, before, wordsOf, mostPoints}
 use Rattle.plan.specs.Arrays.{inContact, pointsPlan, Writes}
 use Rattle.plan.specs.Links.{rowTo, linksTo}
-use Rattle.plan.specs.Private.{rowsBy, lackingOf, written, Wrote}
+use Rattle.plan.specs.Private.{rowsBy, lackingOf, Wrote}
 use Rattle.plan.proofs.Complete.{before-length}
 use Rattle.plan.proofs.Contacts.{row-one, row-within, links-small, links-same}
 use Rattle.plan.proofs.Given.{links-count}
-use Rattle.plan.proofs.Buffer.{written-none, written-length, written-set, written-more, written-over, wrote-length}
+use Rattle.plan.proofs.Buffer.{wrote-length}
 
 -- the next contact of a row fits, where the whole row does
 pub row-fits : (at end n j i : ℕ) (t : ℕ → Bool) (buf mid : List ℕ) → i < j → j < n → t j ≡ true

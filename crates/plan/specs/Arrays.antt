@@ -7,6 +7,7 @@ use Prim.Native.Nat.{ℕ, min}
 use lib.Dec.{leb}
 use lib.ListN.{length, getD, take}
 use Rattle.lists.specs.Search.{any, keep, below}
+use Rattle.lists.specs.Buffer.{over}
 use Rattle.evalset.specs.Sets.{room, memAt}
 use Rattle.plan.specs.declared.PlanArrays.{PlanArrays}
 use Rattle.plan.specs.declared.PlanAnswer.{PlanAnswer}
@@ -14,7 +15,7 @@ use Rattle.plan.specs.declared.PlanAnswer.the-variants as answer-is
 use Rattle.plan.specs.declared.PlanRead.{PlanRead}
 use Rattle.plan.specs.declared.Written.{Written}
 use Rattle.plan.specs.declared.Written.the-variants.{Words, Needs}
-use Rattle.plan.specs.Words.{Plan, mostPoints, wordsOf, over}
+use Rattle.plan.specs.Words.{Plan, mostPoints, wordsOf}
 use Rattle.plan.specs.Stored.{Stored}
 use Rattle.plan.specs.Links.{linksTo}
 use Rattle.plan.specs.Reader.{Reading, plan, refused, readOf}

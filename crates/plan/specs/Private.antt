@@ -2,12 +2,13 @@
 -- contacts are, what has been written over a buffer so far, and what has been found of a row. Assumes nothing.
 use mathlib.Core.Path.{_≡_}
 use mathlib.Core.Bool.{Bool, true, false, _&&_, _||_, cond}
-use mathlib.Core.List.{List, [], _++_, map}
+use mathlib.Core.List.{List, [], map}
 use Prim.Native.Nat.{ℕ, zero, suc, _+_, _-_, _*_, _^_, _≤_, _<_}
 use lib.Dec.{eqb, ltb, leb}
-use lib.ListN.{length, getD, take, drop}
+use lib.ListN.{length, getD, drop}
 use Rattle.lists.specs.Padded.{pad}
 use Rattle.lists.specs.Search.{any, below}
+use Rattle.lists.specs.Putting.{written}
 use Rattle.evalset.specs.Sets.{room, meetOf, minusOf}
 use Rattle.evalset.specs.Arrays.{positionsOf}
 use Rattle.evalset.specs.Most.{most}
@@ -151,10 +152,6 @@ rowsBy n points given apart i = positionsOf n points (minusOf given (apart (getD
 -- so many words where the buffer is shorter, else 0
 abbrev pub lackingOf : ℕ → ℕ → ℕ
 lackingOf size len = cond (leb size len) 0 size
-
--- words over a buffer, from a place on
-unfoldable pub written : ℕ → List ℕ → List ℕ → List ℕ
-written at ws buf = take at buf ++ (ws ++ drop (at + length ws) buf)
 
 -- the words of these contacts were written, and where they end
 pub record Wrote (at : ℕ) (ks buf exit : List ℕ) (end : ℕ) : Type 0 where

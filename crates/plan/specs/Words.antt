@@ -4,7 +4,7 @@ use mathlib.Core.Bool.{cond}
 use mathlib.Core.List.{List, [], _∷_, _++_, map}
 use Prim.Native.Nat.{ℕ, suc, _+_, _*_, _^_, _/_, _%_, _≤_, _<_}
 use lib.Dec.{leb}
-use lib.ListN.{length, drop}
+use lib.ListN.{length}
 use Rattle.evalset.specs.Most.{most}
 
 -- A plan as it is written: the number of names, the points' evaluations, and the contacts of two points. A contact is one
@@ -67,10 +67,6 @@ before p = firstWord (p .names) (length (p .points)) ∷ (map pointWord (p .poin
 -- the words of a plan
 unfoldable pub wordsOf : Plan → List ℕ
 wordsOf p = before p ++ (lastWord (length (before p)) ∷ [])
-
--- a list over the first words of a buffer; the others keep their values
-unfoldable pub over : List ℕ → List ℕ → List ℕ
-over ws buf = ws ++ drop (length ws) buf
 
 -- "Words begin a plan only if some plan has them as its first words"
 pub record Begins (ws : List ℕ) : Type 0 where

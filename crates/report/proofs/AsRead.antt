@@ -14,7 +14,9 @@ use Rattle.syntax.specs.Rule.{meaningOf}
 use Rattle.syntax.specs.RuleText.{IsRule}
 use Rattle.syntax.proofs.Claims.{is-rule, text-means}
 use Rattle.lists.proofs.Search.{in-take, map-elim, collect-append, collect-few}
-use Rattle.plan.specs.Words.{over}
+use Rattle.lists.specs.Buffer.{over}
+use Rattle.lists.specs.Putting.{Puts}
+use Rattle.lists.proofs.Putting.{puts-text, partFrom, part-is, puts-part}
 use Rattle.printing.specs.Text.{textOf}
 use Rattle.printing.proofs.Claims.{never-longer}
 use Rattle.table.specs.declared.Table.{Table}
@@ -35,8 +37,6 @@ use Rattle.table.proofs.Rules.{can-read}
 use Rattle.table.proofs.PrintRows.{bytes-written, bytes-kept}
 use Rattle.table.proofs.Claims.{print-answered}
 use Rattle.report.specs.Lines.{ended, ruleLines}
-use Rattle.report.specs.Putting.{Puts}
-use Rattle.report.proofs.Putting.{puts-text, partFrom, part-is, puts-part}
 
 -- a case that is another than the first is no text
 pub told-no-text : (a : PrintAnswer) → OneOf (1 ∷ 2 ∷ []) (tagOf the-type a) → (n : ℕ) → a ≡ PrintAnswer.Text n → ⊥

@@ -11,12 +11,13 @@ use Rattle.contact.specs.Question.{Question}
 use Rattle.lists.specs.Search.{collect, from}
 use Rattle.lists.proofs.Search.{collect-append, from-append}
 use Rattle.lists.proofs.Truth.{side}
-use Rattle.plan.specs.Words.{over}
+use Rattle.lists.specs.Buffer.{over}
+use Rattle.lists.specs.Putting.{Puts}
 use Rattle.report.specs.declared.Piece.{Piece}
 use Rattle.report.specs.declared.TextAnswer.{TextAnswer}
 use Rattle.report.specs.declared.TextAnswer.the-variants as TextAnswer
 use Rattle.report.specs.Pieces.{linesFrom, Answers, Tells, GivesPiece, Pieces}
-use Rattle.report.specs.Putting.{textRoom, Puts, Reports}
+use Rattle.report.specs.Putting.{textRoom, Reports}
 use Rattle.report.proofs.Putting.{puts-over}
 
 -- the first of what stands from an index on, and what stands behind it

@@ -9,6 +9,8 @@ use borrow.Author.Tests.{ne-eqb}
 use Rattle.formula.specs.Formula.{Form}
 use Rattle.lexer.specs.Text.{bytes}
 use Rattle.lists.proofs.Below.{collect-small}
+use Rattle.lists.specs.Putting.{Puts}
+use Rattle.lists.proofs.Putting.{puts-none, puts-byte, puts-more}
 use Rattle.contact.specs.Row.{PartialRow}
 use Rattle.trees.specs.Trees.{Tree, split, rule, floorless, missing, splitWord, ruleWord, floorlessWord, wordsOf}
 use Rattle.trees.specs.Closed.{decided}
@@ -16,8 +18,6 @@ use Rattle.trees.specs.Written.{Written}
 use Rattle.report.specs.declared.AtomText.{AtomText}
 use Rattle.report.specs.Lines.{margin, indented, splitText, ruleText, floorlessText, reasonLines}
 use Rattle.report.specs.Pieces.{wordText, saying, heldAt, lineAt, linesFrom, depthsOf, Shallow, DepthsSay}
-use Rattle.report.specs.Putting.{Puts}
-use Rattle.report.proofs.Putting.{puts-none, puts-byte, puts-more}
 use Rattle.report.proofs.Pieces.{first-there, behind-it, behind-part, lines-more}
 
 -- ---- words

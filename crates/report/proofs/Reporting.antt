@@ -7,6 +7,7 @@ use native.Mathlib.Omega.{arith}
 use lib.ListN.{length}
 use types.Run.{OneOf, miss}
 use denote.Enum.Declared.{tagOf}
+use Rattle.lists.specs.Buffer.{over}
 use Rattle.formula.specs.Formula.{Formula, Name}
 use Rattle.lexer.specs.Text.{bytes}
 use Rattle.contact.specs.Question.{Question, plain, building}
@@ -15,7 +16,7 @@ use Rattle.evalset.specs.Most.{most}
 use Rattle.names.specs.Gather.{arraysOf, knownOf}
 use Rattle.names.specs.declared.Names.{Names}
 use Rattle.names.proofs.Arrays.{known-back}
-use Rattle.plan.specs.Words.{Plan, IsPlan, wordsOf, over}
+use Rattle.plan.specs.Words.{Plan, IsPlan, wordsOf}
 use Rattle.plan.specs.Plans.{plansOf}
 use Rattle.plan.proofs.Claims.{no-plan-given, given-exactly, given-found, given-is-plan, given-words, given-points, room-words, room-points}
 use Rattle.table.specs.declared.Table.{Table}

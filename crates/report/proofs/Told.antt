@@ -17,13 +17,13 @@ use denote.Enum.Declared.{tagOf}
 use Rattle.formula.specs.Formula.{Form, Formula, Name}
 use Rattle.lexer.specs.Text.{bytes}
 use Rattle.lists.proofs.Truth.{side}
+use Rattle.lists.specs.Buffer.{over}
+use Rattle.lists.proofs.Buffer.{written-over}
 use Rattle.contact.specs.Numbering.{differentAtoms, numberedAtoms}
 use Rattle.printing.specs.Text.{textOf}
 use Rattle.printing.specs.declared.Printed.{Printed}
 use Rattle.printing.specs.declared.Printed.the-variants as Printed
 use Rattle.ruleset.specs.Places.{atomAt}
-use Rattle.plan.specs.Words.{over}
-use Rattle.plan.proofs.Buffer.{written-over}
 use Rattle.trees.specs.Trees.{Tree, wordsOf}
 use Rattle.trees.specs.Closed.{root}
 use Rattle.trees.specs.OfRules.{NoPlanFor, IsWrittenTree}

@@ -10,13 +10,14 @@ use lib.ListN.{length, getD, take, drop}
 use Rattle.contact.specs.Question.{Question}
 use Rattle.formula.specs.Formula.{Name}
 use Rattle.lists.specs.Search.{collect, from}
+use Rattle.lists.specs.Putting.{Puts}
 use Rattle.trees.specs.Trees.{Tree, split, rule, floorless, missing, wordsOf}
 use Rattle.report.specs.declared.AtomText.{AtomText}
 use Rattle.report.specs.declared.TextAnswer.{TextAnswer}
 use Rattle.report.specs.declared.TextAnswer.the-variants as TextAnswer
 use Rattle.report.specs.declared.Piece.{Piece}
 use Rattle.report.specs.Lines.{headLine, pointLine, contactLine, indented, splitText, ruleText, floorlessText}
-use Rattle.report.specs.Putting.{textRoom, Puts, Reports}
+use Rattle.report.specs.Putting.{textRoom, Reports}
 
 -- ---- the lines of a plan's words
 

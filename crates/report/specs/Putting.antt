@@ -1,12 +1,10 @@
--- For proofs: what the private functions do: each puts a text into the buffer, from a place on, and answers the place after it; the rooms
--- that they are lent; and the contract of `report` and `as_read` (`Reports`). Assumes nothing.
+-- For proofs: the rooms that the functions are lent; and the contract of `report` and `as_read` (`Reports`). Assumes nothing.
 use mathlib.Core.Path.{_≡_}
 use mathlib.Core.List.{List}
-use Prim.Native.Nat.{ℕ, _+_, _≤_}
+use Prim.Native.Nat.{ℕ, _≤_}
 use lib.ListN.{length}
 use Rattle.contact.specs.Question.{Question, plain, building}
-use Rattle.plan.specs.Private.{written}
-use Rattle.plan.specs.Words.{over}
+use Rattle.lists.specs.Buffer.{over}
 
 -- "an answered plan takes at most 530 words"; T-08: "One-building plans then have up to 255 points", and so 32,642 words
 abbrev pub wordRoom : Question → ℕ
@@ -17,12 +15,6 @@ wordRoom building = 32642
 abbrev pub textRoom : Question → ℕ
 textRoom plain = 12664
 textRoom building = 555669
-
--- there was room for the text, and it was put there; the other bytes keep their values
-pub record Puts (at : ℕ) (text buffer exit : List ℕ) (end : ℕ) : Type 0 where
-  pub fits : at + length text ≤ length buffer
-  pub place : end ≡ at + length text
-  pub bytes : exit ≡ written at text buffer
 
 -- what the text for a sheet is given as: its length, and the text over the first bytes of the buffer
 pub record Reports (text buffer : List ℕ) (length-of : ℕ) (exit : List ℕ) : Type 0 where

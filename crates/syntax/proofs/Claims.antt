@@ -15,11 +15,12 @@ use Rattle.syntax.specs.Postfix.{postfix, formulaOf, namesAmong}
 use Rattle.syntax.specs.Machine.{Sym, accepted, refused, reading}
 use Rattle.syntax.specs.Refusal.{Refusal}
 use Rattle.syntax.specs.RuleText.{IsRule, Answers}
-use Rattle.syntax.specs.Reader.{codes}
+use Rattle.syntax.specs.Reader.{codes, withoutOrder, judgedOf}
 use Rattle.syntax.specs.Rule.{ruleOf, meaningOf}
 use Rattle.syntax.specs.declared.RuleAnswer.{RuleAnswer}
 use Rattle.syntax.specs.declared.RuleAnswer.the-variants as RuleAnswer
 use Rattle.syntax.proofs.Heads as heads
+use Rattle.syntax.proofs.Judging as judging
 use Rattle.syntax.proofs.Sound.{sound}
 use Rattle.syntax.proofs.Complete.{complete}
 use Rattle.syntax.proofs.Unique.{unique, formula-back}
@@ -45,6 +46,10 @@ one-reading = unique
 -- token there they begin none, or none follows and they are no formula
 pub refused-exactly : (xs : List Sym) (j : ℕ) → (reading xs ≡ refused j → Refusal xs j) × (Refusal xs j → reading xs ≡ refused j)
 refused-exactly xs j = (exact xs j, exact-only xs j)
+
+-- of up to 256 tokens alone, `judge` answers what their reading is
+pub judged-few : (xs : List Sym) → length xs ≤ 256 → judgedOf xs ≡ withoutOrder (reading xs)
+judged-few = judging.judged-few
 
 -- ---- the postfix order
 

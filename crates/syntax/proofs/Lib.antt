@@ -11,4 +11,5 @@ pub mod Exact
 pub mod Names
 pub mod Rules
 pub mod Texts
+pub mod Judging
 pub mod Claims

@@ -1,6 +1,6 @@
--- For proofs, but for `codes`, the kinds of symbols, which are computed: what the recursive readers are asked and answer, over the machine:
--- a reader lent the kinds of the tokens answers how the machine goes on, whatever frames wait and whatever order is written before. Assumes
--- nothing.
+-- For proofs, but for `codes`, the kinds of symbols, and `judgedOf`, the answer for tokens alone, which are computed: what the recursive
+-- readers are asked and answer, over the machine: a reader lent the kinds of the tokens answers how the machine goes on, whatever frames
+-- wait and whatever order is written before. Assumes nothing.
 use mathlib.Core.Bool.{Bool, true, false, cond, Bool·beq}
 use mathlib.Core.List.{List, [], _∷_, map}
 use mathlib.Core.Path.{_≡_}
@@ -12,6 +12,8 @@ use Rattle.formula.specs.declared.Sign.the-variants.{Implies, Iff, Or, And, Plu
 use Rattle.lexer.specs.Arrays.{codeOf}
 use Rattle.syntax.specs.Symbol.{Relation, kindOf, leaf, minus, tilde, opening, closing, comma, isZero, binary, constant, relation}
 use Rattle.syntax.specs.Machine.{Sym, Frame, inParenthesis, need, allow, want, have, call, Result, accepted, refused, run, reading}
+use Rattle.syntax.specs.declared.Judged.{Judged}
+use Rattle.syntax.specs.declared.Judged.the-variants as Judged
 use Rattle.syntax.specs.declared.Read.{Read}
 use Rattle.syntax.specs.declared.Read.the-variants.{Value, Refused}
 
@@ -212,3 +214,12 @@ Parsed xs (Refused p) B = reading xs ≡ refused p
 
 abbrev pub ParseSaid : List ℕ → List ℕ → Read → List ℕ → Type 0
 ParseSaid ks A r B = (xs : List Sym) → codes xs ≡ ks → A ≡ replicate 256 0 → Parsed xs r B
+
+-- the result without the order
+abbrev pub withoutOrder : Result → Judged
+withoutOrder (accepted o) = Judged.Formula
+withoutOrder (refused i) = Judged.RefusedAt i
+
+-- what tokens are; more than 256 stand in no rule text
+unfoldable pub judgedOf : List Sym → Judged
+judgedOf xs = cond (ltb 256 (length xs)) Judged.TooMany (withoutOrder (reading xs))

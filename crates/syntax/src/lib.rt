@@ -10,8 +10,8 @@ ghost use lib.ListN.{length};
 ghost use Rattle.lexer.specs.Token.{Token};
 ghost use Rattle.lexer.specs.Arrays.{tokensOf};
 ghost use Rattle.syntax.specs.Symbol.{binary};
-ghost use Rattle.syntax.specs.Machine.{reading};
-ghost use Rattle.syntax.specs.Reader.{kindAt, goes, bindingOf, followsOf, Inside, Room, expectedOf, endedOf, endedIn, relatedOf, relatedIn, zeroedOf, zeroedIn, Asked, Said, MoreAsked, MoreSaid, ParenthesisSaid, RelationAsked, RelationSaid, startOf, ParseSaid};
+ghost use Rattle.syntax.specs.Machine.{Sym, reading};
+ghost use Rattle.syntax.specs.Reader.{kindAt, goes, bindingOf, followsOf, Inside, Room, expectedOf, endedOf, endedIn, relatedOf, relatedIn, zeroedOf, zeroedIn, Asked, Said, MoreAsked, MoreSaid, ParenthesisSaid, RelationAsked, RelationSaid, startOf, ParseSaid, codes, judgedOf};
 ghost use Rattle.syntax.specs.RuleText.{symbolsOf, placeOf};
 ghost use Rattle.syntax.specs.Rule.{refusalOf, readTokens, ruleOf};
 use formula::Sign;
@@ -64,6 +64,14 @@ pub struct Rule {
 enum Read {
     Value(bool, usize, usize),
     Refused(usize),
+}
+
+// What tokens alone are: a formula, refused at one of them or at their end, or more than 256, which no
+// rule text has.
+pub enum Judged {
+    Formula,
+    RefusedAt(usize),
+    TooMany,
 }
 
 // The kind at a place.
@@ -395,5 +403,21 @@ pub fn read_rule(text: &[u8]) -> Rule
         LexAnswer::ForeignByte(i) => refusal(RuleAnswer::ForeignByte(i)),
         LexAnswer::LongName(i) => refusal(RuleAnswer::LongName(i)),
         LexAnswer::Measured(i) => refusal(RuleAnswer::Measured(i)),
+    }
+}
+
+// Whether tokens of these kinds are a formula, and where they are refused if not. Of a byte that is no
+// token's kind nothing is said.
+pub fn judge(kinds: &[u8]) -> Judged
+    ensures { λ r. ⌜ ((xs : List Sym) → codes xs ≡ now (kinds .entry) → r ≡ judgedOf xs) ⌝ }
+{
+    if 256 < kinds.len() {
+        return Judged::TooMany;
+    }
+    let mut order = lexer::zeros();
+    let r = parse(kinds, &mut order);
+    match r {
+        Read::Value(_, _, _) => Judged::Formula,
+        Read::Refused(i) => Judged::RefusedAt(i),
     }
 }

@@ -9,6 +9,7 @@ use lib.Dec.{leb}
 use lib.ListN.{length, take}
 use lib.Seq.{take-append-seam}
 use borrow.Author.Tests.{le-leb, lt-leb, eq-eqb, ne-eqb}
+use Rattle.lists.specs.Buffer.{over}
 use Rattle.formula.specs.Formula.{Formula, Name}
 use Rattle.contact.specs.Question.{Question}
 use Rattle.contact.specs.Numbering.{namesOf}
@@ -17,7 +18,7 @@ use Rattle.plan.specs.declared.PlanAnswer.the-variants as PlanAnswer
 use Rattle.plan.specs.declared.PlanRead.{PlanRead}
 use Rattle.plan.specs.declared.Written.{Written}
 use Rattle.plan.specs.declared.Written.the-variants as Written
-use Rattle.plan.specs.Words.{Plan, IsPlan, wordsOf, over}
+use Rattle.plan.specs.Words.{Plan, IsPlan, wordsOf}
 use Rattle.plan.specs.Reader.{Reading, plan, refused, readOf, ReadingSays}
 use Rattle.plan.specs.Arrays.{answerOf, planIn, Reads, Writes}
 use Rattle.plan.specs.Stored.{Stored}

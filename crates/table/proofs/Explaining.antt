@@ -9,9 +9,9 @@ use native.Mathlib.Nat.{zero-add}
 use lib.ListN.{length, drop}
 use lib.Seq.{sets, sets-eq}
 use borrow.Author.Tests.{leb-true, leb-false}
+use Rattle.lists.specs.Buffer.{over}
 use Rattle.ruleset.specs.declared.Compiling.{Compiling}
 use Rattle.ruleset.specs.Texts.{CompiledRules, VerdictIs, ExplainedIs}
-use Rattle.plan.specs.Words.{over}
 use Rattle.trees.specs.declared.Verdict.{Verdict}
 use Rattle.trees.specs.Trees.{Tree, wordsOf}
 use Rattle.trees.specs.Checker.{treesOf}

@@ -15,8 +15,8 @@ use Rattle.syntax.specs.Rule.{meaningOf}
 use Rattle.lists.specs.Search.{In, here}
 use Rattle.lists.proofs.Search.{in-right}
 use Rattle.lists.proofs.Truth.{cases}
+use Rattle.lists.specs.Buffer.{over}
 use Rattle.syntax.proofs.Claims.{is-rule}
-use Rattle.plan.specs.Words.{over}
 use Rattle.printing.specs.Text.{textOf}
 use Rattle.printing.specs.Prints.{printedText}
 use Rattle.printing.proofs.Claims.{gives-text}

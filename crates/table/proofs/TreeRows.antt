@@ -9,6 +9,7 @@ use lib.Dec.{leb}
 use lib.ListN.{length, take, length-map}
 use lib.Seq.{take-append-seam}
 use borrow.Author.Tests.{leb-true, leb-false, le-leb, lt-leb}
+use Rattle.lists.specs.Buffer.{over}
 use Rattle.formula.specs.Formula.{Formula, Name}
 use Rattle.contact.specs.Question.{plain, NoFloor}
 use Rattle.contact.specs.Numbering.{differentAtoms, numberedAtoms}
@@ -16,7 +17,6 @@ use Rattle.contact.proofs.Claims.{plan-counts-named, plan-meets-named, no-plan-
 use Rattle.contact.proofs.Naming.{namedPlan}
 use Rattle.contact.proofs.Numbered.{numbers-count}
 use Rattle.syntax.specs.Rule.{meaningOf}
-use Rattle.plan.specs.Words.{over}
 use Rattle.trees.specs.declared.Verdict.{Verdict}
 use Rattle.trees.specs.declared.Verdict.the-variants as Verdict
 use Rattle.trees.specs.Trees.{Tree, wordsOf}

@@ -7,8 +7,8 @@ use mathlib.Core.Bool.{cond}
 use mathlib.Core.List.{List, [], _∷_}
 use lib.Dec.{leb}
 use lib.ListN.{length}
+use Rattle.lists.specs.Buffer.{over}
 use Rattle.formula.specs.Formula.{Formula, Name}
-use Rattle.plan.specs.Words.{over}
 use Rattle.printing.specs.declared.Printed.{Printed}
 use Rattle.printing.specs.Prints.{Prints}
 use Rattle.trees.specs.declared.Verdict.{Verdict}

@@ -6,7 +6,7 @@ use mathlib.Core.Bool.{cond}
 use mathlib.Core.List.{List, []}
 use lib.Dec.{leb}
 use lib.ListN.{length, getD}
-use Rattle.plan.specs.Words.{over}
+use Rattle.lists.specs.Buffer.{over}
 use Rattle.printing.specs.Prints.{printedText}
 use Rattle.table.specs.declared.Table.{Table}
 use Rattle.table.specs.declared.PrintAnswer.{PrintAnswer}

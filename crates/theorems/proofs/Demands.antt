@@ -8,11 +8,12 @@ use mathlib.Core.Bool.{true}
 use mathlib.Core.List.{List, [], _∷_, _++_}
 use native.Mathlib.Omega.{arith}
 use lib.ListN.{length, take}
+use Rattle.lists.specs.Buffer.{over}
 use Rattle.formula.specs.Formula.{Formula, Name}
 use Rattle.syntax.proofs.Claims.{text-means}
 use Rattle.contact.specs.Meaning.{Floor, meetsAll}
 use Rattle.contact.specs.Question.{Question, plain, Counts, NoFloor}
-use Rattle.plan.specs.Words.{Plan, wordsOf, over}
+use Rattle.plan.specs.Words.{Plan, wordsOf}
 use Rattle.plan.specs.Reader.{plan}
 use Rattle.plan.specs.Given.{givenPlan}
 use Rattle.plan.specs.Plans.{rowPlan, plansOf}

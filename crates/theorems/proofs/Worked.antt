@@ -20,13 +20,14 @@ use Rattle.lists.specs.Search.{In}
 use Rattle.evalset.specs.Bit.{bit}
 use Rattle.lists.proofs.Truth.{clash}
 use Rattle.lists.proofs.Lists.{map-same}
+use Rattle.lists.specs.Buffer.{over}
 use Rattle.contact.specs.Row.{rulesTrue}
 use Rattle.contact.specs.Question.{plain}
 use Rattle.contact.specs.Plan.{separated, may, allowed, fills, partners, leads, given}
 use Rattle.contact.specs.Check.{check, pointsFor, good, firstRow}
 use Rattle.names.specs.Gather.{ruleTokens, withName, namesAfter, gatheredOf, gathered}
 use Rattle.names.specs.Ninth.{placesOf}
-use Rattle.plan.specs.Words.{over, Plan, before, wordsOf}
+use Rattle.plan.specs.Words.{Plan, before, wordsOf}
 use Rattle.plan.specs.Links.{pairOf, rowTo, linksTo}
 use Rattle.plan.specs.Given.{givenPlan}
 use Rattle.plan.specs.Plans.{rowPlan, plansOf}

@@ -11,13 +11,14 @@ use mathlib.Core.List.{List, [], _∷_, _++_}
 use lib.ListN.{length, take}
 use Rattle.formula.specs.Formula.{Formula, Name}
 use Rattle.lists.specs.Search.{In}
+use Rattle.lists.specs.Buffer.{over}
 use Rattle.syntax.specs.RuleText.{IsRule}
 use Rattle.contact.specs.Meaning.{Floor, meetsAll}
 use Rattle.contact.specs.Question.{Question, plain, Counts, NoFloor}
 use Rattle.contact.specs.Numbering.{namesOf}
 use Rattle.plan.specs.declared.PlanAnswer.the-variants as PlanAnswer
 use Rattle.plan.specs.declared.PlanRead.{PlanRead}
-use Rattle.plan.specs.Words.{Plan, wordsOf, over}
+use Rattle.plan.specs.Words.{Plan, wordsOf}
 use Rattle.plan.specs.Arrays.{Reads}
 use Rattle.plan.specs.Stored.{Stored}
 use Rattle.table.specs.declared.Table.{Table}

@@ -4,8 +4,8 @@ use mathlib.Core.Path.{_≡_}
 use mathlib.Core.List.{List, [], _∷_, _++_}
 use Prim.Native.Nat.{ℕ, _≤_, _<_}
 use lib.ListN.{length}
+use Rattle.lists.specs.Buffer.{over}
 use Rattle.lexer.specs.Text.{bytes}
-use Rattle.plan.specs.Words.{over}
 use Rattle.table.specs.Sheet.{Text}
 use Rattle.table.specs.Stands.{Call, withdraw, adds, Stands}
 use Rattle.contact.specs.Question.{plain}

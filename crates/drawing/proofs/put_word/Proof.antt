@@ -2,7 +2,7 @@
 use borrow.Author.Needs.{needs}
 use native.Mathlib.Omega.{arith}
 use lib.ListN.{length-set}
-use Rattle.report.proofs.Putting.{puts-four}
+use Rattle.lists.proofs.Putting.{puts-four}
 use Rattle.drawing.proofs.put_word.Statement.{statement}
 use Rattle.drawing.proofs.put_word.Tie as tie
 

@@ -4,8 +4,8 @@ use Prim.Native.Nat.{_-_, _*_, _≤_}
 use native.Mathlib.Omega.{arith}
 use lib.ListN.{length, take}
 use lib.Seq.{take-all}
-use Rattle.report.specs.Putting.{Puts}
-use Rattle.report.proofs.Putting.{puts-none, puts-text, puts-more, puts-length}
+use Rattle.lists.specs.Putting.{Puts}
+use Rattle.lists.proofs.Putting.{puts-none, puts-text, puts-more, puts-length}
 use Rattle.drawing.specs.Drawn.{bytesOf}
 use Rattle.drawing.proofs.Drawing.{bytes-start, bytes-more}
 use Rattle.drawing.proofs.put_words.Statement.{statement}

@@ -5,9 +5,10 @@ use mathlib.Core.Path.{_≡_, refl, ap, ap₂, _∙_}
 use mathlib.Core.List.{List, map}
 use borrow.Author.Needs.{needs}
 use lib.ListN.{length, set, take, length-set}
+use Rattle.lists.specs.Putting.{written}
+use Rattle.lists.proofs.Buffer.{written-none}
 use Rattle.plan.specs.Words.{pointWord, mostPoints}
-use Rattle.plan.specs.Private.{written}
-use Rattle.plan.proofs.Buffer.{written-none, points-more}
+use Rattle.plan.proofs.Buffer.{points-more}
 use Rattle.plan.proofs.put_points.Statement.{statement}
 use Rattle.plan.proofs.put_points.Tie as tie
 

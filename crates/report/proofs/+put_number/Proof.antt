@@ -3,8 +3,8 @@ use mathlib.Core.Path.{sym, ap}
 use native.Mathlib.Omega.{arith}
 use borrow.Author.Needs.{needs}
 use lib.ListN.{length, length-append}
+use Rattle.lists.proofs.Putting.{puts-none, puts-text, puts-byte}
 use Rattle.report.proofs.Digits.{decimal-small, decimal-more}
-use Rattle.report.proofs.Putting.{puts-none, puts-text, puts-byte}
 use Prim.Native.Nat.{ℕ, _<_}
 use borrow.Fn.Kinds.{In}
 use borrow.Fn.PlainCycle.{Measures, is, falls, and}

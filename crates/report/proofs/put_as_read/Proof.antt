@@ -1,8 +1,8 @@
 -- `report::put_as_read` meets its contract: the sheet is loaded or refused, and each has its text (Reporting.antt). Assumes nothing.
 use borrow.Author.Needs.{needs}
 use native.Mathlib.Omega.{arith}
+use Rattle.lists.proofs.Putting.{puts-text}
 use Rattle.report.specs.Lines.{ruleLines}
-use Rattle.report.proofs.Putting.{puts-text}
 use Rattle.report.proofs.Reporting.{told-not-loaded, answer-comes, refused-text, loaded-text}
 use Rattle.report.proofs.put_as_read.Statement.{statement}
 use Rattle.report.proofs.put_as_read.Tie as tie

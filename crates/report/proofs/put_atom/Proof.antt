@@ -3,9 +3,9 @@ use mathlib.Core.Path.{_≡_, sym, ap}
 use mathlib.Core.List.{[]}
 use native.Mathlib.Omega.{arith}
 use Rattle.lists.proofs.Lists.{default-unread}
+use Rattle.lists.proofs.Putting.{puts-none, puts-text}
 use lib.ListN.{length, List·getD-eq-default}
 use Rattle.report.specs.Pieces.{held, heldAt}
-use Rattle.report.proofs.Putting.{puts-none, puts-text}
 use borrow.Author.Needs.{needs}
 use Rattle.report.proofs.put_atom.Statement.{statement}
 use Rattle.report.proofs.put_atom.Tie as tie

@@ -3,8 +3,8 @@ use mathlib.Core.Path.{_≡_, sym}
 use native.Mathlib.Omega.{arith}
 use lib.ListN.{length, length-take, length-map}
 use lib.Seq.{take-all, length-take-le}
+use Rattle.lists.proofs.Putting.{puts-text}
 use Rattle.report.specs.Pieces.{held}
-use Rattle.report.proofs.Putting.{puts-text}
 use borrow.Author.Needs.{needs}
 use Rattle.report.proofs.put_atom_text.Statement.{statement}
 use Rattle.report.proofs.put_atom_text.Tie as tie

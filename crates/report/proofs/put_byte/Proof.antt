@@ -1,7 +1,7 @@
 -- `report::put_byte` meets its contract: a byte put behind nothing. Assumes nothing.
 use native.Mathlib.Omega.{arith}
 use borrow.Author.Needs.{needs}
-use Rattle.report.proofs.Putting.{puts-none, puts-byte}
+use Rattle.lists.proofs.Putting.{puts-none, puts-byte}
 use Rattle.report.proofs.put_byte.Statement.{statement}
 use Rattle.report.proofs.put_byte.Tie as tie
 

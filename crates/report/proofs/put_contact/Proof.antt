@@ -4,9 +4,9 @@ use mathlib.Core.List.{_++_}
 use Prim.Native.Nat.{_+_, _≤_}
 use native.Mathlib.Omega.{arith}
 use lib.ListN.{length, length-append}
+use Rattle.lists.proofs.Putting.{puts-text, fits-next, puts-more}
 use Rattle.lexer.specs.Text.{bytes}
 use Rattle.report.specs.Lines.{labelled, ended}
-use Rattle.report.proofs.Putting.{puts-text, fits-next, puts-more}
 use Rattle.report.proofs.Parts.{contact-text}
 use borrow.Author.Needs.{needs}
 use Rattle.report.proofs.put_contact.Statement.{statement}

@@ -1,8 +1,8 @@
 -- `report::put_head` meets its contract: the parts of the line, one after the other. Assumes nothing.
 use lib.ListN.{length-append}
 use native.Mathlib.Omega.{arith}
+use Rattle.lists.proofs.Putting.{fits-next, puts-more}
 use Rattle.report.specs.Lines.{headLine}
-use Rattle.report.proofs.Putting.{fits-next, puts-more}
 use borrow.Author.Needs.{needs}
 use Rattle.report.proofs.put_head.Statement.{statement}
 use Rattle.report.proofs.put_head.Tie as tie

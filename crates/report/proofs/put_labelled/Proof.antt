@@ -1,8 +1,8 @@
 -- `report::put_labelled` meets its contract: the text, then the number. Assumes nothing.
 use native.Mathlib.Omega.{arith}
 use lib.ListN.{length-append}
-use Rattle.report.proofs.Putting.{fits-next, puts-more}
 use borrow.Author.Needs.{needs}
+use Rattle.lists.proofs.Putting.{fits-next, puts-more}
 use Rattle.report.proofs.put_labelled.Statement.{statement}
 use Rattle.report.proofs.put_labelled.Tie as tie
 

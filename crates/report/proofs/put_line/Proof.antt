@@ -4,8 +4,8 @@ use borrow.Rule.Slice.PartMut.{putMid}
 use Prim.Native.Nat.{_-_}
 use native.Mathlib.Omega.{arith}
 use lib.ListN.{length}
+use Rattle.lists.proofs.Putting.{puts-text, puts-more, fits-next}
 use Rattle.table.specs.Store.{rulesOf}
-use Rattle.report.proofs.Putting.{puts-text, puts-more, fits-next}
 use Rattle.report.proofs.AsRead.{told-no-text, Printing, no-line, Wrote, line-written}
 use Rattle.report.proofs.put_line.Statement.{statement}
 use Rattle.report.proofs.put_line.Tie as tie

@@ -4,12 +4,12 @@ use mathlib.Core.List.{List}
 use Prim.Native.Nat.{_-_, _≤_}
 use native.Mathlib.Omega.{arith}
 use lib.Seq.{take-all}
+use Rattle.lists.specs.Putting.{Puts}
+use Rattle.lists.proofs.Putting.{puts-none, puts-text, puts-length, puts-more, fits-next}
 use Rattle.table.specs.Sheet.{Text}
 use Rattle.table.specs.Store.{rulesOf}
 use Rattle.table.specs.Calls.{formulasOf}
 use Rattle.report.specs.Lines.{ruleLines}
-use Rattle.report.specs.Putting.{Puts}
-use Rattle.report.proofs.Putting.{puts-none, puts-text, puts-length, puts-more, fits-next}
 use Rattle.report.proofs.AsRead.{linesTo, lines-next, lines-few}
 use Rattle.report.proofs.put_lines.Statement.{statement}
 use Rattle.report.proofs.put_lines.Tie as tie

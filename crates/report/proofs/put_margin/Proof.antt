@@ -5,10 +5,10 @@ use Prim.Native.Nat.{ℕ, _-_, _≤_}
 use native.Mathlib.Omega.{arith}
 use borrow.Author.Needs.{needs}
 use Rattle.lists.specs.Search.{collect, below}
+use Rattle.lists.specs.Putting.{Puts}
+use Rattle.lists.proofs.Putting.{puts-none, puts-length, turn-fits, turn-puts, turns-put}
 use Rattle.lexer.specs.Text.{bytes}
 use Rattle.report.specs.Lines.{margin}
-use Rattle.report.specs.Putting.{Puts}
-use Rattle.report.proofs.Putting.{puts-none, puts-length, turn-fits, turn-puts, turns-put}
 use Rattle.report.proofs.put_margin.Statement.{statement}
 use Rattle.report.proofs.put_margin.Tie as tie
 

@@ -3,8 +3,8 @@ use mathlib.Core.Path.{_≡_, sym}
 use native.Mathlib.Omega.{arith}
 use lib.ListN.{length, length-take, length-map}
 use lib.Seq.{take-all, length-take-le}
-use Rattle.report.proofs.Putting.{puts-text, puts-length, puts-more}
 use borrow.Author.Needs.{needs}
+use Rattle.lists.proofs.Putting.{puts-text, puts-length, puts-more}
 use Rattle.report.proofs.put_name.Statement.{statement}
 use Rattle.report.proofs.put_name.Tie as tie
 

@@ -1,8 +1,8 @@
 -- `report::put_name_if` meets its contract: the name is put where its bit is set, and nothing elsewhere. Assumes nothing.
 use mathlib.Core.Path.{sym, _∙_}
 use native.Mathlib.Omega.{arith}
+use Rattle.lists.proofs.Putting.{puts-none, puts-text}
 use Rattle.names.specs.Gather.{knownOf}
-use Rattle.report.proofs.Putting.{puts-none, puts-text}
 use Rattle.report.proofs.Kept.{name-set, name-clear}
 use borrow.Author.Needs.{needs}
 use Rattle.report.proofs.put_name_if.Statement.{statement}

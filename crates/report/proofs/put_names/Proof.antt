@@ -4,11 +4,11 @@ use Prim.Native.Nat.{ℕ, _+_, _*_, _-_, _≤_}
 use native.Mathlib.Omega.{arith}
 use lib.ListN.{length}
 use Rattle.lists.specs.Search.{collect, below}
+use Rattle.lists.specs.Putting.{Puts}
+use Rattle.lists.proofs.Putting.{puts-none, puts-length, turn-puts, turns-put}
 use Rattle.names.specs.Gather.{knownOf}
 use Rattle.names.specs.declared.Names.{Names}
 use Rattle.report.specs.Lines.{nameIf, blanked}
-use Rattle.report.specs.Putting.{Puts}
-use Rattle.report.proofs.Putting.{puts-none, puts-length, turn-puts, turns-put}
 use Rattle.report.proofs.Parts.{names-parts}
 use borrow.Author.Needs.{needs}
 use Rattle.report.proofs.put_names.Statement.{statement}

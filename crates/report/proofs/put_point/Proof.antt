@@ -2,9 +2,9 @@
 use Prim.Native.Nat.{_^_, _≤_, _<_}
 use native.Mathlib.Omega.{arith}
 use lib.ListN.{length}
+use Rattle.lists.proofs.Putting.{puts-length, puts-more}
 use Rattle.report.specs.Lines.{decimal, pointLine}
 use Rattle.report.proofs.Digits.{decimal-few}
-use Rattle.report.proofs.Putting.{puts-length, puts-more}
 use borrow.Author.Needs.{needs}
 use Rattle.report.proofs.put_point.Statement.{statement}
 use Rattle.report.proofs.put_point.Tie as tie

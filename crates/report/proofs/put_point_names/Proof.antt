@@ -1,7 +1,7 @@
 -- `report::put_point_names` meets its contract: where no byte was put there are no names. Assumes nothing.
 use native.Mathlib.Omega.{arith}
+use Rattle.lists.proofs.Putting.{puts-text, puts-length, puts-more}
 use Rattle.names.specs.Gather.{knownOf}
-use Rattle.report.proofs.Putting.{puts-text, puts-length, puts-more}
 use Rattle.report.proofs.Parts.{no-names, some-names}
 use borrow.Author.Needs.{needs}
 use Rattle.report.proofs.put_point_names.Statement.{statement}

@@ -1,7 +1,7 @@
 -- `report::put_reason` meets its contract: the parts of the line, one after the other. Assumes nothing.
 use native.Mathlib.Omega.{arith}
+use Rattle.lists.proofs.Putting.{puts-length, puts-more, fits-next}
 use Rattle.report.specs.Lines.{indented}
-use Rattle.report.proofs.Putting.{puts-length, puts-more, fits-next}
 use Rattle.report.proofs.Reasons.{margin-few}
 use borrow.Author.Needs.{needs}
 use Rattle.report.proofs.put_reason.Statement.{statement}

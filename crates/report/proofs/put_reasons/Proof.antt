@@ -2,9 +2,9 @@
 use Prim.Native.Nat.{_-_, _≤_}
 use native.Mathlib.Omega.{arith}
 use borrow.Author.Needs.{needs}
-use Rattle.report.specs.Putting.{Puts}
+use Rattle.lists.specs.Putting.{Puts}
+use Rattle.lists.proofs.Putting.{puts-none, puts-text, puts-length, puts-more}
 use Rattle.report.specs.Pieces.{lineAt, linesFrom}
-use Rattle.report.proofs.Putting.{puts-none, puts-text, puts-length, puts-more}
 use Rattle.report.proofs.Pieces.{lines-none, lines-next, not-empty, gives}
 use Rattle.report.proofs.Reasons.{line-is}
 use Rattle.report.proofs.put_reasons.Statement.{statement}

@@ -1,8 +1,8 @@
 -- `report::put_refusal` meets its contract: the line of a refusal, and nothing for another outcome. Assumes nothing.
 use mathlib.Core.Path.{sym, ap, _∙_}
 use native.Mathlib.Omega.{arith}
+use Rattle.lists.proofs.Putting.{puts-none, puts-text}
 use Rattle.report.specs.Output.{outcomeText}
-use Rattle.report.proofs.Putting.{puts-none, puts-text}
 use Rattle.report.proofs.Reporting.{no-refusal-text}
 use borrow.Author.Needs.{needs}
 use Rattle.report.proofs.put_refusal.Statement.{statement}

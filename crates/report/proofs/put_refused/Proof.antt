@@ -2,9 +2,9 @@
 use Prim.Native.Nat.{_+_, _≤_}
 use native.Mathlib.Omega.{arith}
 use lib.ListN.{length, length-append}
+use Rattle.lists.proofs.Putting.{fits-next, puts-more}
 use Rattle.report.specs.Lines.{refusedText}
 use Rattle.report.proofs.Bounds.{refused-few}
-use Rattle.report.proofs.Putting.{fits-next, puts-more}
 use borrow.Author.Needs.{needs}
 use Rattle.report.proofs.put_refused.Statement.{statement}
 use Rattle.report.proofs.put_refused.Tie as tie

@@ -1,9 +1,10 @@
 -- `report::put_rules` meets its contract: the lines of what was written for the question are the text, or there is no plan (Reporting.antt).
 -- Assumes nothing.
 use mathlib.Core.Path.{refl}
+use Rattle.lists.proofs.Putting.{puts-text}
 use Rattle.search.specs.Asked.{questionOf}
 use Rattle.report.specs.Pieces.{Answers}
-use Rattle.report.proofs.Putting.{puts-text, puts-over}
+use Rattle.report.proofs.Putting.{puts-over}
 use Rattle.report.proofs.Pieces.{tells-short}
 use Rattle.report.proofs.Reporting.{told-other, Asking, no-text, plan-told, plan-room}
 use borrow.Author.Needs.{needs}

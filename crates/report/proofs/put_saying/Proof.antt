@@ -2,11 +2,11 @@
 use Prim.Native.Nat.{_+_, _/_, _%_, _≤_}
 use native.Mathlib.Omega.{arith}
 use lib.ListN.{length}
+use Rattle.lists.proofs.Putting.{puts-text, puts-more, fits-next}
 use Rattle.report.specs.Lines.{decimal, labelled}
 use Rattle.lexer.specs.Text.{bytes}
 use Rattle.report.specs.Pieces.{saying, heldAt}
 use Rattle.report.proofs.Digits.{decimal-few}
-use Rattle.report.proofs.Putting.{puts-text, puts-more, fits-next}
 use Rattle.report.proofs.Reasons.{says-split, says-rule, says-floorless}
 use borrow.Author.Needs.{needs}
 use Rattle.report.proofs.put_saying.Statement.{statement}

@@ -6,8 +6,8 @@ use native.Mathlib.Omega.{arith}
 use lib.ListN.{length, take, getD, set}
 use lib.Seq.{length-take-le, take-all}
 use Rattle.lists.proofs.Lists.{take-next}
-use Rattle.report.specs.Putting.{Puts}
-use Rattle.report.proofs.Putting.{puts-none, puts-text, puts-length, puts-byte}
+use Rattle.lists.specs.Putting.{Puts}
+use Rattle.lists.proofs.Putting.{puts-none, puts-text, puts-length, puts-byte}
 use Rattle.report.proofs.put_text.Statement.{statement}
 use Rattle.report.proofs.put_text.Tie as tie
 

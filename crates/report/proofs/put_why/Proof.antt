@@ -1,8 +1,9 @@
 -- `report::put_why` meets its contract: the lines of what was written are the text, or a plan exists (Told.antt). Assumes nothing.
 use mathlib.Core.Path.{refl}
 use native.Mathlib.Omega.{arith}
+use Rattle.lists.proofs.Putting.{puts-text}
 use Rattle.report.specs.Pieces.{Answers}
-use Rattle.report.proofs.Putting.{puts-text, puts-over}
+use Rattle.report.proofs.Putting.{puts-over}
 use Rattle.report.proofs.Told.{told-no-tree, Explaining, no-tree-text, ToldTree, tree-told, tree-text}
 use borrow.Author.Needs.{needs}
 use Rattle.report.proofs.put_why.Statement.{statement}

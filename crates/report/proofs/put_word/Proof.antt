@@ -2,12 +2,12 @@
 use mathlib.Core.Path.{_≡_, ap, _∙_}
 use Prim.Native.Nat.{ℕ, _+_, _*_, _/_, _%_}
 use native.Mathlib.Omega.{arith}
+use Rattle.lists.proofs.Putting.{puts-none, puts-text}
 use Rattle.names.specs.Gather.{knownOf}
 use Rattle.report.specs.Lines.{pointLine, contactLine}
 use Rattle.report.specs.Pieces.{planLine}
 use Rattle.report.proofs.Bounds.{head-few, contact-few}
 use Rattle.report.proofs.PlanLines.{by-kind, no-line}
-use Rattle.report.proofs.Putting.{puts-none, puts-text}
 use borrow.Author.Needs.{needs}
 use Rattle.report.proofs.put_word.Statement.{statement}
 use Rattle.report.proofs.put_word.Tie as tie

@@ -2,11 +2,11 @@
 use mathlib.Core.Path.{ap}
 use Prim.Native.Nat.{_-_, _≤_}
 use native.Mathlib.Omega.{arith}
+use Rattle.lists.specs.Putting.{Puts}
+use Rattle.lists.proofs.Putting.{puts-none, puts-text, puts-length, puts-more}
 use Rattle.names.specs.Gather.{knownOf}
-use Rattle.report.specs.Putting.{Puts}
 use Rattle.report.specs.Pieces.{planLine, planLineAt, linesFrom}
 use Rattle.report.proofs.Pieces.{lines-none, lines-next, not-empty, gives}
-use Rattle.report.proofs.Putting.{puts-none, puts-text, puts-length, puts-more}
 use borrow.Author.Needs.{needs}
 use Rattle.report.proofs.put_words.Statement.{statement}
 use Rattle.report.proofs.put_words.Tie as tie

@@ -1,0 +1,14 @@
+pub mod Rising
+pub mod Walks
+pub mod Rules
+pub mod Claims
+pub mod Tables
+pub mod KindRows
+pub mod Judging
+pub mod Branches
+pub mod Lines
+pub mod States
+pub mod Sizes
+pub mod Next
+pub mod Given
+pub mod First
