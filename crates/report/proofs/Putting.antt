@@ -1,5 +1,5 @@
 -- Texts put one after the other are their list put at once, and so are those that a loop puts turn by turn. Assumes nothing.
-use mathlib.Core.Path.{_≡_, sym, ap, ap₂, _∙_, subst}
+use mathlib.Core.Path.{_≡_, refl, sym, ap, ap₂, _∙_, subst}
 use mathlib.Core.List.{List, [], _∷_, _++_, append-nil}
 use Prim.Native.Nat.{ℕ, _+_, _-_, _≤_, _<_}
 use native.Mathlib.Omega.{arith}
@@ -46,6 +46,23 @@ module _ {at : ℕ} {xs buffer mid : List ℕ} {end : ℕ} (first : Puts at xs b
     bytes = second .bytes ∙ ap₂ (λ (x : ℕ) (l : List ℕ). written x ys l) (first .place) (first .bytes)
         ∙ written-more at xs ys buffer (first .fits);
   }
+
+-- a byte at the end of what is put, where that end is called by another name
+pub put-at : {at : ℕ} {xs buffer mid : List ℕ} {end : ℕ} → Puts at xs buffer mid end → (place b : ℕ) → end ≡ place → at + length (xs ++ b ∷ []) ≤ length buffer
+    → Puts at (xs ++ b ∷ []) buffer (set mid place b) (place + 1)
+put-at {at} {xs} {buffer} {mid} {end} first place b e h =
+    subst (λ (x : ℕ). Puts at (xs ++ b ∷ []) buffer (set mid x b) (x + 1)) e (puts-byte first b h)
+
+-- four bytes, each by its store
+pub puts-four : (at a b c d : ℕ) (buffer : List ℕ) → at + 4 ≤ length buffer
+    → Puts at (a ∷ b ∷ c ∷ d ∷ []) buffer (set (set (set (set buffer at a) (at + 1) b) (at + 2) c) (at + 3) d) (at + 4)
+puts-four at a b c d buffer h =
+    let one = put-at (puts-none at buffer (omega arith)) at a refl (omega arith) in
+    let two = put-at one (at + 1) b refl (omega arith) in
+    let three = put-at two (at + 2) c (omega arith) (omega arith) in
+    let four = put-at three (at + 3) d (omega arith) (omega arith) in
+    let e : at + 3 + 1 ≡ at + 4 = omega arith in
+    subst (λ (x : ℕ). Puts at (a ∷ b ∷ c ∷ d ∷ []) buffer (set (set (set (set buffer at a) (at + 1) b) (at + 2) c) (at + 3) d) x) e four
 
 -- a text over the first bytes of the part from a place on
 module _ (at : ℕ) (buffer : List ℕ) where
