@@ -79,7 +79,7 @@ left-is rs k ss out =
     out .left ∙ sym (without-at (h .before) (out .text) (h .later)) ∙ ap₂ without (sym (h .parts)) z
 
 -- the text of a line that adds
-tail-of : (l : Text) (s : Text) → IsLine l (add s) → drop 1 l ≡ s
+pub tail-of : (l : Text) (s : Text) → IsLine l (add s) → drop 1 l ≡ s
 tail-of l s plus = refl
 
 -- a plan that ask gives has room
@@ -148,7 +148,7 @@ module _ (rs : List Text) (l : Text) (words : List ℕ) (stand : CanStand rs) (s
 
 -- ---- a log
 
-blank-size : length blank ≡ room
+pub blank-size : length blank ≡ room
 blank-size = length-replicate {A = ℕ} room 0
 
 pub run-only : (ls : List Text) {rs : List Text} {answers others : List Answer} {ts us : List Text} → CanStand rs → RunsFrom rs ls answers ts → RunsFrom rs ls others us

@@ -8,12 +8,12 @@ ghost use lib.ListN.{length, take, drop};
 ghost use Rattle.table.specs.Calls.{FromUs};
 ghost use Rattle.supportlog.specs.Run.{withDigit, numberFrom, numberForm, formOf, lineSays, RunsAs, Runs, kindOf, tallied};
 ghost use Rattle.supportlog.specs.Lines.{splitLog, withoutReturn};
-ghost use Rattle.supportlog.specs.Steps.{started, Steps, answerFor};
+ghost use Rattle.supportlog.specs.Steps.{started, Steps, passedTo, answerFor, GivesPiece};
 ghost use Rattle.supportlog.specs.Answers.{hexDigit, hexHalf, hexWord, answerText};
 ghost use Rattle.supportlog.specs.Answers.Answer.{plan as plans, refused as refusals};
 ghost use Rattle.lists.specs.Search.{collect};
 ghost use Rattle.report.specs.Lines.{ended};
-ghost use Rattle.report.specs.Putting.{Puts, Reports};
+ghost use Rattle.report.specs.Putting.{Puts};
 ghost use Rattle.supportlog.specs.declared.Form.the-variants.{Add as adds, Withdraw as withdraws, Ask as asks};
 use table::Outcome;
 use table::Table;
@@ -175,7 +175,7 @@ fn ask_line(table: Table, words: &mut [u32]) -> LineResult
 }
 
 // A line run on the table; the words are the buffer of the plain question. A refused line leaves the table and the words as they were.
-pub fn run_line(table: Table, text: &[u8], words: &mut [u32]) -> LineResult
+fn run_line(table: Table, text: &[u8], words: &mut [u32]) -> LineResult
     requires { ⌜ FromUs table ⌝ }
     ensures { λ r. ⌜ Runs table (now (text .entry)) (now (words .entry)) r (now (words .exit)) ⌝ }
 {
@@ -205,7 +205,7 @@ fn kind_of(answer: LineAnswer) -> Kind
 }
 
 // The tally brought up to date by a line, by value.
-pub fn tallied_by(tally: Tally, result: LineResult) -> Tally
+fn tallied_by(tally: Tally, result: LineResult) -> Tally
     ensures { λ r. ⌜ r ≡ tallied tally result ⌝ }
 {
     let answer = result.answer;
@@ -224,7 +224,7 @@ pub fn line(table: Table, text: &[u8], words: &mut [u32], tally: &mut Tally) -> 
 }
 
 // The one place that lends a tally to `line`: its parameters are plain, so whoever calls it needs no walk by hand.
-pub fn line_by(table: Table, text: &[u8], words: &mut [u32], tally: Tally) -> Lined
+fn line_by(table: Table, text: &[u8], words: &mut [u32], tally: Tally) -> Lined
     requires { ⌜ FromUs table ⌝ }
     ensures { λ r. ⌜ Runs table (now (text .entry)) (now (words .entry)) (r .result) (now (words .exit)) × (r .tally ≡ tallied tally (r .result)) ⌝ }
 {
@@ -284,6 +284,12 @@ pub struct Stepped {
     pub answer: LineAnswer,
 }
 
+// A piece of a log's text: its bytes, and the log run so far.
+pub struct LogPiece {
+    pub state: LogState,
+    pub len: usize,
+}
+
 // The empty table, all counts at 0, and the first byte.
 pub fn start() -> LogState
     ensures { λ r. ⌜ (r ≡ started) × FromUs (r .table) ⌝ }
@@ -304,7 +310,7 @@ pub fn start() -> LogState
 }
 
 // The next line of a log, run on the table, with the tally lent to it.
-pub fn next_line(log: &[u8], state: LogState, words: &mut [u32]) -> Stepped
+fn next_line(log: &[u8], state: LogState, words: &mut [u32]) -> Stepped
     requires { ⌜ FromUs (state .table) × (state .from < length (now log)) ⌝ }
     ensures { λ r. ⌜ Steps (now (log .entry)) state (now (words .entry)) r (now (words .exit)) ⌝ }
 {
@@ -327,10 +333,25 @@ pub fn next_line(log: &[u8], state: LogState, words: &mut [u32]) -> Stepped
     Stepped { state, answer }
 }
 
+// A log of so many bytes that is passed over.
+fn passed(state: LogState, len: usize) -> LogState
+    ensures { λ r. ⌜ r ≡ passedTo len state ⌝ }
+{
+    let table = state.table;
+    let tally = state.tally;
+    LogState {
+        table,
+        tally,
+        from: len,
+    }
+}
+
 // ---- the text of an answer
 
-// The bytes of a log that is not refused whole.
-pub const LOG: usize = 8192;
+// The bytes of a log that is not refused whole, and the number of that refusal.
+const LOG: usize = 8192;
+
+const WHOLE: usize = 15;
 
 // Room for the text: that of a plan of 530 words has 4,775 bytes.
 pub const ROOM: usize = 8192;
@@ -419,12 +440,41 @@ fn put_answer(answer: LineAnswer, words: &[u32], out: &mut [u8]) -> usize
     }
 }
 
-// The line of an answer, with the words that the line left, over the first bytes of the buffer, and its length. The other bytes keep their
-// values.
-pub fn text_of(answer: LineAnswer, words: &[u32; 530], out: &mut [u8; ROOM]) -> usize
-    ensures { λ r. ⌜ Reports (ended (answerText (answerFor answer (now (words .entry))))) (now (out .entry)) r (now (out .exit)) ⌝ }
+// The next piece of a log's text.
+fn put_piece(log: &[u8], state: LogState, words: &mut [u32], out: &mut [u8]) -> LogPiece
+    requires { ⌜ FromUs (state .table) × (length (now words) ≡ 530) × (8192 ≤ length (now out)) ⌝ }
+    ensures { λ r. ⌜ GivesPiece (now (log .entry)) state (now (words .entry)) (now (out .entry)) r (now (words .exit)) (now (out .exit)) ⌝ }
 {
-    put_answer(answer, words, out)
+    let from = state.from;
+    if log.len() <= from {
+        return LogPiece { state, len: 0 };
+    }
+    if LOG < log.len() {
+        let len = put_refused(WHOLE, 0, out);
+        return LogPiece {
+            state: passed(state, log.len()),
+            len,
+        };
+    }
+    let stepped = next_line(log, state, words);
+    let answer = stepped.answer;
+    let state = stepped.state;
+    let len = put_answer(answer, words, out);
+    LogPiece { state, len }
+}
+
+// The next piece of a log's text, over the first bytes of the buffer: the line of the next answer, with the log run so far. Of a log that has too
+// many bytes no line is run, and one piece says so; past the end there is none. The other bytes of the buffer keep their values.
+pub fn next_piece(
+    log: &[u8],
+    state: LogState,
+    words: &mut [u32; 530],
+    out: &mut [u8; ROOM],
+) -> LogPiece
+    requires { ⌜ FromUs (state .table) ⌝ }
+    ensures { λ r. ⌜ GivesPiece (now (log .entry)) state (now (words .entry)) (now (out .entry)) r (now (words .exit)) (now (out .exit)) ⌝ }
+{
+    put_piece(log, state, words, out)
 }
 
 // Room for the words of a plan, and for a text.
