@@ -8,7 +8,7 @@ ghost use lib.ListN.{length, take, drop};
 ghost use Rattle.table.specs.Calls.{FromUs};
 ghost use Rattle.supportlog.specs.Run.{withDigit, numberFrom, numberForm, formOf, lineSays, RunsAs, Runs, kindOf, tallied};
 ghost use Rattle.supportlog.specs.Lines.{splitLog, withoutReturn};
-ghost use Rattle.supportlog.specs.Steps.{started, Steps, passedTo, answerFor, GivesPiece};
+ghost use Rattle.supportlog.specs.Steps.{started, passedTo, answerFor, GivesPiece};
 ghost use Rattle.supportlog.specs.Answers.{hexDigit, hexHalf, hexWord, answerText};
 ghost use Rattle.supportlog.specs.Answers.Answer.{plan as plans, refused as refusals};
 ghost use Rattle.lists.specs.Search.{collect};
@@ -271,22 +271,11 @@ fn kept(line: &[u8]) -> usize
     len
 }
 
-// A log run so far: the table and the tally after its lines, and the place of the next one.
+// A log run so far: the table and the tally after its lines, the place of the next one, and the bytes of the piece that was put last.
 pub struct LogState {
     pub table: Table,
     pub tally: Tally,
     pub from: usize,
-}
-
-// What a line of a log hands back.
-pub struct Stepped {
-    pub state: LogState,
-    pub answer: LineAnswer,
-}
-
-// A piece of a log's text: its bytes, and the log run so far.
-pub struct LogPiece {
-    pub state: LogState,
     pub len: usize,
 }
 
@@ -306,43 +295,21 @@ pub fn start() -> LogState
         table,
         tally,
         from: 0,
+        len: 0,
     }
 }
 
-// The next line of a log, run on the table, with the tally lent to it.
-fn next_line(log: &[u8], state: LogState, words: &mut [u32]) -> Stepped
-    requires { ⌜ FromUs (state .table) × (state .from < length (now log)) ⌝ }
-    ensures { λ r. ⌜ Steps (now (log .entry)) state (now (words .entry)) r (now (words .exit)) ⌝ }
-{
-    let from = state.from;
-    let table = state.table;
-    let tally = state.tally;
-    let end = line_end(log, from);
-    let line = &log[from..end];
-    let n = kept(line);
-    let lined = line_by(table, &line[..n], words, tally);
-    let result = lined.result;
-    let table = result.table;
-    let tally = lined.tally;
-    let answer = result.answer;
-    let state = LogState {
-        table,
-        tally,
-        from: end + 1,
-    };
-    Stepped { state, answer }
-}
-
-// A log of so many bytes that is passed over.
-fn passed(state: LogState, len: usize) -> LogState
-    ensures { λ r. ⌜ r ≡ passedTo len state ⌝ }
+// The same table and tally, at another place.
+fn passed(state: LogState, from: usize, len: usize) -> LogState
+    ensures { λ r. ⌜ r ≡ passedTo from len state ⌝ }
 {
     let table = state.table;
     let tally = state.tally;
     LogState {
         table,
         tally,
-        from: len,
+        from,
+        len,
     }
 }
 
@@ -440,27 +407,36 @@ fn put_answer(answer: LineAnswer, words: &[u32], out: &mut [u8]) -> usize
     }
 }
 
-// The next piece of a log's text.
-fn put_piece(log: &[u8], state: LogState, words: &mut [u32], out: &mut [u8]) -> LogPiece
+// The next piece of a log's text: its next line is run on the table, with the tally lent to it.
+fn put_piece(log: &[u8], state: LogState, words: &mut [u32], out: &mut [u8]) -> LogState
     requires { ⌜ FromUs (state .table) × (length (now words) ≡ 530) × (8192 ≤ length (now out)) ⌝ }
     ensures { λ r. ⌜ GivesPiece (now (log .entry)) state (now (words .entry)) (now (out .entry)) r (now (words .exit)) (now (out .exit)) ⌝ }
 {
     let from = state.from;
     if log.len() <= from {
-        return LogPiece { state, len: 0 };
+        return passed(state, from, 0);
     }
     if LOG < log.len() {
         let len = put_refused(WHOLE, 0, out);
-        return LogPiece {
-            state: passed(state, log.len()),
-            len,
-        };
+        return passed(state, log.len(), len);
     }
-    let stepped = next_line(log, state, words);
-    let answer = stepped.answer;
-    let state = stepped.state;
+    let end = line_end(log, from);
+    let line = &log[from..end];
+    let n = kept(line);
+    let table = state.table;
+    let tally = state.tally;
+    let lined = line_by(table, &line[..n], words, tally);
+    let result = lined.result;
+    let answer = result.answer;
     let len = put_answer(answer, words, out);
-    LogPiece { state, len }
+    let table = result.table;
+    let tally = lined.tally;
+    LogState {
+        table,
+        tally,
+        from: end + 1,
+        len,
+    }
 }
 
 // The next piece of a log's text, over the first bytes of the buffer: the line of the next answer, with the log run so far. Of a log that has too
@@ -470,7 +446,7 @@ pub fn next_piece(
     state: LogState,
     words: &mut [u32; 530],
     out: &mut [u8; ROOM],
-) -> LogPiece
+) -> LogState
     requires { ⌜ FromUs (state .table) ⌝ }
     ensures { λ r. ⌜ GivesPiece (now (log .entry)) state (now (words .entry)) (now (out .entry)) r (now (words .exit)) (now (out .exit)) ⌝ }
 {
