@@ -1,6 +1,6 @@
 // A customer's support log, run on the rule table (document 02, T-13). A line is answered by a call on the table, which goes in and comes
-// back; the tally is lent with every line (`line`). What is meant is in specs/Lines.antt, what is computed in specs/Run.antt.
-// Assumes nothing.
+// back; the tally is lent with every line (`line`). The text is given in pieces, one for each answer (`next_piece`). What is meant is in
+// specs/Lines.antt and Answers.antt, what is computed in specs/Run.antt and Steps.antt. Assumes nothing.
 ghost use mathlib.Core.Path.{_≡_};
 ghost use mathlib.Core.List.{[], _∷_};
 ghost use Prim.Native.Nat.{_+_, _-_, _*_, _≤_, _<_};
