@@ -11,7 +11,7 @@ use Rattle.table.specs.declared.Outcome.the-variants as Outcome
 use Rattle.supportlog.specs.declared.Form.{Form}
 use Rattle.supportlog.specs.declared.Form.the-variants as Form
 use Rattle.supportlog.specs.Lines.{Wanted, add, withdraw, ask, IsLine}
-use Rattle.supportlog.specs.Answers.{Answer, LineRow, adds, not-added, withdraws, not-withdrawn, plans, no-plan, not-asked, no-form, RunsFrom, end, next, Makes, makes-add, makes-withdraw, makes-ask, CallsOf, no-line, call, no-call, room}
+use Rattle.supportlog.specs.Answers.{Answer, LineRow, adds, not-added, withdraws, not-withdrawn, plans, no-plan, not-asked, no-form, RunsFrom, end, next, Makes, makes-add, makes-withdraw, makes-ask, CallsOf, no-line, call, no-call}
 use Rattle.supportlog.specs.Run.{formOf}
 use Rattle.supportlog.specs.Steps.{blank}
 use Rattle.supportlog.proofs.Forms.{formFor, form-only, FormSays, form-says}

@@ -1,19 +1,19 @@
 -- One answer only, and one list of rules after it, is meant for a line, and so for a log: each is the one that is computed. Assumes nothing.
 use mathlib.Core.Path.{_≡_, refl, sym, ap, ap₂, subst, _∙_}
 use mathlib.Core.List.{List, [], _∷_, _++_}
-use Prim.Native.Nat.{ℕ, suc, _+_, _-_, _≤_}
+use Prim.Native.Nat.{ℕ, _+_, _-_, _≤_}
 use native.Mathlib.Omega.{arith}
-use lib.ListN.{length, take, drop, replicate, length-replicate}
+use lib.ListN.{length, drop, length-replicate}
 use Rattle.contact.specs.Question.{plain}
 use Rattle.plan.specs.Words.{Plan, wordsOf}
 use Rattle.plan.specs.Meant.{IsGiven}
 use Rattle.table.specs.Sheet.{Text}
 use Rattle.table.specs.Rules.{CanStand}
 use Rattle.table.specs.Calls.{judgeAdd, ifAdded, addRules, judgeWithdraw, without, ifWithdrawn, withdrawRules}
-use Rattle.table.specs.Asking.{askAnswer, askWords}
-use Rattle.table.specs.Rows.{AddRow, WithdrawRow, AskRow, SomeStand}
+use Rattle.table.specs.Asking.{askWords}
+use Rattle.table.specs.Rows.{AddRow, AskRow, SomeStand}
 use Rattle.table.specs.Stands.{TakesOut}
-use Rattle.table.specs.Numbers.{addOutcome, withdrawOutcome, askOutcome}
+use Rattle.table.specs.Numbers.{addOutcome, withdrawOutcome}
 use Rattle.table.specs.declared.AddAnswer.{AddAnswer}
 use Rattle.table.specs.declared.AddAnswer.the-variants as AddAnswer
 use Rattle.table.specs.declared.WithdrawAnswer.{WithdrawAnswer}

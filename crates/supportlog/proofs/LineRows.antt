@@ -1,12 +1,10 @@
 -- What is computed of a line is what is meant: its form is the one that it has, and each call is answered by its row. Assumes nothing.
-use mathlib.Core.Path.{_≡_, refl, sym, ap, subst, _∙_}
+use mathlib.Core.Path.{_≡_, refl, sym, subst}
 use mathlib.Core.List.{List, [], _∷_, _++_}
 use Prim.Native.Nat.{ℕ, _-_, _≤_, _<_}
 use native.Mathlib.Omega.{arith}
-use lib.ListN.{length, getD, take, drop}
-use Rattle.formula.specs.Formula.{Formula, Name}
+use lib.ListN.{length, getD, drop}
 use Rattle.contact.specs.Question.{plain}
-use Rattle.plan.specs.Words.{Plan, wordsOf}
 use Rattle.plan.specs.Meant.{IsGiven}
 use Rattle.table.specs.Sheet.{Text}
 use Rattle.table.specs.Rules.{CanStand}
@@ -30,7 +28,7 @@ use Rattle.supportlog.specs.declared.Form.{Form}
 use Rattle.supportlog.specs.declared.Form.the-variants as Form
 use Rattle.supportlog.specs.declared.LineAnswer.{LineAnswer}
 use Rattle.supportlog.specs.declared.LineAnswer.the-variants as LineAnswer
-use Rattle.supportlog.specs.Lines.{Wanted, add, withdraw, ask, IsLine}
+use Rattle.supportlog.specs.Lines.{add, withdraw, ask, IsLine}
 use Rattle.supportlog.specs.Answers.{Answer, LineRow, adds, not-added, withdraws, not-withdrawn, plans, no-plan, not-asked, no-form, room}
 use Rattle.supportlog.specs.Run.{formOf, lineSays, answerBy, rulesBy, wordsBy}
 use Rattle.supportlog.specs.Steps.{answerFor}

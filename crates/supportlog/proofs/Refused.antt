@@ -3,7 +3,7 @@
 use mathlib.Core.Path.{_≡_, refl, sym, ap, subst, _∙_}
 use mathlib.Core.Bool.{Bool, true, false, cond}
 use mathlib.Core.List.{List, [], _∷_, _++_}
-use Prim.Native.Nat.{ℕ, _+_, _-_, _≤_, _<_}
+use Prim.Native.Nat.{ℕ, _+_, _-_, _≤_}
 use native.Mathlib.Omega.{arith}
 use lib.Dec.{leb}
 use lib.ListN.{length, drop}
@@ -12,14 +12,13 @@ use Rattle.lists.specs.Search.{In}
 use Rattle.contact.specs.Question.{plain}
 use Rattle.contact.specs.Numbering.{differentAtoms}
 use Rattle.plan.specs.Words.{Plan, wordsOf, over}
-use Rattle.plan.specs.Meant.{IsGiven}
 use Rattle.plan.specs.Plans.{plansOf}
 use Rattle.plan.proofs.Claims.{given-exactly, given-words}
 use Rattle.table.specs.Sheet.{Text}
 use Rattle.table.specs.Store.{tableOf, rulesOf}
-use Rattle.table.specs.Rules.{AreRules, CanStand}
+use Rattle.table.specs.Rules.{CanStand}
 use Rattle.table.specs.Calls.{formulasOf, FromUs, judgeAdd, ifAdded, addRules, judgeWithdraw, without, ifWithdrawn, withdrawRules}
-use Rattle.table.specs.Asking.{planAnswer, foundAnswer, foundWords, askAnswer, askWords}
+use Rattle.table.specs.Asking.{foundAnswer, foundWords, askAnswer, askWords}
 use Rattle.table.specs.Rows.{AddRow, WithdrawRow, AskRow}
 use Rattle.table.specs.Numbers.{addOutcome, withdrawOutcome, askOutcome}
 use Rattle.table.specs.declared.Table.{Table}
@@ -36,7 +35,7 @@ use Rattle.supportlog.specs.declared.Form.the-variants as Form
 use Rattle.supportlog.specs.declared.LineAnswer.{LineAnswer}
 use Rattle.supportlog.specs.declared.LineAnswer.the-variants as LineAnswer
 use Rattle.supportlog.specs.declared.LineResult.{LineResult}
-use Rattle.supportlog.specs.Answers.{Answer, refused, LineRow, adds, not-added, withdraws, not-withdrawn, plans, no-plan, not-asked, no-form, RunsFrom, end, next, room}
+use Rattle.supportlog.specs.Answers.{Answer, refused, LineRow, adds, not-added, withdraws, not-withdrawn, plans, no-plan, not-asked, no-form, RunsFrom, next, room}
 use Rattle.supportlog.specs.Run.{formOf, lineSays, answerBy, rulesBy, wordsBy, Runs}
 use Rattle.supportlog.specs.Steps.{blank}
 use Rattle.supportlog.proofs.LineRows.{form-stands}

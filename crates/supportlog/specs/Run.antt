@@ -1,7 +1,7 @@
 -- What is computed: the form of a line, what it is answered, and what it leaves in the table and in the lent words; and the contracts of
 -- `run_line`, `line` and `line_by`. Assumes nothing.
 use mathlib.Core.Path.{_≡_}
-use mathlib.Core.Bool.{cond, _&&_}
+use mathlib.Core.Bool.{cond}
 use mathlib.Core.List.{List, [], _∷_}
 use Prim.Native.Nat.{ℕ, _+_, _-_, _*_}
 use lib.Dec.{eqb, leb}
@@ -24,7 +24,6 @@ use Rattle.supportlog.specs.declared.Form.the-variants as Form
 use Rattle.supportlog.specs.declared.LineAnswer.{LineAnswer}
 use Rattle.supportlog.specs.declared.LineAnswer.the-variants as LineAnswer
 use Rattle.supportlog.specs.declared.LineResult.{LineResult}
-use Rattle.supportlog.specs.declared.Lined.{Lined}
 
 -- ---- the form of a line
 
