@@ -78,7 +78,7 @@ pub struct PlanResult {
 }
 
 // Some bytes.
-fn put_text(text: &[u8], out: &mut [u8], at: usize) -> usize
+pub fn put_text(text: &[u8], out: &mut [u8], at: usize) -> usize
     requires { ⌜ at + length (now text) ≤ length (now out) ⌝ }
     ensures { λ r. ⌜ Puts at (now (text .entry)) (now (out .entry)) (now (out .exit)) r ⌝ }
 {
@@ -115,7 +115,7 @@ fn put_number(n: usize, out: &mut [u8], at: usize) -> usize
 }
 
 // A text and a number behind it.
-fn put_labelled(label: &[u8], n: usize, out: &mut [u8], at: usize) -> usize
+pub fn put_labelled(label: &[u8], n: usize, out: &mut [u8], at: usize) -> usize
     requires { ⌜ at + length (labelled (now label) n) ≤ length (now out) ⌝ }
     ensures { λ r. ⌜ Puts at (labelled (now (label .entry)) n) (now (out .entry)) (now (out .exit)) r ⌝ }
 {

@@ -50,8 +50,8 @@ const HALF: usize = 8;
 // The byte at which a file is split.
 const LINE_END: u8 = 10;
 
-// A text, zeros after its bytes.
-struct Line {
+// A text, zeros after its bytes. It is public so that another crate may put a table into a struct of its own.
+pub struct Line {
     bytes: [u8; 256],
     len: usize,
 }
