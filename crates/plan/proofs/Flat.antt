@@ -10,7 +10,7 @@ use native.Mathlib.Omega.{arith}
 use native.Mathlib.Nat.{mul-le-mul-left, mul-suc}
 use native.Mathlib.Decide.{ℕ-discrete as decEq}
 use lib.Dec.{eqb, ltb}
-use lib.ListN.{length, getD, set, replicate, length-set}
+use lib.ListN.{length, getD, set, length-set}
 use lib.Seq.{getD-set-same, getD-set-other}
 use borrow.Author.Tests.{lt-ltb, le-ltb, eq-eqb, ne-eqb}
 use Rattle.lists.proofs.Truth.{side}
@@ -18,17 +18,21 @@ use Rattle.evalset.specs.declared.EvalSet.{EvalSet}
 use Rattle.evalset.specs.Bit.{wordBits, bit}
 use Rattle.evalset.specs.Sets.{mem, memAt}
 use Rattle.evalset.proofs.Arrays.{mem-at-same, mem-at-other}
-use Rattle.squares.specs.Square.{wide, Square, squareAt, reach}
-use Rattle.squares.proofs.Rows.{clear-words, narrow-inside, wide-inside, narrow-reach, wide-reach}
-use Rattle.plan.specs.Words.{Plan}
+use Rattle.squares.specs.Square.{wide, Square, squareAt, reach, Clear}
+use Rattle.squares.proofs.Rows.{narrow-reach, larger}
+use Rattle.plan.specs.Words.{Plan, mostPoints}
 use Rattle.plan.specs.Stored.{square}
 use Rattle.plan.specs.Private.{addAt, joinedOf, selfOf, Grown, rowsTo}
 use Rattle.plan.proofs.Squares.{self-elim, square-elim}
 
 -- ---- no bit
-pub bits-none : (n : ℕ) → squareAt (replicate n 0) ≡ selfOf 0
-bits-none n = fun-ext (λ a. fun-ext (λ b.
-    clear-words n a b ∙ sym (eq-false-of-not-eq-true (λ e. let l = self-elim 0 a b e .0 in omega arith))))
+pub bits-none : (ws : List ℕ) → Clear ws → squareAt ws ≡ selfOf 0
+bits-none ws clear = fun-ext (λ a. fun-ext (λ b.
+    clear a b ∙ sym (eq-false-of-not-eq-true (λ e. let l = self-elim 0 a b e .0 in omega arith))))
+
+-- a square with room for all points has four words a row
+pub all-words : (ws : List ℕ) → Square ws → mostPoints ≤ reach ws → length ws ≡ 1024
+all-words ws is l = larger ws is (λ z. omega (arith, l, narrow-reach ws z))
 
 -- ---- one bit more
 -- words of two rows are two words
@@ -115,14 +119,6 @@ both-set ws us vs i j g h =
     record { long = h .long ∙ g .long; rows = h .rows ∙ ap (λ (t : ℕ → ℕ → Bool). addAt t j i) (g .rows) }
 
 -- ---- rows
--- a row below the reach is in the square
-pub row-inside : (ws : List ℕ) (p : ℕ) → Square ws → p < reach ws → wide ws * p + wide ws ≤ length ws
-row-inside ws p h l = go (decEq (length ws) 64)
-  where
-    go : Dec (length ws ≡ 64) → wide ws * p + wide ws ≤ length ws
-    go (yes z) = narrow-inside ws z p (omega (arith, l, narrow-reach ws z))
-    go (no z) = wide-inside ws h z p (omega (arith, l, wide-reach ws z))
-
 -- one row more
 rows-elim : (n : ℕ) (t : ℕ → ℕ → Bool) (a b : ℕ) → a < n → rowsTo n t a b ≡ t a b
 unfolding rowsTo

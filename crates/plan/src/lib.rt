@@ -1,8 +1,8 @@
 // Plan words (document 01, 'Plan words'): a plan as 32-bit words, read and written, and the atoms of rules judged on it.
-// A plan that is read is held in arrays, the points' evaluations in one and the contact rows beside it, one row a point; they go in and come
-// back by value. A plan that is written comes as the set of its points and a square of those apart, which is lent. No public function but
-// the writer has a requires, and that asks only that the words lent are a square: words, counts, rows and sets may be any, and each answer
-// says what it is then.
+// A plan that is read is held in arrays, the points' evaluations in one and the contact rows beside it, one row a point; they come back by
+// value, or the rows in a square that is lent, from which atoms are judged. A plan that is written comes as the set of its points and a
+// square of those apart, which is lent too. A public function that is lent a square requires that it is one, and the reader that it is empty:
+// words, counts and sets may be any, and each answer says what it is then.
 // What a plan is and which words it has is in specs/Words.antt, what is answered in specs/Arrays.antt. Assumes nothing.
 ghost use mathlib.Core.Path.{_≡_};
 ghost use mathlib.Core.Bool.{_&&_, _||_};
@@ -16,13 +16,13 @@ ghost use Rattle.evalset.specs.Sets.{room, mem, memAt};
 ghost use Rattle.evalset.specs.Bit.{wordBits, bit};
 ghost use Rattle.evalset.specs.Most.{most};
 ghost use Rattle.evalset.specs.Arrays.{positionsOf};
-ghost use Rattle.squares.specs.Square.{Square, squareAt, reach};
+ghost use Rattle.squares.specs.Square.{Square, squareAt, reach, Clear};
 ghost use Rattle.plan.specs.Words.{mostPoints, firstWord, pointWord};
 ghost use Rattle.plan.specs.Reader.{kindOf};
-ghost use Rattle.plan.specs.Arrays.{Reads, pointsPlan, Writes, touchesOf, vacantOf};
+ghost use Rattle.plan.specs.Arrays.{Blank, Reads, ReadsInto, pointsPlan, Writes, touchesOf, vacantOf};
 ghost use Rattle.plan.specs.Links.{rowTo, linksTo};
-ghost use Rattle.plan.specs.Stored.{Stored};
-ghost use Rattle.plan.specs.Private.{planOf, Opens, pointingOf, PointsCome, PointsSay, addAt, joinedOf, selfOf, Grown, rowsTo, lastOf, linkingOf, LinksCome, LinksSay, RestComes, Next, rowsBy, lackingOf, written, Wrote, reachesOf, reachedOf};
+ghost use Rattle.plan.specs.Stored.{arraysOf};
+ghost use Rattle.plan.specs.Private.{Opens, pointingOf, PointsCome, PointsSay, addAt, joinedOf, selfOf, Grown, rowsTo, lastOf, linkingOf, LinksCome, LinksSay, Next, rowsBy, lackingOf, written, Wrote, reachesOf, reachedOf};
 use evalset::EvalSet;
 use evalset::Found;
 use evalset::ROOM;
@@ -35,6 +35,13 @@ pub struct PlanArrays {
     pub rows: [EvalSet; ROOM],
 }
 
+// A plan without its contacts, which are a square beside it: the evaluations of its points, ascending.
+pub struct PlanPoints {
+    pub names: u8,
+    pub count: usize,
+    pub points: [u8; ROOM],
+}
+
 // What reading words answers: a plan, or refusal 13 and its index.
 pub enum PlanAnswer {
     Plan,
@@ -45,6 +52,12 @@ pub enum PlanAnswer {
 pub struct PlanRead {
     pub answer: PlanAnswer,
     pub plan: PlanArrays,
+}
+
+// The same where the contacts are in a square that is lent.
+pub struct SquareRead {
+    pub answer: PlanAnswer,
+    pub plan: PlanPoints,
 }
 
 // What the first word says: the names and the number of points of a plan, or nothing that a plan starts with.
@@ -286,36 +299,25 @@ fn with_bit(word: u64, e: usize) -> u64
     word | (one << e)
 }
 
-// The square of no point, for up to 64 points: to clear more costs more than to read a small plan.
-fn few_bits() -> [u64; 64]
-    ensures { λ r. ⌜ (length r ≡ 64) × (squareAt r ≡ selfOf 0) ⌝ }
-{
-    [0; 64]
-}
-
-// The square of no point, for all.
+// The square of no point.
 fn all_bits() -> [u64; 1024]
-    ensures { λ r. ⌜ (length r ≡ 1024) × (squareAt r ≡ selfOf 0) ⌝ }
+    ensures { λ r. ⌜ Square r × (mostPoints ≤ reach r) × Clear r ⌝ }
 {
     [0; 1024]
 }
 
 // Row i has position j too. The bit is set in place, where a set of a row would be copied.
 fn set_bit(square: &mut [u64], i: usize, j: usize)
-    requires { ⌜ Square (now square) × (i < reach (now square)) × (j < reach (now square)) ⌝ }
+    requires { ⌜ (length (now square) ≡ 1024) × (i < mostPoints) × (j < mostPoints) ⌝ }
     ensures { λ _. ⌜ Grown (addAt (squareAt (now (square .entry))) i j) (now (square .entry)) (now (square .exit)) ⌝ }
 {
-    if square.len() == 64 {
-        square[i] = with_bit(square[i], j);
-        return;
-    }
     let at = 4 * i + j / 64;
     square[at] = with_bit(square[at], j % 64);
 }
 
 // The points at i and j are in contact, both ways round.
 fn link(square: &mut [u64], i: usize, j: usize)
-    requires { ⌜ Square (now square) × (i < reach (now square)) × (j < reach (now square)) ⌝ }
+    requires { ⌜ (length (now square) ≡ 1024) × (i < mostPoints) × (j < mostPoints) ⌝ }
     ensures { λ _. ⌜ Grown (joinedOf (squareAt (now (square .entry))) i j) (now (square .entry)) (now (square .exit)) ⌝ }
 {
     set_bit(square, i, j);
@@ -324,7 +326,7 @@ fn link(square: &mut [u64], i: usize, j: usize)
 
 // Each of so many points is in contact with itself alone. The square comes as that of no point.
 fn alone(square: &mut [u64], count: usize)
-    requires { ⌜ Square (now square) × (count ≤ reach (now square)) × (squareAt (now square) ≡ selfOf 0) ⌝ }
+    requires { ⌜ (length (now square) ≡ 1024) × (count ≤ mostPoints) × (squareAt (now square) ≡ selfOf 0) ⌝ }
     ensures { λ _. ⌜ Grown (selfOf count) (now (square .entry)) (now (square .exit)) ⌝ }
 {
     let mut i: usize = 0;
@@ -336,7 +338,7 @@ fn alone(square: &mut [u64], count: usize)
 
 // The contacts and the last word, after so many points. The square comes with each point in contact with itself.
 fn read_contacts(words: &[u32], count: usize, square: &mut [u64]) -> PlanAnswer
-    requires { ⌜ Square (now square) × (count ≤ reach (now square)) × (1 + count ≤ length (now words)) ⌝ }
+    requires { ⌜ (length (now square) ≡ 1024) × (count ≤ mostPoints) × (1 + count ≤ length (now words)) ⌝ }
     ensures { λ r. ⌜ ((n : ℕ) (pts : List ℕ) → LinksCome (now (words .entry)) count (now (square .entry)) n pts → LinksSay (now (words .entry)) n pts r (now (square .exit))) × (length (now (square .exit)) ≡ length (now (square .entry))) ⌝ }
 {
     let mut low: usize = 0;
@@ -367,72 +369,38 @@ fn no_rows() -> [EvalSet; ROOM]
 
 // The rows of so many points.
 fn rows_of(square: &[u64], count: usize) -> [EvalSet; ROOM]
-    requires { ⌜ Square (now square) × (count ≤ reach (now square)) ⌝ }
+    requires { ⌜ Square (now square) × (count ≤ mostPoints) ⌝ }
     ensures { λ r. ⌜ memAt r ≡ rowsTo count (squareAt (now (square .entry))) ⌝ }
 {
     let mut rows = no_rows();
     let mut i: usize = 0;
     while i < count {
-        rows[i] = squares::row_of(square, i);
+        rows[i] = squares::row_at(square, i);
         i += 1;
     }
     rows
 }
 
-// A plan with no name and no point.
-fn blank() -> PlanArrays
-    ensures { λ r. ⌜ Stored r (planOf 0 [] []) ⌝ }
+// Refusal 13 at this index, and no name and no point.
+fn refused(at: usize) -> SquareRead
+    ensures { λ r. ⌜ (r .answer ≡ PlanAnswer.Refused at) × Blank (r .plan) ⌝ }
 {
-    PlanArrays {
-        names: 0,
-        count: 0,
-        points: no_points(),
-        rows: no_rows(),
-    }
-}
-
-// Refusal 13 at this index.
-fn refused(at: usize) -> PlanRead
-    ensures { λ r. ⌜ (r .answer ≡ PlanAnswer.Refused at) × Stored (r .plan) (planOf 0 [] []) ⌝ }
-{
-    PlanRead {
+    SquareRead {
         answer: PlanAnswer::Refused(at),
-        plan: blank(),
-    }
-}
-
-// What is left of the words after the points, and so all that they are. The square comes as that of no point.
-fn read_rest(
-    words: &[u32],
-    names: u8,
-    count: usize,
-    points: [u8; ROOM],
-    square: &mut [u64],
-) -> PlanRead
-    requires { ⌜ RestComes (now words) names count points (now square) ⌝ }
-    ensures { λ r. ⌜ Reads (now (words .entry)) r ⌝ }
-{
-    alone(square, count);
-    let answer = read_contacts(words, count, square);
-    if let PlanAnswer::Refused(at) = answer {
-        return refused(at);
-    }
-    let rows = rows_of(square, count);
-    PlanRead {
-        answer: PlanAnswer::Plan,
-        plan: PlanArrays {
-            names: names,
-            count: count,
-            points: points,
-            rows: rows,
+        plan: PlanPoints {
+            names: 0,
+            count: 0,
+            points: no_points(),
         },
     }
 }
 
 // Reads plan words: the plan that they are, or refusal 13 with "word index, or the length": the index of the word up to which they
-// begin no plan, or their number where they end early. Words of any number and any values are answered.
-pub fn read_plan(words: &[u32]) -> PlanRead
-    ensures { λ r. ⌜ Reads (now (words .entry)) r ⌝ }
+// begin no plan, or their number where they end early. Words of any number and any values are answered. The contacts are put into a square
+// that is lent, with room for all points and no bit set; of refused words what it then holds is left free.
+pub fn read_into(words: &[u32], square: &mut [u64]) -> SquareRead
+    requires { ⌜ Square (now square) × (mostPoints ≤ reach (now square)) × Clear (now square) ⌝ }
+    ensures { λ r. ⌜ Square (now (square .exit)) × ReadsInto (now (words .entry)) r (now (square .exit)) ⌝ }
 {
     if words.len() == 0 {
         return refused(0);
@@ -447,12 +415,47 @@ pub fn read_plan(words: &[u32]) -> PlanRead
         return refused(at);
     }
     let points = first.points;
-    if count <= 64 {
-        let mut square = few_bits();
-        return read_rest(words, names, count, points, &mut square);
+    alone(square, count);
+    let answer = read_contacts(words, count, square);
+    if let PlanAnswer::Refused(at) = answer {
+        return refused(at);
     }
+    SquareRead {
+        answer: PlanAnswer::Plan,
+        plan: PlanPoints {
+            names: names,
+            count: count,
+            points: points,
+        },
+    }
+}
+
+// The points of a plan and its rows side by side.
+fn arrays(plan: PlanPoints, rows: [EvalSet; ROOM]) -> PlanArrays
+    ensures { λ r. ⌜ r ≡ arraysOf plan rows ⌝ }
+{
+    let points = plan.points;
+    PlanArrays {
+        names: plan.names,
+        count: plan.count,
+        points: points,
+        rows: rows,
+    }
+}
+
+// The same with the contact rows by value: 8,192 bytes, which a caller that only judges the plan need not have.
+pub fn read_plan(words: &[u32]) -> PlanRead
+    ensures { λ r. ⌜ Reads (now (words .entry)) r ⌝ }
+{
     let mut square = all_bits();
-    read_rest(words, names, count, points, &mut square)
+    let read = read_into(words, &mut square);
+    let answer = read.answer;
+    let plan = read.plan;
+    let rows = rows_of(&square, plan.count);
+    PlanRead {
+        answer: answer,
+        plan: arrays(plan, rows),
+    }
 }
 
 // A set as a list.
@@ -713,14 +716,14 @@ fn reaches(row: EvalSet, e: usize, x: EvalSet, ys: EvalSet) -> bool
 }
 
 // Whether some row of a point in x meets the positions ys.
-fn reached(points: [u8; ROOM], rows: [EvalSet; ROOM], n: usize, x: EvalSet, ys: EvalSet) -> bool
-    requires { ⌜ n ≤ mostPoints ⌝ }
-    ensures { λ r. ⌜ r ≡ reachedOf n points (memAt rows) (mem x) (mem ys) ⌝ }
+fn reached(points: [u8; ROOM], square: &[u64], n: usize, x: EvalSet, ys: EvalSet) -> bool
+    requires { ⌜ (n ≤ mostPoints) × Square (now square) ⌝ }
+    ensures { λ r. ⌜ r ≡ reachedOf n points (squareAt (now (square .entry))) (mem x) (mem ys) ⌝ }
 {
     let mut a: usize = 0;
     while a < n {
         let e = points[a] as usize;
-        let row = rows[a];
+        let row = squares::row_at(square, a);
         if reaches(row, e, x, ys) {
             return true;
         }
@@ -731,19 +734,19 @@ fn reached(points: [u8; ROOM], rows: [EvalSet; ROOM], n: usize, x: EvalSet, ys: 
 
 // Whether C(x,y) holds on the plan, the terms given as sets of evaluations: some point in x has a point in y in its row. Of a count
 // above ROOM the first ROOM points are judged.
-pub fn touches(plan: PlanArrays, x: EvalSet, y: EvalSet) -> bool
-    ensures { λ r. ⌜ r ≡ touchesOf plan (mem x) (mem y) ⌝ }
+pub fn touches(plan: PlanPoints, square: &[u64], x: EvalSet, y: EvalSet) -> bool
+    requires { ⌜ Square (now square) ⌝ }
+    ensures { λ r. ⌜ r ≡ touchesOf plan (squareAt (now (square .entry))) (mem x) (mem y) ⌝ }
 {
     let points = plan.points;
-    let rows = plan.rows;
     let n = clamped(plan.count);
     let ys = places(points, n, y);
-    reached(points, rows, n, x, ys)
+    reached(points, square, n, x, ys)
 }
 
 // Whether t=0 holds on the plan, the term given as a set of evaluations: no point is in t. Of a count above ROOM the first ROOM
 // points are judged.
-pub fn is_vacant(plan: PlanArrays, t: EvalSet) -> bool
+pub fn is_vacant(plan: PlanPoints, t: EvalSet) -> bool
     ensures { λ r. ⌜ r ≡ vacantOf plan (mem t) ⌝ }
 {
     let points = plan.points;

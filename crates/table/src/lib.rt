@@ -457,7 +457,8 @@ fn drawn(c: Compiling, code: &[u8], words: &[u32]) -> bool
     requires { ⌜ Whole c (now code) ⌝ }
     ensures { λ r. ⌜ DrawnIs c (now (code .entry)) (now (words .entry)) r ⌝ }
 {
-    let mut read = plan::read_plan(words);
+    let mut square = all_square();
+    let mut read = plan::read_into(words, &mut square);
     let reading = read.answer;
     let PlanAnswer::Plan = reading else {
         return false;
@@ -469,7 +470,7 @@ fn drawn(c: Compiling, code: &[u8], words: &[u32]) -> bool
     }
     let all = names as u8;
     read.plan.names = all;
-    let judged = ruleset::judged(c, code, read.plan);
+    let judged = ruleset::judged(c, code, read.plan, &square);
     is_met(judged)
 }
 
@@ -868,7 +869,8 @@ impl Table {
                 answer: JudgeAnswer::NoRule,
             };
         }
-        let read = plan::read_plan(words);
+        let mut square = all_square();
+        let read = plan::read_into(words, &mut square);
         let reading = read.answer;
         if let PlanAnswer::Refused(at) = reading {
             return JudgeResult {
@@ -887,7 +889,7 @@ impl Table {
                 answer: JudgeAnswer::NamesDiffer(names),
             };
         }
-        let judged = ruleset::judged(c, &code, plan);
+        let judged = ruleset::judged(c, &code, plan, &square);
         let answer = judged_answer(judged);
         JudgeResult {
             table: self,

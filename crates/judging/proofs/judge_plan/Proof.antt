@@ -10,7 +10,7 @@ uncovered-requires : tie.Need-uncovered-requires
 uncovered-requires c κs = search needs
 
 returns : tie.Need-returns
-returns c = judges-uncovered _ _ _ _ (sym (c .before .uncovered .ensures) ∙ c .if1 .taken)
+returns c = judges-uncovered _ _ _ _ _ (sym (c .before .uncovered .ensures) ∙ c .if1 .taken)
 
 leaves-requires : tie.Need-leaves-requires
 leaves-requires c κs = search needs
@@ -19,7 +19,7 @@ first-unmet-requires : tie.Need-first-unmet-requires
 first-unmet-requires c κs = search needs
 
 returns-2 : tie.Need-returns-2
-returns-2 c = judges _ _ _ _ _ _ (sym (c .before .before .before .uncovered .ensures) ∙ c .before .before .if1 .left) (c .before .leaves .ensures) (c .first-unmet .ensures)
+returns-2 c = judges _ _ _ _ _ _ _ (sym (c .before .before .before .uncovered .ensures) ∙ c .before .before .if1 .left) (c .before .leaves .ensures) (c .first-unmet .ensures)
 
 pub judge-plan-spec : {M : Type 1} → statement M
 judge-plan-spec = tie.close (tie.spec uncovered-requires returns leaves-requires first-unmet-requires returns-2)

@@ -1,152 +1,43 @@
--- `plan::read_plan` meets its contract: the first word, the points and the rest, each read from where the machine then stands.
--- Assumes nothing.
-use mathlib.Core.Logic.{inl, inr}
-use native.Mathlib.Omega.{arith}
-use lib.Pow.{pow-mono}
+-- `plan::read_plan` meets its contract: the rows of the square that was filled are those of the points. Assumes nothing.
+use mathlib.Core.Path.{refl}
 use borrow.Author.Needs.{needs}
-use Rattle.squares.proofs.Rows.{narrow-reach, wide-reach}
-use Rattle.plan.specs.declared.PointsAnswer.the-variants as points-are
-use Rattle.plan.specs.Private.{PointsCome, PointsSay}
-use Rattle.plan.proofs.ReadLoop.{words-none, opens-wrong, opens-points, points-passed, points-refused, reads-refused}
+use Rattle.plan.proofs.ReadLoop.{reads-few, reads-arrays}
 use Rattle.plan.proofs.read_plan.Statement.{statement}
 use Rattle.plan.proofs.read_plan.Tie as tie
-
--- the first word is good, and then the points are
-come : (c : tie.After-known-told) → PointsCome (c .before .before .before .before .before .before .before .before .args .words .now) (c .before .opening .given .0 .0) (c .before .opening .given .0 .1 .0)
-come c =
-    let given = c .before .opening .given in
-    let kind = c .before .before .before .before .kind-of in
-    opens-points (c .before .before .before .before .before .before .before .before .args .words .now) (kind .result) (kind .ensures) (omega arith) (c .before .before .before .«open» .result) (c .before .before .before .«open» .ensures .to)
-    (given .0 .0) (given .0 .1 .0) (given .1)
-
-held : (c : tie.After-points)
-    → PointsSay (c .before .before .before .before .before .before .before .before .before .before .before .before .args .words .now) (c .before .before .before .before .before .opening .given .0 .0) (c .before .before .before .before .before .opening .given .0 .1 .0) points-are.All (c .before .before .before .read-points .result .points)
-held c =
-    let given = c .before .before .before .before .before .opening .given in
-    let points = c .before .before .before .read-points in
-    points-passed (c .before .before .before .before .before .before .before .before .before .before .before .before .args .words .now) (given .0 .0) (given .0 .1 .0) (points .result .answer) (points .result .points) (points .ensures)
-    (c .before .enum-told2 .given .1)
-
-refused-requires : tie.Need-refused-requires
-refused-requires c κs = search needs
-
-returns : tie.Need-returns
-returns c =
-    let a = c .before .before .before .args in
-    reads-refused (a .words .now) 0 _ (words-none (a .words .now) (omega arith)) (c .refused .ensures)
-
-shared-slice-read-kind-of : tie.Need-shared-slice-read-kind-of
-shared-slice-read-kind-of c = search needs
-
-kind-of-requires : tie.Need-kind-of-requires
-kind-of-requires c κs = search needs
-
-open-requires : tie.Need-open-requires
-open-requires c κs = search needs
-
-enum-known-opening : tie.Need-enum-known-opening
-enum-known-opening c = search needs
-
-enum-told : tie.Need-enum-told
-enum-told c = search needs
-
-refused-requires-2 : tie.Need-refused-requires-2
-refused-requires-2 c κs = search needs
-
-returns-2 : tie.Need-returns-2
-returns-2 c =
-    let a = c .before .before .before .before .before .before .before .before .args in
-    let opened = c .before .before .before .«open» in
-    let kind = c .before .before .before .before .kind-of in
-    reads-refused (a .words .now) 0 _
-    (opens-wrong (a .words .now) (kind .result) (kind .ensures) (omega arith) (opened .result) (opened .ensures .to) (c .before .enum-told .given .1))
-    (c .refused2 .ensures)
-
-read-points-requires : tie.Need-read-points-requires
-read-points-requires c κs = come c
-
-enum-known-passed : tie.Need-enum-known-passed
-enum-known-passed c = search needs
-
-refused-requires-3 : tie.Need-refused-requires-3
-refused-requires-3 c κs = search needs
-
-returns-3 : tie.Need-returns-3
-returns-3 c =
-    let a = c .before .before .before .before .before .before .before .before .before .before .before .before .before .args in
-    let given = c .before .before .before .before .before .before .opening .given in
-    let points = c .before .before .before .before .read-points in
-    let passed = c .before .before .passed .given in
-    reads-refused (a .words .now) (passed .0 .0) _
-    (points-refused (a .words .now) (given .0 .0) (given .0 .1 .0) (points .result .answer) (points .result .points) (points .ensures)
-    (passed .0 .0) (passed .1))
-    (c .refused3 .ensures)
-
-enum-told-2 : tie.Need-enum-told-2
-enum-told-2 c = search needs
-
-few-bits-requires : tie.Need-few-bits-requires
-few-bits-requires c κs = search needs
-
-slice-aggregate-read-rest : tie.Need-slice-aggregate-read-rest
-slice-aggregate-read-rest c = search needs
-
-read-rest-requires : tie.Need-read-rest-requires
-read-rest-requires c κs =
-    let bits = c .before .few-bits in
-    record {
-      held = held (c .before .before .before);
-      is = inl (bits .ensures .0);
-      few = omega (arith, c .before .before .if2 .taken, narrow-reach (bits .result) (bits .ensures .0));
-      none = bits .ensures .1;
-    }
-
-returns-4 : tie.Need-returns-4
-returns-4 c = search needs
 
 all-bits-requires : tie.Need-all-bits-requires
 all-bits-requires c κs = search needs
 
-slice-aggregate-read-rest-2 : tie.Need-slice-aggregate-read-rest-2
-slice-aggregate-read-rest-2 c = search needs
+slice-aggregate-read-into : tie.Need-slice-aggregate-read-into
+slice-aggregate-read-into c = search needs
 
-read-rest-requires-2 : tie.Need-read-rest-requires-2
-read-rest-requires-2 c κs =
-    let bits = c .before .all-bits in
-    let p = come (c .before .before .before .before .before .before .before) in
-    record {
-      held = held (c .before .before .before);
-      is = inr (bits .ensures .0);
-      few = omega (arith, p .room, pow-mono (p .few), wide-reach (bits .result) (λ z. omega (arith, z, bits .ensures .0)));
-      none = bits .ensures .1;
-    }
+read-into-requires : tie.Need-read-into-requires
+read-into-requires c κs = search needs
 
-returns-5 : tie.Need-returns-5
-returns-5 c = search needs
+slice-aggregate-rows-of : tie.Need-slice-aggregate-rows-of
+slice-aggregate-rows-of c = search needs
+
+rows-of-requires : tie.Need-rows-of-requires
+rows-of-requires c κs =
+    let read = c .before .before .before .read-into in
+    (read .ensures .0, reads-few _ _ _ (read .ensures .1))
+
+arrays-requires : tie.Need-arrays-requires
+arrays-requires c κs = search needs
+
+returns : tie.Need-returns
+returns c =
+    let read = c .before .before .before .before .before .read-into in
+    reads-arrays _ _ _ (read .ensures .1) _ (c .before .rows-of .ensures) _ refl (c .arrays .ensures)
 
 pub read-plan-spec : {M : Type 1} → statement M
 read-plan-spec =
     tie.close
     (tie.spec
-    refused-requires
-    returns
-    shared-slice-read-kind-of
-    kind-of-requires
-    open-requires
-    enum-known-opening
-    enum-told
-    refused-requires-2
-    returns-2
-    read-points-requires
-    enum-known-passed
-    refused-requires-3
-    returns-3
-    enum-told-2
-    few-bits-requires
-    slice-aggregate-read-rest
-    read-rest-requires
-    returns-4
     all-bits-requires
-    slice-aggregate-read-rest-2
-    read-rest-requires-2
-    returns-5)
+    slice-aggregate-read-into
+    read-into-requires
+    slice-aggregate-rows-of
+    rows-of-requires
+    arrays-requires
+    returns)
