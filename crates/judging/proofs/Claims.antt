@@ -11,9 +11,9 @@ use Rattle.lists.specs.Search.{In}
 use Rattle.contact.specs.Meaning.{meetsAll}
 use Rattle.contact.specs.Numbering.{numberedAtoms, rowAtoms}
 use Rattle.search.specs.declared.Chart.{Chart}
-use Rattle.plan.specs.declared.PlanPoints.{PlanPoints}
+use Rattle.plan.specs.declared.PlanArrays.{PlanArrays}
 use Rattle.plan.specs.Words.{Plan, IsPlan}
-use Rattle.plan.specs.Stored.{Holds}
+use Rattle.plan.specs.Stored.{Stored}
 use Rattle.plan.specs.Judging.{Judgement, yes, unmet, judge, uncovered}
 use Rattle.plan.specs.Floor.{namedFloor}
 use Rattle.plan.proofs.Claims.{judge-yes, judge-unmet, uncovered-exactly as plan-uncovered}
@@ -42,13 +42,13 @@ answered-uncovered true j e = refl
 answered-uncovered false yes e = absurd (let z : _≡_ {A = ℕ} 0 1 = cc in omega arith)
 answered-uncovered false (unmet k) e = absurd (let z : _≡_ {A = ℕ} 0 1 = cc in omega arith)
 
-module _ (plan : PlanPoints) (rows : ℕ → ℕ → Bool) (chart : Chart) (code ends : List ℕ) (r : Judged) (says : JudgesSay plan rows chart code ends r)
+module _ (plan : PlanArrays) (chart : Chart) (code ends : List ℕ) (r : Judged) (says : JudgesSay plan chart code ends r)
     (rules : List (Formula Name)) (from : ComesFrom code ends chart (rowAtoms rules) (numberedAtoms rules)) (p : Plan) (is : IsPlan p) (named : p .names ≡ chart .names)
-    (held : Holds plan rows p) where
+    (stored : Stored plan p) where
   -- the answer is the judgement (Judging)
   pub answer-is : r ≡ judgedPlan rules p is
   unfolding JudgesSay
-  answer-is = says rules from p is named held
+  answer-is = says rules from p is named stored
 
   -- what it is of a plan that is uncovered, or not, and rules judged so
   told : (b : Bool) (j : Judgement) → uncovered p ≡ b → judge (namedFloor rules p is) rules ≡ j → r ≡ cond b Uncovered (judgedOf j)

@@ -17,9 +17,11 @@ use Rattle.contact.proofs.Naming.{atom-map}
 use Rattle.contact.proofs.Numbered.{values-agree}
 use Rattle.search.specs.declared.Chart.{Chart}
 use Rattle.search.specs.Compiled.{noAtom}
+use Rattle.squares.specs.Square.{squareAt}
 use Rattle.plan.specs.declared.PlanPoints.{PlanPoints}
+use Rattle.plan.specs.declared.PlanArrays.{PlanArrays}
 use Rattle.plan.specs.Words.{Plan, IsPlan}
-use Rattle.plan.specs.Stored.{Holds}
+use Rattle.plan.specs.Stored.{Holds, pointsOf}
 use Rattle.plan.specs.Floor.{planFloor, namedFloor}
 use Rattle.plan.specs.Judging.{judge, uncovered}
 use Rattle.plan.proofs.Covered.{first-decides}
@@ -46,20 +48,21 @@ uncovered-is plan rows p is s =
     (ap (λ (e : ℕ). eqb e 0) (ap (λ (xs : List ℕ). getD xs 0 0) (s .points) ∙ pad-at 256 (p .points) 0 (is .some)) ∙ sym (first-decides p is))
 
 -- an uncovered plan is not judged by rules
-pub judges-uncovered : (plan : PlanPoints) (rows : ℕ → ℕ → Bool) (chart : Chart) (code ends : List ℕ) → uncoveredOf plan ≡ true → JudgesSay plan rows chart code ends Uncovered
+pub judges-uncovered : (plan : PlanArrays) (chart : Chart) (code ends : List ℕ) → uncoveredOf (pointsOf plan) ≡ true → JudgesSay plan chart code ends Uncovered
 unfolding JudgesSay
-judges-uncovered plan rows chart code ends t = λ rules h p is q s.
-    sym (ap (λ (b : Bool). cond b Uncovered (judgedOf (judge (namedFloor rules p is) rules))) (sym (uncovered-is plan rows p is s) ∙ t))
+judges-uncovered plan chart code ends t = λ rules h p is q s.
+    sym (ap (λ (b : Bool). cond b Uncovered (judgedOf (judge (namedFloor rules p is) rules))) (sym (uncovered-is (pointsOf plan) (squareAt (plan .rows)) p is s) ∙ t))
 
-pub judges : (plan : PlanPoints) (rows : ℕ → ℕ → Bool) (chart : Chart) (code ends : List ℕ) (leaves : List ℕ) (r : Judged) → uncoveredOf plan ≡ false
-    → LeavesSay plan rows chart leaves → UnmetSays code ends leaves r → JudgesSay plan rows chart code ends r
+pub judges : (plan : PlanArrays) (chart : Chart) (code ends : List ℕ) (leaves : List ℕ) (r : Judged) → uncoveredOf (pointsOf plan) ≡ false
+    → LeavesSay (pointsOf plan) (squareAt (plan .rows)) chart leaves → UnmetSays code ends leaves r → JudgesSay plan chart code ends r
 unfolding LeavesSay UnmetSays JudgesSay
-judges plan rows chart code ends leaves r t values says = λ rules h p is q s.
-    says (chart .atoms) (numberedAtoms rules) (h .coded) (valueOf plan rows chart) values
+judges plan chart code ends leaves r t values says = λ rules h p is q s.
+    let value : ℕ → Bool = valueOf (pointsOf plan) (squareAt (plan .rows)) chart in
+    says (chart .atoms) (numberedAtoms rules) (h .coded) value values
     ∙ ap judgedOf
-    (numbers-judged (namedFloor rules p is) (atomNumber rules) (valueOf plan rows chart) 1 rules
-    (values-agree rules (namedFloor rules p is) (valueOf plan rows chart) (Atom.empty Term.zero)
-    (λ i l. value-is p is plan rows s chart (rowAtoms rules) (h .compiled) q i (omega (arith, length-map (differentAtoms rules) (mapAtom (numberOf rules))))
+    (numbers-judged (namedFloor rules p is) (atomNumber rules) value 1 rules
+    (values-agree rules (namedFloor rules p is) value (Atom.empty Term.zero)
+    (λ i l. value-is p is (pointsOf plan) (squareAt (plan .rows)) s chart (rowAtoms rules) (h .compiled) q i (omega (arith, length-map (differentAtoms rules) (mapAtom (numberOf rules))))
     ∙ ap (atomOn (planFloor p is)) (map-at (mapAtom (numberOf rules)) (differentAtoms rules) i (Atom.empty Term.zero) noAtom l)
     ∙ atom-map (numberOf rules) (planFloor p is) (getD (differentAtoms rules) i (Atom.empty Term.zero)))))
-    ∙ sym (ap (λ (b : Bool). cond b Uncovered (judgedOf (judge (namedFloor rules p is) rules))) (sym (uncovered-is plan rows p is s) ∙ t))
+    ∙ sym (ap (λ (b : Bool). cond b Uncovered (judgedOf (judge (namedFloor rules p is) rules))) (sym (uncovered-is (pointsOf plan) (squareAt (plan .rows)) p is s) ∙ t))

@@ -1,9 +1,8 @@
 // A plan judged by whole rules (document 01: "Judge answers yes or the lowest unmet rule, from 1"), where it is not uncovered (document 02,
 // T-07: "a plan of one name or more with a point at evaluation 0").
 // The plan gives each atom of the chart its value, and the code of each rule is run on these values. What is judged, `judge`, is
-// the plan crate's, on the floor of the plan that the points and the square hold; the square is lent, since its rows by value would be copied
-// for each atom. The chart and the code come from our own crates: `judge_plan` requires that they can be run, as the charts and the codes of
-// rules can (`runnable` of solver/proofs/Claims.antt). Assumes nothing.
+// the plan crate's, on the floor of the plan that the arrays hold. The chart and the code come from our own crates: `judge_plan`
+// requires that they can be run, as the charts and the codes of rules can (`runnable` of solver/proofs/Claims.antt). Assumes nothing.
 ghost use mathlib.Core.Path.{_≡_};
 ghost use Prim.Native.Nat.{ℕ, _≤_, _<_};
 ghost use Rattle.evalset.specs.Bit.{bit};
@@ -15,6 +14,7 @@ ghost use Rattle.solver.specs.Tree.{Runnable};
 ghost use Rattle.judging.specs.Values.{LeavesSay, RuleSays, UnmetSays, uncoveredOf};
 ghost use Rattle.judging.specs.Judges.{JudgesSay};
 use evalset::EvalSet;
+use plan::PlanArrays;
 use plan::PlanPoints;
 use search::ATOMS;
 use search::Chart;
@@ -33,7 +33,8 @@ fn settled(value: bool) -> u64
     if value { 0xFFFF_FFFF_FFFF_FFFF } else { 0 }
 }
 
-// The values of the chart's atoms on the plan. Of a zero atom x has the zero term.
+// The values of the chart's atoms on the plan. Of a zero atom x has the zero term. The rows are lent: by value they would be copied for each
+// contact.
 fn leaves(plan: PlanPoints, square: &[u64], chart: Chart) -> [u64; ATOMS]
     requires { ⌜ (chart .atoms ≤ limit) × Square (now square) ⌝ }
     ensures { λ r. ⌜ LeavesSay plan (squareAt (now (square .entry))) chart r ⌝ }
@@ -95,19 +96,19 @@ fn uncovered(plan: PlanPoints) -> bool
 
 // Judges the plan by the rules of this code, whose atoms the chart has. Only our own crates call it: `Runnable` asks that the chart has at
 // most 16 atoms and that each part of the code is safe to run, as the codes of rules of at most 256 signs are (`runnable` of solver).
-pub fn judge_plan(
-    plan: PlanPoints,
-    square: &[u64],
-    chart: Chart,
-    code: &[u8],
-    ends: &[usize],
-) -> Judged
-    requires { ⌜ Runnable (now code) (now ends) chart × Square (now square) ⌝ }
-    ensures { λ r. ⌜ JudgesSay plan (squareAt (now (square .entry))) chart (now (code .entry)) (now (ends .entry)) r ⌝ }
+pub fn judge_plan(plan: PlanArrays, chart: Chart, code: &[u8], ends: &[usize]) -> Judged
+    requires { ⌜ Runnable (now code) (now ends) chart ⌝ }
+    ensures { λ r. ⌜ JudgesSay plan chart (now (code .entry)) (now (ends .entry)) r ⌝ }
 {
-    if uncovered(plan) {
+    let evaluations = plan.points;
+    let points = PlanPoints {
+        names: plan.names,
+        count: plan.count,
+        points: evaluations,
+    };
+    if uncovered(points) {
         return Judged::Uncovered;
     }
-    let atoms = leaves(plan, square, chart);
+    let atoms = leaves(points, &plan.rows, chart);
     first_unmet(code, ends, atoms)
 }

@@ -73,7 +73,7 @@ written-read p h q s =
     let e : readOf (wordsOf p) ≡ plan p = plan-read p h in
     (s .answer ∙ ap answerOf e, subst (λ (x : Reading). Stored (q .plan) (planIn x)) e (s .plan))
 
--- and no other plan, whether the rows are in the arrays or in a square (SamePlan)
+-- and no other plan, whether the rows are in the arrays or lent (SamePlan)
 pub one-plan : (r : PlanPoints) (rows : ℕ → ℕ → Bool) (p q : Plan) → IsPlan p → IsPlan q → Holds r rows p → Holds r rows q → p ≡ q
 one-plan = SamePlan.one-plan
 

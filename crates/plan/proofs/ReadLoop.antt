@@ -16,8 +16,6 @@ use denote.Enum.Declared.{tagOf}
 use borrow.Author.Tests.{leb-true, ltb-true, le-leb, lt-leb, le-ltb, lt-ltb, eq-eqb, ne-eqb}
 use Rattle.lists.specs.Padded.{pad}
 use Rattle.lists.proofs.Padded.{pad-set}
-use Rattle.evalset.specs.declared.EvalSet.{EvalSet}
-use Rattle.evalset.specs.Sets.{memAt}
 use Rattle.evalset.specs.Most.{most}
 use Rattle.squares.specs.Square.{squareAt}
 use Rattle.plan.proofs.Word as word-type
@@ -33,20 +31,16 @@ use Rattle.plan.specs.declared.Linking.{Linking}
 use Rattle.plan.specs.declared.Linking.the-variants as linking-is
 use Rattle.plan.specs.declared.PlanAnswer.{PlanAnswer}
 use Rattle.plan.specs.declared.PlanAnswer.the-variants as answer-is
-use Rattle.plan.specs.declared.PlanPoints.{PlanPoints}
 use Rattle.plan.specs.declared.PlanArrays.{PlanArrays}
-use Rattle.plan.specs.declared.SquareRead.{SquareRead}
 use Rattle.plan.specs.declared.PlanRead.{PlanRead}
 use Rattle.plan.specs.Words.{Plan, mostPoints}
-use Rattle.plan.specs.Reader.{kindOf, State, start, pointing, linking, whole, dead, opened, went, pointed, linked, step, Reading, plan, refused, ended, unless, readFrom, readOf, ReadingSays}
-use Rattle.plan.specs.Arrays.{answerOf, planIn, Reads, Blank, HeldIn, ReadsInto}
-use Rattle.plan.specs.Stored.{Holds, arraysOf, Stored}
-use Rattle.plan.specs.Private.{planOf, joinedOf, selfOf, rowsTo, wanting, OpensTo, pointingOf, PointsCome, PointsHeld, PointsSay, lastOf, linkingOf, LinksCome, LinksHeld, LinksSay}
-use Rattle.plan.proofs.Exact.{IsDead, exact}
+use Rattle.plan.specs.Reader.{kindOf, State, start, pointing, linking, whole, dead, opened, went, pointed, linked, step, Reading, plan, refused, ended, unless, readFrom, readOf}
+use Rattle.plan.specs.Arrays.{answerOf, planIn, Reads}
+use Rattle.plan.specs.Stored.{Stored}
+use Rattle.plan.specs.Private.{planOf, joinedOf, selfOf, wanting, OpensTo, pointingOf, PointsCome, PointsHeld, PointsSay, lastOf, linkingOf, LinksCome, LinksHeld, LinksSay}
+use Rattle.plan.proofs.Exact.{IsDead}
 use Rattle.plan.proofs.Complete.{open-by, link-by, last-by}
 use Rattle.plan.proofs.Squares.{self-square, square-link}
-use Rattle.plan.proofs.Flat.{rows-first, rows-square}
-use Rattle.plan.proofs.Judged.{few-points}
 
 -- ---- one word more, and no word more
 module _ (ws : List ℕ) (at : ℕ) (s : State) (rest : readFrom at s (drop at ws) ≡ readOf ws) where
@@ -440,51 +434,16 @@ pub links-refused : (ws : List ℕ) (n : ℕ) (pts : List ℕ) (a : PlanAnswer) 
 links-refused ws n pts a words s at e = subst (λ (x : PlanAnswer). LinksSay ws n pts x words) e s
 
 -- ---- what is read
-module _ (ws : List ℕ) (words : List ℕ) where
-  pub reads-refused : (at : ℕ) (r : SquareRead) → readOf ws ≡ refused at → (r .answer ≡ answer-is.Refused at) × Blank (r .plan)
-      → ReadsInto ws r words
-  reads-refused at r e h =
-      record { answer = h .0 ∙ ap answerOf (sym e); plan = subst (λ (x : Reading). HeldIn x (r .plan) words) (sym e) (h .1) }
+pub reads-refused : (ws : List ℕ) (at : ℕ) (r : PlanRead) → readOf ws ≡ refused at
+    → (r .answer ≡ answer-is.Refused at) × Stored (r .plan) (planOf 0 [] []) → Reads ws r
+reads-refused ws at r e h =
+    record { answer = h .0 ∙ ap answerOf (sym e); plan = subst (λ (x : Reading). Stored (r .plan) (planIn x)) (sym e) (h .1) }
 
-  pub reads-plan : (n c low : ℕ) (points : List ℕ) (h : PointsHeld ws n c c low points) (a : PlanAnswer)
-      → LinksSay ws n (h .pts) a words → a ≡ answer-is.Plan
-      → ReadsInto ws (record { answer = answer-is.Plan; plan = record { names = n; count = c; points = points } }) words
-  reads-plan n c low points h a s e =
-      let t = subst (λ (x : PlanAnswer). LinksSay ws n (h .pts) x words) e s in
-      let r : PlanPoints = record { names = n; count = c; points = points } in
-      let held : Holds r (squareAt words) (planOf n (h .pts) (t .0)) =
-      record { names = refl; count = sym (h .size); points = h .stored; rows = t .2 } in
-      record { answer = ap answerOf (sym (t .1)); plan = subst (λ (x : Reading). HeldIn x r words) (sym (t .1)) held }
-
-  -- no more points than there is room for
-  pub reads-few : (r : SquareRead) → ReadsInto ws r words → r .plan .count ≤ mostPoints
-  reads-few r h = go (readOf ws) (exact ws) (h .plan)
-    where
-      go : (x : Reading) → ReadingSays ws x → HeldIn x (r .plan) words → r .plan .count ≤ mostPoints
-      go (plan p) says s = omega (arith, s .count, few-points p (says .0))
-      go (refused i) says s = omega (arith, s .count)
-
-  -- and with its rows by value
-  pub reads-arrays : (r : SquareRead) → ReadsInto ws r words → (rows : List EvalSet) → memAt rows ≡ rowsTo (r .plan .count) (squareAt words)
-      → (q : PlanRead) → q .answer ≡ r .answer → q .plan ≡ arraysOf (r .plan) rows → Reads ws q
-  reads-arrays r h rows e q a b =
-      record {
-        answer = a ∙ h .answer;
-        plan = subst (λ (x : PlanArrays). Stored x (planIn (readOf ws))) (sym b) (go (readOf ws) (h .plan));
-      }
-    where
-      go : (x : Reading) → HeldIn x (r .plan) words → Stored (arraysOf (r .plan) rows) (planIn x)
-      go (plan p) s =
-          record {
-            names = s .names;
-            count = s .count;
-            points = s .points;
-            rows = e ∙ ap₂ rowsTo (s .count) (s .rows) ∙ rows-square p;
-          }
-      go (refused i) s =
-          record {
-            names = s .names;
-            count = s .count;
-            points = s .points;
-            rows = e ∙ ap (λ (n : ℕ). rowsTo n (squareAt words)) (s .count) ∙ sym (rows-first (squareAt words)) ∙ self-square 0 [];
-          }
+pub reads-plan : (ws : List ℕ) (n c low : ℕ) (points : List ℕ) (h : PointsHeld ws n c c low points) (a : PlanAnswer) (rows : List ℕ)
+    → LinksSay ws n (h .pts) a rows → a ≡ answer-is.Plan
+    → Reads ws (record { answer = answer-is.Plan; plan = record { names = n; count = c; points = points; rows = rows } })
+reads-plan ws n c low points h a rows s e =
+    let t = subst (λ (x : PlanAnswer). LinksSay ws n (h .pts) x rows) e s in
+    let r : PlanArrays = record { names = n; count = c; points = points; rows = rows } in
+    let stored : Stored r (planOf n (h .pts) (t .0)) = record { names = refl; count = sym (h .size); points = h .stored; rows = t .2 } in
+    record { answer = ap answerOf (sym (t .1)); plan = subst (λ (x : Reading). Stored r (planIn x)) (sym (t .1)) stored }

@@ -1,7 +1,7 @@
 -- A plan taken as one of more names is a plan, with the same floor: its evaluations, being below 2^names, have no bit of a name that it
 -- lacks, so that name is empty. Assumes nothing.
 use mathlib.Core.Path.{_≡_, refl}
-use mathlib.Core.Bool.{Bool, false}
+use mathlib.Core.Bool.{false}
 use mathlib.Core.List.{List, [], _∷_}
 use Prim.Native.Nat.{ℕ, suc, _^_, _≤_, _<_}
 use native.Mathlib.Omega.{arith}
@@ -11,11 +11,11 @@ use Rattle.formula.specs.Formula.{Formula, Name}
 use Rattle.evalset.specs.Most.{most}
 use Rattle.evalset.proofs.Bits.{bit-above}
 use Rattle.contact.proofs.SameFloor.{SameFloor}
-use Rattle.plan.specs.declared.PlanPoints.{PlanPoints}
+use Rattle.plan.specs.declared.PlanArrays.{PlanArrays}
 use Rattle.plan.specs.Words.{Plan, Ascends, IsPlan}
 use Rattle.plan.specs.Floor.{touching, liesIn, planFloor, namedFloor}
-use Rattle.plan.specs.Stored.{Holds, square}
-use Rattle.plan.specs.Wider.{widened, widenedPoints}
+use Rattle.plan.specs.Stored.{Stored, square}
+use Rattle.plan.specs.Wider.{widened, widenedArrays}
 use Rattle.plan.proofs.Judged.{ascends-at}
 
 ascends-wider : (low high wide : ℕ) (es : List ℕ) → high ≤ wide → Ascends low high es → Ascends low wide es
@@ -27,9 +27,9 @@ module _ (n : ℕ) (p : Plan) where
   widened-plan l few h =
       record { few = few; some = h .some; ascend = ascends-wider 0 (2 ^ (p .names)) (2 ^ n) (p .points) (pow-mono l) (h .ascend); rise = h .rise }
 
-  pub widened-holds : (r : PlanPoints) (rows : ℕ → ℕ → Bool) → Holds r rows p → Holds (widenedPoints n r) rows (widened n p)
+  pub widened-stored : (r : PlanArrays) → Stored r p → Stored (widenedArrays n r) (widened n p)
   unfolding square touching
-  widened-holds r rows s = record { names = refl; count = s .count; points = s .points; rows = s .rows }
+  widened-stored r s = record { names = refl; count = s .count; points = s .points; rows = s .rows }
 
 -- its floor over the names of rules is the plan's, however both were shown to be plans
 pub widened-floor : (rules : List (Formula Name)) (n : ℕ) (p : Plan) (h : IsPlan p) (k : IsPlan (widened n p))

@@ -6,19 +6,16 @@ use mathlib.Core.List.{List, []}
 use Prim.Native.Nat.{ℕ, min}
 use lib.Dec.{leb}
 use lib.ListN.{length, getD}
-use Rattle.lists.specs.Padded.{pad}
 use Rattle.lists.specs.Search.{any, keep, below}
 use Rattle.evalset.specs.Sets.{room}
-use Rattle.squares.specs.Square.{squareAt}
 use Rattle.plan.specs.declared.PlanPoints.{PlanPoints}
 use Rattle.plan.specs.declared.PlanAnswer.{PlanAnswer}
 use Rattle.plan.specs.declared.PlanAnswer.the-variants as answer-is
 use Rattle.plan.specs.declared.PlanRead.{PlanRead}
-use Rattle.plan.specs.declared.SquareRead.{SquareRead}
 use Rattle.plan.specs.declared.Written.{Written}
 use Rattle.plan.specs.declared.Written.the-variants.{Words, Needs}
 use Rattle.plan.specs.Words.{Plan, mostPoints, wordsOf, over}
-use Rattle.plan.specs.Stored.{Holds, Stored}
+use Rattle.plan.specs.Stored.{Stored}
 use Rattle.plan.specs.Links.{linksTo}
 use Rattle.plan.specs.Reader.{Reading, plan, refused, readOf}
 
@@ -37,22 +34,6 @@ planIn (refused i) = record { names = 0; points = []; contacts = [] }
 pub record Reads (ws : List ℕ) (r : PlanRead) : Type 0 where
   pub answer : r .answer ≡ answerOf (readOf ws)
   pub plan : Stored (r .plan) (planIn (readOf ws))
-
--- no name and no point
-pub record Blank (r : PlanPoints) : Type 0 where
-  pub names : r .names ≡ 0
-  pub count : r .count ≡ 0
-  pub points : r .points ≡ pad mostPoints []
-
--- the points beside the answer, and the square: the plan's, or where the words are refused no point and a square of which nothing is said
-abbrev pub HeldIn : Reading → PlanPoints → List ℕ → Type 0
-HeldIn (plan p) r exit = Holds r (squareAt exit) p
-HeldIn (refused i) r exit = Blank r
-
--- what reading them into a square gives
-pub record ReadsInto (ws : List ℕ) (r : SquareRead) (exit : List ℕ) : Type 0 where
-  pub answer : r .answer ≡ answerOf (readOf ws)
-  pub plan : HeldIn (readOf ws) (r .plan) exit
 
 -- ---- writing
 -- two points are in contact unless they are apart, by their evaluations

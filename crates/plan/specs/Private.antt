@@ -49,10 +49,6 @@ pub record Grown (t : ℕ → ℕ → Bool) (ws ws' : List ℕ) : Type 0 where
   pub long : length ws' ≡ length ws
   pub rows : squareAt ws' ≡ t
 
--- the rows of the positions below n alone
-unfoldable pub rowsTo : ℕ → (ℕ → ℕ → Bool) → ℕ → ℕ → Bool
-rowsTo n t a b = ltb a n && t a b
-
 -- so many points are wanted; then the contacts
 abbrev pub wanting : ℕ → ℕ → List ℕ → ℕ → State
 wanting n zero pts low = linking n pts [] 0

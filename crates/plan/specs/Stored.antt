@@ -1,13 +1,11 @@
--- What is meant: a plan in an array of its points and rows of bits, which may be an array beside it. Assumes nothing.
+-- What is meant: a plan in an array of its points and the rows of its contacts beside it. Assumes nothing.
 use mathlib.Core.Path.{_≡_}
 use mathlib.Core.Bool.{Bool, _&&_}
-use mathlib.Core.List.{List}
 use Prim.Native.Nat.{ℕ}
 use lib.Dec.{ltb}
 use lib.ListN.{length}
 use Rattle.lists.specs.Padded.{pad}
-use Rattle.evalset.specs.declared.EvalSet.{EvalSet}
-use Rattle.evalset.specs.Sets.{memAt}
+use Rattle.squares.specs.Square.{squareAt}
 use Rattle.plan.specs.declared.PlanPoints.{PlanPoints}
 use Rattle.plan.specs.declared.PlanArrays.{PlanArrays}
 use Rattle.plan.specs.Words.{Plan, mostPoints}
@@ -24,12 +22,10 @@ pub record Holds (r : PlanPoints) (t : ℕ → ℕ → Bool) (p : Plan) : Type 0
   pub points : r .points ≡ pad mostPoints (p .points)
   pub rows : t ≡ square p
 
-abbrev pub arraysOf : PlanPoints → List EvalSet → PlanArrays
-arraysOf r rows = record { names = r .names; count = r .count; points = r .points; rows = rows }
-
+-- the arrays without the rows
 abbrev pub pointsOf : PlanArrays → PlanPoints
 pointsOf r = record { names = r .names; count = r .count; points = r .points }
 
 -- the arrays hold this plan
 abbrev pub Stored : PlanArrays → Plan → Type 0
-Stored r p = Holds (pointsOf r) (memAt (r .rows)) p
+Stored r p = Holds (pointsOf r) (squareAt (r .rows)) p

@@ -1,8 +1,8 @@
 // Plan words (document 01, 'Plan words'): a plan as 32-bit words, read and written, and the atoms of rules judged on it.
 // A plan that is read is held in arrays, the points' evaluations in one and the contact rows beside it, one row a point; they come back by
-// value, or the rows in a square that is lent, from which atoms are judged. A plan that is written comes as the set of its points and a
-// square of those apart, which is lent too. A public function that is lent a square requires that it is one, and the reader that it is empty:
-// words, counts and sets may be any, and each answer says what it is then.
+// value. A contact is judged on the points and the rows, which are lent; a plan is written from the set of its points and a square of those
+// apart, lent too. These two functions ask only that the words lent are a square, and no other public function has a requires: words, counts,
+// rows and sets may be any, and each answer says what it is then.
 // What a plan is and which words it has is in specs/Words.antt, what is answered in specs/Arrays.antt. Assumes nothing.
 ghost use mathlib.Core.Path.{_≡_};
 ghost use mathlib.Core.Bool.{_&&_, _||_};
@@ -12,30 +12,30 @@ ghost use lib.Dec.{eqb};
 ghost use lib.ListN.{length, take};
 ghost use Rattle.lists.specs.Padded.{pad};
 ghost use Rattle.lists.specs.Search.{keep, below};
-ghost use Rattle.evalset.specs.Sets.{room, mem, memAt};
+ghost use Rattle.evalset.specs.Sets.{room, mem};
 ghost use Rattle.evalset.specs.Bit.{wordBits, bit};
 ghost use Rattle.evalset.specs.Most.{most};
 ghost use Rattle.evalset.specs.Arrays.{positionsOf};
-ghost use Rattle.squares.specs.Square.{Square, squareAt, reach, Clear};
+ghost use Rattle.squares.specs.Square.{Square, squareAt};
 ghost use Rattle.plan.specs.Words.{mostPoints, firstWord, pointWord};
 ghost use Rattle.plan.specs.Reader.{kindOf};
-ghost use Rattle.plan.specs.Arrays.{Blank, Reads, ReadsInto, pointsPlan, Writes, touchesOf, vacantOf};
+ghost use Rattle.plan.specs.Arrays.{Reads, pointsPlan, Writes, touchesOf, vacantOf};
 ghost use Rattle.plan.specs.Links.{rowTo, linksTo};
-ghost use Rattle.plan.specs.Stored.{arraysOf};
-ghost use Rattle.plan.specs.Private.{Opens, pointingOf, PointsCome, PointsSay, addAt, joinedOf, selfOf, Grown, rowsTo, lastOf, linkingOf, LinksCome, LinksSay, Next, rowsBy, lackingOf, written, Wrote, reachesOf, reachedOf};
+ghost use Rattle.plan.specs.Stored.{Stored};
+ghost use Rattle.plan.specs.Private.{planOf, Opens, pointingOf, PointsCome, PointsSay, addAt, joinedOf, selfOf, Grown, lastOf, linkingOf, LinksCome, LinksSay, Next, rowsBy, lackingOf, written, Wrote, reachesOf, reachedOf};
 use evalset::EvalSet;
 use evalset::Found;
 use evalset::ROOM;
 
-// A plan: the evaluations of its points, ascending, and the square of contacts, one row for each point.
+// A plan: the evaluations of its points, ascending, and the square of contacts, one row for each point, four words a row.
 pub struct PlanArrays {
     pub names: u8,
     pub count: usize,
     pub points: [u8; ROOM],
-    pub rows: [EvalSet; ROOM],
+    pub rows: [u64; 1024],
 }
 
-// A plan without its contacts, which are a square beside it: the evaluations of its points, ascending.
+// A plan without its contacts, which are lent beside it.
 pub struct PlanPoints {
     pub names: u8,
     pub count: usize,
@@ -52,12 +52,6 @@ pub enum PlanAnswer {
 pub struct PlanRead {
     pub answer: PlanAnswer,
     pub plan: PlanArrays,
-}
-
-// The same where the contacts are in a square that is lent.
-pub struct SquareRead {
-    pub answer: PlanAnswer,
-    pub plan: PlanPoints,
 }
 
 // What the first word says: the names and the number of points of a plan, or nothing that a plan starts with.
@@ -299,9 +293,9 @@ fn with_bit(word: u64, e: usize) -> u64
     word | (one << e)
 }
 
-// The square of no point.
-fn all_bits() -> [u64; 1024]
-    ensures { λ r. ⌜ Square r × (mostPoints ≤ reach r) × Clear r ⌝ }
+// The rows of no point.
+fn no_rows() -> [u64; 1024]
+    ensures { λ r. ⌜ (length r ≡ 1024) × (squareAt r ≡ selfOf 0) ⌝ }
 {
     [0; 1024]
 }
@@ -359,48 +353,25 @@ fn read_contacts(words: &[u32], count: usize, square: &mut [u64]) -> PlanAnswer
     PlanAnswer::Refused(at)
 }
 
-// No row.
-fn no_rows() -> [EvalSet; ROOM]
-    ensures { λ r. ⌜ memAt r ≡ selfOf 0 ⌝ }
+// Refusal 13 at this index, and a plan with no name and no point.
+fn refused(at: usize) -> PlanRead
+    ensures { λ r. ⌜ (r .answer ≡ PlanAnswer.Refused at) × Stored (r .plan) (planOf 0 [] []) ⌝ }
 {
-    let none = evalset::empty();
-    [none; ROOM]
-}
-
-// The rows of so many points.
-fn rows_of(square: &[u64], count: usize) -> [EvalSet; ROOM]
-    requires { ⌜ Square (now square) × (count ≤ mostPoints) ⌝ }
-    ensures { λ r. ⌜ memAt r ≡ rowsTo count (squareAt (now (square .entry))) ⌝ }
-{
-    let mut rows = no_rows();
-    let mut i: usize = 0;
-    while i < count {
-        rows[i] = squares::row_at(square, i);
-        i += 1;
-    }
-    rows
-}
-
-// Refusal 13 at this index, and no name and no point.
-fn refused(at: usize) -> SquareRead
-    ensures { λ r. ⌜ (r .answer ≡ PlanAnswer.Refused at) × Blank (r .plan) ⌝ }
-{
-    SquareRead {
+    PlanRead {
         answer: PlanAnswer::Refused(at),
-        plan: PlanPoints {
+        plan: PlanArrays {
             names: 0,
             count: 0,
             points: no_points(),
+            rows: no_rows(),
         },
     }
 }
 
 // Reads plan words: the plan that they are, or refusal 13 with "word index, or the length": the index of the word up to which they
-// begin no plan, or their number where they end early. Words of any number and any values are answered. The contacts are put into a square
-// that is lent, with room for all points and no bit set; of refused words what it then holds is left free.
-pub fn read_into(words: &[u32], square: &mut [u64]) -> SquareRead
-    requires { ⌜ Square (now square) × (mostPoints ≤ reach (now square)) × Clear (now square) ⌝ }
-    ensures { λ r. ⌜ Square (now (square .exit)) × ReadsInto (now (words .entry)) r (now (square .exit)) ⌝ }
+// begin no plan, or their number where they end early. Words of any number and any values are answered.
+pub fn read_plan(words: &[u32]) -> PlanRead
+    ensures { λ r. ⌜ Reads (now (words .entry)) r ⌝ }
 {
     if words.len() == 0 {
         return refused(0);
@@ -415,46 +386,20 @@ pub fn read_into(words: &[u32], square: &mut [u64]) -> SquareRead
         return refused(at);
     }
     let points = first.points;
-    alone(square, count);
-    let answer = read_contacts(words, count, square);
+    let mut rows = no_rows();
+    alone(&mut rows, count);
+    let answer = read_contacts(words, count, &mut rows);
     if let PlanAnswer::Refused(at) = answer {
         return refused(at);
     }
-    SquareRead {
+    PlanRead {
         answer: PlanAnswer::Plan,
-        plan: PlanPoints {
+        plan: PlanArrays {
             names: names,
             count: count,
             points: points,
+            rows: rows,
         },
-    }
-}
-
-// The points of a plan and its rows side by side.
-fn arrays(plan: PlanPoints, rows: [EvalSet; ROOM]) -> PlanArrays
-    ensures { λ r. ⌜ r ≡ arraysOf plan rows ⌝ }
-{
-    let points = plan.points;
-    PlanArrays {
-        names: plan.names,
-        count: plan.count,
-        points: points,
-        rows: rows,
-    }
-}
-
-// The same with the contact rows by value: 8,192 bytes, which a caller that only judges the plan need not have.
-pub fn read_plan(words: &[u32]) -> PlanRead
-    ensures { λ r. ⌜ Reads (now (words .entry)) r ⌝ }
-{
-    let mut square = all_bits();
-    let read = read_into(words, &mut square);
-    let answer = read.answer;
-    let plan = read.plan;
-    let rows = rows_of(&square, plan.count);
-    PlanRead {
-        answer: answer,
-        plan: arrays(plan, rows),
     }
 }
 

@@ -1,7 +1,6 @@
 -- What is proved of texts compiled one after another, for whoever builds on it: compiled texts are what the search, the plan of a row and
 -- judging ask for, since their chart, code and names are those of the numbered rules; the answers are the first row of these rules, the
 -- plan of a row and the judgement of the rules as read. Assumes nothing.
-use mathlib.Core.Bool.{Bool}
 use mathlib.Core.Path.{_≡_, sym, ap, subst, _∙_}
 use mathlib.Core.Logic.{⊎-elim}
 use mathlib.Core.List.{List, [], _∷_, _++_, map, map-append}
@@ -25,14 +24,14 @@ use Rattle.search.specs.Rows.{rowBits}
 use Rattle.search.specs.Compiled.{limit}
 use Rattle.search.specs.Planned.{marksIn, PlanSays}
 use Rattle.search.proofs.Claims.{planned-is}
-use Rattle.plan.specs.declared.PlanPoints.{PlanPoints}
+use Rattle.plan.specs.declared.PlanArrays.{PlanArrays}
 use Rattle.plan.specs.Words.{Plan, IsPlan}
 use Rattle.evalset.specs.declared.EvalSet.{EvalSet}
 use Rattle.evalset.specs.Sets.{mem}
 use Rattle.evalset.specs.Most.{most}
 use Rattle.squares.specs.Square.{squareAt}
 use Rattle.plan.specs.Arrays.{pointsPlan}
-use Rattle.plan.specs.Stored.{Holds}
+use Rattle.plan.specs.Stored.{Stored}
 use Rattle.plan.specs.Given.{givenPlan}
 use Rattle.plan.specs.Plans.{rowPlan, plansOf}
 use Rattle.judging.specs.declared.Judged.{Judged}
@@ -154,16 +153,16 @@ module _ (rules : List (Formula Name)) (c : Compiling) (kept code : List ℕ) (h
 
   -- ---- for a caller of the judgement
 
-  module _ (plan : PlanPoints) (t : ℕ → ℕ → Bool) (r : Judged) (p : Plan) (is : IsPlan p) (named : p .names ≡ length (namesOf rules)) (held : Holds plan t p) where
+  module _ (arrays : PlanArrays) (r : Judged) (p : Plan) (is : IsPlan p) (named : p .names ≡ length (namesOf rules)) (stored : Stored arrays p) where
     -- what `judge_plan` answers is the judgement of the rules as read
-    pub answer-judged : JudgesSay plan t chart code ends r → r ≡ judgedPlan rules p is
+    pub answer-judged : JudgesSay arrays chart code ends r → r ≡ judgedPlan rules p is
     answer-judged says =
-        judging.answer-is plan t chart code ends r says rules comes-from p is (named ∙ sym (h .known .names-counted)) held
+        judging.answer-is arrays chart code ends r says rules comes-from p is (named ∙ sym (h .known .names-counted)) stored
 
     -- and so is the answer of `judged`
-    pub judged-is : JudgedIs c code plan t r → r ≡ judgedPlan rules p is
+    pub judged-is : JudgedIs c code arrays r → r ≡ judgedPlan rules p is
     unfolding JudgedIs
-    judged-is says = says rules kept h p is named held
+    judged-is says = says rules kept h p is named stored
 
   -- ---- for a caller of the checker of trees
 

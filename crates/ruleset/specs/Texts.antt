@@ -26,9 +26,9 @@ use Rattle.search.specs.Rows.{rowBits}
 use Rattle.evalset.specs.declared.EvalSet.{EvalSet}
 use Rattle.evalset.specs.Sets.{mem}
 use Rattle.squares.specs.Square.{squareAt}
-use Rattle.plan.specs.declared.PlanPoints.{PlanPoints}
+use Rattle.plan.specs.declared.PlanArrays.{PlanArrays}
 use Rattle.plan.specs.Words.{Plan, IsPlan}
-use Rattle.plan.specs.Stored.{Holds}
+use Rattle.plan.specs.Stored.{Stored}
 use Rattle.plan.specs.Arrays.{pointsPlan}
 use Rattle.plan.specs.Plans.{rowPlan}
 use Rattle.judging.specs.declared.Judged.{Judged}
@@ -157,10 +157,10 @@ RowPlanIs q c row r ws =
     → pointsPlan (c .known .atoms .chart .names) (mem r) (squareAt ws) ≡ rowPlan q rules (rowBits (c .known .atoms .chart .atoms) row)
 
 -- the answer is the judgement, by the rules that are compiled, of the plan that the arrays hold
-unfoldable pub JudgedIs : Compiling → List ℕ → PlanPoints → (ℕ → ℕ → Bool) → Judged → Type 0
-JudgedIs c code plan rows r =
+unfoldable pub JudgedIs : Compiling → List ℕ → PlanArrays → Judged → Type 0
+JudgedIs c code arrays r =
     (rules : List (Formula Name)) (kept : List ℕ) → CompiledRules rules c kept code → (p : Plan) (h : IsPlan p) → p .names ≡ length (namesOf rules)
-    → Holds plan rows p → r ≡ judgedPlan rules p h
+    → Stored arrays p → r ≡ judgedPlan rules p h
 
 -- the verdict is that of the checker on the words, against the rules that are compiled
 unfoldable pub VerdictIs : Compiling → List ℕ → List ℕ → Verdict → Type 0

@@ -10,7 +10,7 @@ ghost use lib.ListN.{length, take};
 ghost use Rattle.search.specs.Asked.{questionOf};
 ghost use Rattle.search.specs.Compiled.{limit};
 ghost use Rattle.search.specs.Planned.{Lent};
-ghost use Rattle.squares.specs.Square.{Square, squareAt};
+ghost use Rattle.squares.specs.Square.{Square};
 ghost use Rattle.lists.specs.Search.{elem};
 ghost use Rattle.solver.specs.Coded.{SafeFrom};
 ghost use Rattle.ruleset.specs.Ends.{lastEnd};
@@ -23,7 +23,7 @@ use explaining::Explanation;
 use judging::Judged;
 use names::Names;
 use names::NamesAnswer;
-use plan::PlanPoints;
+use plan::PlanArrays;
 use search::Asked;
 use solver::RowAnswer;
 use syntax::Rule;
@@ -204,15 +204,15 @@ pub fn points_of(c: Compiling, row: usize, asked: Asked, square: &mut [u64]) -> 
     search::points_of(chart, row, asked, square)
 }
 
-// The judgement of a plan, of which the square has the contacts, by the compiled rules.
-pub fn judged(c: Compiling, code: &[u8], plan: PlanPoints, square: &[u64]) -> Judged
-    requires { ⌜ Whole c (now code) × Square (now square) ⌝ }
-    ensures { λ r. ⌜ JudgedIs c (now (code .entry)) plan (squareAt (now (square .entry))) r ⌝ }
+// The judgement of a plan by the compiled rules.
+pub fn judged(c: Compiling, code: &[u8], plan: PlanArrays) -> Judged
+    requires { ⌜ Whole c (now code) ⌝ }
+    ensures { λ r. ⌜ JudgedIs c (now (code .entry)) plan r ⌝ }
 {
     let ends = c.ends;
     let count = c.known.count;
     let chart = c.known.atoms.chart;
-    judging::judge_plan(plan, square, chart, code, &ends[..count])
+    judging::judge_plan(plan, chart, code, &ends[..count])
 }
 
 // The verdict on the words of a tree, by the compiled rules.

@@ -12,16 +12,15 @@ use borrow.Author.Tests.{le-leb, lt-leb, eq-eqb, ne-eqb}
 use Rattle.formula.specs.Formula.{Formula, Name}
 use Rattle.contact.specs.Question.{Question}
 use Rattle.contact.specs.Numbering.{namesOf}
-use Rattle.plan.specs.declared.PlanPoints.{PlanPoints}
-use Rattle.squares.specs.Square.{squareAt}
+use Rattle.plan.specs.declared.PlanArrays.{PlanArrays}
 use Rattle.plan.specs.declared.PlanAnswer.the-variants as PlanAnswer
-use Rattle.plan.specs.declared.SquareRead.{SquareRead}
+use Rattle.plan.specs.declared.PlanRead.{PlanRead}
 use Rattle.plan.specs.declared.Written.{Written}
 use Rattle.plan.specs.declared.Written.the-variants as Written
 use Rattle.plan.specs.Words.{Plan, IsPlan, wordsOf, over}
 use Rattle.plan.specs.Reader.{Reading, plan, refused, readOf, ReadingSays}
-use Rattle.plan.specs.Arrays.{answerOf, HeldIn, ReadsInto, Writes}
-use Rattle.plan.specs.Stored.{Holds}
+use Rattle.plan.specs.Arrays.{answerOf, planIn, Reads, Writes}
+use Rattle.plan.specs.Stored.{Stored}
 use Rattle.plan.specs.Plans.{plansOf}
 use Rattle.plan.specs.Judging.{Judgement, yes, unmet, judge, uncovered}
 use Rattle.plan.proofs.Claims.{given-exactly}
@@ -140,22 +139,22 @@ same-judgement true j = refl
 same-judgement false yes = refl
 same-judgement false (unmet k) = refl
 
--- how a plan that points and rows hold is judged by the rules, from an answer
-abbrev SaysOf : List (Formula Name) → PlanPoints → (ℕ → ℕ → Bool) → JudgeAnswer → Type 0
-SaysOf rules points rows a = (p : Plan) (h : IsPlan p) → Holds points rows p → a ≡ judgePlan rules p h
+-- how a plan that arrays hold is judged by the rules, from an answer
+abbrev SaysOf : List (Formula Name) → PlanArrays → JudgeAnswer → Type 0
+SaysOf rules arrays a = (p : Plan) (h : IsPlan p) → Stored arrays p → a ≡ judgePlan rules p h
 
-module _ (rules : List (Formula Name)) (c : Compiling) (kept code : List ℕ) (points : PlanPoints) (rows : ℕ → ℕ → Bool) (compiled : CompiledRules rules c kept code) where
-  pub judge-differs : (points .names ≡ c .known .atoms .chart .names → ⊥) → SaysOf rules points rows (JudgeAnswer.NamesDiffer (points .names))
-  judge-differs differ p h held =
-      ap JudgeAnswer.NamesDiffer (held .names)
+module _ (rules : List (Formula Name)) (c : Compiling) (kept code : List ℕ) (arrays : PlanArrays) (compiled : CompiledRules rules c kept code) where
+  pub judge-differs : (arrays .names ≡ c .known .atoms .chart .names → ⊥) → SaysOf rules arrays (JudgeAnswer.NamesDiffer (arrays .names))
+  judge-differs differ p h stored =
+      ap JudgeAnswer.NamesDiffer (stored .names)
       ∙ sym (ap (λ (b : Bool). cond b (judgeDecoded rules p h) (JudgeAnswer.NamesDiffer (p .names)))
-      (ne-eqb (p .names) (length (namesOf rules)) (λ e. differ (held .names ∙ e ∙ sym (compiled .known .names-counted)))))
+      (ne-eqb (p .names) (length (namesOf rules)) (λ e. differ (stored .names ∙ e ∙ sym (compiled .known .names-counted)))))
 
-  pub judge-equal : points .names ≡ c .known .atoms .chart .names → (j : Judged) → JudgedIs c code points rows j → (a : JudgeAnswer) → a ≡ judgedAnswer j → SaysOf rules points rows a
+  pub judge-equal : arrays .names ≡ c .known .atoms .chart .names → (j : Judged) → JudgedIs c code arrays j → (a : JudgeAnswer) → a ≡ judgedAnswer j → SaysOf rules arrays a
   unfolding JudgedIs
-  judge-equal e j says a f p h held =
-      let named : p .names ≡ length (namesOf rules) = sym (held .names) ∙ e ∙ compiled .known .names-counted in
-      f ∙ ap judgedAnswer (says rules kept compiled p h named held) ∙ same-judgement (uncovered p) (judge (namedFloor rules p h) rules)
+  judge-equal e j says a f p h stored =
+      let named : p .names ≡ length (namesOf rules) = sym (stored .names) ∙ e ∙ compiled .known .names-counted in
+      f ∙ ap judgedAnswer (says rules kept compiled p h named stored) ∙ same-judgement (uncovered p) (judge (namedFloor rules p h) rules)
       ∙ sym (ap (λ (b : Bool). cond b (judgeDecoded rules p h) (JudgeAnswer.NamesDiffer (p .names)))
       (eq-eqb (p .names) (length (namesOf rules)) named))
 
@@ -172,7 +171,7 @@ module _ (t : Table) (v : FromUs t) (words : List ℕ) where
   judges-some : 0 < t .count → (a : JudgeAnswer) → a ≡ judgeReading (formulasOf (rulesOf t)) words (readOf words) (exact words) → Judges t words (judgeResult t a)
   judges-some h a e = judges-of a (e ∙ sym (judged-some (rulesOf t) (some-stand t v h) words))
 
-  module _ (r : SquareRead) (exit : List ℕ) (reads : ReadsInto words r exit) where
+  module _ (r : PlanRead) (reads : Reads words r) where
     -- the words are no plan
     pub judges-words : 0 < t .count → (at : ℕ) → r .answer ≡ PlanAnswer.Refused at → Judges t words (judgeResult t (JudgeAnswer.NotAPlan at))
     judges-words h at e = judges-some h (JudgeAnswer.NotAPlan at) (sym (go (readOf words) (exact words) (sym (reads .answer) ∙ e)))
@@ -182,9 +181,9 @@ module _ (t : Table) (v : FromUs t) (words : List ℕ) where
         go (refused j) says q = let z : j ≡ at = cc in ap JudgeAnswer.NotAPlan z
 
     -- they are one
-    pub judges-plan : 0 < t .count → r .answer ≡ PlanAnswer.Plan → (a : JudgeAnswer) → SaysOf (formulasOf (rulesOf t)) (r .plan) (squareAt exit) a → Judges t words (judgeResult t a)
+    pub judges-plan : 0 < t .count → r .answer ≡ PlanAnswer.Plan → (a : JudgeAnswer) → SaysOf (formulasOf (rulesOf t)) (r .plan) a → Judges t words (judgeResult t a)
     judges-plan h e a says = judges-some h a (go (readOf words) (exact words) (sym (reads .answer) ∙ e) (reads .plan))
       where
-        go : (x : Reading) (s : ReadingSays words x) → answerOf x ≡ PlanAnswer.Plan → HeldIn x (r .plan) exit → a ≡ judgeReading (formulasOf (rulesOf t)) words x s
-        go (plan p) s q held = says p (s .0) held
-        go (refused j) s q held = absurd (let z : _≡_ {A = ℕ} 0 1 = cc in omega arith)
+        go : (x : Reading) (s : ReadingSays words x) → answerOf x ≡ PlanAnswer.Plan → Stored (r .plan) (planIn x) → a ≡ judgeReading (formulasOf (rulesOf t)) words x s
+        go (plan p) s q stored = says p (s .0) stored
+        go (refused j) s q stored = absurd (let z : _≡_ {A = ℕ} 0 1 = cc in omega arith)

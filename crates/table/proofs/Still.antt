@@ -1,4 +1,4 @@
--- Still meets its definition: words that are read are a plan, whose points with the rules' number of names are those of one of these names; it is
+-- Still meets its definition: words that are read are a plan, whose arrays with the rules' number of names hold it as one of these names; it is
 -- judged by the compiled rules, and the search's row decides where it does not meet them. Assumes nothing.
 use Prim.Native.Nat.{ℕ, _≤_, _<_}
 use mathlib.Core.Path.{_≡_, refl, sym, ap, ap₂, _∙_}
@@ -16,19 +16,18 @@ use Rattle.contact.specs.Numbering.{namesOf}
 use Rattle.contact.specs.Row.{Row}
 use Rattle.contact.specs.Check.{firstRowOf}
 use Rattle.contact.proofs.Claims.{meets-same}
-use Rattle.squares.specs.Square.{squareAt}
 use Rattle.plan.specs.declared.PlanAnswer.the-variants as PlanAnswer
-use Rattle.plan.specs.declared.SquareRead.{SquareRead}
+use Rattle.plan.specs.declared.PlanRead.{PlanRead}
 use Rattle.plan.specs.Words.{Plan, IsPlan}
-use Rattle.plan.specs.Wider.{widened, widenedPoints}
+use Rattle.plan.specs.Wider.{widened, widenedArrays}
 use Rattle.plan.specs.Reader.{Reading, plan, refused, readOf, ReadingSays}
-use Rattle.plan.specs.Arrays.{answerOf, HeldIn, ReadsInto}
-use Rattle.plan.specs.Stored.{Holds}
+use Rattle.plan.specs.Arrays.{answerOf, planIn, Reads}
+use Rattle.plan.specs.Stored.{Stored}
 use Rattle.plan.specs.Judging.{Judgement, yes, unmet, judge, uncovered}
 use Rattle.plan.specs.Floor.{namedFloor}
 use Rattle.plan.proofs.Exact.{exact}
 use Rattle.plan.proofs.Claims.{judge-yes}
-use Rattle.plan.proofs.Wider.{widened-plan, widened-holds, widened-floor}
+use Rattle.plan.proofs.Wider.{widened-plan, widened-stored, widened-floor}
 use Rattle.judging.specs.declared.Judged.{Judged}
 use Rattle.judging.specs.declared.Judged.the-variants as Judged
 use Rattle.judging.specs.Values.{judgedOf}
@@ -62,7 +61,7 @@ met-both : (b : Bool) (j : Judged) → isMet (cond b Judged.Uncovered j) ≡ (no
 met-both true j = refl
 met-both false j = refl
 
-module _ (words : List ℕ) (r : SquareRead) (exit : List ℕ) (reads : ReadsInto words r exit) (c : Compiling) (code : List ℕ) where
+module _ (words : List ℕ) (r : PlanRead) (reads : Reads words r) (c : Compiling) (code : List ℕ) where
   -- the words are no plan
   pub drawn-unread : (at : ℕ) → r .answer ≡ PlanAnswer.Refused at → DrawnIs c code words false
   unfolding DrawnIs drawnOf
@@ -72,16 +71,16 @@ module _ (words : List ℕ) (r : SquareRead) (exit : List ℕ) (reads : ReadsInt
       go (plan p) h q = absurd (let z : _≡_ {A = ℕ} 0 1 = cc in omega arith)
       go (refused j) h q = refl
 
-  -- they are one: what is so of each plan that the points and the square hold
+  -- they are one: what holds of each plan that the arrays hold
   drawn-read : r .answer ≡ PlanAnswer.Plan → (b : Bool)
-      → ((rules : List (Formula Name)) (kept : List ℕ) → CompiledRules rules c kept code → (p : Plan) (h : IsPlan p) → Holds (r .plan) (squareAt exit) p → b ≡ drawnPlan rules p h)
+      → ((rules : List (Formula Name)) (kept : List ℕ) → CompiledRules rules c kept code → (p : Plan) (h : IsPlan p) → Stored (r .plan) p → b ≡ drawnPlan rules p h)
       → DrawnIs c code words b
   unfolding DrawnIs drawnOf
   drawn-read e b says rules kept compiled = go (readOf words) (exact words) (sym (reads .answer) ∙ e) (reads .plan)
     where
-      go : (x : Reading) (h : ReadingSays words x) → answerOf x ≡ PlanAnswer.Plan → HeldIn x (r .plan) exit → b ≡ drawnReading rules words x h
-      go (plan p) h q held = says rules kept compiled p (h .0) held
-      go (refused j) h q held = absurd (let z : _≡_ {A = ℕ} 0 1 = cc in omega arith)
+      go : (x : Reading) (h : ReadingSays words x) → answerOf x ≡ PlanAnswer.Plan → Stored (r .plan) (planIn x) → b ≡ drawnReading rules words x h
+      go (plan p) h q stored = says rules kept compiled p (h .0) stored
+      go (refused j) h q stored = absurd (let z : _≡_ {A = ℕ} 0 1 = cc in omega arith)
 
   abbrev names : ℕ
   names = c .known .atoms .chart .names
@@ -89,23 +88,23 @@ module _ (words : List ℕ) (r : SquareRead) (exit : List ℕ) (reads : ReadsInt
   -- of more names than the rules
   pub drawn-more : r .answer ≡ PlanAnswer.Plan → names < r .plan .names → DrawnIs c code words false
   drawn-more e l =
-      drawn-read e false (λ rules kept compiled p h held.
-      let more : length (namesOf rules) < p .names = omega (arith, l, held .names, compiled .known .names-counted) in
+      drawn-read e false (λ rules kept compiled p h stored.
+      let more : length (namesOf rules) < p .names = omega (arith, l, stored .names, compiled .known .names-counted) in
       sym (ap (λ (b : Bool). b && (not (uncovered (widened (length (namesOf rules)) p)) && meetsAll (namedFloor rules p h) rules))
       (lt-leb (p .names) (length (namesOf rules)) more)))
 
   -- of no more: it is judged as one of the rules' names
-  pub drawn-judged : r .answer ≡ PlanAnswer.Plan → r .plan .names ≤ names → (j : Judged) → JudgedIs c code (widenedPoints names (r .plan)) (squareAt exit) j
+  pub drawn-judged : r .answer ≡ PlanAnswer.Plan → r .plan .names ≤ names → (j : Judged) → JudgedIs c code (widenedArrays names (r .plan)) j
       → (b : Bool) → b ≡ isMet j → DrawnIs c code words b
   unfolding JudgedIs
   drawn-judged e l j says b is =
-      drawn-read e b (λ rules kept compiled p h held.
+      drawn-read e b (λ rules kept compiled p h stored.
       let n : ℕ = length (namesOf rules) in
       let count : names ≡ n = compiled .known .names-counted in
-      let fewer : p .names ≤ n = omega (arith, l, held .names, count) in
+      let fewer : p .names ≤ n = omega (arith, l, stored .names, count) in
       let few : names ≤ most = omega (arith, count, compiled .known .fits .names-fit) in
       let k : IsPlan (widened names p) = widened-plan names p (omega (arith, fewer, count)) few h in
-      let by : j ≡ judgedPlan rules (widened names p) k = says rules kept compiled (widened names p) k count (widened-holds names p (r .plan) (squareAt exit) held) in
+      let by : j ≡ judgedPlan rules (widened names p) k = says rules kept compiled (widened names p) k count (widened-stored names p (r .plan) stored) in
       is ∙ ap isMet by ∙ met-both (uncovered (widened names p)) (judgedOf (judge (namedFloor rules (widened names p) k) rules))
       ∙ ap₂ (λ (m : ℕ) (t : Bool). not (uncovered (widened m p)) && t) count
       (yes-meets (namedFloor rules (widened names p) k) rules _ refl

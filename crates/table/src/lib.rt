@@ -457,8 +457,7 @@ fn drawn(c: Compiling, code: &[u8], words: &[u32]) -> bool
     requires { ⌜ Whole c (now code) ⌝ }
     ensures { λ r. ⌜ DrawnIs c (now (code .entry)) (now (words .entry)) r ⌝ }
 {
-    let mut square = all_square();
-    let mut read = plan::read_into(words, &mut square);
+    let mut read = plan::read_plan(words);
     let reading = read.answer;
     let PlanAnswer::Plan = reading else {
         return false;
@@ -470,7 +469,7 @@ fn drawn(c: Compiling, code: &[u8], words: &[u32]) -> bool
     }
     let all = names as u8;
     read.plan.names = all;
-    let judged = ruleset::judged(c, code, read.plan, &square);
+    let judged = ruleset::judged(c, code, read.plan);
     is_met(judged)
 }
 
@@ -869,8 +868,7 @@ impl Table {
                 answer: JudgeAnswer::NoRule,
             };
         }
-        let mut square = all_square();
-        let read = plan::read_into(words, &mut square);
+        let read = plan::read_plan(words);
         let reading = read.answer;
         if let PlanAnswer::Refused(at) = reading {
             return JudgeResult {
@@ -889,7 +887,7 @@ impl Table {
                 answer: JudgeAnswer::NamesDiffer(names),
             };
         }
-        let judged = ruleset::judged(c, &code, plan, &square);
+        let judged = ruleset::judged(c, &code, plan);
         let answer = judged_answer(judged);
         JudgeResult {
             table: self,

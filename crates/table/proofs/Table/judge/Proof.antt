@@ -13,20 +13,14 @@ use Rattle.table.proofs.Table.judge.Tie as tie
 returns : tie.Need-returns
 returns c = judges-none _ (c .before .before .pre) _ (c .if1 .taken)
 
-all-square-requires : tie.Need-all-square-requires
-all-square-requires c κs = search needs
-
-slice-aggregate-read-into : tie.Need-slice-aggregate-read-into
-slice-aggregate-read-into c = search needs
-
-read-into-requires : tie.Need-read-into-requires
-read-into-requires c κs = let lent = c .before .all-square .ensures 8 (omega arith) in (lent .square, lent .wide, lent .clear)
+read-plan-requires : tie.Need-read-plan-requires
+read-plan-requires c κs = search needs
 
 enum-known-reading : tie.Need-enum-known-reading
 enum-known-reading c = search needs
 
 returns-2 : tie.Need-returns-2
-returns-2 c = judges-words _ (c .before .before .before .before .before .before .before .before .before .pre) _ _ _ (c .before .before .before .before .read-into .ensures .1) (c .before .before .before .before .before .before .before .if1 .left) _ (c .before .reading .given .1)
+returns-2 c = judges-words _ (c .before .before .before .before .before .before .pre) _ _ (c .before .before .before .read-plan .ensures) (c .before .before .before .before .if1 .left) _ (c .before .reading .given .1)
 
 enum-told : tie.Need-enum-told
 enum-told c = search needs
@@ -39,27 +33,24 @@ slice-aggregate-compiled c = search needs
 
 compiled-requires : tie.Need-compiled-requires
 compiled-requires c κs =
-    let pre = c .before .before .before .before .before .before .before .before .before .before .pre in
+    let pre = c .before .before .before .before .before .before .before .pre in
     (pre, omega arith, omega (arith, count-few _ pre, c .before .no-code .ensures))
 
 -- every standing rule is compiled
-all-compiled : (c : tie.After-compiled) → CompiledRules (formulasOf (rulesOf (c .before .before .before .before .before .before .before .before .before .before .before .args .self))) (c .compiled .result) (c .compiled .ensures .0 .kept) (c .compiled .last .1 .1 .0)
-all-compiled c = reached-all (c .before .before .before .before .before .before .before .before .before .before .before .args .self) (c .compiled .result) (c .compiled .last .1 .1 .0) (c .before .before .before .before .before .before .before .before .before .before .before .pre) (c .compiled .ensures .0)
+all-compiled : (c : tie.After-compiled) → CompiledRules (formulasOf (rulesOf (c .before .before .before .before .before .before .before .before .args .self))) (c .compiled .result) (c .compiled .ensures .0 .kept) (c .compiled .last .1 .1 .0)
+all-compiled c = reached-all (c .before .before .before .before .before .before .before .before .args .self) (c .compiled .result) (c .compiled .last .1 .1 .0) (c .before .before .before .before .before .before .before .before .pre) (c .compiled .ensures .0)
 
 cast-names : tie.Need-cast-names
 cast-names c = search needs
 
 returns-3 : tie.Need-returns-3
 returns-3 c =
-    let t = c .before .before .before .before .before .before .before .before .before .before .before .before .before .before .before .before .before .args .self in
-    judges-plan t (c .before .before .before .before .before .before .before .before .before .before .before .before .before .before .before .before .before .pre) _ _ _ (c .before .before .before .before .before .before .before .before .before .before .before .before .read-into .ensures .1) (c .before .before .before .before .before .before .before .before .before .before .before .before .before .before .before .if1 .left) (c .before .before .before .before .before .before .before .before .before .enum-told .given .1) _
-    (judge-differs (formulasOf (rulesOf t)) _ _ _ _ _ (all-compiled (c .before .before .before .before .before .before)) (λ e. omega arith))
+    let t = c .before .before .before .before .before .before .before .before .before .before .before .before .before .before .args .self in
+    judges-plan t (c .before .before .before .before .before .before .before .before .before .before .before .before .before .before .pre) _ _ (c .before .before .before .before .before .before .before .before .before .before .before .read-plan .ensures) (c .before .before .before .before .before .before .before .before .before .before .before .before .if1 .left) (c .before .before .before .before .before .before .before .before .before .enum-told .given .1) _
+    (judge-differs (formulasOf (rulesOf t)) _ _ _ _ (all-compiled (c .before .before .before .before .before .before)) (λ e. omega arith))
 
 slice-aggregate-judged : tie.Need-slice-aggregate-judged
 slice-aggregate-judged c = search needs
-
-slice-aggregate-judged-2 : tie.Need-slice-aggregate-judged-2
-slice-aggregate-judged-2 c = search needs
 
 judged-requires : tie.Need-judged-requires
 judged-requires c κs = search needs
@@ -69,18 +60,16 @@ judged-answer-requires c κs = search needs
 
 returns-4 : tie.Need-returns-4
 returns-4 c =
-    let t = c .before .before .before .before .before .before .before .before .before .before .before .before .before .before .before .before .before .before .before .before .before .args .self in
-    judges-plan t (c .before .before .before .before .before .before .before .before .before .before .before .before .before .before .before .before .before .before .before .before .before .pre) _ _ _ (c .before .before .before .before .before .before .before .before .before .before .before .before .before .before .before .before .read-into .ensures .1) (c .before .before .before .before .before .before .before .before .before .before .before .before .before .before .before .before .before .before .before .if1 .left) (c .before .before .before .before .before .before .before .before .before .before .before .before .before .enum-told .given .1) _
-    (judge-equal (formulasOf (rulesOf t)) _ _ _ _ _ (all-compiled (c .before .before .before .before .before .before .before .before .before .before)) (omega arith) _ (c .before .judged .ensures) _ (c .judged-answer .ensures))
+    let t = c .before .before .before .before .before .before .before .before .before .before .before .before .before .before .before .before .before .args .self in
+    judges-plan t (c .before .before .before .before .before .before .before .before .before .before .before .before .before .before .before .before .before .pre) _ _ (c .before .before .before .before .before .before .before .before .before .before .before .before .before .before .read-plan .ensures) (c .before .before .before .before .before .before .before .before .before .before .before .before .before .before .before .if1 .left) (c .before .before .before .before .before .before .before .before .before .before .before .before .enum-told .given .1) _
+    (judge-equal (formulasOf (rulesOf t)) _ _ _ _ (all-compiled (c .before .before .before .before .before .before .before .before .before)) (omega arith) _ (c .before .judged .ensures) _ (c .judged-answer .ensures))
 
 pub judge-spec : {M : Type 1} → statement M
 judge-spec =
     tie.close
     (tie.spec
     returns
-    all-square-requires
-    slice-aggregate-read-into
-    read-into-requires
+    read-plan-requires
     enum-known-reading
     returns-2
     enum-told
@@ -90,7 +79,6 @@ judge-spec =
     cast-names
     returns-3
     slice-aggregate-judged
-    slice-aggregate-judged-2
     judged-requires
     judged-answer-requires
     returns-4)
