@@ -1,4 +1,4 @@
--- What is computed, and for proofs what the private functions ensure: the values of atoms on a plan that arrays hold, and the judgement of
+-- What is computed, and for proofs what the private functions ensure: the values of atoms on a plan that points and rows hold, and the judgement of
 -- numbered rules whose atoms have given values. Assumes nothing.
 use mathlib.Core.Path.{_≡_}
 use mathlib.Core.Bool.{Bool, true, false, not, _&&_, cond}
@@ -15,7 +15,7 @@ use Rattle.contact.specs.Meaning.{value}
 use Rattle.kleene.specs.Code.{postfix}
 use Rattle.search.specs.declared.Chart.{Chart}
 use Rattle.search.specs.Compiled.{contactAt}
-use Rattle.plan.specs.declared.PlanArrays.{PlanArrays}
+use Rattle.plan.specs.declared.PlanPoints.{PlanPoints}
 use Rattle.plan.specs.Arrays.{touchesOf, vacantOf}
 use Rattle.plan.specs.Judging.{Judgement, yes, unmet}
 use Rattle.solver.specs.Coded.{part, Coded}
@@ -27,28 +27,28 @@ abbrev pub judgedOf : Judgement → Judged
 judgedOf yes = Yes
 judgedOf (unmet k) = Unmet k
 
--- the plan that the arrays hold has a name, and its first point is at evaluation 0
-unfoldable pub uncoveredOf : PlanArrays → Bool
+-- the plan has a name, and its first point is at evaluation 0
+unfoldable pub uncoveredOf : PlanPoints → Bool
 uncoveredOf plan = not (eqb (plan .names) 0) && eqb (getD (plan .points) 0 0) 0
 
 -- ---- atoms
 
 -- the value of an atom on the plan: whether it is a contact, and its sets
-abbrev pub atomOf : PlanArrays → Bool → (ℕ → Bool) → (ℕ → Bool) → Bool
-atomOf plan true x y = touchesOf plan x y
-atomOf plan false x y = vacantOf plan x
+abbrev pub atomOf : PlanPoints → (ℕ → ℕ → Bool) → Bool → (ℕ → Bool) → (ℕ → Bool) → Bool
+atomOf plan rows true x y = touchesOf plan rows x y
+atomOf plan rows false x y = vacantOf plan x
 
 -- that of the chart's atom i
-unfoldable pub valueOf : PlanArrays → Chart → ℕ → Bool
-valueOf plan chart i = atomOf plan (contactAt chart i) (memAt (chart .xs) i) (memAt (chart .ys) i)
+unfoldable pub valueOf : PlanPoints → (ℕ → ℕ → Bool) → Chart → ℕ → Bool
+valueOf plan rows chart i = atomOf plan rows (contactAt chart i) (memAt (chart .xs) i) (memAt (chart .ys) i)
 
 -- in row 0, by which rules are judged, the atoms below n are what w says
 unfoldable pub Sure : List ℕ → ℕ → (ℕ → Bool) → Type 0
 Sure leaves n w = (i : ℕ) → i < n → bit (getD leaves i 0) 0 ≡ w i
 
 -- the atoms of the chart have their values on the plan
-unfoldable pub LeavesSay : PlanArrays → Chart → List ℕ → Type 0
-LeavesSay plan chart leaves = Sure leaves (chart .atoms) (valueOf plan chart)
+unfoldable pub LeavesSay : PlanPoints → (ℕ → ℕ → Bool) → Chart → List ℕ → Type 0
+LeavesSay plan rows chart leaves = Sure leaves (chart .atoms) (valueOf plan rows chart)
 
 -- ---- rules
 

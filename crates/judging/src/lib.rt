@@ -6,7 +6,7 @@
 ghost use mathlib.Core.Path.{_≡_};
 ghost use Prim.Native.Nat.{ℕ, _≤_, _<_};
 ghost use Rattle.evalset.specs.Bit.{bit};
-ghost use Rattle.evalset.specs.Sets.{mem};
+ghost use Rattle.squares.specs.Square.{Square, squareAt};
 ghost use Rattle.kleene.specs.Rails.{wordRows};
 ghost use Rattle.search.specs.Compiled.{limit};
 ghost use Rattle.solver.specs.Coded.{PartSafe, SafeFrom};
@@ -15,6 +15,7 @@ ghost use Rattle.judging.specs.Values.{LeavesSay, RuleSays, UnmetSays, u
 ghost use Rattle.judging.specs.Judges.{JudgesSay};
 use evalset::EvalSet;
 use plan::PlanArrays;
+use plan::PlanPoints;
 use search::ATOMS;
 use search::Chart;
 
@@ -32,11 +33,11 @@ fn settled(value: bool) -> u64
     if value { 0xFFFF_FFFF_FFFF_FFFF } else { 0 }
 }
 
-// The values of the chart's atoms on the plan. Of a zero atom x has the zero term. Contacts alone take the plan whole: a function of both
-// kinds of atoms would copy it for each atom.
-fn leaves(plan: PlanArrays, chart: Chart) -> [u64; ATOMS]
-    requires { ⌜ chart .atoms ≤ limit ⌝ }
-    ensures { λ r. ⌜ LeavesSay plan chart r ⌝ }
+// The values of the chart's atoms on the plan. Of a zero atom x has the zero term. The rows are lent: by value they would be copied for each
+// contact.
+fn leaves(plan: PlanPoints, square: &[u64], chart: Chart) -> [u64; ATOMS]
+    requires { ⌜ (chart .atoms ≤ limit) × Square (now square) ⌝ }
+    ensures { λ r. ⌜ LeavesSay plan (squareAt (now (square .entry))) chart r ⌝ }
 {
     let n = chart.atoms;
     let mut out = [0u64; ATOMS];
@@ -45,7 +46,7 @@ fn leaves(plan: PlanArrays, chart: Chart) -> [u64; ATOMS]
         let x = chart.xs[i];
         let y = chart.ys[i];
         if chart.contact[i] {
-            out[i] = settled(plan::touches(plan, x, y));
+            out[i] = settled(plan::touches(plan, square, x, y));
             i += 1;
             continue;
         }
@@ -84,7 +85,7 @@ fn first_unmet(code: &[u8], ends: &[usize], atoms: [u64; ATOMS]) -> Judged
 }
 
 // Whether the plan has a name, and a point at evaluation 0: points ascend, so it is the first.
-fn uncovered(plan: PlanArrays) -> bool
+fn uncovered(plan: PlanPoints) -> bool
     ensures { λ r. ⌜ r ≡ uncoveredOf plan ⌝ }
 {
     if plan.names == 0 {
@@ -99,9 +100,15 @@ pub fn judge_plan(plan: PlanArrays, chart: Chart, code: &[u8], ends: &[usize]) -
     requires { ⌜ Runnable (now code) (now ends) chart ⌝ }
     ensures { λ r. ⌜ JudgesSay plan chart (now (code .entry)) (now (ends .entry)) r ⌝ }
 {
-    if uncovered(plan) {
+    let evaluations = plan.points;
+    let points = PlanPoints {
+        names: plan.names,
+        count: plan.count,
+        points: evaluations,
+    };
+    if uncovered(points) {
         return Judged::Uncovered;
     }
-    let atoms = leaves(plan, chart);
+    let atoms = leaves(points, &plan.rows, chart);
     first_unmet(code, ends, atoms)
 }

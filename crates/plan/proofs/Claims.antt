@@ -1,14 +1,13 @@
 -- What this crate promises, claim by claim; each holds by the file named in its comment. Assumes nothing.
-use mathlib.Core.Path.{_≡_, sym, ap, _∙_, subst}
+use mathlib.Core.Path.{_≡_, ap, _∙_, subst}
 use mathlib.Core.Bool.{Bool, true, false}
 use mathlib.Core.Logic.{_↔_, _⊎_}
 use mathlib.Core.List.{List, [], _∷_}
 use Prim.Native.Nat.{ℕ, _^_, _≤_, _<_}
-use lib.ListN.{length, take}
-use native.Mathlib.Omega.{arith}
+use lib.ListN.{length}
 use Rattle.formula.specs.Formula.{Term, Atom, Formula, Name}
 use Rattle.evalset.specs.declared.EvalSet.{EvalSet}
-use Rattle.evalset.specs.Sets.{room, mem, memAt}
+use Rattle.evalset.specs.Sets.{room, mem}
 use Rattle.evalset.specs.Most.{most}
 use Rattle.contact.specs.Meaning.{Floor, atomOn, meetsAll}
 use Rattle.contact.specs.Question.{Question, plain, Counts, NoFloor}
@@ -17,24 +16,23 @@ use Rattle.contact.specs.Row.{Row, Realises}
 use Rattle.lists.specs.Search.{In, keep, below}
 use Rattle.contact.specs.Plan.{Means}
 use Rattle.contact.specs.Check.{firstRowOf}
-use Rattle.plan.specs.declared.PlanArrays.{PlanArrays}
+use Rattle.plan.specs.declared.PlanPoints.{PlanPoints}
 use Rattle.plan.specs.declared.PlanAnswer.the-variants as answer-is
 use Rattle.plan.specs.declared.PlanRead.{PlanRead}
-use Rattle.plan.specs.Words.{Plan, mostPoints, Ascends, IsPlan, shortFirst, longFirst, wordsOf, Refusal}
+use Rattle.plan.specs.Words.{Plan, IsPlan, shortFirst, longFirst, wordsOf, Refusal}
 use Rattle.plan.specs.Short.{shortWords}
 use Rattle.plan.specs.Floor.{touching, liesIn, planFloor, namedFloor}
 use Rattle.plan.specs.Judging.{yes, unmet, judge, uncovered}
 use Rattle.plan.specs.Reader.{Reading, plan, refused, readOf, ReadingSays}
-use Rattle.plan.specs.Arrays.{answerOf, planIn, Reads, countOf, planBy, pointsPlan, touchesOf, vacantOf}
-use Rattle.plan.specs.Stored.{Stored}
+use Rattle.plan.specs.Arrays.{answerOf, planIn, Reads, pointsPlan, touchesOf, vacantOf}
+use Rattle.plan.specs.Stored.{Holds, Stored}
 use Rattle.plan.specs.Given.{IsRowPlan}
 use Rattle.plan.specs.Plans.{rowPlan, plansOf}
 use Rattle.plan.proofs.Exact.{exact, plan-read, refusal-read}
 use Rattle.plan.proofs.Kept
-use Rattle.plan.proofs.Contacts.{arrays-plan}
-use Rattle.plan.proofs.SamePlan.{plan-again, rows-kept}
+use Rattle.plan.proofs.SamePlan
 use Rattle.plan.proofs.SameArrays.{InRange, reads-once}
-use Rattle.plan.proofs.Judged.{touches-meant, vacant-meant}
+use Rattle.plan.proofs.Judged
 use Rattle.plan.proofs.Given
 use Rattle.plan.proofs.Unmet.{yes-exactly, unmet-exactly}
 use Rattle.plan.proofs.Covered
@@ -69,50 +67,40 @@ short-many n c ws many top small = refused-exactly (shortFirst n c ∷ ws) 0 .0 
 pub long-other : (n c : ℕ) (ws : List ℕ) → (n ≤ 6) ⊎ (8 < n) → n < 4096 → c < 65536 → Refusal (longFirst n c ∷ ws) 0
 long-other n c ws names top small = refused-exactly (longFirst n c ∷ ws) 0 .0 (Kept.long-other n c ws names top small)
 
--- words that were read as a plan are the words of the arrays that came back, so written again they are the same (SamePlan)
-pub read-written : (ws : List ℕ) (r : PlanRead) → Reads ws r → r .answer ≡ answer-is.Plan → wordsOf (planBy (r .plan)) ≡ ws
-read-written ws r s e = go (readOf ws) (exact ws) (s .plan) (sym (s .answer) ∙ e)
-  where
-    go : (x : Reading) → ReadingSays ws x → Stored (r .plan) (planIn x) → answerOf x ≡ answer-is.Plan → wordsOf (planBy (r .plan)) ≡ ws
-    go (plan p) h t q = ap wordsOf (plan-again (r .plan) p (h .0) t) ∙ h .1
-    go (refused i) h t q = absurd (let z : _≡_ {A = ℕ} 0 1 = cc in omega arith)
-
 -- what was written of a plan is read into arrays that hold it (Exact)
 pub written-read : (p : Plan) → IsPlan p → (q : PlanRead) → Reads (wordsOf p) q → (q .answer ≡ answer-is.Plan) × Stored (q .plan) p
 written-read p h q s =
     let e : readOf (wordsOf p) ≡ plan p = plan-read p h in
     (s .answer ∙ ap answerOf e, subst (λ (x : Reading). Stored (q .plan) (planIn x)) e (s .plan))
 
+-- and no other plan, whether the rows are in the arrays or lent (SamePlan)
+pub one-plan : (r : PlanPoints) (rows : ℕ → ℕ → Bool) (p q : Plan) → IsPlan p → IsPlan q → Holds r rows p → Holds r rows q → p ≡ q
+one-plan = SamePlan.one-plan
+
 -- what is written of a set of points is a plan if they are evaluations of its names, whatever is apart (Given)
 pub points-are-plan : (names : ℕ) (given : ℕ → Bool) (apart : ℕ → ℕ → Bool) → names ≤ most → ((e : ℕ) → given e ≡ true → e < 2 ^ names)
     → 0 < length (keep given (below room)) → IsPlan (pointsPlan names given apart)
 points-are-plan = Given.set-plan
 
--- arrays hold a plan if their points ascend below 2^names, whatever their rows (Contacts)
-pub arrays-are-plan : (r : PlanArrays) → length (r .points) ≡ mostPoints → r .names ≤ most → 0 < countOf r
-    → Ascends 0 (2 ^ (r .names)) (take (countOf r) (r .points)) → IsPlan (planBy r)
-arrays-are-plan r full few some up = arrays-plan r full few some up
-
--- and if their rows are reflexive and symmetric, these are the plan's contact (SamePlan)
-pub rows-are-contact : (r : PlanArrays) → ((a : ℕ) → a < countOf r → memAt (r .rows) a a ≡ true)
-    → ((a b : ℕ) → a < countOf r → b < countOf r → memAt (r .rows) a b ≡ true → memAt (r .rows) b a ≡ true)
-    → (a b : ℕ) → a < countOf r → b < countOf r → touching (planBy r) a b ≡ memAt (r .rows) a b
-rows-are-contact r self turn a b l m = rows-kept r self turn a b l m
+-- the rows beside a plan's points are its contact (Judged)
+pub rows-are-contact : (p : Plan) → IsPlan p → (r : PlanPoints) (rows : ℕ → ℕ → Bool) → Holds r rows p
+    → (a b : ℕ) → a < length (p .points) → b < length (p .points) → rows a b ≡ touching p a b
+rows-are-contact = Judged.row-is
 
 -- reading is one function of the words: what it gives is determined to the last bit (SameArrays)
 pub read-once : (ws : List ℕ) (r s : PlanRead) → InRange (r .plan) → InRange (s .plan) → Reads ws r → Reads ws s → r ≡ s
 read-once ws r s v w a b = reads-once ws r s v w a b
 
--- a contact judged on arrays has its value on the floor of the plan that they hold, `planFloor` (Judged)
-pub touches-judged : (p : Plan) (h : IsPlan p) (r : PlanArrays) → Stored r p → (x y : EvalSet) (s t : Term ℕ)
+-- a contact judged on points and rows has its value on the floor of the plan that they hold, `planFloor` (Judged)
+pub touches-judged : (p : Plan) (h : IsPlan p) (r : PlanPoints) (rows : ℕ → ℕ → Bool) → Holds r rows p → (x y : EvalSet) (s t : Term ℕ)
     → Means (p .names) (mem x) s → Means (p .names) (mem y) t
-    → touchesOf r (mem x) (mem y) ≡ atomOn (planFloor p h) (Atom.contact s t)
-touches-judged p h r k x y s t f g = touches-meant p h r k (mem x) (mem y) s t f g
+    → touchesOf r rows (mem x) (mem y) ≡ atomOn (planFloor p h) (Atom.contact s t)
+touches-judged p h r rows k x y s t f g = Judged.touches-meant p h r rows k (mem x) (mem y) s t f g
 
 -- and so has a zero atom (Judged); that of <=(s,t) is the zero atom of s*-t
-pub vacant-judged : (p : Plan) (h : IsPlan p) (r : PlanArrays) → Stored r p → (x : EvalSet) (t : Term ℕ)
+pub vacant-judged : (p : Plan) (h : IsPlan p) (r : PlanPoints) (rows : ℕ → ℕ → Bool) → Holds r rows p → (x : EvalSet) (t : Term ℕ)
     → Means (p .names) (mem x) t → vacantOf r (mem x) ≡ atomOn (planFloor p h) (Atom.empty t)
-vacant-judged p h r k x t f = vacant-meant p h r k (mem x) t f
+vacant-judged p h r rows k x t f = Judged.vacant-meant p h r rows k (mem x) t f
 
 -- a plan is uncovered exactly if it has a name, and a point at evaluation 0 (Covered)
 pub uncovered-exactly : (p : Plan) → (uncovered p ≡ true) ↔ ((0 < p .names) × In 0 (p .points))

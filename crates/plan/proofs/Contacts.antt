@@ -1,22 +1,18 @@
 -- The contacts that rows give are their pairs, one after the other. They rise strictly, whatever the rows are: row after row, and in
--- a row position after position. So arrays whose points ascend hold a plan. Assumes nothing.
+-- a row position after position. Assumes nothing.
 use mathlib.Core.Path.{_≡_, refl, sym, ap, ap₂, _∙_, subst}
 use mathlib.Core.Bool.{Bool, true, false, _&&_, cond, and-false, and-eq-true-iff}
 use mathlib.Core.List.{List, [], _∷_, _++_, append-assoc, append-nil}
-use Prim.Native.Nat.{ℕ, zero, suc, _+_, _-_, _*_, _^_, _/_, _%_, _≤_, _<_}
+use Prim.Native.Nat.{ℕ, zero, suc, _+_, _-_, _*_, _/_, _%_, _≤_, _<_}
 use native.Mathlib.Omega.{arith}
 use native.Mathlib.Numerals.{add-one}
 use lib.Dec.{ltb}
-use lib.ListN.{length, take, length-take}
+use lib.ListN.{length}
 use borrow.Author.Tests.{ltb-true, lt-ltb, le-ltb}
 use Rattle.lists.proofs.Below.{collect-more, collect-within, collect-small}
 use Rattle.lists.specs.Search.{collect, from, below}
 use Rattle.lists.proofs.Search.{collect-same, below-elim}
-use Rattle.evalset.specs.Sets.{memAt}
-use Rattle.evalset.specs.Most.{most}
-use Rattle.plan.specs.declared.PlanArrays.{PlanArrays}
-use Rattle.plan.specs.Words.{Ascends, Rises, IsPlan, mostPoints}
-use Rattle.plan.specs.Arrays.{countOf, planBy}
+use Rattle.plan.specs.Words.{Rises, mostPoints}
 use Rattle.plan.specs.Links.{pairOf, rowTo, linksTo}
 use Rattle.plan.specs.Private.{Next}
 
@@ -158,17 +154,3 @@ rows-rise (suc m) i n t f =
 pub links-rise : (m n : ℕ) (t : ℕ → ℕ → Bool) → n ≤ 256 → Rises 0 n (linksTo m n t)
 unfolding linksTo
 links-rise m n t f = rows-rise m 0 n t f
-
--- arrays with points that ascend hold a plan
-pub arrays-plan : (r : PlanArrays) → length (r .points) ≡ mostPoints → r .names ≤ most → 0 < countOf r
-    → Ascends 0 (2 ^ (r .names)) (take (countOf r) (r .points)) → IsPlan (planBy r)
-unfolding planBy
-arrays-plan r full few some up =
-    let size : length (take (countOf r) (r .points)) ≡ countOf r = length-take (countOf r) (r .points) ∙ omega arith in
-    record {
-      few = few;
-      some = omega arith;
-      ascend = up;
-      rise = subst (λ (n : ℕ). Rises 0 n (linksTo (countOf r) (countOf r) (memAt (r .rows)))) (sym size)
-          (links-rise (countOf r) (countOf r) (memAt (r .rows)) (omega arith));
-    }

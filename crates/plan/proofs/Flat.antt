@@ -1,34 +1,27 @@
--- A bit more in a square of words is a contact more, and the rows of a plan's square are those of its points. Assumes nothing.
+-- A bit more in a square of words is a contact more. Assumes nothing.
 use mathlib.Core.Path.{_≡_, refl, sym, ap, ap₂, _∙_, fun-ext}
 use mathlib.Core.Bool.{Bool, true, false, _&&_, _||_, cond, or-false, and-eq-true-iff}
 use mathlib.Core.List.{List}
-use mathlib.Core.Logic.{_⊎_, ⊎-elim}
+use mathlib.Core.Logic.{⊎-elim}
 use mathlib.Mathlib.Data.Bool.Basic.{and-intro, eq-false-of-not-eq-true}
-use mathlib.Mathlib.Logic.Function.Defs.{congr-fun}
 use Prim.Native.Nat.{ℕ, suc, _+_, _*_, _/_, _%_, _≤_, _<_}
 use native.Mathlib.Omega.{arith}
 use native.Mathlib.Nat.{mul-le-mul-left, mul-suc}
 use native.Mathlib.Decide.{ℕ-discrete as decEq}
 use lib.Dec.{eqb, ltb}
-use lib.ListN.{length, getD, set, replicate, length-set}
+use lib.ListN.{length, getD, set, length-set}
 use lib.Seq.{getD-set-same, getD-set-other}
 use borrow.Author.Tests.{lt-ltb, le-ltb, eq-eqb, ne-eqb}
 use Rattle.lists.proofs.Truth.{side}
-use Rattle.evalset.specs.declared.EvalSet.{EvalSet}
 use Rattle.evalset.specs.Bit.{wordBits, bit}
-use Rattle.evalset.specs.Sets.{mem, memAt}
-use Rattle.evalset.proofs.Arrays.{mem-at-same, mem-at-other}
-use Rattle.squares.specs.Square.{wide, Square, squareAt, reach}
-use Rattle.squares.proofs.Rows.{clear-words, narrow-inside, wide-inside, narrow-reach, wide-reach}
-use Rattle.plan.specs.Words.{Plan}
-use Rattle.plan.specs.Stored.{square}
-use Rattle.plan.specs.Private.{addAt, joinedOf, selfOf, Grown, rowsTo}
-use Rattle.plan.proofs.Squares.{self-elim, square-elim}
+use Rattle.squares.specs.Square.{wide, squareAt, Clear}
+use Rattle.plan.specs.Private.{addAt, joinedOf, selfOf, Grown}
+use Rattle.plan.proofs.Squares.{self-elim}
 
 -- ---- no bit
-pub bits-none : (n : ℕ) → squareAt (replicate n 0) ≡ selfOf 0
-bits-none n = fun-ext (λ a. fun-ext (λ b.
-    clear-words n a b ∙ sym (eq-false-of-not-eq-true (λ e. let l = self-elim 0 a b e .0 in omega arith))))
+pub bits-none : (ws : List ℕ) → Clear ws → squareAt ws ≡ selfOf 0
+bits-none ws clear = fun-ext (λ a. fun-ext (λ b.
+    clear a b ∙ sym (eq-false-of-not-eq-true (λ e. let l = self-elim 0 a b e .0 in omega arith))))
 
 -- ---- one bit more
 -- words of two rows are two words
@@ -113,48 +106,3 @@ pub both-set : (ws us vs : List ℕ) (i j : ℕ) → Grown (addAt (squareAt ws) 
 unfolding joinedOf
 both-set ws us vs i j g h =
     record { long = h .long ∙ g .long; rows = h .rows ∙ ap (λ (t : ℕ → ℕ → Bool). addAt t j i) (g .rows) }
-
--- ---- rows
--- a row below the reach is in the square
-pub row-inside : (ws : List ℕ) (p : ℕ) → Square ws → p < reach ws → wide ws * p + wide ws ≤ length ws
-row-inside ws p h l = go (decEq (length ws) 64)
-  where
-    go : Dec (length ws ≡ 64) → wide ws * p + wide ws ≤ length ws
-    go (yes z) = narrow-inside ws z p (omega (arith, l, narrow-reach ws z))
-    go (no z) = wide-inside ws h z p (omega (arith, l, wide-reach ws z))
-
--- one row more
-rows-elim : (n : ℕ) (t : ℕ → ℕ → Bool) (a b : ℕ) → a < n → rowsTo n t a b ≡ t a b
-unfolding rowsTo
-rows-elim n t a b l = ap (λ (x : Bool). x && t a b) (lt-ltb a n l)
-
-rows-out : (n : ℕ) (t : ℕ → ℕ → Bool) (a b : ℕ) → n ≤ a → rowsTo n t a b ≡ false
-unfolding rowsTo
-rows-out n t a b l = ap (λ (x : Bool). x && t a b) (le-ltb a n l)
-
-pub rows-first : (t : ℕ → ℕ → Bool) → selfOf 0 ≡ rowsTo 0 t
-rows-first t = fun-ext (λ a. fun-ext (λ b.
-    eq-false-of-not-eq-true (λ e. let l = self-elim 0 a b e .0 in omega arith) ∙ sym (rows-out 0 t a b (omega arith))))
-
-pub rows-more : (rows : List EvalSet) (i : ℕ) (v : EvalSet) (t : ℕ → ℕ → Bool) → i < length rows → mem v ≡ t i
-    → memAt rows ≡ rowsTo i t → memAt (set rows i v) ≡ rowsTo (i + 1) t
-rows-more rows i v t l e h = fun-ext (λ a. fun-ext (λ b. go a b (decEq a i)))
-  where
-    go : (a b : ℕ) → Dec (a ≡ i) → memAt (set rows i v) a b ≡ rowsTo (i + 1) t a b
-    go a b (yes q) =
-        ap (λ (x : ℕ). memAt (set rows i v) x b) q ∙ congr-fun (mem-at-same rows i v l ∙ e) b
-        ∙ ap (λ (x : ℕ). t x b) (sym q) ∙ sym (rows-elim (i + 1) t a b (omega arith))
-    go a b (no q) =
-        congr-fun (mem-at-other rows i a v q) b ∙ ap (λ (s : ℕ → ℕ → Bool). s a b) h
-        ∙ ⊎-elim (λ k. rows-elim i t a b k ∙ sym (rows-elim (i + 1) t a b (omega arith)))
-        (λ k. rows-out i t a b k ∙ sym (rows-out (i + 1) t a b (omega (arith, q)))) (side a i)
-
--- a plan's square has no other rows
-pub rows-square : (p : Plan) → rowsTo (length (p .points)) (square p) ≡ square p
-rows-square p = fun-ext (λ a. fun-ext (λ b. go a b (side a (length (p .points)))))
-  where
-    go : (a b : ℕ) → (a < length (p .points)) ⊎ (length (p .points) ≤ a) → rowsTo (length (p .points)) (square p) a b ≡ square p a b
-    go a b s =
-        ⊎-elim (λ l. rows-elim (length (p .points)) (square p) a b l)
-        (λ l. rows-out (length (p .points)) (square p) a b l
-        ∙ sym (eq-false-of-not-eq-true (λ e. let k = square-elim p a b e .left in omega arith))) s

@@ -6,11 +6,11 @@ use Prim.Native.Nat.{ℕ, _+_, _≤_, _<_}
 use lib.ListN.{getD}
 use Rattle.lists.proofs.Below.{any-at, any-more, any-cut}
 use Rattle.lists.specs.Search.{any, below}
-use Rattle.evalset.specs.Sets.{room, memAt, meetOf}
+use Rattle.evalset.specs.Sets.{room, meetOf}
 use Rattle.evalset.specs.Arrays.{positionsOf}
 use Rattle.evalset.proofs.Arrays.{outside, inside}
 use Rattle.lists.proofs.Search.{any-same, below-elim}
-use Rattle.plan.specs.declared.PlanArrays.{PlanArrays}
+use Rattle.plan.specs.declared.PlanPoints.{PlanPoints}
 use Rattle.plan.specs.Arrays.{countOf, pointAt, touchesOf, vacantOf}
 use Rattle.plan.specs.Private.{reachesOf, reachedOf}
 
@@ -42,13 +42,13 @@ module _ (n : ℕ) (pts : List ℕ) (s : ℕ → Bool) (l : n ≤ room) where
       (λ j i. ap (λ (v : Bool). row j && v) (inside n pts s j (below-elim n j i)) ∙ and-comm (row j) (s (getD pts j 0)))
 
 -- ---- the two atoms
-module _ (r : PlanArrays) (n : ℕ) (m : n ≡ countOf r) (l : n ≤ room) where
-  pub touches-is : (x y : ℕ → Bool) → reachedOf n (r .points) (memAt (r .rows)) x (positionsOf n (r .points) y) ≡ touchesOf r x y
+module _ (r : PlanPoints) (n : ℕ) (m : n ≡ countOf r) (l : n ≤ room) where
+  pub touches-is : (rows : ℕ → ℕ → Bool) (x y : ℕ → Bool) → reachedOf n (r .points) rows x (positionsOf n (r .points) y) ≡ touchesOf r rows x y
   unfolding reachedOf reachesOf touchesOf
-  touches-is x y =
-      any-same _ (λ a. x (pointAt r a) && any (λ b. y (pointAt r b) && memAt (r .rows) a b) (below n)) (below n)
-      (λ a i. ap (λ (v : Bool). x (pointAt r a) && v) (any-met n (r .points) y l (memAt (r .rows) a)))
-      ∙ ap (λ (k : ℕ). any (λ a. x (pointAt r a) && any (λ b. y (pointAt r b) && memAt (r .rows) a b) (below k)) (below k)) m
+  touches-is rows x y =
+      any-same _ (λ a. x (pointAt r a) && any (λ b. y (pointAt r b) && rows a b) (below n)) (below n)
+      (λ a i. ap (λ (v : Bool). x (pointAt r a) && v) (any-met n (r .points) y l (rows a)))
+      ∙ ap (λ (k : ℕ). any (λ a. x (pointAt r a) && any (λ b. y (pointAt r b) && rows a b) (below k)) (below k)) m
 
   pub vacant-is : (t : ℕ → Bool) → not (any (positionsOf n (r .points) t) (below room)) ≡ vacantOf r t
   unfolding vacantOf

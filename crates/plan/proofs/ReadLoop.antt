@@ -16,8 +16,6 @@ use denote.Enum.Declared.{tagOf}
 use borrow.Author.Tests.{leb-true, ltb-true, le-leb, lt-leb, le-ltb, lt-ltb, eq-eqb, ne-eqb}
 use Rattle.lists.specs.Padded.{pad}
 use Rattle.lists.proofs.Padded.{pad-set}
-use Rattle.evalset.specs.declared.EvalSet.{EvalSet}
-use Rattle.evalset.specs.Sets.{memAt}
 use Rattle.evalset.specs.Most.{most}
 use Rattle.squares.specs.Square.{squareAt}
 use Rattle.plan.proofs.Word as word-type
@@ -33,16 +31,16 @@ use Rattle.plan.specs.declared.Linking.{Linking}
 use Rattle.plan.specs.declared.Linking.the-variants as linking-is
 use Rattle.plan.specs.declared.PlanAnswer.{PlanAnswer}
 use Rattle.plan.specs.declared.PlanAnswer.the-variants as answer-is
+use Rattle.plan.specs.declared.PlanArrays.{PlanArrays}
 use Rattle.plan.specs.declared.PlanRead.{PlanRead}
 use Rattle.plan.specs.Words.{Plan, mostPoints}
 use Rattle.plan.specs.Reader.{kindOf, State, start, pointing, linking, whole, dead, opened, went, pointed, linked, step, Reading, plan, refused, ended, unless, readFrom, readOf}
 use Rattle.plan.specs.Arrays.{answerOf, planIn, Reads}
 use Rattle.plan.specs.Stored.{Stored}
-use Rattle.plan.specs.Private.{planOf, joinedOf, selfOf, rowsTo, wanting, OpensTo, pointingOf, PointsCome, PointsHeld, PointsSay, lastOf, linkingOf, LinksCome, LinksHeld, LinksSay}
+use Rattle.plan.specs.Private.{planOf, joinedOf, selfOf, wanting, OpensTo, pointingOf, PointsCome, PointsHeld, PointsSay, lastOf, linkingOf, LinksCome, LinksHeld, LinksSay}
 use Rattle.plan.proofs.Exact.{IsDead}
 use Rattle.plan.proofs.Complete.{open-by, link-by, last-by}
 use Rattle.plan.proofs.Squares.{self-square, square-link}
-use Rattle.plan.proofs.Flat.{rows-square}
 
 -- ---- one word more, and no word more
 module _ (ws : List ℕ) (at : ℕ) (s : State) (rest : readFrom at s (drop at ws) ≡ readOf ws) where
@@ -438,25 +436,14 @@ links-refused ws n pts a words s at e = subst (λ (x : PlanAnswer). LinksSay ws 
 -- ---- what is read
 pub reads-refused : (ws : List ℕ) (at : ℕ) (r : PlanRead) → readOf ws ≡ refused at
     → (r .answer ≡ answer-is.Refused at) × Stored (r .plan) (planOf 0 [] []) → Reads ws r
-reads-refused ws at r e h = record {
-  answer = h .0 ∙ ap answerOf (sym e);
-  plan = subst (λ (x : Reading). Stored (r .plan) (planIn x)) (sym e) (h .1);
-}
+reads-refused ws at r e h =
+    record { answer = h .0 ∙ ap answerOf (sym e); plan = subst (λ (x : Reading). Stored (r .plan) (planIn x)) (sym e) (h .1) }
 
-pub reads-plan : (ws : List ℕ) (n c low : ℕ) (points : List ℕ) (h : PointsHeld ws n c c low points) (a : PlanAnswer) (words : List ℕ)
-    → LinksSay ws n (h .pts) a words → a ≡ answer-is.Plan → (rows : List EvalSet) → memAt rows ≡ rowsTo c (squareAt words)
+pub reads-plan : (ws : List ℕ) (n c low : ℕ) (points : List ℕ) (h : PointsHeld ws n c c low points) (a : PlanAnswer) (rows : List ℕ)
+    → LinksSay ws n (h .pts) a rows → a ≡ answer-is.Plan
     → Reads ws (record { answer = answer-is.Plan; plan = record { names = n; count = c; points = points; rows = rows } })
-reads-plan ws n c low points h a words s e rows q =
-    let t = subst (λ (x : PlanAnswer). LinksSay ws n (h .pts) x words) e s in
-    let p : Plan = planOf n (h .pts) (t .0) in
-    let stored : Stored (record { names = n; count = c; points = points; rows = rows }) p =
-    record {
-      names = refl;
-      count = sym (h .size);
-      points = h .stored;
-      rows = q ∙ ap₂ rowsTo (sym (h .size)) (t .2) ∙ rows-square p;
-    } in
-    record {
-      answer = ap answerOf (sym (t .1));
-      plan = subst (λ (x : Reading). Stored (record { names = n; count = c; points = points; rows = rows }) (planIn x)) (sym (t .1)) stored;
-    }
+reads-plan ws n c low points h a rows s e =
+    let t = subst (λ (x : PlanAnswer). LinksSay ws n (h .pts) x rows) e s in
+    let r : PlanArrays = record { names = n; count = c; points = points; rows = rows } in
+    let stored : Stored r (planOf n (h .pts) (t .0)) = record { names = refl; count = sym (h .size); points = h .stored; rows = t .2 } in
+    record { answer = ap answerOf (sym (t .1)); plan = subst (λ (x : Reading). Stored r (planIn x)) (sym (t .1)) stored }

@@ -1,5 +1,5 @@
--- Arrays that hold a plan hold no other: lists that rise and have the same elements are equal, and the contacts that the plan's
--- square gives are its contacts. So what was read is written as it came. Assumes nothing.
+-- Points and rows that hold a plan hold no other: lists that rise and have the same elements are equal, and the contacts that the plan's
+-- square gives are its contacts. Assumes nothing.
 use mathlib.Core.Path.{_≡_, refl, sym, ap, ap₂, _∙_, subst}
 use mathlib.Core.Bool.{Bool, true, false, _&&_, _||_, cond, or-comm, and-eq-true-iff}
 use mathlib.Core.List.{List, [], _∷_}
@@ -14,13 +14,12 @@ use lib.Seq.{take-at}
 use borrow.Author.Tests.{eqb-true, eq-eqb, ltb-true, lt-ltb}
 use Rattle.lists.specs.Padded.{pad}
 use Rattle.lists.specs.Search.{In, here, next, any, below}
-use Rattle.evalset.specs.Sets.{memAt}
-use Rattle.plan.specs.declared.PlanArrays.{PlanArrays}
+use Rattle.plan.specs.declared.PlanPoints.{PlanPoints}
 use Rattle.plan.specs.Words.{Plan, Rises, IsPlan, mostPoints}
 use Rattle.plan.specs.Floor.{between, touching}
-use Rattle.plan.specs.Arrays.{countOf, planBy}
+use Rattle.plan.specs.Arrays.{countOf}
 use Rattle.plan.specs.Links.{pairOf, rowTo, linksTo}
-use Rattle.plan.specs.Stored.{square, Stored}
+use Rattle.plan.specs.Stored.{square, Holds}
 use Rattle.plan.specs.Private.{planOf}
 use Rattle.plan.proofs.Squares.{Related, square-elim, square-intro}
 use Rattle.plan.proofs.Contacts.{links-rise}
@@ -125,17 +124,21 @@ module _ (p : Plan) (few : length (p .points) ≤ 256) (rise : Rises 0 (length (
       rises-same 0 (length (p .points)) (linksTo (length (p .points)) (length (p .points)) (square p)) (p .contacts)
       (links-rise (length (p .points)) (length (p .points)) (square p) few) rise there back
 
--- arrays that hold a plan are this plan
-pub plan-again : (r : PlanArrays) (p : Plan) → IsPlan p → Stored r p → planBy r ≡ p
-unfolding planBy pad
-plan-again r p h s =
-    let n : countOf r ≡ length (p .points) = count-is p h r s in
-    let pts : take (countOf r) (r .points) ≡ p .points =
-    ap₂ take n (s .points) ∙ take-at (p .points) (replicate (mostPoints - length (p .points)) 0) (length (p .points)) refl in
-    let ks : linksTo (countOf r) (countOf r) (memAt (r .rows)) ≡ p .contacts =
-    ap₂ (λ (x : ℕ) (t : ℕ → ℕ → Bool). linksTo x x t) n (s .rows) ∙ links-again p (omega (arith, few-points p h)) (h .rise) in
-    ap (λ (x : ℕ). planOf x (take (countOf r) (r .points)) (linksTo (countOf r) (countOf r) (memAt (r .rows)))) (s .names)
-    ∙ ap₂ (planOf (p .names)) pts ks
+-- what points and rows hold is told by them
+module _ (r : PlanPoints) (rows : ℕ → ℕ → Bool) where
+  plan-again : (p : Plan) → IsPlan p → Holds r rows p → planOf (r .names) (take (countOf r) (r .points)) (linksTo (countOf r) (countOf r) rows) ≡ p
+  unfolding pad
+  plan-again p h s =
+      let n : countOf r ≡ length (p .points) = count-is p h r rows s in
+      let pts : take (countOf r) (r .points) ≡ p .points =
+      ap₂ take n (s .points) ∙ take-at (p .points) (replicate (mostPoints - length (p .points)) 0) (length (p .points)) refl in
+      let ks : linksTo (countOf r) (countOf r) rows ≡ p .contacts =
+      ap₂ (λ (x : ℕ) (t : ℕ → ℕ → Bool). linksTo x x t) n (s .rows) ∙ links-again p (omega (arith, few-points p h)) (h .rise) in
+      ap (λ (x : ℕ). planOf x (take (countOf r) (r .points)) (linksTo (countOf r) (countOf r) rows)) (s .names)
+      ∙ ap₂ (planOf (p .names)) pts ks
+
+  pub one-plan : (p q : Plan) → IsPlan p → IsPlan q → Holds r rows p → Holds r rows q → p ≡ q
+  one-plan p q h k s t = sym (plan-again p h s) ∙ plan-again q k t
 
 -- ---- rows that are reflexive and symmetric are the contact of a plan that has their contacts
 module _ (n : ℕ) (few : n ≤ 256) (rows : ℕ → ℕ → Bool) (self : (a : ℕ) → a < n → rows a a ≡ true)
@@ -189,10 +192,3 @@ module _ (n : ℕ) (few : n ≤ 256) (rows : ℕ → ℕ → Bool) (self : (a : 
           (λ t. or-inl (eqb a b) _ (eq-eqb a b (omega arith)))
           (side b a))
           (side a b)
-
--- so they are the contact of the plan that arrays hold
-pub rows-kept : (r : PlanArrays) → ((a : ℕ) → a < countOf r → memAt (r .rows) a a ≡ true)
-    → ((a b : ℕ) → a < countOf r → b < countOf r → memAt (r .rows) a b ≡ true → memAt (r .rows) b a ≡ true)
-    → (a b : ℕ) → a < countOf r → b < countOf r → touching (planBy r) a b ≡ memAt (r .rows) a b
-unfolding planBy
-rows-kept r self turn a b l m = links-kept (countOf r) (omega arith) (memAt (r .rows)) self turn (planBy r) refl a b l m

@@ -3,17 +3,14 @@ use mathlib.Core.Path.{_≡_, sym, _∙_, fun-ext}
 use mathlib.Core.Bool.{Bool, true, _&&_, _||_, and-eq-true-iff}
 use mathlib.Core.List.{List, [], _∷_, _++_}
 use mathlib.Core.Logic.{_⊎_, inl, inr, ⊎-elim}
-use mathlib.Mathlib.Data.Bool.Basic.{and-intro, eq-false-of-not-eq-true, or-inl, or-inr, partialOrderLaws}
+use mathlib.Mathlib.Data.Bool.Basic.{and-intro, or-inl, or-inr, partialOrderLaws}
 use Prim.Native.Nat.{ℕ, _+_, _*_, _≤_, _<_}
 use native.Mathlib.Omega.{arith}
 use native.Mathlib.Decide.{ℕ-discrete as decEq}
 use lib.Dec.{eqb, ltb}
-use lib.ListN.{length, replicate}
+use lib.ListN.{length}
 use borrow.Author.Tests.{eqb-true, eq-eqb, ltb-true, lt-ltb}
-use Rattle.evalset.specs.declared.EvalSet.{EvalSet}
 use Rattle.lists.specs.Search.{any}
-use Rattle.evalset.specs.Sets.{mem, memAt, noneOf}
-use Rattle.evalset.proofs.Arrays.{empty-rows}
 use Rattle.plan.specs.Words.{Plan}
 use Rattle.plan.specs.Floor.{between, touching}
 use Rattle.plan.specs.Stored.{square}
@@ -85,11 +82,6 @@ self-elim n a b e = let u = and-eq-true-iff (ltb a n) (eqb a b) .0 e in (ltb-tru
 self-intro : (n a b : ℕ) → a < n → a ≡ b → selfOf n a b ≡ true
 unfolding selfOf
 self-intro n a b l e = and-intro (lt-ltb a n l) (eq-eqb a b e)
-
-pub self-none : (n : ℕ) (none : EvalSet) → mem none ≡ noneOf → memAt (replicate n none) ≡ selfOf 0
-self-none n none h =
-    fun-ext (λ a. fun-ext (λ b.
-    empty-rows n a b none h ∙ sym (eq-false-of-not-eq-true (λ e. let l = self-elim 0 a b e .0 in omega arith))))
 
 -- one more of them
 pub self-more : (i : ℕ) → addAt (selfOf i) i i ≡ selfOf (i + 1)

@@ -1,15 +1,15 @@
--- What is computed: what the public functions answer: what reading words gives, the plan that arrays hold, the plan of a set of points and
--- what writing a plan gives, and the two kinds of atoms judged on arrays. Assumes nothing.
+-- What is computed: what the public functions answer: what reading words gives, the plan of a set of points and what writing a plan gives,
+-- and the two kinds of atoms judged on points and their rows. Assumes nothing.
 use mathlib.Core.Path.{_≡_}
 use mathlib.Core.Bool.{Bool, not, _&&_, cond}
 use mathlib.Core.List.{List, []}
 use Prim.Native.Nat.{ℕ, min}
 use lib.Dec.{leb}
-use lib.ListN.{length, getD, take}
+use lib.ListN.{length, getD}
 use Rattle.lists.specs.Search.{any, keep, below}
 use Rattle.lists.specs.Buffer.{over}
-use Rattle.evalset.specs.Sets.{room, memAt}
-use Rattle.plan.specs.declared.PlanArrays.{PlanArrays}
+use Rattle.evalset.specs.Sets.{room}
+use Rattle.plan.specs.declared.PlanPoints.{PlanPoints}
 use Rattle.plan.specs.declared.PlanAnswer.{PlanAnswer}
 use Rattle.plan.specs.declared.PlanAnswer.the-variants as answer-is
 use Rattle.plan.specs.declared.PlanRead.{PlanRead}
@@ -37,19 +37,6 @@ pub record Reads (ws : List ℕ) (r : PlanRead) : Type 0 where
   pub plan : Stored (r .plan) (planIn (readOf ws))
 
 -- ---- writing
--- how many points the arrays have
-abbrev pub countOf : PlanArrays → ℕ
-countOf r = min (r .count) mostPoints
-
--- the plan that arrays hold
-unfoldable pub planBy : PlanArrays → Plan
-planBy r =
-    record {
-      names = r .names;
-      points = take (countOf r) (r .points);
-      contacts = linksTo (countOf r) (countOf r) (memAt (r .rows));
-    }
-
 -- two points are in contact unless they are apart, by their evaluations
 abbrev pub inContact : List ℕ → (ℕ → ℕ → Bool) → ℕ → ℕ → Bool
 inContact points apart i j = not (apart (getD points i 0) (getD points j 0))
@@ -70,15 +57,19 @@ pub record Writes (p : Plan) (buf : List ℕ) (result : Written) (exit : List �
   pub words : exit ≡ cond (fits p buf) (over (wordsOf p) buf) buf
 
 -- ---- judging
+-- how many points there are
+abbrev pub countOf : PlanPoints → ℕ
+countOf r = min (r .count) mostPoints
+
 -- the evaluation of the point at a position
-abbrev pub pointAt : PlanArrays → ℕ → ℕ
+abbrev pub pointAt : PlanPoints → ℕ → ℕ
 pointAt r a = getD (r .points) a 0
 
--- some point of x is in contact with a point of y; x and y are sets of evaluations
-unfoldable pub touchesOf : PlanArrays → (ℕ → Bool) → (ℕ → Bool) → Bool
-touchesOf r x y =
-    any (λ a. x (pointAt r a) && any (λ b. y (pointAt r b) && memAt (r .rows) a b) (below (countOf r))) (below (countOf r))
+-- some point of x is in contact with a point of y, by the rows; x and y are sets of evaluations
+unfoldable pub touchesOf : PlanPoints → (ℕ → ℕ → Bool) → (ℕ → Bool) → (ℕ → Bool) → Bool
+touchesOf r rows x y =
+    any (λ a. x (pointAt r a) && any (λ b. y (pointAt r b) && rows a b) (below (countOf r))) (below (countOf r))
 
 -- no point is in t
-unfoldable pub vacantOf : PlanArrays → (ℕ → Bool) → Bool
+unfoldable pub vacantOf : PlanPoints → (ℕ → Bool) → Bool
 vacantOf r t = not (any (λ a. t (pointAt r a)) (below (countOf r)))

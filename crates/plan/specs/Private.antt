@@ -12,7 +12,7 @@ use Rattle.lists.specs.Putting.{written}
 use Rattle.evalset.specs.Sets.{room, meetOf, minusOf}
 use Rattle.evalset.specs.Arrays.{positionsOf}
 use Rattle.evalset.specs.Most.{most}
-use Rattle.squares.specs.Square.{Square, squareAt, reach}
+use Rattle.squares.specs.Square.{squareAt}
 use Rattle.plan.specs.declared.PlanAnswer.{PlanAnswer}
 use Rattle.plan.specs.declared.PlanAnswer.the-variants as answer-is
 use Rattle.plan.specs.declared.Word.{Word}
@@ -49,10 +49,6 @@ selfOf n a b = ltb a n && eqb a b
 pub record Grown (t : ℕ → ℕ → Bool) (ws ws' : List ℕ) : Type 0 where
   pub long : length ws' ≡ length ws
   pub rows : squareAt ws' ≡ t
-
--- the rows of the positions below n alone
-unfoldable pub rowsTo : ℕ → (ℕ → ℕ → Bool) → ℕ → ℕ → Bool
-rowsTo n t a b = ltb a n && t a b
 
 -- so many points are wanted; then the contacts
 abbrev pub wanting : ℕ → ℕ → List ℕ → ℕ → State
@@ -129,13 +125,6 @@ abbrev pub LinksSay : List ℕ → ℕ → List ℕ → PlanAnswer → List ℕ 
 LinksSay ws n pts answer-is.Plan words =
     (ks : List ℕ) × (readOf ws ≡ plan (planOf n pts ks)) × (squareAt words ≡ square (planOf n pts ks))
 LinksSay ws n pts (answer-is.Refused at) words = readOf ws ≡ refused at
-
--- the points have been read, and no contact; the square has room for them
-pub record RestComes (ws : List ℕ) (n c : ℕ) (points words : List ℕ) : Type 0 where
-  pub held : PointsSay ws n c points-are.All points
-  pub is : Square words
-  pub few : c ≤ reach words
-  pub none : squareAt words ≡ selfOf 0
 
 -- ---- writing
 -- r is the least position from `low` on, below n, that is in the row, or n

@@ -1,8 +1,8 @@
 // Plan words (document 01, 'Plan words'): a plan as 32-bit words, read and written, and the atoms of rules judged on it.
-// A plan that is read is held in arrays, the points' evaluations in one and the contact rows beside it, one row a point; they go in and come
-// back by value. A plan that is written comes as the set of its points and a square of those apart, which is lent. No public function but
-// the writer has a requires, and that asks only that the words lent are a square: words, counts, rows and sets may be any, and each answer
-// says what it is then.
+// A plan that is read is held in arrays, the points' evaluations in one and the contact rows beside it, one row a point; they come back by
+// value. A contact is judged on the points and the rows, which are lent; a plan is written from the set of its points and a square of those
+// apart, lent too. These two functions ask only that the words lent are a square, and no other public function has a requires: words, counts,
+// rows and sets may be any, and each answer says what it is then.
 // What a plan is and which words it has is in specs/Words.antt, what is answered in specs/Arrays.antt. Assumes nothing.
 ghost use mathlib.Core.Path.{_≡_};
 ghost use mathlib.Core.Bool.{_&&_, _||_};
@@ -13,27 +13,34 @@ ghost use lib.ListN.{length, take};
 ghost use Rattle.lists.specs.Padded.{pad};
 ghost use Rattle.lists.specs.Search.{keep, below};
 ghost use Rattle.lists.specs.Putting.{written};
-ghost use Rattle.evalset.specs.Sets.{room, mem, memAt};
+ghost use Rattle.evalset.specs.Sets.{room, mem};
 ghost use Rattle.evalset.specs.Bit.{wordBits, bit};
 ghost use Rattle.evalset.specs.Most.{most};
 ghost use Rattle.evalset.specs.Arrays.{positionsOf};
-ghost use Rattle.squares.specs.Square.{Square, squareAt, reach};
+ghost use Rattle.squares.specs.Square.{Square, squareAt};
 ghost use Rattle.plan.specs.Words.{mostPoints, firstWord, pointWord};
 ghost use Rattle.plan.specs.Reader.{kindOf};
 ghost use Rattle.plan.specs.Arrays.{Reads, pointsPlan, Writes, touchesOf, vacantOf};
 ghost use Rattle.plan.specs.Links.{rowTo, linksTo};
 ghost use Rattle.plan.specs.Stored.{Stored};
-ghost use Rattle.plan.specs.Private.{planOf, Opens, pointingOf, PointsCome, PointsSay, addAt, joinedOf, selfOf, Grown, rowsTo, lastOf, linkingOf, LinksCome, LinksSay, RestComes, Next, rowsBy, lackingOf, Wrote, reachesOf, reachedOf};
+ghost use Rattle.plan.specs.Private.{planOf, Opens, pointingOf, PointsCome, PointsSay, addAt, joinedOf, selfOf, Grown, lastOf, linkingOf, LinksCome, LinksSay, Next, rowsBy, lackingOf, Wrote, reachesOf, reachedOf};
 use evalset::EvalSet;
 use evalset::Found;
 use evalset::ROOM;
 
-// A plan: the evaluations of its points, ascending, and the square of contacts, one row for each point.
+// A plan: the evaluations of its points, ascending, and the square of contacts, one row for each point, four words a row.
 pub struct PlanArrays {
     pub names: u8,
     pub count: usize,
     pub points: [u8; ROOM],
-    pub rows: [EvalSet; ROOM],
+    pub rows: [u64; 1024],
+}
+
+// A plan without its contacts, which are lent beside it.
+pub struct PlanPoints {
+    pub names: u8,
+    pub count: usize,
+    pub points: [u8; ROOM],
 }
 
 // What reading words answers: a plan, or refusal 13 and its index.
@@ -287,15 +294,8 @@ fn with_bit(word: u64, e: usize) -> u64
     word | (one << e)
 }
 
-// The square of no point, for up to 64 points: to clear more costs more than to read a small plan.
-fn few_bits() -> [u64; 64]
-    ensures { λ r. ⌜ (length r ≡ 64) × (squareAt r ≡ selfOf 0) ⌝ }
-{
-    [0; 64]
-}
-
-// The square of no point, for all.
-fn all_bits() -> [u64; 1024]
+// The rows of no point.
+fn no_rows() -> [u64; 1024]
     ensures { λ r. ⌜ (length r ≡ 1024) × (squareAt r ≡ selfOf 0) ⌝ }
 {
     [0; 1024]
@@ -303,20 +303,16 @@ fn all_bits() -> [u64; 1024]
 
 // Row i has position j too. The bit is set in place, where a set of a row would be copied.
 fn set_bit(square: &mut [u64], i: usize, j: usize)
-    requires { ⌜ Square (now square) × (i < reach (now square)) × (j < reach (now square)) ⌝ }
+    requires { ⌜ (length (now square) ≡ 1024) × (i < mostPoints) × (j < mostPoints) ⌝ }
     ensures { λ _. ⌜ Grown (addAt (squareAt (now (square .entry))) i j) (now (square .entry)) (now (square .exit)) ⌝ }
 {
-    if square.len() == 64 {
-        square[i] = with_bit(square[i], j);
-        return;
-    }
     let at = 4 * i + j / 64;
     square[at] = with_bit(square[at], j % 64);
 }
 
 // The points at i and j are in contact, both ways round.
 fn link(square: &mut [u64], i: usize, j: usize)
-    requires { ⌜ Square (now square) × (i < reach (now square)) × (j < reach (now square)) ⌝ }
+    requires { ⌜ (length (now square) ≡ 1024) × (i < mostPoints) × (j < mostPoints) ⌝ }
     ensures { λ _. ⌜ Grown (joinedOf (squareAt (now (square .entry))) i j) (now (square .entry)) (now (square .exit)) ⌝ }
 {
     set_bit(square, i, j);
@@ -325,7 +321,7 @@ fn link(square: &mut [u64], i: usize, j: usize)
 
 // Each of so many points is in contact with itself alone. The square comes as that of no point.
 fn alone(square: &mut [u64], count: usize)
-    requires { ⌜ Square (now square) × (count ≤ reach (now square)) × (squareAt (now square) ≡ selfOf 0) ⌝ }
+    requires { ⌜ (length (now square) ≡ 1024) × (count ≤ mostPoints) × (squareAt (now square) ≡ selfOf 0) ⌝ }
     ensures { λ _. ⌜ Grown (selfOf count) (now (square .entry)) (now (square .exit)) ⌝ }
 {
     let mut i: usize = 0;
@@ -337,7 +333,7 @@ fn alone(square: &mut [u64], count: usize)
 
 // The contacts and the last word, after so many points. The square comes with each point in contact with itself.
 fn read_contacts(words: &[u32], count: usize, square: &mut [u64]) -> PlanAnswer
-    requires { ⌜ Square (now square) × (count ≤ reach (now square)) × (1 + count ≤ length (now words)) ⌝ }
+    requires { ⌜ (length (now square) ≡ 1024) × (count ≤ mostPoints) × (1 + count ≤ length (now words)) ⌝ }
     ensures { λ r. ⌜ ((n : ℕ) (pts : List ℕ) → LinksCome (now (words .entry)) count (now (square .entry)) n pts → LinksSay (now (words .entry)) n pts r (now (square .exit))) × (length (now (square .exit)) ≡ length (now (square .entry))) ⌝ }
 {
     let mut low: usize = 0;
@@ -358,74 +354,17 @@ fn read_contacts(words: &[u32], count: usize, square: &mut [u64]) -> PlanAnswer
     PlanAnswer::Refused(at)
 }
 
-// No row.
-fn no_rows() -> [EvalSet; ROOM]
-    ensures { λ r. ⌜ memAt r ≡ selfOf 0 ⌝ }
-{
-    let none = evalset::empty();
-    [none; ROOM]
-}
-
-// The rows of so many points.
-fn rows_of(square: &[u64], count: usize) -> [EvalSet; ROOM]
-    requires { ⌜ Square (now square) × (count ≤ reach (now square)) ⌝ }
-    ensures { λ r. ⌜ memAt r ≡ rowsTo count (squareAt (now (square .entry))) ⌝ }
-{
-    let mut rows = no_rows();
-    let mut i: usize = 0;
-    while i < count {
-        rows[i] = squares::row_of(square, i);
-        i += 1;
-    }
-    rows
-}
-
-// A plan with no name and no point.
-fn blank() -> PlanArrays
-    ensures { λ r. ⌜ Stored r (planOf 0 [] []) ⌝ }
-{
-    PlanArrays {
-        names: 0,
-        count: 0,
-        points: no_points(),
-        rows: no_rows(),
-    }
-}
-
-// Refusal 13 at this index.
+// Refusal 13 at this index, and a plan with no name and no point.
 fn refused(at: usize) -> PlanRead
     ensures { λ r. ⌜ (r .answer ≡ PlanAnswer.Refused at) × Stored (r .plan) (planOf 0 [] []) ⌝ }
 {
     PlanRead {
         answer: PlanAnswer::Refused(at),
-        plan: blank(),
-    }
-}
-
-// What is left of the words after the points, and so all that they are. The square comes as that of no point.
-fn read_rest(
-    words: &[u32],
-    names: u8,
-    count: usize,
-    points: [u8; ROOM],
-    square: &mut [u64],
-) -> PlanRead
-    requires { ⌜ RestComes (now words) names count points (now square) ⌝ }
-    ensures { λ r. ⌜ Reads (now (words .entry)) r ⌝ }
-{
-    alone(square, count);
-    let answer = read_contacts(words, count, square);
-    if let PlanAnswer::Refused(at) = answer {
-        return refused(at);
-    }
-    let rows = rows_of(square, count);
-    PlanRead {
-        answer: PlanAnswer::Plan,
         plan: PlanArrays {
-            names: names,
-            count: count,
-            points: points,
-            rows: rows,
+            names: 0,
+            count: 0,
+            points: no_points(),
+            rows: no_rows(),
         },
     }
 }
@@ -448,12 +387,21 @@ pub fn read_plan(words: &[u32]) -> PlanRead
         return refused(at);
     }
     let points = first.points;
-    if count <= 64 {
-        let mut square = few_bits();
-        return read_rest(words, names, count, points, &mut square);
+    let mut rows = no_rows();
+    alone(&mut rows, count);
+    let answer = read_contacts(words, count, &mut rows);
+    if let PlanAnswer::Refused(at) = answer {
+        return refused(at);
     }
-    let mut square = all_bits();
-    read_rest(words, names, count, points, &mut square)
+    PlanRead {
+        answer: PlanAnswer::Plan,
+        plan: PlanArrays {
+            names: names,
+            count: count,
+            points: points,
+            rows: rows,
+        },
+    }
 }
 
 // A set as a list.
@@ -714,14 +662,14 @@ fn reaches(row: EvalSet, e: usize, x: EvalSet, ys: EvalSet) -> bool
 }
 
 // Whether some row of a point in x meets the positions ys.
-fn reached(points: [u8; ROOM], rows: [EvalSet; ROOM], n: usize, x: EvalSet, ys: EvalSet) -> bool
-    requires { ⌜ n ≤ mostPoints ⌝ }
-    ensures { λ r. ⌜ r ≡ reachedOf n points (memAt rows) (mem x) (mem ys) ⌝ }
+fn reached(points: [u8; ROOM], square: &[u64], n: usize, x: EvalSet, ys: EvalSet) -> bool
+    requires { ⌜ (n ≤ mostPoints) × Square (now square) ⌝ }
+    ensures { λ r. ⌜ r ≡ reachedOf n points (squareAt (now (square .entry))) (mem x) (mem ys) ⌝ }
 {
     let mut a: usize = 0;
     while a < n {
         let e = points[a] as usize;
-        let row = rows[a];
+        let row = squares::row_at(square, a);
         if reaches(row, e, x, ys) {
             return true;
         }
@@ -732,19 +680,19 @@ fn reached(points: [u8; ROOM], rows: [EvalSet; ROOM], n: usize, x: EvalSet, ys: 
 
 // Whether C(x,y) holds on the plan, the terms given as sets of evaluations: some point in x has a point in y in its row. Of a count
 // above ROOM the first ROOM points are judged.
-pub fn touches(plan: PlanArrays, x: EvalSet, y: EvalSet) -> bool
-    ensures { λ r. ⌜ r ≡ touchesOf plan (mem x) (mem y) ⌝ }
+pub fn touches(plan: PlanPoints, square: &[u64], x: EvalSet, y: EvalSet) -> bool
+    requires { ⌜ Square (now square) ⌝ }
+    ensures { λ r. ⌜ r ≡ touchesOf plan (squareAt (now (square .entry))) (mem x) (mem y) ⌝ }
 {
     let points = plan.points;
-    let rows = plan.rows;
     let n = clamped(plan.count);
     let ys = places(points, n, y);
-    reached(points, rows, n, x, ys)
+    reached(points, square, n, x, ys)
 }
 
 // Whether t=0 holds on the plan, the term given as a set of evaluations: no point is in t. Of a count above ROOM the first ROOM
 // points are judged.
-pub fn is_vacant(plan: PlanArrays, t: EvalSet) -> bool
+pub fn is_vacant(plan: PlanPoints, t: EvalSet) -> bool
     ensures { λ r. ⌜ r ≡ vacantOf plan (mem t) ⌝ }
 {
     let points = plan.points;

@@ -79,7 +79,7 @@ fn write_contacts(p: PlanArrays) {
     let mut i: usize = 0;
     while i < 64 {
         if i < count {
-            some = either(write_row(rows[i], i, count), some);
+            some = either(write_row(squares::row_at(&rows, i), i, count), some);
         }
         i += 1;
     }
@@ -139,7 +139,7 @@ fn apart_in(p: PlanArrays) -> [u64; 1024]
         if count <= i {
             return square;
         }
-        let row = rows[i];
+        let row = squares::row_at(&rows, i);
         squares::join_at(&mut square, wide(points[i]), others(points, count, row));
         i += 1;
     }

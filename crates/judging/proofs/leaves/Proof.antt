@@ -7,16 +7,17 @@ use native.Mathlib.Omega.{arith}
 use lib.ListN.{length, length-set}
 use borrow.Author.Needs.{needs}
 use Rattle.evalset.specs.Sets.{memAt}
+use Rattle.squares.specs.Square.{squareAt}
 use Rattle.judging.specs.Values.{atomOf, valueOf, Sure, LeavesSay}
 use Rattle.judging.proofs.Atoms.{sure-none, sure-more}
 use Rattle.judging.proofs.leaves.Statement.{statement}
 use Rattle.judging.proofs.leaves.Tie as tie
 
 abbrev Inv-loop : tie.InvT-loop
-Inv-loop plan chart n out₀ i₀ out i = (i ≤ n) × (length out ≡ 16) × Sure out i (valueOf plan chart)
+Inv-loop plan square chart n out₀ i₀ out i = (i ≤ n) × (length out ≡ 16) × Sure out i (valueOf plan (squareAt square) chart)
 
 abbrev μ-loop : tie.MeasureT-loop
-μ-loop plan chart n out₀ i₀ out i = n - i
+μ-loop plan square chart n out₀ i₀ out i = n - i
 
 loop-holds : tie.Need-loop-holds Inv-loop μ-loop
 loop-holds c = (omega arith, refl, sure-none _ _)
@@ -57,13 +58,13 @@ loop-less c = omega arith
 loop-again : tie.Need-loop-again Inv-loop μ-loop
 unfolding valueOf memAt
 loop-again c =
-    let a = c .before .before .before .before .before .before .before .before .args in
+    let a = c .before .before .before .before .before .before .before .before .before .args in
     let loop = c .before .before .before .before .before .before .before .loop in (
       omega arith,
       length-set (loop .out) (loop .i) _ ∙ loop .inv .1,
       sure-more (loop .out) (loop .i) _ _ (omega arith) (loop .inv .2)
           (c .settled .ensures 0 (omega arith) ∙ c .before .touches .ensures
-          ∙ sym (ap (λ (b : Bool). atomOf (a .plan) b (memAt (a .t2 .xs) (loop .i)) (memAt (a .t2 .ys) (loop .i))) (c .before .before .if1 .taken))),
+          ∙ sym (ap (λ (b : Bool). atomOf (a .plan) (squareAt (a .square .now)) b (memAt (a .t3 .xs) (loop .i)) (memAt (a .t3 .ys) (loop .i))) (c .before .before .if1 .taken))),
     )
 
 is-vacant-requires : tie.Need-is-vacant-requires Inv-loop μ-loop
@@ -87,22 +88,22 @@ loop-less-2 c = omega arith
 loop-again-2 : tie.Need-loop-again-2 Inv-loop μ-loop
 unfolding valueOf memAt
 loop-again-2 c =
-    let a = c .before .before .before .before .before .before .before .before .args in
+    let a = c .before .before .before .before .before .before .before .before .before .args in
     let loop = c .before .before .before .before .before .before .before .loop in (
       omega arith,
       length-set (loop .out) (loop .i) _ ∙ loop .inv .1,
       sure-more (loop .out) (loop .i) _ _ (omega arith) (loop .inv .2)
           (c .settled2 .ensures 0 (omega arith) ∙ c .before .is-vacant .ensures
-          ∙ sym (ap (λ (b : Bool). atomOf (a .plan) b (memAt (a .t2 .xs) (loop .i)) (memAt (a .t2 .ys) (loop .i))) (c .before .before .if1 .left))),
+          ∙ sym (ap (λ (b : Bool). atomOf (a .plan) (squareAt (a .square .now)) b (memAt (a .t3 .xs) (loop .i)) (memAt (a .t3 .ys) (loop .i))) (c .before .before .if1 .left))),
     )
 
 returns : tie.Need-returns Inv-loop μ-loop
 unfolding LeavesSay
 returns c =
     let loop = c .before .loop in
-    let a = c .before .before .args in
-    let z : loop .i ≡ a .t2 .atoms = omega arith in
-    subst (λ (n : ℕ). Sure (loop .out) n (valueOf (a .plan) (a .t2))) z (loop .inv .2)
+    let a = c .before .before .before .args in
+    let z : loop .i ≡ a .t3 .atoms = omega arith in
+    subst (λ (n : ℕ). Sure (loop .out) n (valueOf (a .plan) (squareAt (a .square .now)) (a .t3))) z (loop .inv .2)
 
 pub leaves-spec : {M : Type 1} → statement M
 leaves-spec =

@@ -3,7 +3,6 @@ use mathlib.Core.Path.{_≡_, refl, ap, _∙_, subst}
 use mathlib.Core.Bool.{Bool}
 use Prim.Native.Nat.{ℕ, _-_, _≤_}
 use native.Mathlib.Omega.{arith}
-use Rattle.squares.proofs.Rows.{same-reach, same-square}
 use Rattle.plan.specs.Private.{addAt, selfOf, Grown}
 use Rattle.plan.proofs.Squares.{self-more}
 use Rattle.plan.proofs.alone.Statement.{statement}
@@ -22,8 +21,7 @@ set-bit-requires : tie.Need-set-bit-requires Inv-loop μ-loop
 set-bit-requires c κs =
     let s = c .before .before .before .before in
     let loop = c .before .before .loop in
-    let r = same-reach (loop .square) (s .args .square .now) (loop .inv .1 .long) in
-    (same-square (loop .square) (s .args .square .now) (loop .inv .1 .long) (s .pre .0), omega (arith, r, s .pre .1), omega (arith, r, s .pre .1))
+    (loop .inv .1 .long ∙ s .pre .0, omega (arith, s .pre .1), omega (arith, s .pre .1))
 
 add-i : tie.Need-add-i Inv-loop μ-loop
 add-i c = omega arith

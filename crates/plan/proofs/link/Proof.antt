@@ -1,7 +1,6 @@
 -- `plan::link` meets its contract: one bit, and then the other. Assumes nothing.
-use native.Mathlib.Omega.{arith}
+use mathlib.Core.Path.{_∙_}
 use borrow.Author.Needs.{needs}
-use Rattle.squares.proofs.Rows.{same-reach, same-square}
 use Rattle.plan.proofs.Flat.{both-set}
 use Rattle.plan.proofs.link.Statement.{statement}
 use Rattle.plan.proofs.link.Tie as tie
@@ -12,10 +11,7 @@ set-bit-requires c κs = search needs
 set-bit-requires-2 : tie.Need-set-bit-requires-2
 set-bit-requires-2 c κs =
     let s = c .before .before .before .before .before .before in
-    let g = c .before .before .before .set-bit .ensures in
-    let us = c .before .before .before .set-bit .last .0 in
-    let r = same-reach us (s .args .square .now) (g .long) in
-    (same-square us (s .args .square .now) (g .long) (s .pre .0), omega (arith, r, s .pre .2), omega (arith, r, s .pre .1))
+    (c .before .before .before .set-bit .ensures .long ∙ s .pre .0, s .pre .2, s .pre .1)
 
 same-length : tie.Need-same-length
 same-length c = search needs

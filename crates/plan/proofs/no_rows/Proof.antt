@@ -1,15 +1,12 @@
--- `plan::no_rows` meets its contract: no row has a position. Assumes nothing.
-use borrow.Author.Needs.{needs}
-use Rattle.plan.proofs.Squares.{self-none}
-use Rattle.plan.specs.Words.{mostPoints}
+-- `plan::no_rows` meets its contract: no bit is set. Assumes nothing.
+use mathlib.Core.Path.{refl}
+use Rattle.squares.proofs.Rows.{clear-words}
+use Rattle.plan.proofs.Flat.{bits-none}
 use Rattle.plan.proofs.no_rows.Statement.{statement}
 use Rattle.plan.proofs.no_rows.Tie as tie
 
-empty-requires : tie.Need-empty-requires
-empty-requires c κs = search needs
-
 returns : tie.Need-returns
-returns c = self-none mostPoints _ (c .empty .ensures)
+returns c = (refl, bits-none _ (clear-words 1024))
 
 pub no-rows-spec : {M : Type 1} → statement M
-no-rows-spec = tie.close (tie.spec empty-requires returns)
+no-rows-spec = tie.close (tie.spec returns)

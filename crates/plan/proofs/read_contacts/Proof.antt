@@ -5,8 +5,6 @@ use Prim.Native.Nat.{ℕ, _-_, _≤_, _<_}
 use native.Mathlib.Omega.{arith}
 use lib.ListN.{length}
 use borrow.Author.Needs.{needs}
-use Rattle.evalset.specs.Sets.{room}
-use Rattle.squares.proofs.Rows.{same-reach, same-square, reach-room}
 use Rattle.plan.specs.Private.{LinksCome, LinksHeld}
 use Rattle.plan.proofs.ReadLoop.{pair-within, links-start, links-next, links-over, links-short}
 use Rattle.plan.proofs.read_contacts.Statement.{statement}
@@ -31,8 +29,7 @@ link-in c =
     (c .before .before .before .before .before .kind-of .result) (contact .result) (given .1) (contact .ensures) (a .count) (omega arith)
 
 few : (c : tie.After-link-arg Inv-loop μ-loop) → c .before .before .before .before .before .before .before .before .before .before .before .args .count ≤ 256
-unfolding room
-few c = let s = c .before .before .before .before .before .before .before .before .before .before .before in omega (arith, s .pre .1, reach-room (s .args .square .now))
+few c = omega arith
 
 add-at : tie.Need-add-at Inv-loop μ-loop
 add-at c = omega arith
@@ -52,8 +49,7 @@ kind-of-requires : tie.Need-kind-of-requires Inv-loop μ-loop
 kind-of-requires c κs = search needs
 
 contact-requires : tie.Need-contact-requires Inv-loop μ-loop
-unfolding room
-contact-requires c κs = let s = c .before .before .before .before .before .before in (omega (arith, s .pre .1, reach-room (s .args .square .now)), omega arith)
+contact-requires c κs = (omega arith, omega arith)
 
 enum-known-said : tie.Need-enum-known-said Inv-loop μ-loop
 enum-known-said c = search needs
@@ -62,9 +58,8 @@ link-requires : tie.Need-link-requires Inv-loop μ-loop
 link-requires c κs =
     let s = c .before .before .before .before .before .before .before .before .before .before .before in
     let loop = c .before .before .before .before .before .before .before .before .loop in
-    let r = same-reach (loop .square) (s .args .square .now) (loop .inv .1) in
     let l = link-in c in
-    (same-square (loop .square) (s .args .square .now) (loop .inv .1) (s .pre .0), omega (arith, r, s .pre .1, l .0), omega (arith, r, s .pre .1, l .1))
+    (loop .inv .1 ∙ s .pre .0, omega (arith, s .pre .1, l .0), omega (arith, s .pre .1, l .1))
 
 mul-low : tie.Need-mul-low Inv-loop μ-loop
 mul-low c = let l = link-in (c .before .before .before) in omega (arith, l .0, l .1, few (c .before .before .before))

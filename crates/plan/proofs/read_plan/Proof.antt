@@ -1,13 +1,12 @@
--- `plan::read_plan` meets its contract: the first word, the points and the rest, each read from where the machine then stands.
+-- `plan::read_plan` meets its contract: the first word, the points and the contacts, each read from where the machine then stands.
 -- Assumes nothing.
-use mathlib.Core.Logic.{inl, inr}
+use mathlib.Core.Path.{_∙_}
 use native.Mathlib.Omega.{arith}
 use lib.Pow.{pow-mono}
 use borrow.Author.Needs.{needs}
-use Rattle.squares.proofs.Rows.{narrow-reach, wide-reach}
 use Rattle.plan.specs.declared.PointsAnswer.the-variants as points-are
-use Rattle.plan.specs.Private.{PointsCome, PointsSay}
-use Rattle.plan.proofs.ReadLoop.{words-none, opens-wrong, opens-points, points-passed, points-refused, reads-refused}
+use Rattle.plan.specs.Private.{PointsCome, PointsSay, LinksSay}
+use Rattle.plan.proofs.ReadLoop.{words-none, opens-wrong, opens-points, points-passed, points-refused, links-come, links-refused, reads-refused, reads-plan}
 use Rattle.plan.proofs.read_plan.Statement.{statement}
 use Rattle.plan.proofs.read_plan.Tie as tie
 
@@ -85,44 +84,60 @@ returns-3 c =
 enum-told-2 : tie.Need-enum-told-2
 enum-told-2 c = search needs
 
-few-bits-requires : tie.Need-few-bits-requires
-few-bits-requires c κs = search needs
+no-rows-requires : tie.Need-no-rows-requires
+no-rows-requires c κs = search needs
 
-slice-aggregate-read-rest : tie.Need-slice-aggregate-read-rest
-slice-aggregate-read-rest c = search needs
+slice-aggregate-alone : tie.Need-slice-aggregate-alone
+slice-aggregate-alone c = search needs
 
-read-rest-requires : tie.Need-read-rest-requires
-read-rest-requires c κs =
-    let bits = c .before .few-bits in
-    record {
-      held = held (c .before .before .before);
-      is = inl (bits .ensures .0);
-      few = omega (arith, c .before .before .if2 .taken, narrow-reach (bits .result) (bits .ensures .0));
-      none = bits .ensures .1;
-    }
+alone-requires : tie.Need-alone-requires
+alone-requires c κs =
+    let p = come (c .before .before .before .before .before .before) in
+    let none = c .before .no-rows .ensures in
+    (none .0, omega (arith, p .room, pow-mono (p .few)), none .1)
+
+slice-aggregate-read-contacts : tie.Need-slice-aggregate-read-contacts
+slice-aggregate-read-contacts c = search needs
+
+read-contacts-requires : tie.Need-read-contacts-requires
+read-contacts-requires c κs =
+    let p = come (c .before .before .before .before .before .before .before .before .before) in
+    (c .before .before .alone .ensures .long ∙ c .before .before .before .before .no-rows .ensures .0, omega (arith, p .room, pow-mono (p .few)), held (c .before .before .before .before .before) .1 .within)
+
+-- what the words are after the points
+say : (c : tie.After-read-contacts)
+    → LinksSay (c .before .before .before .before .before .before .before .before .before .before .before .before .before .before .before .before .before .before .args .words .now) (c .before .before .before .before .before .before .before .before .before .before .before .opening .given .0 .0) (held (c .before .before .before .before .before .before) .1 .pts) (c .read-contacts .result) (c .read-contacts .last .1 .1 .0)
+say c =
+    let given = c .before .before .before .before .before .before .before .before .before .before .before .opening .given in
+    let h = held (c .before .before .before .before .before .before) in
+    c .read-contacts .ensures .0 (given .0 .0) (h .1 .pts)
+    (links-come (c .before .before .before .before .before .before .before .before .before .before .before .before .before .before .before .before .before .before .args .words .now) (given .0 .0) (given .0 .1 .0) (h .0) (c .before .before .before .before .before .before .before .before .before .read-points .result .points) (h .1) _ (c .before .before .before .alone .ensures .rows))
+
+enum-known-answer : tie.Need-enum-known-answer
+enum-known-answer c = search needs
+
+refused-requires-4 : tie.Need-refused-requires-4
+refused-requires-4 c κs = search needs
 
 returns-4 : tie.Need-returns-4
-returns-4 c = search needs
+returns-4 c =
+    let r = c .before .before .before .before .before in
+    let a = r .before .before .before .before .before .before .before .before .before .before .before .before .before .before .before .before .before .before .args in
+    let answer = c .before .before .answer .given in
+    reads-refused (a .words .now) (answer .0 .0) _
+    (links-refused (a .words .now) (r .before .before .before .before .before .before .before .before .before .before .before .opening .given .0 .0) (held (r .before .before .before .before .before .before) .1 .pts) (r .read-contacts .result) _ (say r) (answer .0 .0) (answer .1))
+    (c .refused4 .ensures)
 
-all-bits-requires : tie.Need-all-bits-requires
-all-bits-requires c κs = search needs
-
-slice-aggregate-read-rest-2 : tie.Need-slice-aggregate-read-rest-2
-slice-aggregate-read-rest-2 c = search needs
-
-read-rest-requires-2 : tie.Need-read-rest-requires-2
-read-rest-requires-2 c κs =
-    let bits = c .before .all-bits in
-    let p = come (c .before .before .before .before .before .before .before) in
-    record {
-      held = held (c .before .before .before);
-      is = inr (bits .ensures .0);
-      few = omega (arith, p .room, pow-mono (p .few), wide-reach (bits .result) (λ z. omega (arith, z, bits .ensures .0)));
-      none = bits .ensures .1;
-    }
+enum-told-3 : tie.Need-enum-told-3
+enum-told-3 c = search needs
 
 returns-5 : tie.Need-returns-5
-returns-5 c = search needs
+returns-5 c =
+    let r = c .before .before .before in
+    let given = r .before .before .before .before .before .before .before .before .before .before .before .opening .given in
+    let h = held (r .before .before .before .before .before .before) in
+    reads-plan (r .before .before .before .before .before .before .before .before .before .before .before .before .before .before .before .before .before .before .args .words .now) (given .0 .0) (given .0 .1 .0) (h .0) (r .before .before .before .before .before .before .before .before .before .read-points .result .points) (h .1) (r .read-contacts .result) _ (say r)
+    (c .enum-told3 .given .1)
 
 pub read-plan-spec : {M : Type 1} → statement M
 read-plan-spec =
@@ -142,11 +157,13 @@ read-plan-spec =
     refused-requires-3
     returns-3
     enum-told-2
-    few-bits-requires
-    slice-aggregate-read-rest
-    read-rest-requires
+    no-rows-requires
+    slice-aggregate-alone
+    alone-requires
+    slice-aggregate-read-contacts
+    read-contacts-requires
+    enum-known-answer
+    refused-requires-4
     returns-4
-    all-bits-requires
-    slice-aggregate-read-rest-2
-    read-rest-requires-2
+    enum-told-3
     returns-5)

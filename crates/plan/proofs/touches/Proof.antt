@@ -1,7 +1,8 @@
 -- `plan::touches` meets its contract: some row of a point in x meets the positions that lie in y. Assumes nothing.
 use native.Mathlib.Omega.{arith}
 use mathlib.Core.Path.{ap, _∙_}
-use Rattle.evalset.specs.Sets.{room, mem, memAt}
+use Rattle.evalset.specs.Sets.{room, mem}
+use Rattle.squares.specs.Square.{squareAt}
 use Rattle.plan.specs.Private.{reachedOf}
 use Rattle.plan.proofs.Positions.{touches-is}
 use borrow.Author.Needs.{needs}
@@ -22,9 +23,9 @@ unfolding room
 returns c =
     let a = c .before .before .before .before .before .args in
     let n = c .before .before .clamped in
-    c .reached .ensures ∙ ap (reachedOf (n .result) (a .plan .points) (memAt (a .plan .rows)) (mem (a .x)))
+    c .reached .ensures ∙ ap (reachedOf (n .result) (a .plan .points) (squareAt (a .square .now)) (mem (a .x)))
     (c .before .places .ensures)
-    ∙ touches-is (a .plan) (n .result) (n .ensures) (omega arith) (mem (a .x)) (mem (a .y))
+    ∙ touches-is (a .plan) (n .result) (n .ensures) (omega arith) (squareAt (a .square .now)) (mem (a .x)) (mem (a .y))
 
 pub touches-spec : {M : Type 1} → statement M
 touches-spec = tie.close (tie.spec clamped-requires places-requires reached-requires returns)

@@ -22,11 +22,11 @@ loop-holds c = search needs
 returns : tie.Need-returns Inv-loop μ-loop
 returns c = search needs
 
-mul-row : tie.Need-mul-row Inv-loop μ-loop
-mul-row c = search needs
+slice-aggregate-row-at : tie.Need-slice-aggregate-row-at Inv-loop μ-loop
+slice-aggregate-row-at c = search needs
 
-array-copy-out-row : tie.Need-array-copy-out-row Inv-loop μ-loop
-array-copy-out-row c = search needs
+row-at-requires : tie.Need-row-at-requires Inv-loop μ-loop
+row-at-requires c κs = inr (search needs)
 
 slice-aggregate-join-at : tie.Need-slice-aggregate-join-at Inv-loop μ-loop
 slice-aggregate-join-at c = search needs
@@ -41,7 +41,7 @@ others-requires : tie.Need-others-requires Inv-loop μ-loop
 others-requires c κs = search needs
 
 join-at-requires : tie.Need-join-at-requires Inv-loop μ-loop
-join-at-requires c κs = inr (c .before .before .before .before .before .before .loop .inv)
+join-at-requires c κs = inr (c .before .before .before .before .before .before .before .loop .inv)
 
 add-i : tie.Need-add-i Inv-loop μ-loop
 add-i c = search needs
@@ -50,7 +50,7 @@ loop-less : tie.Need-loop-less Inv-loop μ-loop
 loop-less c = search needs
 
 loop-again : tie.Need-loop-again Inv-loop μ-loop
-loop-again c = c .before .join-at .ensures .long ∙ c .before .before .before .before .before .before .before .before .loop .inv
+loop-again c = c .before .join-at .ensures .long ∙ c .before .before .before .before .before .before .before .before .before .loop .inv
 
 returns-2 : tie.Need-returns-2 Inv-loop μ-loop
 returns-2 c = search needs
@@ -64,8 +64,8 @@ apart-in-spec =
     no-square-requires
     loop-holds
     returns
-    mul-row
-    array-copy-out-row
+    slice-aggregate-row-at
+    row-at-requires
     slice-aggregate-join-at
     array-read-wide
     wide-requires

@@ -1,4 +1,6 @@
--- `test_plan_words::write_contacts` is safe and ends: each index is tested, and the number of turns left falls. Assumes nothing.
+-- `test_plan_words::write_contacts` is safe and ends: each index is tested, the number of turns left falls, and 1,024 words are a square.
+-- Assumes nothing.
+use mathlib.Core.Logic.{inr}
 use borrow.Author.Needs.{needs}
 use Prim.Native.Nat.{_-_}
 use Rattle.test_plan_words.proofs.write_contacts.Statement.{statement}
@@ -13,11 +15,11 @@ abbrev μ-loop : tie.MeasureT-loop
 loop-holds : tie.Need-loop-holds Inv-loop μ-loop
 loop-holds c = search needs
 
-mul-write-row : tie.Need-mul-write-row Inv-loop μ-loop
-mul-write-row c = search needs
+slice-aggregate-row-at : tie.Need-slice-aggregate-row-at Inv-loop μ-loop
+slice-aggregate-row-at c = search needs
 
-array-copy-out-write-row : tie.Need-array-copy-out-write-row Inv-loop μ-loop
-array-copy-out-write-row c = search needs
+row-at-requires : tie.Need-row-at-requires Inv-loop μ-loop
+row-at-requires c κs = inr (search needs)
 
 write-row-requires : tie.Need-write-row-requires Inv-loop μ-loop
 write-row-requires c κs = search needs
@@ -53,8 +55,8 @@ write-contacts-spec =
     Inv-loop
     μ-loop
     loop-holds
-    mul-write-row
-    array-copy-out-write-row
+    slice-aggregate-row-at
+    row-at-requires
     write-row-requires
     either-requires
     add-i
