@@ -4,8 +4,8 @@
 use mathlib.Core.Path.{_≡_}
 use mathlib.Core.Bool.{cond}
 use mathlib.Core.List.{List, [], _∷_, _++_}
-use Prim.Native.Nat.{ℕ, suc, _+_, _-_, _/_, _%_, _≤_, _<_}
-use lib.Dec.{eqb}
+use Prim.Native.Nat.{ℕ, zero, suc, _+_, _-_, _/_, _%_, _≤_, _<_}
+use lib.Dec.{eqb, ltb}
 use lib.ListN.{length, getD, take, drop}
 use Rattle.contact.specs.Question.{Question}
 use Rattle.formula.specs.Formula.{Name}
@@ -82,6 +82,16 @@ DepthsSay words at depth buffer exit end =
 unfoldable pub linesFrom : (ℕ → List ℕ) → ℕ → ℕ → List ℕ
 linesFrom line at count = collect line (from at count)
 
+-- how many of the lines that are left a piece has, where so many bytes are used: as many whole lines as fit, which have up to 1,024 bytes, so
+-- that one is put as long as no more than 15,360 of 16,384 are used
+abbrev pub fitting : (ℕ → List ℕ) → ℕ → ℕ → ℕ → ℕ
+fitting line zero at used = 0
+fitting line (suc left) at used = let more = fitting line left (suc at) (used + length (line at)) in cond (ltb 15360 used) 0 (suc more)
+
+-- the lines of a piece from an index on: none from `count` on
+unfoldable pub pieceLines : (ℕ → List ℕ) → ℕ → ℕ → ℕ
+pieceLines line count at = fitting line (count - at) at 0
+
 -- the text is in the buffer, or it is that of the lines of so many words, and the buffer is as it was
 pub data Answers (text : List ℕ) (line : ℕ → List ℕ) (buffer exit : List ℕ) : TextAnswer → Type 0 where
   short : {n : ℕ} → Reports text buffer n exit → Answers text line buffer exit (TextAnswer.Text n)
@@ -92,11 +102,10 @@ pub record Tells (q : Question) (text : List ℕ) (line : ℕ → List ℕ) (buf
   pub answers : Answers text line buffer exit answer
   pub room : (n : ℕ) → answer ≡ TextAnswer.Lines n → length text ≤ textRoom q
 
--- the lines from an index to the next are in the buffer: all that are left, or so many that a line of 1,024 bytes has no room behind them
+-- these lines are in the buffer, and the next is the one behind them; so all that are left are, or a line of 1,024 bytes has no room behind them
 pub record GivesPiece (line : ℕ → List ℕ) (count at : ℕ) (buffer : List ℕ) (r : Piece) (exit : List ℕ) : Type 0 where
-  pub lines : ℕ
-  pub next : r .next ≡ at + lines
-  pub reports : Reports (linesFrom line at lines) buffer (r .len) exit
+  pub next : r .next ≡ at + pieceLines line count at
+  pub reports : Reports (linesFrom line at (pieceLines line count at)) buffer (r .len) exit
   pub within : at ≤ count → r .next ≤ count
   pub full : r .next < count → 15360 < r .len
   pub forward : at < count → at < r .next

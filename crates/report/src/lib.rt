@@ -388,9 +388,10 @@ pub fn report(file: &[u8], out: &mut [u8; ROOM]) -> usize
     }
 }
 
-// Room for the words of a building.
+// Room for the words of a building: zeros.
 pub fn no_building() -> [u32; BUILDING]
     ensures { λ r. ⌜ length r ≡ 32642 ⌝ }
+    ensures { λ r. ⌜ r ≡ replicate 32642 0 ⌝ }
 {
     [0u32; BUILDING]
 }
@@ -403,7 +404,7 @@ pub fn report_building(file: &[u8], words: &mut [u32; BUILDING], out: &mut [u8; 
     put_report(file, Asked::Building, words, out)
 }
 
-// The next piece of a building's text, over the first bytes of the buffer: whole lines, from that of the word at an index on.
+// The next piece of a building's text, over the first bytes of the buffer: whole lines, from that of the word at an index on, as many as fit.
 pub fn building_piece(
     words: &[u32; BUILDING],
     count: usize,
@@ -689,7 +690,7 @@ pub fn why(
     put_why(table, words, depths, out)
 }
 
-// The next piece of a tree's text, over the first bytes of the buffer: whole lines, from that of the word at an index on.
+// The next piece of a tree's text, over the first bytes of the buffer: whole lines, from that of the word at an index on, as many as fit.
 pub fn why_piece(
     words: &[u32; TREE],
     depths: &[u8; TREE],
@@ -703,15 +704,17 @@ pub fn why_piece(
     put_reasons(words, depths, count, atoms, from, out)
 }
 
-// Room for the words of a tree, and for their depths.
+// Room for the words of a tree, and for their depths: zeros.
 pub fn no_tree() -> [u32; TREE]
     ensures { λ r. ⌜ length r ≡ 131071 ⌝ }
+    ensures { λ r. ⌜ r ≡ replicate 131071 0 ⌝ }
 {
     [0u32; TREE]
 }
 
 pub fn no_depths() -> [u8; TREE]
     ensures { λ r. ⌜ length r ≡ 131071 ⌝ }
+    ensures { λ r. ⌜ r ≡ replicate 131071 0 ⌝ }
 {
     [0u8; TREE]
 }
