@@ -10,7 +10,6 @@ use lib.Dec.{ltb}
 use lib.ListN.{length, getD, take, drop, length-append}
 use borrow.Author.Tests.{lt-ltb, le-ltb}
 use lib.Seq.{drop-drop, drop-at, take-append-seam}
-use Rattle.contact.specs.Question.{Question}
 use Rattle.lists.specs.Search.{collect, from}
 use Rattle.lists.proofs.Search.{collect-append, from-append}
 use Rattle.lists.proofs.Truth.{side}
@@ -19,8 +18,8 @@ use Rattle.lists.specs.Putting.{Puts}
 use Rattle.report.specs.declared.Piece.{Piece}
 use Rattle.report.specs.declared.TextAnswer.{TextAnswer}
 use Rattle.report.specs.declared.TextAnswer.the-variants as TextAnswer
-use Rattle.report.specs.Pieces.{linesFrom, fitting, pieceLines, Answers, Tells, GivesPiece, Pieces}
-use Rattle.report.specs.Putting.{textRoom, Reports}
+use Rattle.report.specs.Pieces.{linesFrom, fitting, pieceLines, Answers, GivesPiece, Pieces}
+use Rattle.report.specs.Putting.{Reports}
 use Rattle.report.proofs.Putting.{puts-over}
 
 -- the first of what stands from an index on, and what stands behind it
@@ -146,10 +145,6 @@ module _ (line : ℕ → List ℕ) where
 -- ---- what is answered
 
 module _ {text : List ℕ} {line : ℕ → List ℕ} {buffer exit : List ℕ} where
-  -- the same text, said in another way
-  pub answers-text : {a : TextAnswer} {other : List ℕ} → text ≡ other → Answers text line buffer exit a → Answers other line buffer exit a
-  answers-text {a} e h = subst (λ (l : List ℕ). Answers l line buffer exit a) e h
-
   pub answered-text : (a : TextAnswer) → Answers text line buffer exit a → (n : ℕ) → a ≡ TextAnswer.Text n → Reports text buffer n exit
   answered-text a (Answers.short {n = m} h) n e = let z : m ≡ n = cc in subst (λ (k : ℕ). Reports text buffer k exit) z h
   answered-text a (Answers.lines t k) n e = absurd (let z : _≡_ {A = ℕ} 0 1 = cc in omega arith)
@@ -165,20 +160,3 @@ module _ {text : List ℕ} {line : ℕ → List ℕ} {buffer exit : List ℕ} wh
   all-joined {count} pieces told p =
       let z : count - 0 ≡ count = omega arith in
       joined line 0 pieces p (omega arith) ∙ ap (linesFrom line 0) z ∙ answered-lines _ told count refl .0
-
--- ---- what is told of a plan
-
-module _ {q : Question} {text : List ℕ} {line : ℕ → List ℕ} {buffer exit : List ℕ} where
-  pub tells-short : {n : ℕ} → Reports text buffer n exit → Tells q text line buffer exit (TextAnswer.Text n)
-  tells-short h = record { answers = Answers.short h; room = λ n e. absurd (let z : _≡_ {A = ℕ} 0 1 = cc in omega arith) }
-
-  pub tells-text : {a : TextAnswer} {other : List ℕ} → text ≡ other → Tells q text line buffer exit a → Tells q other line buffer exit a
-  tells-text {a} e h = subst (λ (l : List ℕ). Tells q l line buffer exit a) e h
-
-  -- lines that have room in one piece are given by it
-  pub told-whole : {a : TextAnswer} {n : ℕ} {r : Piece} {last : List ℕ} → Tells q text line buffer exit a → textRoom q ≤ 15360 → a ≡ TextAnswer.Lines n
-      → GivesPiece line n 0 exit r last → Reports text buffer (r .len) last
-  told-whole {a} {n} {r} {last} tells small e g =
-      let w = answered-lines a (tells .answers) n e in
-      subst (λ (l : List ℕ). Reports text l (r .len) last) (w .1)
-      (subst (λ (l : List ℕ). Reports l exit (r .len) last) (w .0) (one-piece line g (omega (arith, small, tells .room n e, ap length (w .0)))))

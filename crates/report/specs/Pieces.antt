@@ -1,5 +1,6 @@
--- What is computed: the lines of a plan and of a tree word by word, so that they can be given in pieces; and the contracts of
--- `report_building` and `why`, and of `building_piece` and `why_piece`. For proofs: the depths of a tree's words. The claim `pieces-joined` of
+-- What is computed: the lines of a plan and of a tree word by word, so that they can be given in pieces; what the answers
+-- of `report_building` and `why` say of the text (their contracts are in Lent), and the contract of `building_piece` and `why_piece`. Also: the
+-- depths of a tree's words. The claim `pieces-joined` of
 -- proofs/Claims.antt says that the pieces of a sheet, one after the other, are its text. Assumes nothing.
 use mathlib.Core.Path.{_≡_}
 use mathlib.Core.Bool.{cond}
@@ -7,7 +8,6 @@ use mathlib.Core.List.{List, [], _∷_, _++_}
 use Prim.Native.Nat.{ℕ, zero, suc, _+_, _-_, _/_, _%_, _≤_, _<_}
 use lib.Dec.{eqb, ltb}
 use lib.ListN.{length, getD, take, drop}
-use Rattle.contact.specs.Question.{Question}
 use Rattle.formula.specs.Formula.{Name}
 use Rattle.lists.specs.Search.{collect, from}
 use Rattle.lists.specs.Putting.{Puts}
@@ -17,7 +17,7 @@ use Rattle.report.specs.declared.TextAnswer.{TextAnswer}
 use Rattle.report.specs.declared.TextAnswer.the-variants as TextAnswer
 use Rattle.report.specs.declared.Piece.{Piece}
 use Rattle.report.specs.Lines.{headLine, pointLine, contactLine, indented, splitText, ruleText, floorlessText}
-use Rattle.report.specs.Putting.{textRoom, Reports}
+use Rattle.report.specs.Putting.{Reports}
 
 -- ---- the lines of a plan's words
 
@@ -96,11 +96,6 @@ pieceLines line count at = fitting line (count - at) at 0
 pub data Answers (text : List ℕ) (line : ℕ → List ℕ) (buffer exit : List ℕ) : TextAnswer → Type 0 where
   short : {n : ℕ} → Reports text buffer n exit → Answers text line buffer exit (TextAnswer.Text n)
   lines : {n : ℕ} → linesFrom line 0 n ≡ text → exit ≡ buffer → Answers text line buffer exit (TextAnswer.Lines n)
-
--- for proofs: it is so answered, and the lines of a plan have at most so many bytes
-pub record Tells (q : Question) (text : List ℕ) (line : ℕ → List ℕ) (buffer exit : List ℕ) (answer : TextAnswer) : Type 0 where
-  pub answers : Answers text line buffer exit answer
-  pub room : (n : ℕ) → answer ≡ TextAnswer.Lines n → length text ≤ textRoom q
 
 -- these lines are in the buffer, and the next is the one behind them; so all that are left are, or a line of 1,024 bytes has no room behind them
 pub record GivesPiece (line : ℕ → List ℕ) (count at : ℕ) (buffer : List ℕ) (r : Piece) (exit : List ℕ) : Type 0 where

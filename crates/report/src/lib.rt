@@ -8,10 +8,12 @@ ghost use mathlib.Core.List.{[], _∷_};
 ghost use Prim.Native.Nat.{_+_, _-_, _*_, _≤_, _<_};
 ghost use lib.ListN.{length, getD, replicate, take, drop};
 ghost use Rattle.contact.specs.Question.{plain, building};
+ghost use Rattle.contact.specs.Numbering.{namesOf};
 ghost use Rattle.evalset.specs.Bit.{bit};
 ghost use Rattle.lists.specs.Search.{collect};
 ghost use Rattle.lists.specs.Putting.{Puts};
 ghost use Rattle.names.specs.Gather.{bytesIn, knownOf};
+ghost use Rattle.plan.specs.Plans.{plansOf};
 ghost use Rattle.search.specs.Asked.{questionOf};
 ghost use Rattle.table.specs.Store.{rulesOf};
 ghost use Rattle.table.specs.Calls.{formulasOf, FromUs};
@@ -19,9 +21,11 @@ ghost use Rattle.table.specs.Asking.{Asks};
 ghost use Rattle.table.specs.Rows.{SomeStand};
 ghost use Rattle.table.specs.Numbers.{CanCome, loadOutcome};
 ghost use Rattle.table.specs.AtomText.{atomTextOf};
+ghost use Rattle.trees.specs.Checker.{treesOf};
 ghost use Rattle.report.specs.Output.{outcomeText, rulesText, outputOf, asReadOf, reasonsText, whyOf};
 ghost use Rattle.report.specs.Lines.{decimal, labelled, headLine, nameIf, pointNames, namesOrNone, blanked, pointLine, contactLine, ruleLines, refusedText, margin, indented};
-ghost use Rattle.report.specs.Pieces.{planLine, planLineAt, saying, held, heldAt, lineAt, DepthsSay, Answers, Tells, GivesPiece};
+ghost use Rattle.report.specs.Pieces.{planLine, planLineAt, saying, held, heldAt, lineAt, DepthsSay, GivesPiece};
+ghost use Rattle.report.specs.Lent.{ofSheet, sheetAtoms, keptText, textsOf, Tells, Whys};
 ghost use Rattle.report.specs.Putting.{wordRoom, Reports};
 use names::KeptName;
 use names::Names;
@@ -318,7 +322,7 @@ fn ask(table: Table, asked: Asked, words: &mut [u32]) -> AskResult
 // The text for the rules that stand, by a question: its plan is put into the words, or that there is none into the buffer.
 fn put_rules(table: Table, asked: Asked, words: &mut [u32], out: &mut [u8]) -> PlanResult
     requires { ⌜ FromUs table × SomeStand (rulesOf table) × (wordRoom (questionOf asked) ≤ length (now words)) × (16384 ≤ length (now out)) ⌝ }
-    ensures { λ r. ⌜ Tells (questionOf asked) (rulesText (questionOf asked) (formulasOf (rulesOf table))) (planLineAt (knownOf (r .names)) (now (words .exit))) (now (out .entry)) (now (out .exit)) (r .answer) ⌝ }
+    ensures { λ r. ⌜ Tells (questionOf asked) (rulesText (questionOf asked) (formulasOf (rulesOf table))) (plansOf (questionOf asked) (formulasOf (rulesOf table))) (namesOf (formulasOf (rulesOf table))) (now (words .entry)) (now (out .entry)) r (now (words .exit)) (now (out .exit)) ⌝ }
 {
     let names = table.names();
     let given = ask(table, asked, words);
@@ -339,7 +343,7 @@ fn put_rules(table: Table, asked: Asked, words: &mut [u32], out: &mut [u8]) -> P
 // The text for a sheet, by a question.
 fn put_report(file: &[u8], asked: Asked, words: &mut [u32], out: &mut [u8]) -> PlanResult
     requires { ⌜ (wordRoom (questionOf asked) ≤ length (now words)) × (16384 ≤ length (now out)) ⌝ }
-    ensures { λ r. ⌜ Tells (questionOf asked) (outputOf (questionOf asked) (now (file .entry))) (planLineAt (knownOf (r .names)) (now (words .exit))) (now (out .entry)) (now (out .exit)) (r .answer) ⌝ }
+    ensures { λ r. ⌜ Tells (questionOf asked) (outputOf (questionOf asked) (now (file .entry))) (ofSheet (plansOf (questionOf asked)) (now (file .entry))) (ofSheet namesOf (now (file .entry))) (now (words .entry)) (now (out .entry)) r (now (words .exit)) (now (out .exit)) ⌝ }
 {
     let t = Table::empty();
     let loaded = t.load(file);
@@ -397,9 +401,9 @@ pub fn no_building() -> [u32; BUILDING]
 }
 
 // The text for one building for a sheet of any bytes: a short one over the first bytes of the buffer, where it is refused or has no plan, or the
-// plan, as the words that are lent and the names.
+// plan, as the words that are lent and the names. What is not written keeps its values.
 pub fn report_building(file: &[u8], words: &mut [u32; BUILDING], out: &mut [u8; ROOM]) -> PlanResult
-    ensures { λ r. ⌜ Answers (outputOf building (now (file .entry))) (planLineAt (knownOf (r .names)) (now (words .exit))) (now (out .entry)) (now (out .exit)) (r .answer) ⌝ }
+    ensures { λ r. ⌜ Tells building (outputOf building (now (file .entry))) (ofSheet (plansOf building) (now (file .entry))) (ofSheet namesOf (now (file .entry))) (now (words .entry)) (now (out .entry)) r (now (words .exit)) (now (out .exit)) ⌝ }
 {
     put_report(file, Asked::Building, words, out)
 }
@@ -609,7 +613,7 @@ fn put_depths(words: &[u32], at: usize, depth: u8, depths: &mut [u8]) -> usize
 // The text of the atom with this number, of no bytes where there is none.
 fn atom_text(table: Table, which: usize) -> AtomText
     requires { ⌜ FromUs table ⌝ }
-    ensures { λ r. ⌜ held r ≡ atomTextOf (formulasOf (rulesOf table)) which ⌝ }
+    ensures { λ r. ⌜ r ≡ keptText (atomTextOf (formulasOf (rulesOf table)) which) ⌝ }
 {
     let mut bytes = [0u8; 256];
     let printed = table.atom(which, &mut bytes);
@@ -621,7 +625,7 @@ fn atom_text(table: Table, which: usize) -> AtomText
 
 // Room for the texts of atoms.
 fn no_texts() -> [AtomText; 16]
-    ensures { λ r. ⌜ length r ≡ 16 ⌝ }
+    ensures { λ r. ⌜ r ≡ replicate 16 (keptText []) ⌝ }
 {
     let bytes = [0u8; 256];
     let text = AtomText { bytes, len: 0 };
@@ -631,7 +635,7 @@ fn no_texts() -> [AtomText; 16]
 // The texts of the atoms by their numbers.
 fn atom_texts(table: Table) -> [AtomText; 16]
     requires { ⌜ FromUs table ⌝ }
-    ensures { λ r. ⌜ heldAt r ≡ atomTextOf (formulasOf (rulesOf table)) ⌝ }
+    ensures { λ r. ⌜ r ≡ textsOf (atomTextOf (formulasOf (rulesOf table))) ⌝ }
 {
     let mut texts = no_texts();
     let mut i: usize = 0;
@@ -646,7 +650,7 @@ fn atom_texts(table: Table) -> [AtomText; 16]
 // Why the rules that stand have no plan.
 fn put_why(table: Table, words: &mut [u32], depths: &mut [u8], out: &mut [u8]) -> WhyResult
     requires { ⌜ FromUs table × SomeStand (rulesOf table) × (length (now words) ≡ 131071) × (length (now depths) ≡ 131071) × (16384 ≤ length (now out)) ⌝ }
-    ensures { λ r. ⌜ Answers (reasonsText (formulasOf (rulesOf table))) (lineAt (now (words .exit)) (now (depths .exit)) (r .atoms)) (now (out .entry)) (now (out .exit)) (r .answer) ⌝ }
+    ensures { λ r. ⌜ Whys (reasonsText (formulasOf (rulesOf table))) (treesOf (formulasOf (rulesOf table))) (atomTextOf (formulasOf (rulesOf table))) (now (words .entry)) (now (depths .entry)) (now (out .entry)) r (now (words .exit)) (now (depths .exit)) (now (out .exit)) ⌝ }
 {
     let atoms = atom_texts(table);
     let given = table.explain(words);
@@ -666,14 +670,14 @@ fn put_why(table: Table, words: &mut [u32], depths: &mut [u8], out: &mut [u8]) -
 }
 
 // Why a sheet of any bytes has no plan: a short text over the first bytes of the buffer, where it is refused or has a plan, or its tree, as the
-// words that are lent, their depths and the texts of the atoms.
+// words that are lent, their depths and the texts of the atoms. What is not written keeps its values.
 pub fn why(
     file: &[u8],
     words: &mut [u32; TREE],
     depths: &mut [u8; TREE],
     out: &mut [u8; ROOM],
 ) -> WhyResult
-    ensures { λ r. ⌜ Answers (whyOf (now (file .entry))) (lineAt (now (words .exit)) (now (depths .exit)) (r .atoms)) (now (out .entry)) (now (out .exit)) (r .answer) ⌝ }
+    ensures { λ r. ⌜ Whys (whyOf (now (file .entry))) (ofSheet treesOf (now (file .entry))) (sheetAtoms (now (file .entry))) (now (words .entry)) (now (depths .entry)) (now (out .entry)) r (now (words .exit)) (now (depths .exit)) (now (out .exit)) ⌝ }
 {
     let t = Table::empty();
     let loaded = t.load(file);
