@@ -48,20 +48,8 @@ const LINE: usize = 1024;
 // The words of the largest building.
 pub const BUILDING: usize = 32642;
 
-// The kinds of words, in front of 28 bits: those of a plan, and those of a tree.
+// A word's kind is in front of 28 bits.
 const KIND: u32 = 0x1000_0000;
-
-const FIRST: u32 = 1;
-
-const POINT: u32 = 2;
-
-const CONTACT: u32 = 3;
-
-const LONG_FIRST: u32 = 8;
-
-const SPLIT: u32 = 5;
-
-const RULE: u32 = 6;
 
 // What is answered for a sheet: a text of so many bytes, which is in the buffer, or one of so many words, whose lines are given in pieces.
 pub enum TextAnswer {
@@ -237,27 +225,22 @@ fn position_of(i: usize) -> usize
     if 0 < i { i - 1 } else { 0 }
 }
 
-// The line of a plan's word at an index, which is one past a point's position.
+// The line of a plan's word at an index, which is one past a point's position: by its kind.
 fn put_word(word: u32, i: usize, names: Names, out: &mut [u8], at: usize) -> usize
     requires { ⌜ at + 1024 ≤ length (now out) ⌝ }
     ensures { λ r. ⌜ Puts at (planLine (knownOf names) i word) (now (out .entry)) (now (out .exit)) r ⌝ }
 {
-    let kind = word / KIND;
     let body = (word % KIND) as usize;
-    if kind == FIRST {
-        return put_head(body / 256, body % 256, out, at);
+    match word / KIND {
+        1 => put_head(body / 256, body % 256, out, at),
+        2 => {
+            let place = position_of(i);
+            put_point(names, place, (body % 256) as u8, out, at)
+        }
+        3 => put_contact(body / 256, body % 256, out, at),
+        8 => put_head(body / 65536, body % 65536, out, at),
+        _ => at,
     }
-    if kind == LONG_FIRST {
-        return put_head(body / 65536, body % 65536, out, at);
-    }
-    if kind == POINT {
-        let place = position_of(i);
-        return put_point(names, place, (body % 256) as u8, out, at);
-    }
-    if kind == CONTACT {
-        return put_contact(body / 256, body % 256, out, at);
-    }
-    at
 }
 
 // The word at an index; 0 past the last.
@@ -476,9 +459,6 @@ pub fn as_read(file: &[u8], out: &mut [u8; ROOM]) -> usize
 // The words of the largest tree.
 pub const TREE: usize = 131071;
 
-// How deep a split may lie: there are 16 atoms.
-const DEEPEST: u8 = 16;
-
 // The text of an atom: its first bytes, as many as its length.
 pub struct AtomText {
     pub bytes: [u8; 256],
@@ -523,29 +503,32 @@ fn put_atom(atoms: [AtomText; 16], which: usize, out: &mut [u8], at: usize) -> u
     requires { ⌜ at + 256 ≤ length (now out) ⌝ }
     ensures { λ r. ⌜ Puts at (heldAt atoms which) (now (out .entry)) (now (out .exit)) r × (r ≤ at + 256) ⌝ }
 {
-    if which < 16 {
-        let text = atoms[which];
-        return put_atom_text(text, out, at);
+    match which {
+        0..=15 => {
+            let text = atoms[which];
+            put_atom_text(text, out, at)
+        }
+        _ => at,
     }
-    at
 }
 
-// What a word says.
+// What a tree's word says, by its kind.
 fn put_saying(word: u32, atoms: [AtomText; 16], out: &mut [u8], at: usize) -> usize
     requires { ⌜ at + 266 ≤ length (now out) ⌝ }
     ensures { λ r. ⌜ Puts at (saying (heldAt atoms) word) (now (out .entry)) (now (out .exit)) r × (r ≤ at + 266) ⌝ }
 {
-    let kind = word / KIND;
     let body = (word % KIND) as usize;
-    if kind == SPLIT {
-        let end = put_text(b"split on ", out, at);
-        return put_atom(atoms, body, out, end);
+    match word / KIND {
+        5 => {
+            let end = put_text(b"split on ", out, at);
+            put_atom(atoms, body, out, end)
+        }
+        6 => {
+            let end = put_labelled(b"rule ", body, out, at);
+            put_text(b" is false here", out, end)
+        }
+        _ => put_text(b"no floor", out, at),
     }
-    if kind == RULE {
-        let end = put_labelled(b"rule ", body, out, at);
-        return put_text(b" is false here", out, end);
-    }
-    put_text(b"no floor", out, at)
 }
 
 // The line of a word at its depth.
@@ -591,7 +574,8 @@ fn put_reasons(
     Piece { len: end, next }
 }
 
-// The depths of the words of the tree whose first word, at this index, has this depth; the index after its last word.
+// The depths of the words of the tree whose first word, at this index, has this depth; the index after its last word. A split lies at most
+// fifteen deep: there are 16 atoms.
 fn put_depths(words: &[u32], at: usize, depth: u8, depths: &mut [u8]) -> usize
     requires { ⌜ length (now words) ≤ length (now depths) ⌝ }
     ensures { λ r. ⌜ (length (now (depths .exit)) ≡ length (now (depths .entry))) × DepthsSay (now (words .entry)) at depth (now (depths .entry)) (now (depths .exit)) r ⌝ }
@@ -600,14 +584,16 @@ fn put_depths(words: &[u32], at: usize, depth: u8, depths: &mut [u8]) -> usize
         return at;
     }
     depths[at] = depth;
-    if words[at] / KIND != SPLIT {
-        return at + 1;
+    match words[at] / KIND {
+        5 => match depth {
+            0..=15 => {
+                let middle = put_depths(words, at + 1, depth + 1, depths);
+                put_depths(words, middle, depth + 1, depths)
+            }
+            _ => at + 1,
+        },
+        _ => at + 1,
     }
-    if DEEPEST <= depth {
-        return at + 1;
-    }
-    let middle = put_depths(words, at + 1, depth + 1, depths);
-    put_depths(words, middle, depth + 1, depths)
 }
 
 // The text of the atom with this number, of no bytes where there is none.
