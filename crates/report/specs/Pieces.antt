@@ -1,7 +1,6 @@
--- What is computed: the lines of a plan and of a tree word by word, so that they can be given in pieces; what the answers
--- of `report_building` and `why` say of the text (their contracts are in Lent), and the contract of `building_piece` and `why_piece`. Also: the
--- depths of a tree's words. The claim `pieces-joined` of
--- proofs/Claims.antt says that the pieces of a sheet, one after the other, are its text. Assumes nothing.
+-- What is computed: the lines of a plan and of a tree word by word, so that they can be given in pieces; the contract of `building_piece` and
+-- `why_piece`, and what an answer of `report_building` and of `why` says of the text, whose contracts are in Lent. The depths of a tree's words.
+-- The claim `pieces-joined` of proofs/Claims.antt says that the pieces of a sheet, one after the other, are its text. Assumes nothing.
 use mathlib.Core.Path.{_≡_}
 use mathlib.Core.Bool.{cond}
 use mathlib.Core.List.{List, [], _∷_, _++_}
