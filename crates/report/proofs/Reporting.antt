@@ -35,10 +35,10 @@ use Rattle.table.specs.Calls.{formulasOf, namesIn, atomsIn, judgeLoad, ifLoaded
 use Rattle.table.specs.Asking.{asked, Asks}
 use Rattle.table.specs.Rows.{SomeStand, AskRow, LoadRow}
 use Rattle.plan.specs.Meant.{IsGiven}
-use Rattle.table.proofs.Claims.{ask-answered, load-answered, load-can-come, rules-back}
+use Rattle.table.proofs.Claims.{ask-answered, load-answered, rules-back}
 use Rattle.table.specs.declared.Outcome.{Outcome}
 use Rattle.table.specs.declared.Outcome.the-variants as Outcome
-use Rattle.table.specs.Numbers.{CanCome, loadOutcome, askOutcome}
+use Rattle.table.specs.Numbers.{loadOutcome, askOutcome}
 use Rattle.table.proofs.Rules.{of-computed, can-read, can-names, can-atoms}
 use Rattle.table.proofs.Standing.{not-loaded}
 use Rattle.table.proofs.Asking.{words-written}
@@ -187,10 +187,6 @@ module _ (t : Table) (file : Text) (r : LoadResult) (loads : Loads t file r) whe
   pub answer-is : r .answer ≡ judgeLoad file
   unfolding loaded
   answer-is = ap (λ (x : LoadResult). x .answer) (loads .result)
-
-  -- its answer is one that has a text
-  pub answer-comes : CanCome (r .answer)
-  answer-comes = subst CanCome (sym answer-is) (load-can-come file)
 
   -- a refused sheet has its refusal's text
   pub refused-text : (given : List (Formula Name) → List ℕ) → (r .answer ≡ LoadAnswer.Loaded → ⊥)

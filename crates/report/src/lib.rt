@@ -17,7 +17,7 @@ ghost use Rattle.table.specs.Store.{rulesOf};
 ghost use Rattle.table.specs.Calls.{formulasOf, FromUs};
 ghost use Rattle.table.specs.Asking.{Asks};
 ghost use Rattle.table.specs.Rows.{SomeStand};
-ghost use Rattle.table.specs.Numbers.{CanCome, loadOutcome};
+ghost use Rattle.table.specs.Numbers.{loadOutcome};
 ghost use Rattle.table.specs.AtomText.{atomTextOf};
 ghost use Rattle.report.specs.Output.{outcomeText, rulesText, outputOf, asReadOf, reasonsText, whyOf};
 ghost use Rattle.report.specs.Lines.{decimal, labelled, headLine, nameIf, pointNames, namesOrNone, blanked, pointLine, contactLine, ruleLines, refusedText, margin, indented};
@@ -294,7 +294,7 @@ fn put_refused(number: usize, line: usize, place: usize, out: &mut [u8], at: usi
 
 // What a load's answer says: nothing where it is loaded.
 fn put_refusal(answer: LoadAnswer, out: &mut [u8], at: usize) -> usize
-    requires { ⌜ CanCome answer × (at + 79 ≤ length (now out)) ⌝ }
+    requires { ⌜ at + 79 ≤ length (now out) ⌝ }
     ensures { λ r. ⌜ Puts at (outcomeText (loadOutcome answer)) (now (out .entry)) (now (out .exit)) r ⌝ }
 {
     let said = table::load_outcome(answer);

@@ -4,7 +4,7 @@ use Rattle.search.specs.Asked.{questionOf}
 use Rattle.report.specs.Output.{rulesText}
 use Rattle.report.proofs.Putting.{puts-over}
 use Rattle.report.proofs.Pieces.{tells-short, tells-text}
-use Rattle.report.proofs.Reporting.{told-not-loaded, answer-comes, refused-text, loaded-some, loaded-text}
+use Rattle.report.proofs.Reporting.{told-not-loaded, refused-text, loaded-some, loaded-text}
 use borrow.Author.Needs.{needs}
 use Rattle.report.proofs.put_report.Statement.{statement}
 use Rattle.report.proofs.put_report.Tie as tie
@@ -19,7 +19,7 @@ enum-told : tie.Need-enum-told
 enum-told c = search needs
 
 put-refusal-requires : tie.Need-put-refusal-requires
-put-refusal-requires c κs = (answer-comes _ _ _ (c .before .before .load .ensures), search needs)
+put-refusal-requires c κs = search needs
 
 no-names-requires : tie.Need-no-names-requires
 no-names-requires c κs = search needs

@@ -4,7 +4,7 @@ use Rattle.report.specs.Output.{reasonsText}
 use Rattle.report.specs.Pieces.{Answers}
 use Rattle.report.proofs.Putting.{puts-over}
 use Rattle.report.proofs.Pieces.{answers-text}
-use Rattle.report.proofs.Reporting.{told-not-loaded, answer-comes, refused-text, loaded-some, loaded-text}
+use Rattle.report.proofs.Reporting.{told-not-loaded, refused-text, loaded-some, loaded-text}
 use borrow.Author.Needs.{needs}
 use Rattle.report.proofs.why.Statement.{statement}
 use Rattle.report.proofs.why.Tie as tie
@@ -19,7 +19,7 @@ enum-told : tie.Need-enum-told
 enum-told c = search needs
 
 put-refusal-requires : tie.Need-put-refusal-requires
-put-refusal-requires c κs = (answer-comes _ _ _ (c .before .before .load .ensures), search needs)
+put-refusal-requires c κs = search needs
 
 no-texts-requires : tie.Need-no-texts-requires
 no-texts-requires c κs = search needs
