@@ -11,7 +11,7 @@ use Rattle.table.specs.Sheet.{Text}
 use Rattle.table.specs.Stands.{Call, Stands}
 use Rattle.table.specs.Runs.{run}
 use Rattle.table.proofs.Claims as table
-use Rattle.theorems.specs.Demands.{Leaves, Answered, Meant, Same, Roomy, Reasons, InHand}
+use Rattle.theorems.specs.Demands.{Leaves, Answered, Meant, Same, EnoughRoom, Reasons, InHand}
 use Rattle.theorems.specs.Order.{SameRules, InAnyOrder, SameLines, LinesInAnyOrder}
 use Rattle.theorems.specs.Worked.{WorkedSheet, workedSheets, Holds}
 use Rattle.theorems.proofs.Demands as Demands
@@ -51,8 +51,8 @@ pub demand-three : (cs : List Call) (t : Table) (rs : List Text) → Leaves cs t
 demand-three = Demands.demand-three
 
 -- after any calls, 530 words are room for every plan, 32,642 for every building, 131,071 for every tree and 256 bytes for every rule
-pub room-enough : (cs : List Call) (t : Table) → Leaves cs t → Roomy t
-room-enough = Room.roomy
+pub room-enough : (cs : List Call) (t : Table) → Leaves cs t → EnoughRoom t
+room-enough = Room.enough-room
 
 -- document 02, T-06: after any calls, what check_tree accepts has no plan, it accepts every tree that explain writes, and explain has a tree
 -- exactly where ask says "no plan"

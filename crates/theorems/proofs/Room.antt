@@ -28,7 +28,7 @@ use Rattle.table.specs.Stands.{Call, Stands}
 use Rattle.table.specs.Runs.{run, standing}
 use Rattle.table.proofs.Rules.{are-one}
 use Rattle.table.proofs.Claims as table
-use Rattle.theorems.specs.Demands.{Leaves, wordsEnough, treeEnough, Roomy}
+use Rattle.theorems.specs.Demands.{Leaves, wordsEnough, treeEnough, EnoughRoom}
 use Rattle.theorems.proofs.Demands.{left, leaves-run, demand-one}
 
 module _ (rs : List Text) (h : CanStand rs) where
@@ -66,8 +66,8 @@ print-fits rs k room l o (PrintRow.none z) n e = absurd (let z : _≡_ {A = ℕ}
 print-fits rs k room l o (PrintRow.short {s} {f} at rule x) n e = omega (arith, l, x, never-longer s f rule, rule .short)
 print-fits rs k room l o (PrintRow.text at rule x) n e = absurd (let z : _≡_ {A = ℕ} 0 1 = cc in omega arith)
 
-pub roomy : (cs : List Call) (t : Table) → Leaves cs t → Roomy t
-roomy cs t l =
+pub enough-room : (cs : List Call) (t : Table) → Leaves cs t → EnoughRoom t
+enough-room cs t l =
     let rs : List Text = standing cs in
     let stands : Stands cs rs = table.standing-stands cs in
     let can : CanStand rs = table.stands-within cs rs stands in

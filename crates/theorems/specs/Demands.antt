@@ -219,7 +219,7 @@ abbrev pub treeEnough : ℕ
 treeEnough = 131071
 
 -- a rule that was read has at most 256 bytes, and "A written rule is never longer than the one that was read" (T-02)
-pub record Roomy (t : Table) : Type 0 where
+pub record EnoughRoom (t : Table) : Type 0 where
   pub ask : (q : Question) (buffer : List ℕ) (r : AskResult) (exit : List ℕ) → Asks q t buffer r exit → wordsEnough q ≤ length buffer
       → (needed : ℕ) → askOutcome (r .answer) ≡ Outcome.Refused 12 needed → ⊥
   pub explain : (buffer : List ℕ) (r : ExplainResult) (exit : List ℕ) → Explains t buffer r exit → treeEnough ≤ length buffer
