@@ -1,7 +1,7 @@
 -- What the crate proves, in the order of document 01, each claim with the file that has its proof. Nothing is assumed: any
 -- number of names, of atoms and of points. Floors and rules are those of specs/Meaning.antt; which floors count is a parameter, the question of
 -- specs/Question.antt.
-use mathlib.Core.Bool.{Bool, true, false, not}
+use mathlib.Core.Bool.{Bool, true, false, not, _&&_, _||_, Bool·beq}
 use mathlib.Core.Path.{_≡_}
 use mathlib.Core.Logic.{_↔_}
 use mathlib.Core.List.{List, [], _∷_, map}
@@ -15,24 +15,27 @@ use Rattle.contact.specs.Meaning.{Floor, atomOn, meetsAll}
 use Rattle.contact.specs.Question.{Question, plain, building, HangsTogether, Somewhere, Counts, NoFloor}
 use Rattle.formula.specs.Names.{atomNames}
 use Rattle.formula.specs.Same.{name-discrete, sameAtom}
-use Rattle.contact.specs.Numbering.{allAtoms, distinct, sameName, namesOf, numberOf, nameOf, differentAtoms, atomNumber, numberedAtoms, rowAtoms, AtomBelow, AtomsBelow}
-use Rattle.contact.specs.Row.{IsFirstRow, Row, Realises, Realisable, is, PartialRow, RealisesPart, rulesTrue, Sound, Exact}
+use Rattle.contact.specs.Numbering.{allAtoms, distinct, IsFirst, sameName, namesOf, numberOf, nameOf, differentAtoms, atomNumber, numberedAtoms, rowAtoms, AtomBelow, AtomsBelow}
+use Rattle.contact.specs.Row.{IsFirstRow, Row, Realises, Realisable, is, PartialRow, Three, RealisesPart, rulesTrue}
 use Rattle.contact.specs.Plan.{Mark, marksOf, rowMarks, separated, may, allowed, Linked, IsPiece, ArePoints, trueContacts, falseZeros}
 use Rattle.contact.specs.Pieces.{wholePiece}
 use Rattle.contact.specs.Check.{check, passes, pointsFor, rows, good, firstRow, firstRowOf}
 use Rattle.contact.specs.Pairs.{pairCheck}
-use Rattle.contact.specs.Tableau.{refutes, closes, search}
+use Rattle.contact.specs.Kleene.{kleeneValue, Strong, StrongPrefix}
+use Rattle.contact.specs.Tableau.{Sound, Exact, refutes, closes, search}
 use Rattle.contact.proofs.Bits
 use Rattle.contact.proofs.Somewhere
 use Rattle.contact.proofs.Pieces
 use Rattle.contact.proofs.Floors
 use Rattle.contact.proofs.Pairs
+use Rattle.contact.proofs.Distinct
 use Rattle.contact.proofs.Same
 use Rattle.contact.proofs.Numbered
 use Rattle.contact.proofs.Answer
 use Rattle.contact.proofs.Naming
 use Rattle.contact.proofs.Order
 use Rattle.contact.proofs.SameFloor
+use Rattle.contact.proofs.Strong
 use Rattle.contact.proofs.Searching
 use Rattle.contact.proofs.Count
 
@@ -72,6 +75,12 @@ same-value F a b h = Same.same-value F name-discrete a b h
 pub atom-found : (rules : List (Formula Name)) (none : Atom Name) {a : Atom Name} → In a (allAtoms rules)
     → (atomNumber rules a < length (differentAtoms rules)) × (sameAtom name-discrete (getD (differentAtoms rules) (atomNumber rules a) none) a ≡ true)
 atom-found rules none i = Numbered.atom-found rules none i
+
+-- "The witness of an exchanged contact is taken from its first writing": of all writings that are the same as an atom, the atom with its
+-- number is the one that stands first in the rules (Distinct)
+pub first-writing : (rules : List (Formula Name)) (none : Atom Name) {a : Atom Name} → In a (allAtoms rules)
+    → IsFirst (sameAtom name-discrete) (allAtoms rules) a (getD (differentAtoms rules) (atomNumber rules a) none)
+first-writing rules none {a} i = Distinct.first-of (sameAtom name-discrete) (Same.same-alike name-discrete) none (allAtoms rules) a i
 
 -- "numbered by first place": the numbers as they stand in the rules, each at its first place, are 0, 1, 2 and so on
 pub numbered-in-order : (rules : List (Formula Name)) → distinct eqb (allAtoms (numberedAtoms rules)) ≡ below (length (differentAtoms rules))
@@ -228,6 +237,26 @@ points-room = Count.points-room
 -- one fewer where a name is used
 pub points-room-named : (q : Question) (n : ℕ) (ms : List Mark) → 0 < n → length (pointsFor q n ms) ≤ 2 ^ n - 1
 points-room-named = Count.points-room-named
+
+-- ---- Kleene's strong tables (Strong)
+
+-- from the values of its operands a connective has a value exactly if every way to decide those that are unknown gives it; each operand is
+-- decided by itself, so that f<->f is unknown where f is
+module _ (v : ℕ → Three) where
+  pub negation-strong : (f : Form ℕ) → StrongPrefix not (kleeneValue v f) (kleeneValue v (Form.negation f))
+  negation-strong = Strong.negation-strong v
+
+  pub conjunction-strong : (f g : Form ℕ) → Strong _&&_ (kleeneValue v f) (kleeneValue v g) (kleeneValue v (Form.conjunction f g))
+  conjunction-strong = Strong.conjunction-strong v
+
+  pub disjunction-strong : (f g : Form ℕ) → Strong _||_ (kleeneValue v f) (kleeneValue v g) (kleeneValue v (Form.disjunction f g))
+  disjunction-strong = Strong.disjunction-strong v
+
+  pub implication-strong : (f g : Form ℕ) → Strong (λ x y. not x || y) (kleeneValue v f) (kleeneValue v g) (kleeneValue v (Form.implication f g))
+  implication-strong = Strong.implication-strong v
+
+  pub equivalence-strong : (f g : Form ℕ) → Strong Bool·beq (kleeneValue v f) (kleeneValue v g) (kleeneValue v (Form.equivalence f g))
+  equivalence-strong = Strong.equivalence-strong v
 
 -- ---- the search (Searching)
 

@@ -14,7 +14,7 @@ use Rattle.lists.specs.Search.{In, here, next, keep, below}
 use Rattle.lists.proofs.Lists.{map-agree}
 use Rattle.lists.proofs.Search.{none-in, uncons, at-head, any-intro, any-elim, in-right, keep-elim, keep-append, keep-shorter, map-from}
 use Rattle.lists.proofs.Truth.{clash, cases, of-cond}
-use Rattle.contact.specs.Numbering.{distinct, position}
+use Rattle.contact.specs.Numbering.{distinct, position, IsFirst}
 use Rattle.contact.specs.Putting.{isIn, put}
 
 -- a test that is an equivalence: what is the same is the same as the same elements
@@ -214,6 +214,46 @@ module _ {N : Type 0} (same : N → N → Bool) where
     position-alike [] x y h = refl
     position-alike (k ∷ ks) x y h =
         ap₂ (λ (b : Bool) (n : ℕ). cond b 0 (suc n)) (either-way k x y h) (position-alike ks x y h)
+
+    -- ---- the first of those that are the same
+
+    -- the element at the place of w stays where those are taken out that are the same as x, which w is not
+    kept-place : (d x w : N) (ks : List N) → same x w ≡ false
+        → getD (keep (λ y. not (same x y)) ks) (position same (keep (λ y. not (same x y)) ks) w) d ≡ getD ks (position same ks w) d
+    kept-place d x w [] h = refl
+    kept-place d x w (k ∷ ks) h = go (same x k) refl (same k w) refl (kept-place d x w ks h)
+      where
+        kept : List N
+        kept = keep (λ y. not (same x y)) ks
+
+        go : (b : Bool) → same x k ≡ b → (c : Bool) → same k w ≡ c → getD kept (position same kept w) d ≡ getD ks (position same ks w) d
+            → getD (cond (not b) (k ∷ kept) kept) (position same (cond (not b) (k ∷ kept) kept) w) d ≡ getD (k ∷ ks) (cond c 0 (suc (position same ks w))) d
+        go true e true f r = clash f (sym (is .alike x k e w) ∙ h)
+        go true e false f r = r
+        go false e true f r = ap (λ (c : Bool). getD (k ∷ kept) (cond c 0 (suc (position same kept w))) d) f
+        go false e false f r = ap (λ (c : Bool). getD (k ∷ kept) (cond c 0 (suc (position same kept w))) d) f ∙ r
+
+    -- the distinct element at an element's place stands first of those that are the same
+    pub first-of : (d : N) (xs : List N) (w : N) → In w xs → IsFirst same xs w (getD (distinct same xs) (position same (distinct same xs) w) d)
+    first-of d [] w i = none-in i
+    first-of d (x ∷ xs) w i = go (same x w) refl (first-of d xs w)
+      where
+        kept : List N
+        kept = keep (λ y. not (same x y)) (distinct same xs)
+
+        go : (b : Bool) → same x w ≡ b → (In w xs → IsFirst same xs w (getD (distinct same xs) (position same (distinct same xs) w) d))
+            → IsFirst same (x ∷ xs) w (getD (x ∷ kept) (cond b 0 (suc (position same kept w))) d)
+        go true h r = record { before = []; after = xs; stands = refl; is-same = h; none-before = λ y j. none-in j }
+        go false h r =
+            let f = r (⊎-elim (λ e. clash (ap (same x) e ∙ is .self x) h) (λ j. j) (uncons i)) in
+            subst (IsFirst same (x ∷ xs) w) (sym (kept-place d x w (distinct same xs) h))
+            (record {
+              before = x ∷ f .before;
+              after = f .after;
+              stands = ap (λ (l : List N). x ∷ l) (f .stands);
+              is-same = f .is-same;
+              none-before = λ y j. ⊎-elim (λ e. ap (λ (z : N). same z w) e ∙ h) (λ k. f .none-before y k) (uncons j);
+            })
 
     -- ---- how many they are
 

@@ -1,16 +1,17 @@
--- The rows and the points of a few sheets, by computing, for both questions. Assumes nothing.
+-- The rows and the points of a few sheets, for both questions, and values by Kleene's tables, by computing. Assumes nothing.
 use mathlib.Core.Bool.{decide, true, false}
 use mathlib.Core.Path.{_≡_, refl}
 use mathlib.Core.List.{List, [], _∷_, map}
 use Prim.Native.Nat.{ℕ}
 use native.Mathlib.Decide.{ℕ-discrete}
-use lib.ListN.{length}
+use lib.ListN.{length, drop}
 use Rattle.formula.specs.Formula.{Term, Atom, Form, Formula, Name}
 use Rattle.formula.specs.Same.{name-discrete, equalAtom, sameAtom}
 use Rattle.evalset.specs.Bit.{bit}
 use Rattle.contact.specs.Question.{Question, plain, building}
 use Rattle.contact.specs.Numbering.{namesOf, rowAtoms}
-use Rattle.contact.specs.Row.{Row, rulesTrue}
+use Rattle.contact.specs.Row.{Row, rulesTrue, Three, is, unknown}
+use Rattle.contact.specs.Kleene.{kleeneValue}
 use Rattle.contact.specs.Plan.{separated, may, allowed, fills, partners, leads, given, rowMarks}
 use Rattle.contact.specs.Pieces.{allowedOnes, grown, grownBy, wholePiece, pieceMeets, checkPieces, pieceGiven}
 use Rattle.contact.specs.Check.{check, pointsFor, good, firstRow, firstRowOf}
@@ -63,6 +64,12 @@ nothing = isEmpty raw ∷ []
 abbrev unnamed : List (Formula Name)
 unnamed = Form.negation (isEmpty Term.one) ∷ []
 
+-- C(raw,cooked) / C(cooked,raw) / ~C(-cooked,-raw): the contact is taken from its first writing; from the last it would have the points 2 and 3
+abbrev exchanged : List (Formula Name)
+exchanged =
+    touch ∷ Form.atom (Atom.contact cooked raw)
+    ∷ Form.negation (Form.atom (Atom.contact (Term.complement cooked) (Term.complement raw))) ∷ []
+
 -- a question, rules, and the answer
 abbrev sheets : List ((Question × List (Formula Name)) × Answer)
 sheets =
@@ -80,9 +87,24 @@ sheets =
     ∷ ((plain, nothing), [])
     ∷ ((plain, unnamed), ((false ∷ []), 0 ∷ []) ∷ [])
     ∷ ((building, unnamed), ((false ∷ []), 0 ∷ []) ∷ [])
+    ∷ ((plain, exchanged), ((true ∷ false ∷ []), 1 ∷ 3 ∷ []) ∷ [])
+    -- without rule 1 cooked has the number 0 and is the first term
+    ∷ ((plain, drop 1 exchanged), ((true ∷ false ∷ []), 1 ∷ 3 ∷ []) ∷ [])
     ∷ []
 
 -- all of them, computed
 pub sheets-answered : map (λ s. answer (s .0 .0) (s .0 .1)) sheets ≡ map (λ s. s .1) sheets
 unfolding decide ℕ-discrete name-discrete equalAtom sameAtom bit separated may allowed fills partners leads check given allowedOnes grown grownBy wholePiece pieceMeets checkPieces pieceGiven pointsFor rulesTrue good firstRow
 sheets-answered = refl
+
+-- ---- values where no atom is decided
+
+-- formulas over the atom 0, and their values: F & X, T | X, F -> X, X <-> X, X | ~X
+abbrev values : List (Form ℕ × Three)
+values =
+    (Form.conjunction Form.falsity (Form.atom 0), is false) ∷ (Form.disjunction Form.truth (Form.atom 0), is true)
+    ∷ (Form.implication Form.falsity (Form.atom 0), is true) ∷ (Form.equivalence (Form.atom 0) (Form.atom 0), unknown)
+    ∷ (Form.disjunction (Form.atom 0) (Form.negation (Form.atom 0)), unknown) ∷ []
+
+pub values-computed : map (λ w. kleeneValue (λ i. unknown) (w .0)) values ≡ map (λ w. w .1) values
+values-computed = refl

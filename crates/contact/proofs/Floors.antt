@@ -34,6 +34,49 @@ elem-same : (e : ℕ) (xs ys : List ℕ) → (In e xs → In e ys) → (In e ys 
 elem-same e xs ys f g =
     partialOrderLaws .le-antisymm (elem e xs) (elem e ys) (λ h. elem-intro e (f (elem-elim e xs h))) (λ h. elem-intro e (g (elem-elim e ys h)))
 
+-- ---- from a floor to the check
+
+module _ (n : ℕ) (ms : List Mark) (names : (m : Mark) → In m ms → MarkBelow n m) (F : Floor ℕ) (somewhere : Somewhere (below n) F)
+    (real : RealisesMarks F ms) (hangs : HangsTogether F) where
+  abbrev ev : ℕ → ℕ
+  ev p = evOf n F p
+
+  ok : (p : ℕ) → p < F .points → allowed n ms (ev p) ≡ true
+  ok p hp = ev-allowed n ms names F somewhere real p hp
+
+  -- points in contact, and so all points, have linked evaluations
+  way-linked : {p q : ℕ} → Way F p q → p < F .points → Linked n ms (ev 0) (ev p) → Linked n ms (ev 0) (ev q)
+  way-linked stay hp l = l
+  way-linked (step {p} {q} {r} hq t w) hp l =
+      way-linked w hq (onward l (ok q hq) (ev-separated n ms names F somewhere real p q hp hq t))
+
+  ev-piece : (p : ℕ) → p < F .points → In (ev p) (wholePiece n ms (ev 0))
+  ev-piece p hp = piece-intro n ms (ev 0) (ok 0 (F .some)) (way-linked (hangs 0 p (F .some) hp) (F .some) start)
+
+  ev-met : (m : Mark) → In m ms → met ms (wholePiece n ms (ev 0)) m ≡ true
+  ev-met (touching x y) i =
+      let o = names (touching x y) i in
+      let w = touches-elim F x y (real (touching x y) i) in
+      any-intro (λ e. at x e && any (λ f. at y f && not (separated ms e f)) (wholePiece n ms (ev 0))) (ev-piece (w .p) (w .p-lt))
+      (and-intro (ev-at n ms names F somewhere real x (w .p) (o .0) ∙ w .p-in)
+      (any-intro (λ f. at y f && not (separated ms (ev (w .p)) f)) (ev-piece (w .q) (w .q-lt))
+      (and-intro (ev-at n ms names F somewhere real y (w .q) (o .1) ∙ w .q-in)
+      (ap not (ev-separated n ms names F somewhere real (w .p) (w .q) (w .p-lt) (w .q-lt) (w .meet))))))
+  ev-met (apart x y) i = refl
+  ev-met (vacant t) i = refl
+  ev-met (inhabited t) i =
+      let r = any-elim (within F t) (below (F .points)) (not-false _ (real (inhabited t) i)) in
+      let hp : r .0 < F .points = below-elim (F .points) (r .0) (r .1) in
+      any-intro (at t) (ev-piece (r .0) hp) (ev-at n ms names F somewhere real t (r .0) (names (inhabited t) i) ∙ r .2)
+
+  floor-pieces : checkPieces n ms ≡ true
+  floor-pieces = meets-intro n ms (ev 0) (ok 0 (F .some)) ev-met
+
+floor-passes : (q : Question) (n : ℕ) (ms : List Mark) → ((m : Mark) → In m ms → MarkBelow n m) → (F : Floor ℕ) → Counts q (below n) F
+    → RealisesMarks F ms → passes q n ms ≡ true
+floor-passes plain n ms names F counts real = floor-check n ms names F (counts .somewhere) real
+floor-passes building n ms names F counts real = floor-pieces n ms names F (counts .somewhere) real (counts .shaped)
+
 -- ---- the piece whose points are given
 
 module _ (n : ℕ) (ms : List Mark) where
@@ -92,49 +135,6 @@ module _ (n : ℕ) (ms : List Mark) where
       unfolding floorOf
       piece-hangs i j hi hj =
           linked-way i hi (linked-on n ms (linked-back n ms ok (linked-point i hi)) (linked-point j hj)) j hj refl
-
--- ---- from a floor to the check
-
-module _ (n : ℕ) (ms : List Mark) (names : (m : Mark) → In m ms → MarkBelow n m) (F : Floor ℕ) (somewhere : Somewhere (below n) F)
-    (real : RealisesMarks F ms) (hangs : HangsTogether F) where
-  abbrev ev : ℕ → ℕ
-  ev p = evOf n F p
-
-  ok : (p : ℕ) → p < F .points → allowed n ms (ev p) ≡ true
-  ok p hp = ev-allowed n ms names F somewhere real p hp
-
-  -- points in contact, and so all points, have linked evaluations
-  way-linked : {p q : ℕ} → Way F p q → p < F .points → Linked n ms (ev 0) (ev p) → Linked n ms (ev 0) (ev q)
-  way-linked stay hp l = l
-  way-linked (step {p} {q} {r} hq t w) hp l =
-      way-linked w hq (onward l (ok q hq) (ev-separated n ms names F somewhere real p q hp hq t))
-
-  ev-piece : (p : ℕ) → p < F .points → In (ev p) (wholePiece n ms (ev 0))
-  ev-piece p hp = piece-intro n ms (ev 0) (ok 0 (F .some)) (way-linked (hangs 0 p (F .some) hp) (F .some) start)
-
-  ev-met : (m : Mark) → In m ms → met ms (wholePiece n ms (ev 0)) m ≡ true
-  ev-met (touching x y) i =
-      let o = names (touching x y) i in
-      let w = touches-elim F x y (real (touching x y) i) in
-      any-intro (λ e. at x e && any (λ f. at y f && not (separated ms e f)) (wholePiece n ms (ev 0))) (ev-piece (w .p) (w .p-lt))
-      (and-intro (ev-at n ms names F somewhere real x (w .p) (o .0) ∙ w .p-in)
-      (any-intro (λ f. at y f && not (separated ms (ev (w .p)) f)) (ev-piece (w .q) (w .q-lt))
-      (and-intro (ev-at n ms names F somewhere real y (w .q) (o .1) ∙ w .q-in)
-      (ap not (ev-separated n ms names F somewhere real (w .p) (w .q) (w .p-lt) (w .q-lt) (w .meet))))))
-  ev-met (apart x y) i = refl
-  ev-met (vacant t) i = refl
-  ev-met (inhabited t) i =
-      let r = any-elim (within F t) (below (F .points)) (not-false _ (real (inhabited t) i)) in
-      let hp : r .0 < F .points = below-elim (F .points) (r .0) (r .1) in
-      any-intro (at t) (ev-piece (r .0) hp) (ev-at n ms names F somewhere real t (r .0) (names (inhabited t) i) ∙ r .2)
-
-  floor-pieces : checkPieces n ms ≡ true
-  floor-pieces = meets-intro n ms (ev 0) (ok 0 (F .some)) ev-met
-
-floor-passes : (q : Question) (n : ℕ) (ms : List Mark) → ((m : Mark) → In m ms → MarkBelow n m) → (F : Floor ℕ) → Counts q (below n) F
-    → RealisesMarks F ms → passes q n ms ≡ true
-floor-passes plain n ms names F counts real = floor-check n ms names F (counts .somewhere) real
-floor-passes building n ms names F counts real = floor-pieces n ms names F (counts .somewhere) real (counts .shaped)
 
 -- ---- what is given
 

@@ -12,6 +12,7 @@ pub mod Numbered
 pub mod Answer
 pub mod Naming
 pub mod Order
+pub mod Strong
 pub mod Searching
 pub mod Count
 pub mod SameFloor

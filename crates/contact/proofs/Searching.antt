@@ -14,17 +14,19 @@ use borrow.Author.Tests.{not-true, not-false}
 use Rattle.formula.specs.Formula.{Atom, Form, Formula, Name}
 use Rattle.lists.specs.Search.{In, here, next, any, all, first, orElse}
 use Rattle.lists.proofs.Search.{none-in, uncons, at-head, in-left, in-right, map-elim, any-elim, none-intro, all-elim, first-none, first-append}
-use Rattle.lists.proofs.Truth.{clash, cases, or-cases, beq-true, beq-false, or-as, morgan}
+use Rattle.lists.proofs.Truth.{clash, cases, or-cases, morgan}
 use Rattle.lists.proofs.Lists.{map-at}
 use Rattle.contact.specs.Meaning.{value}
 use Rattle.formula.specs.Atoms.{atomsOf}
 use Rattle.contact.specs.Question.{Question, plain}
 use Rattle.contact.specs.Numbering.{allAtoms, namesOf, numberOf, mapAtom, differentAtoms, numberedAtoms, rowAtoms}
-use Rattle.contact.specs.Row.{Row, rulesTrue, Three, is, unknown, PartialRow, Extends, Sound, Exact}
+use Rattle.contact.specs.Row.{Row, rulesTrue, Three, is, unknown, PartialRow, Extends}
+use Rattle.contact.specs.Kleene.{kleeneNot, kleeneAnd, kleeneOr, kleeneIff, kleeneValue, Fits}
 use Rattle.contact.specs.Plan.{Mark, mark, marksOf, rowMarks}
 use Rattle.contact.specs.Check.{passes, rows, good, firstRow, firstRowOf}
-use Rattle.contact.specs.Tableau.{kleeneNot, kleeneAnd, kleeneOr, kleeneIff, kleeneValue, refuted, refutes, closes, under, search}
+use Rattle.contact.specs.Tableau.{Sound, Exact, refuted, refutes, closes, under, search}
 use Rattle.contact.proofs.Numbered.{NumbersBelow, numbers-below}
+use Rattle.contact.proofs.Strong
 use Rattle.contact.proofs.Fewer.{passes-fewer, passes-plain}
 
 -- ---- the search, for any test
@@ -77,50 +79,24 @@ search-first n passes test sound exact = search-under n passes test sound exact 
 
 -- ---- Kleene's values: what is decided stays
 
--- t is unknown, or is b
-abbrev Fits : Three → Bool → Type 0
-Fits (is c) b = c ≡ b
-Fits unknown b = Unit {0}
-
-fits-not : (t : Three) (b : Bool) → Fits t b → Fits (kleeneNot t) (not b)
-fits-not (is c) b h = ap not h
-fits-not unknown b h = tt
-
-fits-and : (s t : Three) (b c : Bool) → Fits s b → Fits t c → Fits (kleeneAnd s t) (b && c)
-fits-and (is true) t true c h k = k
-fits-and (is true) t false c h k = clash refl h
-fits-and (is false) t true c h k = clash refl (sym h)
-fits-and (is false) t false c h k = refl
-fits-and unknown (is true) b c h k = tt
-fits-and unknown (is false) true c h k = k
-fits-and unknown (is false) false c h k = refl
-fits-and unknown unknown b c h k = tt
-
-fits-or : (s t : Three) (b c : Bool) → Fits s b → Fits t c → Fits (kleeneOr s t) (b || c)
-fits-or s t b c h k =
-    subst (Fits (kleeneOr s t)) (or-as b c)
-    (fits-not (kleeneAnd (kleeneNot s) (kleeneNot t)) (not b && not c)
-    (fits-and (kleeneNot s) (kleeneNot t) (not b) (not c) (fits-not s b h) (fits-not t c k)))
-
-fits-iff : (s t : Three) (b c : Bool) → Fits s b → Fits t c → Fits (kleeneIff s t) (Bool·beq b c)
-fits-iff (is true) t true c h k = subst (Fits t) (sym (beq-true c)) k
-fits-iff (is true) t false c h k = clash refl h
-fits-iff (is false) t true c h k = clash refl (sym h)
-fits-iff (is false) t false c h k = subst (Fits (kleeneNot t)) (sym (beq-false c)) (fits-not t c k)
-fits-iff unknown t b c h k = tt
-
 module _ (part : ℕ → Three) (row : ℕ → Bool) (fits : (i : ℕ) → Fits (part i) (row i)) where
   value-fits : (f : Form ℕ) → Fits (kleeneValue part f) (value row f)
   value-fits Form.truth = refl
   value-fits Form.falsity = refl
   value-fits (Form.atom i) = fits i
-  value-fits (Form.negation f) = fits-not (kleeneValue part f) (value row f) (value-fits f)
-  value-fits (Form.conjunction f g) = fits-and (kleeneValue part f) (kleeneValue part g) (value row f) (value row g) (value-fits f) (value-fits g)
-  value-fits (Form.disjunction f g) = fits-or (kleeneValue part f) (kleeneValue part g) (value row f) (value row g) (value-fits f) (value-fits g)
+  value-fits (Form.negation f) = Strong.fits-of (kleeneValue part (Form.negation f)) (not (value row f)) (λ b e. Strong.negation-strong part f b .0 e (value row f) (value-fits f))
+  value-fits (Form.conjunction f g) =
+      Strong.fits-of (kleeneValue part (Form.conjunction f g)) (value row f && value row g)
+      (λ b e. Strong.conjunction-strong part f g b .0 e (value row f) (value row g) (value-fits f) (value-fits g))
+  value-fits (Form.disjunction f g) =
+      Strong.fits-of (kleeneValue part (Form.disjunction f g)) (value row f || value row g)
+      (λ b e. Strong.disjunction-strong part f g b .0 e (value row f) (value row g) (value-fits f) (value-fits g))
   value-fits (Form.implication f g) =
-      fits-or (kleeneNot (kleeneValue part f)) (kleeneValue part g) (not (value row f)) (value row g)
-      (fits-not (kleeneValue part f) (value row f) (value-fits f)) (value-fits g)
-  value-fits (Form.equivalence f g) = fits-iff (kleeneValue part f) (kleeneValue part g) (value row f) (value row g) (value-fits f) (value-fits g)
+      Strong.fits-of (kleeneValue part (Form.implication f g)) (not (value row f) || value row g)
+      (λ b e. Strong.implication-strong part f g b .0 e (value row f) (value row g) (value-fits f) (value-fits g))
+  value-fits (Form.equivalence f g) =
+      Strong.fits-of (kleeneValue part (Form.equivalence f g)) (Bool·beq (value row f) (value row g))
+      (λ b e. Strong.equivalence-strong part f g b .0 e (value row f) (value row g) (value-fits f) (value-fits g))
 
 fits-refuted : (t : Three) (b : Bool) → Fits t b → refuted t ≡ true → b ≡ false
 fits-refuted (is c) b h k = sym h ∙ not-true c k

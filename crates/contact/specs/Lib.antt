@@ -3,6 +3,7 @@ pub mod Question
 pub mod Numbering
 pub mod Putting
 pub mod Row
+pub mod Kleene
 pub mod Plan
 pub mod Pieces
 pub mod Check

@@ -1,7 +1,8 @@
 -- What is meant: "Names and atoms are numbered from 0 by first place, rules in order, left to right.", and of the atoms those that are
 -- different: document 02, T-03. The last definitions (`TermBelow`, `AtomBelow`, `AtomsBelow`) are for proofs. Assumes nothing.
 use mathlib.Core.Bool.{Bool, true, false, not, _&&_, cond}
-use mathlib.Core.List.{List, [], _∷_, map}
+use mathlib.Core.Path.{_≡_}
+use mathlib.Core.List.{List, [], _∷_, _++_, map}
 use Prim.Native.Nat.{ℕ, suc, _<_}
 use lib.Dec.{eqb}
 use lib.ListN.{getD}
@@ -26,6 +27,14 @@ module _ {N : Type 0} (same : N → N → Bool) where
   abbrev pub position : List N → N → ℕ
   position [] x = 0
   position (y ∷ ys) x = let r = suc (position ys x) in cond (same y x) 0 r
+
+  -- without an algorithm: of those in the list that are the same as a, x stands first
+  pub record IsFirst (xs : List N) (a x : N) : Type 0 where
+    pub before : List N
+    pub after : List N
+    pub stands : xs ≡ before ++ x ∷ after
+    pub is-same : same x a ≡ true
+    pub none-before : (y : N) → In y before → same y a ≡ false
 
 -- names are the same if their bytes are
 abbrev pub sameName : Name → Name → Bool
@@ -75,7 +84,7 @@ module _ {A B : Type 0} (g : A → B) where
 
 -- ---- the different atoms: document 02, T-03
 
--- "atoms that are the same count as one", each at its first place
+-- "atoms that are the same count as one", each "taken from its first writing" (`first-writing` of proofs/Claims.antt, by `IsFirst`)
 abbrev pub differentAtoms : List (Formula Name) → List (Atom Name)
 differentAtoms rules = distinct (sameAtom name-discrete) (allAtoms rules)
 

@@ -1,10 +1,10 @@
--- What is meant: rows of values for the atoms and which of them a floor that counts realises (document 01, 'The plan that is given'); and for
--- proofs, partial rows and tests that close branches. Assumes nothing.
+-- What is meant: rows of values for the atoms and which of them a floor that counts realises (document 01, 'The plan that is given'); partial
+-- rows, and which floor "gives the decided atoms their values" (document 02, T-06, kind 7). Assumes nothing.
 use mathlib.Core.Bool.{Bool, true, false}
 use mathlib.Core.Path.{_≡_}
 use mathlib.Core.List.{List, [], _∷_, map}
 use Prim.Native.Nat.{ℕ}
-use lib.ListN.{length, getD}
+use lib.ListN.{getD}
 use Rattle.formula.specs.Formula.{Atom, Form, Formula, Name}
 use Rattle.lists.specs.Search.{all}
 use Rattle.contact.specs.Meaning.{Floor, atomOn, value}
@@ -44,7 +44,7 @@ pub record IsFirstRow (q : Question) (rules : List (Formula Name)) (row : Row) :
   pub earliest : (other : Row) → Realisable q (namesOf rules) (differentAtoms rules) other → rulesTrue (numberedAtoms rules) other ≡ true → Before other row
       → ⊥
 
--- ---- partial rows
+-- ---- partial rows: "undecided atoms read as unknown"
 
 -- true, false, or not decided
 pub data Three : Type 0 where
@@ -63,16 +63,6 @@ Extends [] (is b ∷ p) = ⊥
 Extends (c ∷ row) (unknown ∷ p) = Extends row p
 Extends (c ∷ row) (is b ∷ p) = (c ≡ b) × Extends row p
 
--- the floor gives the decided atoms their values
+-- the floor "gives the decided atoms their values"
 abbrev pub RealisesPart : {N : Type 0} → Floor N → List (Atom N) → PartialRow → Type 0
 RealisesPart F atoms part = Extends (map (atomOn F) atoms) part
-
--- ---- tests that close branches
-
--- a test that closes branches is sound for the rows that pass: no such row extends what it closes
-abbrev pub Sound : (Row → Bool) → (PartialRow → Bool) → Type 0
-Sound passes test = (part : PartialRow) → test part ≡ true → (row : Row) → Extends row part → passes row ≡ false
-
--- and exact at the leaves: a whole row of n atoms that it leaves open passes
-abbrev pub Exact : ℕ → (Row → Bool) → (PartialRow → Bool) → Type 0
-Exact n passes test = (row : Row) → length row ≡ n → test (map is row) ≡ false → passes row ≡ true

@@ -1,48 +1,30 @@
 -- What is computed, and for proofs: the search over the atoms in order, true first, that closes a branch by a test, and the two tests: a
--- rule is false whatever the undecided atoms are, by Kleene's strong tables; no floor that counts gives the decided atoms their values. The
--- contracts of the solver name the tests; no contract names `search`. Assumes nothing.
+-- rule is false by Kleene's tables (Kleene); no floor that counts gives the decided atoms their values. The contracts of the solver name the
+-- tests; no contract names `search`. Assumes nothing.
 use mathlib.Core.Bool.{Bool, true, false, not, _||_, cond}
+use mathlib.Core.Path.{_≡_}
 use mathlib.Core.List.{List, [], _∷_, _++_, map}
 use Prim.Native.Nat.{ℕ, zero, suc}
-use lib.ListN.{getD}
+use lib.ListN.{length, getD}
 use Rattle.formula.specs.Formula.{Atom, Form}
 use Rattle.lists.specs.Search.{any, orElse}
 use Rattle.contact.specs.Question.{Question}
-use Rattle.contact.specs.Row.{Row, Three, is, unknown, PartialRow}
+use Rattle.contact.specs.Row.{Row, Three, is, unknown, PartialRow, Extends}
+use Rattle.contact.specs.Kleene.{kleeneValue}
 use Rattle.contact.specs.Plan.{marksOf}
 use Rattle.contact.specs.Check.{passes, rows}
 
--- ---- Kleene's strong tables
+-- ---- tests that close branches
 
-abbrev pub kleeneNot : Three → Three
-kleeneNot (is b) = is (not b)
-kleeneNot unknown = unknown
+-- a test that closes branches is sound for the rows that pass: no such row extends what it closes
+abbrev pub Sound : (Row → Bool) → (PartialRow → Bool) → Type 0
+Sound passes test = (part : PartialRow) → test part ≡ true → (row : Row) → Extends row part → passes row ≡ false
 
-abbrev pub kleeneAnd : Three → Three → Three
-kleeneAnd (is true) t = t
-kleeneAnd (is false) t = is false
-kleeneAnd unknown (is true) = unknown
-kleeneAnd unknown (is false) = is false
-kleeneAnd unknown unknown = unknown
+-- and exact at the leaves: a whole row of n atoms that it leaves open passes
+abbrev pub Exact : ℕ → (Row → Bool) → (PartialRow → Bool) → Type 0
+Exact n passes test = (row : Row) → length row ≡ n → test (map is row) ≡ false → passes row ≡ true
 
-abbrev pub kleeneOr : Three → Three → Three
-kleeneOr s t = kleeneNot (kleeneAnd (kleeneNot s) (kleeneNot t))
-
-abbrev pub kleeneIff : Three → Three → Three
-kleeneIff (is true) t = t
-kleeneIff (is false) t = kleeneNot t
-kleeneIff unknown t = unknown
-
--- the value of a formula whose atoms may be undecided
-abbrev pub kleeneValue : (ℕ → Three) → Form ℕ → Three
-kleeneValue r Form.truth = is true
-kleeneValue r Form.falsity = is false
-kleeneValue r (Form.atom i) = r i
-kleeneValue r (Form.negation f) = kleeneNot (kleeneValue r f)
-kleeneValue r (Form.conjunction f g) = kleeneAnd (kleeneValue r f) (kleeneValue r g)
-kleeneValue r (Form.disjunction f g) = kleeneOr (kleeneValue r f) (kleeneValue r g)
-kleeneValue r (Form.implication f g) = kleeneOr (kleeneNot (kleeneValue r f)) (kleeneValue r g)
-kleeneValue r (Form.equivalence f g) = kleeneIff (kleeneValue r f) (kleeneValue r g)
+-- ---- the two tests
 
 -- the value is known, and false
 abbrev pub refuted : Three → Bool

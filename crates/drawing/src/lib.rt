@@ -7,7 +7,7 @@ ghost use lib.ListN.{length};
 ghost use Rattle.table.specs.Store.{rulesOf};
 ghost use Rattle.table.specs.Calls.{formulasOf, FromUs};
 ghost use Rattle.table.specs.Rows.{SomeStand};
-ghost use Rattle.table.specs.Numbers.{CanCome, loadOutcome};
+ghost use Rattle.table.specs.Numbers.{loadOutcome};
 ghost use Rattle.lists.specs.Putting.{Puts};
 ghost use Rattle.drawing.specs.Drawn.{wordBytes, bytesOf, refusalNumber};
 ghost use Rattle.drawing.specs.Drawing.{drawing, drawRules, outcomeNumber, drawn, DrawsWords, Fits};
@@ -34,7 +34,7 @@ fn refusal(number: usize, line: usize, carried: usize) -> u64
 
 // That of a load's answer.
 fn refused(answer: LoadAnswer) -> u64
-    requires { ⌜ CanCome answer × Fits (loadOutcome answer) ⌝ }
+    requires { ⌜ Fits (loadOutcome answer) ⌝ }
     ensures { λ r. ⌜ r ≡ outcomeNumber (loadOutcome answer) ⌝ }
 {
     let said = table::load_outcome(answer);

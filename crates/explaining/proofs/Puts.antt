@@ -238,12 +238,17 @@ root-asks code ends bits n p =
     (p .0, p .1, p .2, omega arith, omega arith, omega arith, p .3, omega (arith, pow-mono {i = n} {j = 16} (p .2), ap (λ (x : ℕ). 2 ^ x) z))
 
 -- it ends where a long buffer does, at most
-pub root-ends : (n long r : ℕ) → n ≤ 16 → (1 * 2 ^ (n + 1)) % 18446744073709551616 ≤ long → r < 0 + 2 * 2 ^ (n - 0) → r ≤ long
+root-power : (n : ℕ) → n ≤ 16 → (1 * 2 ^ (n + 1)) % 18446744073709551616 ≡ 2 * 2 ^ n
+root-power n few =
+    ap (λ (x : ℕ). x % 18446744073709551616) (omega arith) ∙ mod-eq-of-lt (omega (arith, pow-mono {i = n + 1} {j = 17} (omega arith))) ∙ sym (next-power n)
+
+pub root-some : (n : ℕ) → n ≤ 16 → 1 ≤ (1 * 2 ^ (n + 1)) % 18446744073709551616
+root-some n few = omega (arith, root-power n few, pow-mono {i = 0} {j = n} (omega arith))
+
+pub root-ends : (n long r : ℕ) → n ≤ 16 → (1 * 2 ^ (n + 1)) % 18446744073709551616 - 1 ≤ long → r < 0 + 2 * 2 ^ (n - 0) → r ≤ long
 root-ends n long r few l m =
     let z : n - 0 ≡ n = omega arith in
-    let y : (1 * 2 ^ (n + 1)) % 18446744073709551616 ≡ 2 ^ (n + 1) =
-    ap (λ (x : ℕ). x % 18446744073709551616) (omega arith) ∙ mod-eq-of-lt (omega (arith, pow-mono {i = n + 1} {j = 17} (omega arith))) in
-    omega (arith, y, next-power n, ap (λ (x : ℕ). 2 ^ x) z)
+    omega (arith, root-power n few, ap (λ (x : ℕ). 2 ^ x) z)
 
 -- ---- the whole tree
 

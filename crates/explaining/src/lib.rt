@@ -231,14 +231,14 @@ fn put(
     put(buf, middle, code, ends, bits, &second, n, no, next, 1)
 }
 
-// The whole tree: where the buffer may be too short, the words needed are counted first, so that a short buffer keeps its contents.
+// The whole tree, which has fewer than 2^(n + 1) words: where the buffer may be too short, the words needed are counted first, so that a short buffer keeps its contents.
 fn write_tree(buf: &mut [u32], code: &[u8], ends: &[usize], bits: &[u64], n: usize) -> Explanation
     requires { ⌜ SafeFrom (now code) 0 (now ends) × (length (now ends) ≤ limit) × (n ≤ limit) × (2 * 2 ^ n ≤ 64 * length (now bits)) ⌝ }
     ensures { λ r. ⌜ WriteSays (now (code .entry)) (now (ends .entry)) (now (bits .entry)) n (now (buf .entry)) (now (buf .exit)) r ⌝ }
 {
     let words = falses(code, ends, 1, 0);
     let one: usize = 1;
-    if buf.len() >= (one << (n + 1)) {
+    if buf.len() >= (one << (n + 1)) - 1 {
         let end = put(buf, 0, code, ends, bits, &words, n, 1, 0, 1);
         return Explanation::Tells(end);
     }

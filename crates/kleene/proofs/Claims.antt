@@ -11,7 +11,8 @@ use Rattle.lists.specs.Search.{In}
 use Rattle.evalset.specs.Bit.{bit}
 use Rattle.contact.specs.Meaning.{value}
 use Rattle.contact.specs.Row.{Three, is}
-use Rattle.contact.specs.Tableau.{kleeneValue, refuted}
+use Rattle.contact.specs.Kleene.{kleeneValue}
+use Rattle.contact.specs.Tableau.{refuted}
 use Rattle.kleene.specs.Code.{postfix, Safe}
 use Rattle.kleene.specs.Rails.{Duo, duo, noOf, sure, duoOf, valueD, exec, wholeAt, railsAt}
 use Rattle.kleene.proofs.Formed

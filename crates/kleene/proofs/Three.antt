@@ -12,7 +12,8 @@ use Rattle.evalset.specs.Bit.{bit}
 use Rattle.lists.proofs.Search.{in-left, in-right}
 use Rattle.contact.specs.Meaning.{value}
 use Rattle.contact.specs.Row.{Three, is, unknown}
-use Rattle.contact.specs.Tableau.{kleeneNot, kleeneAnd, kleeneOr, kleeneIff, kleeneValue, refuted}
+use Rattle.contact.specs.Kleene.{kleeneNot, kleeneAnd, kleeneOr, kleeneIff, kleeneValue}
+use Rattle.contact.specs.Tableau.{refuted}
 use Rattle.kleene.specs.Code.{postfix}
 use Rattle.kleene.specs.Rails.{Duo, duo, noOf, yesOf, sure, duoOf, notD, andD, orD, impliesD, iffD, valueD, exec, wholeAt, railsAt}
 use Rattle.kleene.proofs.Formed.{exec-postfix}

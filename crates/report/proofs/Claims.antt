@@ -3,9 +3,9 @@
 -- `asReadOf`, which `as_read` gives, and of that of why, `whyOf`, which `why` and `why_piece` give: for every list of bytes it is what is meant
 -- (specs/Printed.antt), and no other text is. Each claim cites the file that proves it. Assumes nothing.
 use mathlib.Core.Path.{_≡_, sym}
-use mathlib.Core.Logic.{_↔_}
+use mathlib.Core.Logic.{_↔_, _⊎_}
 use mathlib.Core.Bool.{true}
-use mathlib.Core.List.{List}
+use mathlib.Core.List.{List, [], _∷_}
 use Prim.Native.Nat.{ℕ}
 use Rattle.formula.specs.Formula.{Formula, Name}
 use Rattle.lexer.specs.Text.{bytes}
@@ -14,12 +14,18 @@ use Rattle.contact.specs.Question.{Question, plain, building, Counts, NoFloor}
 use Rattle.lists.specs.Search.{collect}
 use Rattle.contact.specs.Numbering.{namesOf}
 use Rattle.plan.specs.Words.{Plan}
+use Rattle.plan.specs.Plans.{plansOf}
 use Rattle.plan.specs.Meant.{IsGiven}
+use Rattle.plan.proofs.Claims.{given-exactly, given-at-most-one}
+use Rattle.trees.specs.Trees.{Tree}
+use Rattle.trees.specs.OfRules.{IsWrittenTree}
+use Rattle.trees.specs.Checker.{treesOf}
 use Rattle.table.specs.Sheet.{Text, linesOf, filled}
 use Rattle.table.specs.Rules.{AreRules}
 use Rattle.table.specs.Rows.{LoadRow}
 use Rattle.table.specs.declared.Outcome.the-variants as Outcome
 use Rattle.report.specs.Output.{outputOf, asReadOf, whyOf}
+use Rattle.report.specs.Lent.{ofSheet}
 use Rattle.report.specs.Pieces.{Answers, Pieces}
 use Rattle.report.specs.declared.TextAnswer.the-variants as TextAnswer
 use Rattle.report.specs.Lines.{ended, planText}
@@ -54,6 +60,22 @@ pub plan-exists-printed : (file : Text) → (whyOf file ≡ ended (bytes "PLAN E
     ↔ (LoadRow file Outcome.Done × (fs : List (Formula Name)) × AreRules (filled (linesOf file)) fs × (F : Floor Name) × Counts plain (namesOf fs) F × (meetsAll F fs ≡ true))
 plan-exists-printed file =
     (Printing.some-floor file (whyOf file) (why file), λ r. sym (why-only file _ (Why.exists (r .0) (r .2) (r .3) (r .4) (r .5))))
+
+-- what `report_building` and `why` lend (specs/Lent.antt): the words of a plan or tree, exactly if the sheet is loaded and it is the plan that is
+-- given, or the tree that is written, for its rules; there is one, or none and a text
+pub plan-lent : (q : Question) (file : Text) (p : Plan) → (ofSheet (plansOf q) file ≡ p ∷ [])
+    ↔ (LoadRow file Outcome.Done × (fs : List (Formula Name)) × AreRules (filled (linesOf file)) fs × IsGiven q fs p)
+plan-lent q file = Printing.lent file (plansOf q) (IsGiven q) (given-exactly q)
+
+pub plan-or-none : (q : Question) (file : Text) → (ofSheet (plansOf q) file ≡ []) ⊎ ((p : Plan) × (ofSheet (plansOf q) file ≡ p ∷ []))
+plan-or-none q file = Printing.lent-or-none file (plansOf q) (given-at-most-one q)
+
+pub tree-lent : (file : Text) (t : Tree) → (ofSheet treesOf file ≡ t ∷ [])
+    ↔ (LoadRow file Outcome.Done × (fs : List (Formula Name)) × AreRules (filled (linesOf file)) fs × IsWrittenTree fs t)
+tree-lent file = Printing.lent file treesOf IsWrittenTree Printing.tree-exactly
+
+pub tree-or-none : (file : Text) → (ofSheet treesOf file ≡ []) ⊎ ((t : Tree) × (ofSheet treesOf file ≡ t ∷ []))
+tree-or-none file = Printing.lent-or-none file treesOf Printing.trees-few
 
 -- where lines are told of, the pieces that are given, each from where the one before it ended, are the text: of one building
 -- (`report_building`, `building_piece`) and of a tree (`why`, `why_piece`)

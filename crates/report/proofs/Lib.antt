@@ -5,6 +5,7 @@ pub mod Kept
 pub mod Bounds
 pub mod Short
 pub mod Pieces
+pub mod Lent
 pub mod PlanLines
 pub mod Reporting
 pub mod AsRead

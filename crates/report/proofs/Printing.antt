@@ -2,8 +2,9 @@
 -- plan and the tree that are computed are those that are meant, and the first byte tells the sorts of text apart. Assumes nothing.
 use mathlib.Core.Path.{_≡_, refl, sym, ap, subst, _∙_}
 use mathlib.Core.Bool.{true}
-use mathlib.Core.List.{List, [], _∷_, head-eq-of-cons-eq}
-use Prim.Native.Nat.{ℕ}
+use mathlib.Core.Logic.{_↔_, _⊎_, inl, inr}
+use mathlib.Core.List.{List, [], _∷_, head-eq-of-cons-eq, nil≢cons}
+use Prim.Native.Nat.{ℕ, _≤_}
 use native.Mathlib.Omega.{arith}
 use lib.ListN.{length}
 use Rattle.formula.specs.Formula.{Formula, Name}
@@ -18,6 +19,7 @@ use Rattle.table.specs.Rules.{AreRules}
 use Rattle.table.specs.Calls.{formulasOf, judgeLoad, ifLoaded}
 use Rattle.table.specs.Rows.{LoadRow}
 use Rattle.table.specs.declared.LoadAnswer.{LoadAnswer}
+use Rattle.table.specs.declared.LoadAnswer.the-variants as LoadAnswer
 use Rattle.table.specs.declared.Outcome.{Outcome}
 use Rattle.table.specs.declared.Outcome.the-variants as Outcome
 use Rattle.table.specs.Numbers.{loadOutcome}
@@ -34,8 +36,24 @@ use Rattle.trees.proofs.OfRules.{Writes, Writes.told, Writes.exists, writes}
 use Rattle.table.specs.AtomText.{atomTextOf}
 use Rattle.table.proofs.TreeRows.{trees-none, trees-one}
 use Rattle.report.specs.Output.{plansText, rulesText, treesText, reasonsText, outcomeText, sheetText, outputOf, asReadOf, whyOf}
+use Rattle.report.specs.Lent.{ofSheet}
 use Rattle.report.specs.Lines.{ended, headLine, planText, ruleLines, refusedText, margin, indented, reasonLines}
 use Rattle.report.specs.Printed.{Printed, plan-lines, no-plan-line, refused-line, AsRead, Why}
+
+-- the tree that is computed is the one that is meant, and one at most
+pub tree-exactly : (fs : List (Formula Name)) (t : Tree) → (treesOf fs ≡ t ∷ []) ↔ IsWrittenTree fs t
+tree-exactly fs t = (go (writes fs), trees-one fs t)
+  where
+    go : Writes fs → treesOf fs ≡ t ∷ [] → IsWrittenTree fs t
+    go (Writes.told u w e none) f = subst (IsWrittenTree fs) (head-eq-of-cons-eq (sym e ∙ f)) w
+    go (Writes.exists row found e) f = absurd (nil≢cons (sym e ∙ f))
+
+pub trees-few : (fs : List (Formula Name)) → length (treesOf fs) ≤ 1
+trees-few fs = go (writes fs)
+  where
+    go : Writes fs → length (treesOf fs) ≤ 1
+    go (Writes.told u w e none) = omega (arith, ap length e)
+    go (Writes.exists row found e) = omega (arith, ap length e)
 
 module _ (file : Text) where
   -- what its rules are given
@@ -73,6 +91,54 @@ module _ (file : Text) where
         go o (LoadRow.line h r) = no (LoadRow.line h r)
         go o (LoadRow.loads h some can) =
             let done = LoadRow.loads h some can in subst P (loaded-output done (can .rules)) (loaded (can .formulas) done (can .rules))
+
+  -- what the rules of a loaded sheet are given is lent, and that of another sheet is nothing
+  module _ {A : Type 0} (given : List (Formula Name) → List A) where
+    loaded-lent : {fs : List (Formula Name)} → LoadRow file Outcome.Done → AreRules (filled (linesOf file)) fs → given fs ≡ ofSheet given file
+    unfolding ofSheet
+    loaded-lent {fs} done are =
+        ap given (formulas-computed (filled (linesOf file)) fs are)
+        ∙ sym (ap (λ (a : LoadAnswer). ifLoaded a (given (formulasOf (filled (linesOf file)))) []) (load-done file done))
+
+    refused-lent : {number line place : ℕ} → LoadRow file (Outcome.RefusedLine number line place) → ofSheet given file ≡ []
+    unfolding ofSheet
+    refused-lent row =
+        let told = load-answered-only file _ row in
+        not-loaded (judgeLoad file) (given (formulasOf (filled (linesOf file)))) []
+        (λ e. let y = ap loadOutcome e in absurd (let z : _≡_ {A = ℕ} 0 1 = cc in omega arith))
+
+    -- so it is one thing, exactly if the sheet is loaded and this is what its rules are given
+    pub lent : (P : List (Formula Name) → A → Type 0) → ((fs : List (Formula Name)) (a : A) → (given fs ≡ a ∷ []) ↔ P fs a) → (a : A)
+        → (ofSheet given file ≡ a ∷ []) ↔ (LoadRow file Outcome.Done × (fs : List (Formula Name)) × AreRules (filled (linesOf file)) fs × P fs a)
+    lent P exactly a =
+        (λ e. go e (loadOutcome (judgeLoad file)) (load-answered file), λ r. sym (loaded-lent (r .0) (r .2)) ∙ exactly (r .1) a .1 (r .3))
+      where
+        no : {number line place : ℕ} → ofSheet given file ≡ a ∷ [] → LoadRow file (Outcome.RefusedLine number line place) → ⊥
+        no e row = nil≢cons (sym (refused-lent row) ∙ e)
+
+        go : ofSheet given file ≡ a ∷ [] → (o : Outcome) → LoadRow file o
+            → LoadRow file Outcome.Done × (fs : List (Formula Name)) × AreRules (filled (linesOf file)) fs × P fs a
+        go e o (LoadRow.long h) = absurd (no e (LoadRow.long h))
+        go e o (LoadRow.blank h k) = absurd (no e (LoadRow.blank h k))
+        go e o (LoadRow.line h r) = absurd (no e (LoadRow.line h r))
+        go e o (LoadRow.loads h some can) =
+            let done = LoadRow.loads h some can in (done, can .formulas, can .rules, exactly (can .formulas) a .0 (loaded-lent done (can .rules) ∙ e))
+
+    -- or nothing
+    pub lent-or-none : ((fs : List (Formula Name)) → length (given fs) ≤ 1) → (ofSheet given file ≡ []) ⊎ ((a : A) × (ofSheet given file ≡ a ∷ []))
+    unfolding ofSheet
+    lent-or-none few = go (judgeLoad file)
+      where
+        one : (l : List A) → length l ≤ 1 → (l ≡ []) ⊎ ((a : A) × (l ≡ a ∷ []))
+        one [] h = inl refl
+        one (a ∷ []) h = inr (a, refl)
+        one (a ∷ b ∷ l) h = absurd (omega (arith, h))
+
+        go : (o : LoadAnswer) → (ifLoaded o (given (formulasOf (filled (linesOf file)))) [] ≡ []) ⊎ ((a : A) × (ifLoaded o (given (formulasOf (filled (linesOf file)))) [] ≡ a ∷ []))
+        go LoadAnswer.Loaded = one (given (formulasOf (filled (linesOf file)))) (few (formulasOf (filled (linesOf file))))
+        go LoadAnswer.FileTooLong = inl refl
+        go LoadAnswer.AllBlank = inl refl
+        go (LoadAnswer.Line n r) = inl refl
 
   -- ---- rules as they were read: no other text is meant, and it is meant
 

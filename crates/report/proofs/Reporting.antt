@@ -2,7 +2,7 @@
 -- rule stands and the words are enough. Assumes nothing.
 use Prim.Native.Nat.{ℕ, _+_, _*_, _≤_}
 use mathlib.Core.Path.{_≡_, refl, sym, ap, ap₂, subst, _∙_}
-use mathlib.Core.List.{List, [], _∷_}
+use mathlib.Core.List.{List, [], _∷_, map}
 use native.Mathlib.Omega.{arith}
 use lib.ListN.{length}
 use types.Run.{OneOf, miss}
@@ -32,20 +32,23 @@ use Rattle.table.proofs.Outcome.{the-type as outcome-type}
 use Rattle.table.specs.Store.{rulesOf}
 use Rattle.table.specs.Sheet.{Text, linesOf, filled}
 use Rattle.table.specs.Calls.{formulasOf, namesIn, atomsIn, judgeLoad, ifLoaded, loadRules, loaded, FromUs, Loads}
-use Rattle.table.specs.Asking.{asked, Asks}
+use Rattle.table.specs.Asking.{foundWords, askWords, asked, Asks}
 use Rattle.table.specs.Rows.{SomeStand, AskRow, LoadRow}
 use Rattle.plan.specs.Meant.{IsGiven}
-use Rattle.table.proofs.Claims.{ask-answered, load-answered, load-can-come, rules-back}
+use Rattle.table.proofs.Claims.{ask-answered, load-answered, rules-back}
 use Rattle.table.specs.declared.Outcome.{Outcome}
 use Rattle.table.specs.declared.Outcome.the-variants as Outcome
-use Rattle.table.specs.Numbers.{CanCome, loadOutcome, askOutcome}
+use Rattle.table.specs.Numbers.{loadOutcome, askOutcome}
 use Rattle.table.proofs.Rules.{of-computed, can-read, can-names, can-atoms}
 use Rattle.table.proofs.Standing.{not-loaded}
 use Rattle.table.proofs.Asking.{words-written}
 use Rattle.report.specs.Output.{plansText, rulesText, outcomeText, sheetText}
 use Rattle.report.specs.Lines.{planText, ended}
 use Rattle.report.specs.Pieces.{planLineAt, linesFrom}
+use Rattle.report.specs.Lent.{ofSheet, Lends}
+use Rattle.report.specs.declared.TextAnswer.the-variants as TextAnswer
 use Rattle.report.specs.Putting.{wordRoom, textRoom}
+use Rattle.report.proofs.Lent.{lends-lines}
 use Rattle.report.proofs.Short.{names-short}
 use Rattle.report.proofs.Bounds.{plan-few}
 use Rattle.report.proofs.PlanLines.{plan-lines}
@@ -75,6 +78,12 @@ is-plan (AskAnswer.Plan k) {n} e = let z : k ≡ n = cc in ap AskAnswer.Plan z
 is-plan AskAnswer.NoPlan e = absurd (let z : _≡_ {A = ℕ} 0 1 = cc in omega arith)
 is-plan AskAnswer.NoRule e = absurd (let z : _≡_ {A = ℕ} 0 1 = cc in omega arith)
 is-plan (AskAnswer.ShortBuffer k) e = absurd (let z : _≡_ {A = ℕ} 0 1 = cc in omega arith)
+
+-- where there is no plan no word is written
+kept : (q : Question) (buffer : List ℕ) (rs : List Text) → plansOf q (formulasOf rs) ≡ [] → askWords q rs buffer ≡ buffer
+unfolding askWords
+kept q buffer [] e = refl
+kept q buffer (s ∷ rs) e = ap (λ (ps : List Plan). foundWords ps buffer) e
 
 -- a question was put where some rule stands, with room for every plan
 pub record Asking (q : Question) (t : Table) (buffer : List ℕ) (r : AskResult) (exit : List ℕ) : Type 0 where
@@ -131,6 +140,10 @@ module _ {q : Question} {t : Table} {buffer : List ℕ} {r : AskResult} {exit : 
           absurd (omega (arith, h .room, words-room p (given-exactly q rules p .1 (of-computed (rulesOf t) fs are (λ gs. IsGiven q gs p) g))))
       go o (AskRow.given {p = p} z are g l) f = absurd (other (length (wordsOf p)) (is-plan (r .answer) f))
 
+  -- and the words are as they were
+  pub words-kept : ((n : ℕ) → r .answer ≡ AskAnswer.Plan n → ⊥) → exit ≡ buffer
+  words-kept other = h .asks .words ∙ kept q buffer (rulesOf t) (no-plans other)
+
   pub no-text : ((n : ℕ) → r .answer ≡ AskAnswer.Plan n → ⊥) → ended (bytes "NO PLAN") ≡ rulesText q rules
   unfolding rulesText
   no-text other = sym (ap (plansText (namesOf rules)) (no-plans other))
@@ -168,6 +181,10 @@ module _ {q : Question} {t : Table} {buffer : List ℕ} {r : AskResult} {exit : 
     unfolding rulesText
     given-text = sym (ap (plansText (namesOf rules)) (it .only))
 
+    -- its words are lent
+    pub plan-lent : {text out : List ℕ} → Lends text (map wordsOf (plansOf q rules)) buffer exit out out (TextAnswer.Lines n)
+    plan-lent = lends-lines (wordsOf (it .plan)) (ap (map wordsOf) (it .only)) (it .size) (it .words) refl
+
     pub plan-told : (names : Names) → names ≡ arraysOf (namesIn (rulesOf t)) → linesFrom (planLineAt (knownOf names) exit) 0 n ≡ rulesText q rules
     unfolding namesIn over
     plan-told names are =
@@ -188,10 +205,6 @@ module _ (t : Table) (file : Text) (r : LoadResult) (loads : Loads t file r) whe
   unfolding loaded
   answer-is = ap (λ (x : LoadResult). x .answer) (loads .result)
 
-  -- its answer is one that has a text
-  pub answer-comes : CanCome (r .answer)
-  answer-comes = subst CanCome (sym answer-is) (load-can-come file)
-
   -- a refused sheet has its refusal's text
   pub refused-text : (given : List (Formula Name) → List ℕ) → (r .answer ≡ LoadAnswer.Loaded → ⊥)
       → outcomeText (loadOutcome (r .answer)) ≡ sheetText given file
@@ -199,6 +212,11 @@ module _ (t : Table) (file : Text) (r : LoadResult) (loads : Loads t file r) whe
   refused-text given other =
       ap (λ (a : LoadAnswer). outcomeText (loadOutcome a)) answer-is
       ∙ sym (not-loaded (judgeLoad file) (given (formulasOf (filled (linesOf file)))) (outcomeText (loadOutcome (judgeLoad file))) (λ e. other (answer-is ∙ e)))
+
+  -- and is given nothing
+  pub refused-none : {A : Type 0} (given : List (Formula Name) → List A) → (r .answer ≡ LoadAnswer.Loaded → ⊥) → ofSheet given file ≡ []
+  unfolding ofSheet
+  refused-none given other = not-loaded (judgeLoad file) (given (formulasOf (filled (linesOf file)))) [] (λ e. other (answer-is ∙ e))
 
   module _ (e : r .answer ≡ LoadAnswer.Loaded) where
     pub good : judgeLoad file ≡ LoadAnswer.Loaded
@@ -226,3 +244,9 @@ module _ (t : Table) (file : Text) (r : LoadResult) (loads : Loads t file r) whe
     loaded-text given =
         ap (λ (rs : List Text). given (formulasOf rs)) held
         ∙ sym (ap (λ (a : LoadAnswer). ifLoaded a (given (formulasOf (filled (linesOf file)))) (outcomeText (loadOutcome a))) good)
+
+    pub loaded-given : {A : Type 0} (given : List (Formula Name) → List A) → given (formulasOf (rulesOf (r .table))) ≡ ofSheet given file
+    unfolding ofSheet
+    loaded-given {A} given =
+        ap (λ (rs : List Text). given (formulasOf rs)) held
+        ∙ sym (ap (λ (a : LoadAnswer). ifLoaded a (given (formulasOf (filled (linesOf file)))) []) good)

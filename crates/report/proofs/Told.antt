@@ -1,21 +1,23 @@
 -- What explain wrote is the tree of the writer, so that its lines with the depths that were put are the text of the rules; where it wrote none a
 -- plan exists, because a rule stands and the words are enough. Before it, the texts of atoms that an array holds. Assumes nothing.
-use Prim.Native.Nat.{ℕ, _+_, _^_, _≤_, _<_}
-use mathlib.Core.Path.{_≡_, sym, ap, subst, _∙_, fun-ext}
+use Prim.Native.Nat.{ℕ, zero, suc, _+_, _-_, _^_, _≤_, _<_}
+use mathlib.Core.Path.{_≡_, refl, sym, ap, ap₂, subst, _∙_, fun-ext}
 use mathlib.Core.Bool.{Bool, true, cond}
 use mathlib.Core.Logic.{⊎-elim}
-use mathlib.Core.List.{List, [], _∷_, _++_, append-nil}
+use mathlib.Core.List.{List, [], _∷_, _++_, map, append-nil, map-append}
 use native.Mathlib.Omega.{arith}
-use native.Mathlib.Decide.{ℕ-discrete}
 use lib.Pow.{pow-mono}
 use lib.Dec.{leb}
-use lib.ListN.{length, take, drop, set, length-append, List·getD-eq-default}
-use lib.Seq.{take-append-seam, getD-set-same, getD-set-other}
+use lib.ListN.{length, getD, replicate, take, drop, set, length-append, length-map, List·getD-eq-default}
+use lib.Seq.{take-append-seam}
 use borrow.Author.Tests.{le-ltb, le-leb}
 use types.Run.{OneOf, miss}
 use denote.Enum.Declared.{tagOf}
 use Rattle.formula.specs.Formula.{Form, Formula, Name}
 use Rattle.lexer.specs.Text.{bytes}
+use Rattle.lists.specs.Search.{below, from}
+use Rattle.lists.proofs.Search.{from-append, from-length}
+use Rattle.lists.proofs.Lists.{set-behind}
 use Rattle.lists.proofs.Truth.{side}
 use Rattle.lists.specs.Buffer.{over}
 use Rattle.lists.proofs.Buffer.{written-over}
@@ -46,6 +48,9 @@ use Rattle.report.specs.declared.AtomText.{AtomText}
 use Rattle.report.specs.Lines.{ended, reasonLines}
 use Rattle.report.specs.Output.{treesText, reasonsText}
 use Rattle.report.specs.Pieces.{held, heldAt, lineAt, linesFrom, depthsOf, Shallow, DepthsSay}
+use Rattle.report.specs.Lent.{lentWords, Lends, keptText, textsOf}
+use Rattle.report.specs.declared.TextAnswer.the-variants as TextAnswer
+use Rattle.report.proofs.Lent.{lends-lines}
 use Rattle.report.proofs.Reasons.{tree-lines, written-shallow}
 
 -- ---- the texts of atoms
@@ -55,47 +60,86 @@ abbrev pub lengthIn : Printed → ℕ
 lengthIn (Printed.Text n) = n
 lengthIn (Printed.Needs n) = n
 
+abbrev textIn : List ℕ → ℕ → AtomText
+textIn bytes len = record { bytes = bytes; len = len }
+
 -- what the table gives as the text of an atom: 256 bytes have room for it
-pub held-atom : (t : Table) → FromUs t → (which : ℕ) (buffer : List ℕ) → length buffer ≡ 256 → (r : Printed) (exit : List ℕ)
+pub kept-atom : (t : Table) → FromUs t → (which : ℕ) (buffer : List ℕ) → buffer ≡ replicate 256 0 → (r : Printed) (exit : List ℕ)
     → GivesAtom (formulasOf (rulesOf t)) which buffer r exit → (len : ℕ) → lengthIn r ≡ len
-    → held (record { bytes = exit; len = len }) ≡ atomTextOf (formulasOf (rulesOf t)) which
-unfolding held
-held-atom t v which buffer long r exit g len e =
+    → record { bytes = exit; len = len } ≡ keptText (atomTextOf (formulasOf (rulesOf t)) which)
+unfolding keptText over
+kept-atom t v which buffer zeros r exit g len e =
     let xs = atomTextOf (formulasOf (rulesOf t)) which in
+    let long : length buffer ≡ 256 = ap length zeros in
     let fits : leb (length xs) (length buffer) ≡ true = le-leb (length xs) (length buffer) (omega (arith, atom-short (rulesOf t) (v .standing) which, long)) in
     let is : len ≡ length xs = sym e ∙ ap lengthIn (g .answer ∙ ap (λ (b : Bool). cond b (Printed.Text (length xs)) (Printed.Needs (length xs))) fits) in
-    ap (take len) (g .bytes ∙ ap (λ (b : Bool). cond b (xs ++ drop (length xs) buffer) buffer) fits)
-    ∙ ap (λ (k : ℕ). take k (xs ++ drop (length xs) buffer)) is ∙ take-append-seam xs _
-
--- the texts before place i are those of the rules' atoms
-abbrev pub HeldTo : List (Formula Name) → List AtomText → ℕ → Type 0
-HeldTo rules atoms i = (j : ℕ) → j < i → heldAt atoms j ≡ atomTextOf rules j
+    ap₂ textIn
+    (g .bytes ∙ ap (λ (b : Bool). cond b (xs ++ drop (length xs) buffer) buffer) fits ∙ ap (λ (l : List ℕ). xs ++ drop (length xs) l) zeros)
+    is
 
 -- past the array there is none
-pub held-past : (atoms : List AtomText) (j : ℕ) → length atoms ≤ j → heldAt atoms j ≡ []
+held-past : (atoms : List AtomText) (j : ℕ) → length atoms ≤ j → heldAt atoms j ≡ []
 unfolding held heldAt
 held-past atoms j h = ap held (List·getD-eq-default atoms (record { bytes = []; len = 0 }) h)
 
-module _ (rules : List (Formula Name)) (atoms : List AtomText) where
-  pub held-next : (i : ℕ) (text : AtomText) → i < length atoms → HeldTo rules atoms i → held text ≡ atomTextOf rules i → HeldTo rules (set atoms i text) (i + 1)
-  unfolding heldAt
-  held-next i text h before this j l = go (ℕ-discrete j i)
-    where
-      go : Dec (j ≡ i) → heldAt (set atoms i text) j ≡ atomTextOf rules j
-      go (yes e) = ap (heldAt (set atoms i text)) e ∙ ap held (getD-set-same atoms i text _ h) ∙ this ∙ ap (atomTextOf rules) (sym e)
-      go (no e) = ap held (getD-set-other atoms i j text _ e) ∙ before j (omega (arith, e))
+held-kept : (xs : List ℕ) → held (keptText xs) ≡ xs
+unfolding held keptText over
+held-kept xs = take-append-seam xs _
 
-  pub held-all : length atoms ≡ 16 → length (differentAtoms rules) ≤ 16 → HeldTo rules atoms 16 → heldAt atoms ≡ atomTextOf rules
-  unfolding atomTextOf
-  held-all long few all = fun-ext (λ j. ⊎-elim (all j) (λ l. held-past atoms j (omega arith) ∙ sym (no-atom j (omega arith))) (side j 16))
-    where
-      no-atom : (j : ℕ) → length (differentAtoms rules) ≤ j → atomTextOf rules j ≡ []
-      no-atom j h = ap (λ (b : Bool). cond b (textOf (Form.atom (atomAt (differentAtoms rules) j))) []) (le-ltb j (length (differentAtoms rules)) h)
+numbered : {A : Type 0} (f : ℕ → A) (d : A) (k n j : ℕ) → j < n → getD (map f (from k n)) j d ≡ f (k + j)
+numbered f d k zero j h = absurd (omega arith)
+numbered f d k (suc n) zero h = let z : k ≡ k + 0 = omega arith in ap f z
+numbered f d k (suc n) (suc j) h = let z : suc k + j ≡ k + suc j = omega arith in numbered f d (suc k) n j (omega arith) ∙ ap f z
+
+module _ (atom : ℕ → List ℕ) where
+  abbrev kept : ℕ → AtomText
+  kept j = keptText (atom j)
+
+  -- the texts before place i are kept, and the others have no bytes
+  abbrev pub KeptTo : List AtomText → ℕ → Type 0
+  KeptTo texts i = texts ≡ map kept (below i) ++ replicate (16 - i) (keptText [])
+
+  pub kept-next : (texts : List AtomText) (i : ℕ) (text : AtomText) → i < 16 → KeptTo texts i → text ≡ keptText (atom i) → KeptTo (set texts i text) (i + 1)
+  kept-next texts i text h before e =
+      let m : 16 - i - 1 ≡ 16 - (i + 1) = omega arith in
+      let z : 0 + i ≡ i = omega arith in
+      let more : map kept (below (i + 1)) ≡ map kept (below i) ++ kept i ∷ []
+      = ap (map kept) (from-append 0 i 1) ∙ map-append kept (below i) (from (0 + i) 1) ∙ ap (λ (x : ℕ). map kept (below i) ++ kept x ∷ []) z in
+      ap₂ (λ (l : List AtomText) (a : AtomText). set l i a) before e
+      ∙ set-behind (map kept (below i)) (keptText []) (kept i) (16 - i) i (length-map (below i) kept ∙ from-length 0 i) (omega arith)
+      ∙ ap (λ (k : ℕ). map kept (below i) ++ kept i ∷ [] ++ replicate k (keptText [])) m
+      ∙ ap (λ (l : List AtomText). l ++ replicate (16 - (i + 1)) (keptText [])) (sym more)
+
+  pub kept-all : (texts : List AtomText) → KeptTo texts 16 → texts ≡ textsOf atom
+  unfolding textsOf
+  kept-all texts all = all ∙ append-nil (map kept (below 16))
+
+  -- of a sheet that is refused none has a byte
+  pub kept-none : ((j : ℕ) → atom j ≡ []) → replicate 16 (keptText []) ≡ textsOf atom
+  unfolding textsOf
+  kept-none none = ap (λ (f : ℕ → List ℕ). map (λ (j : ℕ). keptText (f j)) (below 16)) (fun-ext (λ j. sym (none j)))
+
+  -- they are what the array holds, where there is none past it
+  held-texts : ((j : ℕ) → 16 ≤ j → atom j ≡ []) → heldAt (textsOf atom) ≡ atom
+  unfolding heldAt textsOf
+  held-texts none =
+      fun-ext
+      (λ j. ⊎-elim
+      (λ l. ap held (numbered kept (record { bytes = []; len = 0 }) 0 16 j l) ∙ ap (λ (x : ℕ). held (kept x)) (let z : 0 + j ≡ j = omega arith in z) ∙ held-kept (atom j))
+      (λ l. held-past (map kept (below 16)) j l ∙ sym (none j l))
+      (side j 16))
 
 -- at most 16 atoms stand
 pub few-atoms : (t : Table) → FromUs t → length (differentAtoms (formulasOf (rulesOf t))) ≤ 16
 unfolding atomsIn
 few-atoms t h = can-atoms (rulesOf t) (h .standing)
+
+held-atoms : (t : Table) → FromUs t → heldAt (textsOf (atomTextOf (formulasOf (rulesOf t)))) ≡ atomTextOf (formulasOf (rulesOf t))
+unfolding atomTextOf
+held-atoms t h =
+    let ats = differentAtoms (formulasOf (rulesOf t)) in
+    held-texts (atomTextOf (formulasOf (rulesOf t)))
+    (λ j l. ap (λ (b : Bool). cond b (textOf (Form.atom (atomAt ats j))) []) (le-ltb j (length ats) (omega (arith, l, few-atoms t h))))
 
 -- ---- the tree
 
@@ -141,13 +185,17 @@ module _ {t : Table} {buffer : List ℕ} {r : ExplainResult} {exit : List ℕ} (
           (words-are ∙ ap (λ (us : List Tree). toldWords us buffer) e ∙ ap (λ (b : Bool). cond b (over (wordsOf u) buffer) buffer) room)
       go (Writes.exists row found e) = Told.plan e (answer-is ∙ ap (λ (us : List Tree). toldAnswer us (length buffer)) e)
 
+  -- where it told of none there is none, and the words are as they were
+  pub no-trees : ((n : ℕ) → r .answer ≡ ExplainAnswer.Tree n → ⊥) → (treesOf rules ≡ []) × (exit ≡ buffer)
+  no-trees other = go which
+    where
+      go : Told → (treesOf rules ≡ []) × (exit ≡ buffer)
+      go (Told.tree u w e a s x) = absurd (other (length (wordsOf u)) a)
+      go (Told.plan e a) = (e, words-are ∙ ap (λ (us : List Tree). toldWords us buffer) e)
+
   pub no-tree-text : ((n : ℕ) → r .answer ≡ ExplainAnswer.Tree n → ⊥) → ended (bytes "PLAN EXISTS") ≡ reasonsText rules
   unfolding reasonsText
-  no-tree-text other = go which
-    where
-      go : Told → ended (bytes "PLAN EXISTS") ≡ treesText (atomTextOf rules) (treesOf rules)
-      go (Told.tree u w e a s x) = absurd (other (length (wordsOf u)) a)
-      go (Told.plan e a) = sym (ap (treesText (atomTextOf rules)) e)
+  no-tree-text other = sym (ap (treesText (atomTextOf rules)) (no-trees other .0))
 
   -- where it is told there is one
   pub record ToldTree (n : ℕ) : Type 0 where
@@ -188,13 +236,27 @@ module _ {t : Table} {buffer : List ℕ} {r : ExplainResult} {exit : List ℕ} (
       written-shallow (length (differentAtoms rules)) (numberedAtoms rules) (NoPlanFor rules) (few-atoms t (h .from-us)) (few-for (rulesOf t) (h .from-us .standing) .rules)
       (it .tree) 0 root (it .written)
 
-  -- its lines, with the depths that were put, are the text
-  pub tree-text : (n : ℕ) → r .answer ≡ ExplainAnswer.Tree n → (depths after : List ℕ) (end : ℕ) → DepthsSay (take n exit) 0 0 depths after end
-      → (atoms : List AtomText) → heldAt atoms ≡ atomTextOf rules → linesFrom (lineAt exit after atoms) 0 n ≡ reasonsText rules
-  unfolding DepthsSay over reasonsText
-  tree-text n q depths after end says atoms same =
-      let it = tree-told n q in
-      let puts = says (it .tree) [] (it .first ∙ sym (append-nil (wordsOf (it .tree)))) (shallow it) in
-      ap (linesFrom (lineAt exit after atoms) 0) (it .size)
-      ∙ tree-lines exit after atoms (it .tree) 0 0 _ _ (it .words) (puts .bytes ∙ written-over (depthsOf 0 (it .tree)) depths) (shallow it)
-      ∙ ap (λ (atom : ℕ → List ℕ). reasonLines atom 0 (it .tree)) same ∙ sym (ap (treesText (atomTextOf rules)) (it .only))
+  -- its words and depths are lent, and the lines are the text
+  module _ (n : ℕ) (q : r .answer ≡ ExplainAnswer.Tree n) where
+    abbrev it : ToldTree n
+    it = tree-told n q
+
+    pub tree-lent : {text out : List ℕ} → Lends text (map wordsOf (treesOf rules)) buffer exit out out (TextAnswer.Lines n)
+    tree-lent = lends-lines (wordsOf (it .tree)) (ap (map wordsOf) (it .only)) (it .size) (it .words) refl
+
+    module _ (depths after : List ℕ) (end : ℕ) (says : DepthsSay (take n exit) 0 0 depths after end) where
+      put : after ≡ over (depthsOf 0 (it .tree)) depths
+      unfolding DepthsSay
+      put =
+          says (it .tree) [] (it .first ∙ sym (append-nil (wordsOf (it .tree)))) (shallow it) .bytes
+          ∙ written-over (depthsOf 0 (it .tree)) depths
+
+      pub tree-depths : after ≡ lentWords (map (depthsOf 0) (treesOf rules)) depths
+      tree-depths = put ∙ sym (ap (λ (us : List Tree). lentWords (map (depthsOf 0) us) depths) (it .only))
+
+      pub tree-text : (atoms : List AtomText) → atoms ≡ textsOf (atomTextOf rules) → linesFrom (lineAt exit after atoms) 0 n ≡ reasonsText rules
+      unfolding over reasonsText
+      tree-text atoms same =
+          ap (linesFrom (lineAt exit after atoms) 0) (it .size)
+          ∙ tree-lines exit after atoms (it .tree) 0 0 _ _ (it .words) put (shallow it)
+          ∙ ap (λ (atom : ℕ → List ℕ). reasonLines atom 0 (it .tree)) (ap heldAt same ∙ held-atoms t (h .from-us)) ∙ sym (ap (treesText (atomTextOf rules)) (it .only))

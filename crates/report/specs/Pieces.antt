@@ -1,13 +1,12 @@
--- What is computed: the lines of a plan and of a tree word by word, so that they can be given in pieces; and the contracts of
--- `report_building` and `why`, and of `building_piece` and `why_piece`. For proofs: the depths of a tree's words. The claim `pieces-joined` of
--- proofs/Claims.antt says that the pieces of a sheet, one after the other, are its text. Assumes nothing.
+-- What is computed: the lines of a plan and of a tree word by word, so that they can be given in pieces; the contract of `building_piece` and
+-- `why_piece`, and what an answer of `report_building` and of `why` says of the text, whose contracts are in Lent. The depths of a tree's words.
+-- The claim `pieces-joined` of proofs/Claims.antt says that the pieces of a sheet, one after the other, are its text. Assumes nothing.
 use mathlib.Core.Path.{_≡_}
 use mathlib.Core.Bool.{cond}
 use mathlib.Core.List.{List, [], _∷_, _++_}
-use Prim.Native.Nat.{ℕ, suc, _+_, _-_, _/_, _%_, _≤_, _<_}
-use lib.Dec.{eqb}
+use Prim.Native.Nat.{ℕ, zero, suc, _+_, _-_, _/_, _%_, _≤_, _<_}
+use lib.Dec.{eqb, ltb}
 use lib.ListN.{length, getD, take, drop}
-use Rattle.contact.specs.Question.{Question}
 use Rattle.formula.specs.Formula.{Name}
 use Rattle.lists.specs.Search.{collect, from}
 use Rattle.lists.specs.Putting.{Puts}
@@ -17,7 +16,7 @@ use Rattle.report.specs.declared.TextAnswer.{TextAnswer}
 use Rattle.report.specs.declared.TextAnswer.the-variants as TextAnswer
 use Rattle.report.specs.declared.Piece.{Piece}
 use Rattle.report.specs.Lines.{headLine, pointLine, contactLine, indented, splitText, ruleText, floorlessText}
-use Rattle.report.specs.Putting.{textRoom, Reports}
+use Rattle.report.specs.Putting.{Reports}
 
 -- ---- the lines of a plan's words
 
@@ -82,21 +81,25 @@ DepthsSay words at depth buffer exit end =
 unfoldable pub linesFrom : (ℕ → List ℕ) → ℕ → ℕ → List ℕ
 linesFrom line at count = collect line (from at count)
 
+-- how many of the lines that are left a piece has, where so many bytes are used: as many whole lines as fit, which have up to 1,024 bytes, so
+-- that one is put as long as no more than 15,360 of 16,384 are used
+abbrev pub fitting : (ℕ → List ℕ) → ℕ → ℕ → ℕ → ℕ
+fitting line zero at used = 0
+fitting line (suc left) at used = let more = fitting line left (suc at) (used + length (line at)) in cond (ltb 15360 used) 0 (suc more)
+
+-- the lines of a piece from an index on: none from `count` on
+unfoldable pub pieceLines : (ℕ → List ℕ) → ℕ → ℕ → ℕ
+pieceLines line count at = fitting line (count - at) at 0
+
 -- the text is in the buffer, or it is that of the lines of so many words, and the buffer is as it was
 pub data Answers (text : List ℕ) (line : ℕ → List ℕ) (buffer exit : List ℕ) : TextAnswer → Type 0 where
   short : {n : ℕ} → Reports text buffer n exit → Answers text line buffer exit (TextAnswer.Text n)
   lines : {n : ℕ} → linesFrom line 0 n ≡ text → exit ≡ buffer → Answers text line buffer exit (TextAnswer.Lines n)
 
--- for proofs: it is so answered, and the lines of a plan have at most so many bytes
-pub record Tells (q : Question) (text : List ℕ) (line : ℕ → List ℕ) (buffer exit : List ℕ) (answer : TextAnswer) : Type 0 where
-  pub answers : Answers text line buffer exit answer
-  pub room : (n : ℕ) → answer ≡ TextAnswer.Lines n → length text ≤ textRoom q
-
--- the lines from an index to the next are in the buffer: all that are left, or so many that a line of 1,024 bytes has no room behind them
+-- these lines are in the buffer, and the next is the one behind them; so all that are left are, or a line of 1,024 bytes has no room behind them
 pub record GivesPiece (line : ℕ → List ℕ) (count at : ℕ) (buffer : List ℕ) (r : Piece) (exit : List ℕ) : Type 0 where
-  pub lines : ℕ
-  pub next : r .next ≡ at + lines
-  pub reports : Reports (linesFrom line at lines) buffer (r .len) exit
+  pub next : r .next ≡ at + pieceLines line count at
+  pub reports : Reports (linesFrom line at (pieceLines line count at)) buffer (r .len) exit
   pub within : at ≤ count → r .next ≤ count
   pub full : r .next < count → 15360 < r .len
   pub forward : at < count → at < r .next

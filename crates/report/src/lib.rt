@@ -8,20 +8,24 @@ ghost use mathlib.Core.List.{[], _∷_};
 ghost use Prim.Native.Nat.{_+_, _-_, _*_, _≤_, _<_};
 ghost use lib.ListN.{length, getD, replicate, take, drop};
 ghost use Rattle.contact.specs.Question.{plain, building};
+ghost use Rattle.contact.specs.Numbering.{namesOf};
 ghost use Rattle.evalset.specs.Bit.{bit};
 ghost use Rattle.lists.specs.Search.{collect};
 ghost use Rattle.lists.specs.Putting.{Puts};
 ghost use Rattle.names.specs.Gather.{bytesIn, knownOf};
+ghost use Rattle.plan.specs.Plans.{plansOf};
 ghost use Rattle.search.specs.Asked.{questionOf};
 ghost use Rattle.table.specs.Store.{rulesOf};
 ghost use Rattle.table.specs.Calls.{formulasOf, FromUs};
 ghost use Rattle.table.specs.Asking.{Asks};
 ghost use Rattle.table.specs.Rows.{SomeStand};
-ghost use Rattle.table.specs.Numbers.{CanCome, loadOutcome};
+ghost use Rattle.table.specs.Numbers.{loadOutcome};
 ghost use Rattle.table.specs.AtomText.{atomTextOf};
+ghost use Rattle.trees.specs.Checker.{treesOf};
 ghost use Rattle.report.specs.Output.{outcomeText, rulesText, outputOf, asReadOf, reasonsText, whyOf};
 ghost use Rattle.report.specs.Lines.{decimal, labelled, headLine, nameIf, pointNames, namesOrNone, blanked, pointLine, contactLine, ruleLines, refusedText, margin, indented};
-ghost use Rattle.report.specs.Pieces.{planLine, planLineAt, saying, held, heldAt, lineAt, DepthsSay, Answers, Tells, GivesPiece};
+ghost use Rattle.report.specs.Pieces.{planLine, planLineAt, saying, held, heldAt, lineAt, DepthsSay, GivesPiece};
+ghost use Rattle.report.specs.Lent.{ofSheet, sheetAtoms, keptText, textsOf, Tells, Whys};
 ghost use Rattle.report.specs.Putting.{wordRoom, Reports};
 use names::KeptName;
 use names::Names;
@@ -44,20 +48,8 @@ const LINE: usize = 1024;
 // The words of the largest building.
 pub const BUILDING: usize = 32642;
 
-// The kinds of words, in front of 28 bits: those of a plan, and those of a tree.
+// A word's kind is in front of 28 bits.
 const KIND: u32 = 0x1000_0000;
-
-const FIRST: u32 = 1;
-
-const POINT: u32 = 2;
-
-const CONTACT: u32 = 3;
-
-const LONG_FIRST: u32 = 8;
-
-const SPLIT: u32 = 5;
-
-const RULE: u32 = 6;
 
 // What is answered for a sheet: a text of so many bytes, which is in the buffer, or one of so many words, whose lines are given in pieces.
 pub enum TextAnswer {
@@ -233,27 +225,22 @@ fn position_of(i: usize) -> usize
     if 0 < i { i - 1 } else { 0 }
 }
 
-// The line of a plan's word at an index, which is one past a point's position.
+// The line of a plan's word at an index, which is one past a point's position: by its kind.
 fn put_word(word: u32, i: usize, names: Names, out: &mut [u8], at: usize) -> usize
     requires { ⌜ at + 1024 ≤ length (now out) ⌝ }
     ensures { λ r. ⌜ Puts at (planLine (knownOf names) i word) (now (out .entry)) (now (out .exit)) r ⌝ }
 {
-    let kind = word / KIND;
     let body = (word % KIND) as usize;
-    if kind == FIRST {
-        return put_head(body / 256, body % 256, out, at);
+    match word / KIND {
+        1 => put_head(body / 256, body % 256, out, at),
+        2 => {
+            let place = position_of(i);
+            put_point(names, place, (body % 256) as u8, out, at)
+        }
+        3 => put_contact(body / 256, body % 256, out, at),
+        8 => put_head(body / 65536, body % 65536, out, at),
+        _ => at,
     }
-    if kind == LONG_FIRST {
-        return put_head(body / 65536, body % 65536, out, at);
-    }
-    if kind == POINT {
-        let place = position_of(i);
-        return put_point(names, place, (body % 256) as u8, out, at);
-    }
-    if kind == CONTACT {
-        return put_contact(body / 256, body % 256, out, at);
-    }
-    at
 }
 
 // The word at an index; 0 past the last.
@@ -294,7 +281,7 @@ fn put_refused(number: usize, line: usize, place: usize, out: &mut [u8], at: usi
 
 // What a load's answer says: nothing where it is loaded.
 fn put_refusal(answer: LoadAnswer, out: &mut [u8], at: usize) -> usize
-    requires { ⌜ CanCome answer × (at + 79 ≤ length (now out)) ⌝ }
+    requires { ⌜ at + 79 ≤ length (now out) ⌝ }
     ensures { λ r. ⌜ Puts at (outcomeText (loadOutcome answer)) (now (out .entry)) (now (out .exit)) r ⌝ }
 {
     let said = table::load_outcome(answer);
@@ -318,7 +305,7 @@ fn ask(table: Table, asked: Asked, words: &mut [u32]) -> AskResult
 // The text for the rules that stand, by a question: its plan is put into the words, or that there is none into the buffer.
 fn put_rules(table: Table, asked: Asked, words: &mut [u32], out: &mut [u8]) -> PlanResult
     requires { ⌜ FromUs table × SomeStand (rulesOf table) × (wordRoom (questionOf asked) ≤ length (now words)) × (16384 ≤ length (now out)) ⌝ }
-    ensures { λ r. ⌜ Tells (questionOf asked) (rulesText (questionOf asked) (formulasOf (rulesOf table))) (planLineAt (knownOf (r .names)) (now (words .exit))) (now (out .entry)) (now (out .exit)) (r .answer) ⌝ }
+    ensures { λ r. ⌜ Tells (questionOf asked) (rulesText (questionOf asked) (formulasOf (rulesOf table))) (plansOf (questionOf asked) (formulasOf (rulesOf table))) (namesOf (formulasOf (rulesOf table))) (now (words .entry)) (now (out .entry)) r (now (words .exit)) (now (out .exit)) ⌝ }
 {
     let names = table.names();
     let given = ask(table, asked, words);
@@ -339,7 +326,7 @@ fn put_rules(table: Table, asked: Asked, words: &mut [u32], out: &mut [u8]) -> P
 // The text for a sheet, by a question.
 fn put_report(file: &[u8], asked: Asked, words: &mut [u32], out: &mut [u8]) -> PlanResult
     requires { ⌜ (wordRoom (questionOf asked) ≤ length (now words)) × (16384 ≤ length (now out)) ⌝ }
-    ensures { λ r. ⌜ Tells (questionOf asked) (outputOf (questionOf asked) (now (file .entry))) (planLineAt (knownOf (r .names)) (now (words .exit))) (now (out .entry)) (now (out .exit)) (r .answer) ⌝ }
+    ensures { λ r. ⌜ Tells (questionOf asked) (outputOf (questionOf asked) (now (file .entry))) (ofSheet (plansOf (questionOf asked)) (now (file .entry))) (ofSheet namesOf (now (file .entry))) (now (words .entry)) (now (out .entry)) r (now (words .exit)) (now (out .exit)) ⌝ }
 {
     let t = Table::empty();
     let loaded = t.load(file);
@@ -388,22 +375,23 @@ pub fn report(file: &[u8], out: &mut [u8; ROOM]) -> usize
     }
 }
 
-// Room for the words of a building.
+// Room for the words of a building: zeros.
 pub fn no_building() -> [u32; BUILDING]
     ensures { λ r. ⌜ length r ≡ 32642 ⌝ }
+    ensures { λ r. ⌜ r ≡ replicate 32642 0 ⌝ }
 {
     [0u32; BUILDING]
 }
 
 // The text for one building for a sheet of any bytes: a short one over the first bytes of the buffer, where it is refused or has no plan, or the
-// plan, as the words that are lent and the names.
+// plan, as the words that are lent and the names. What is not written keeps its values.
 pub fn report_building(file: &[u8], words: &mut [u32; BUILDING], out: &mut [u8; ROOM]) -> PlanResult
-    ensures { λ r. ⌜ Answers (outputOf building (now (file .entry))) (planLineAt (knownOf (r .names)) (now (words .exit))) (now (out .entry)) (now (out .exit)) (r .answer) ⌝ }
+    ensures { λ r. ⌜ Tells building (outputOf building (now (file .entry))) (ofSheet (plansOf building) (now (file .entry))) (ofSheet namesOf (now (file .entry))) (now (words .entry)) (now (out .entry)) r (now (words .exit)) (now (out .exit)) ⌝ }
 {
     put_report(file, Asked::Building, words, out)
 }
 
-// The next piece of a building's text, over the first bytes of the buffer: whole lines, from that of the word at an index on.
+// The next piece of a building's text, over the first bytes of the buffer: whole lines, from that of the word at an index on, as many as fit.
 pub fn building_piece(
     words: &[u32; BUILDING],
     count: usize,
@@ -471,9 +459,6 @@ pub fn as_read(file: &[u8], out: &mut [u8; ROOM]) -> usize
 // The words of the largest tree.
 pub const TREE: usize = 131071;
 
-// How deep a split may lie: there are 16 atoms.
-const DEEPEST: u8 = 16;
-
 // The text of an atom: its first bytes, as many as its length.
 pub struct AtomText {
     pub bytes: [u8; 256],
@@ -518,29 +503,32 @@ fn put_atom(atoms: [AtomText; 16], which: usize, out: &mut [u8], at: usize) -> u
     requires { ⌜ at + 256 ≤ length (now out) ⌝ }
     ensures { λ r. ⌜ Puts at (heldAt atoms which) (now (out .entry)) (now (out .exit)) r × (r ≤ at + 256) ⌝ }
 {
-    if which < 16 {
-        let text = atoms[which];
-        return put_atom_text(text, out, at);
+    match which {
+        0..=15 => {
+            let text = atoms[which];
+            put_atom_text(text, out, at)
+        }
+        _ => at,
     }
-    at
 }
 
-// What a word says.
+// What a tree's word says, by its kind.
 fn put_saying(word: u32, atoms: [AtomText; 16], out: &mut [u8], at: usize) -> usize
     requires { ⌜ at + 266 ≤ length (now out) ⌝ }
     ensures { λ r. ⌜ Puts at (saying (heldAt atoms) word) (now (out .entry)) (now (out .exit)) r × (r ≤ at + 266) ⌝ }
 {
-    let kind = word / KIND;
     let body = (word % KIND) as usize;
-    if kind == SPLIT {
-        let end = put_text(b"split on ", out, at);
-        return put_atom(atoms, body, out, end);
+    match word / KIND {
+        5 => {
+            let end = put_text(b"split on ", out, at);
+            put_atom(atoms, body, out, end)
+        }
+        6 => {
+            let end = put_labelled(b"rule ", body, out, at);
+            put_text(b" is false here", out, end)
+        }
+        _ => put_text(b"no floor", out, at),
     }
-    if kind == RULE {
-        let end = put_labelled(b"rule ", body, out, at);
-        return put_text(b" is false here", out, end);
-    }
-    put_text(b"no floor", out, at)
 }
 
 // The line of a word at its depth.
@@ -586,7 +574,8 @@ fn put_reasons(
     Piece { len: end, next }
 }
 
-// The depths of the words of the tree whose first word, at this index, has this depth; the index after its last word.
+// The depths of the words of the tree whose first word, at this index, has this depth; the index after its last word. A split lies at most
+// fifteen deep: there are 16 atoms.
 fn put_depths(words: &[u32], at: usize, depth: u8, depths: &mut [u8]) -> usize
     requires { ⌜ length (now words) ≤ length (now depths) ⌝ }
     ensures { λ r. ⌜ (length (now (depths .exit)) ≡ length (now (depths .entry))) × DepthsSay (now (words .entry)) at depth (now (depths .entry)) (now (depths .exit)) r ⌝ }
@@ -595,20 +584,22 @@ fn put_depths(words: &[u32], at: usize, depth: u8, depths: &mut [u8]) -> usize
         return at;
     }
     depths[at] = depth;
-    if words[at] / KIND != SPLIT {
-        return at + 1;
+    match words[at] / KIND {
+        5 => match depth {
+            0..=15 => {
+                let middle = put_depths(words, at + 1, depth + 1, depths);
+                put_depths(words, middle, depth + 1, depths)
+            }
+            _ => at + 1,
+        },
+        _ => at + 1,
     }
-    if DEEPEST <= depth {
-        return at + 1;
-    }
-    let middle = put_depths(words, at + 1, depth + 1, depths);
-    put_depths(words, middle, depth + 1, depths)
 }
 
 // The text of the atom with this number, of no bytes where there is none.
 fn atom_text(table: Table, which: usize) -> AtomText
     requires { ⌜ FromUs table ⌝ }
-    ensures { λ r. ⌜ held r ≡ atomTextOf (formulasOf (rulesOf table)) which ⌝ }
+    ensures { λ r. ⌜ r ≡ keptText (atomTextOf (formulasOf (rulesOf table)) which) ⌝ }
 {
     let mut bytes = [0u8; 256];
     let printed = table.atom(which, &mut bytes);
@@ -620,7 +611,7 @@ fn atom_text(table: Table, which: usize) -> AtomText
 
 // Room for the texts of atoms.
 fn no_texts() -> [AtomText; 16]
-    ensures { λ r. ⌜ length r ≡ 16 ⌝ }
+    ensures { λ r. ⌜ r ≡ replicate 16 (keptText []) ⌝ }
 {
     let bytes = [0u8; 256];
     let text = AtomText { bytes, len: 0 };
@@ -630,7 +621,7 @@ fn no_texts() -> [AtomText; 16]
 // The texts of the atoms by their numbers.
 fn atom_texts(table: Table) -> [AtomText; 16]
     requires { ⌜ FromUs table ⌝ }
-    ensures { λ r. ⌜ heldAt r ≡ atomTextOf (formulasOf (rulesOf table)) ⌝ }
+    ensures { λ r. ⌜ r ≡ textsOf (atomTextOf (formulasOf (rulesOf table))) ⌝ }
 {
     let mut texts = no_texts();
     let mut i: usize = 0;
@@ -645,7 +636,7 @@ fn atom_texts(table: Table) -> [AtomText; 16]
 // Why the rules that stand have no plan.
 fn put_why(table: Table, words: &mut [u32], depths: &mut [u8], out: &mut [u8]) -> WhyResult
     requires { ⌜ FromUs table × SomeStand (rulesOf table) × (length (now words) ≡ 131071) × (length (now depths) ≡ 131071) × (16384 ≤ length (now out)) ⌝ }
-    ensures { λ r. ⌜ Answers (reasonsText (formulasOf (rulesOf table))) (lineAt (now (words .exit)) (now (depths .exit)) (r .atoms)) (now (out .entry)) (now (out .exit)) (r .answer) ⌝ }
+    ensures { λ r. ⌜ Whys (reasonsText (formulasOf (rulesOf table))) (treesOf (formulasOf (rulesOf table))) (atomTextOf (formulasOf (rulesOf table))) (now (words .entry)) (now (depths .entry)) (now (out .entry)) r (now (words .exit)) (now (depths .exit)) (now (out .exit)) ⌝ }
 {
     let atoms = atom_texts(table);
     let given = table.explain(words);
@@ -665,14 +656,14 @@ fn put_why(table: Table, words: &mut [u32], depths: &mut [u8], out: &mut [u8]) -
 }
 
 // Why a sheet of any bytes has no plan: a short text over the first bytes of the buffer, where it is refused or has a plan, or its tree, as the
-// words that are lent, their depths and the texts of the atoms.
+// words that are lent, their depths and the texts of the atoms. What is not written keeps its values.
 pub fn why(
     file: &[u8],
     words: &mut [u32; TREE],
     depths: &mut [u8; TREE],
     out: &mut [u8; ROOM],
 ) -> WhyResult
-    ensures { λ r. ⌜ Answers (whyOf (now (file .entry))) (lineAt (now (words .exit)) (now (depths .exit)) (r .atoms)) (now (out .entry)) (now (out .exit)) (r .answer) ⌝ }
+    ensures { λ r. ⌜ Whys (whyOf (now (file .entry))) (ofSheet treesOf (now (file .entry))) (sheetAtoms (now (file .entry))) (now (words .entry)) (now (depths .entry)) (now (out .entry)) r (now (words .exit)) (now (depths .exit)) (now (out .exit)) ⌝ }
 {
     let t = Table::empty();
     let loaded = t.load(file);
@@ -689,7 +680,7 @@ pub fn why(
     put_why(table, words, depths, out)
 }
 
-// The next piece of a tree's text, over the first bytes of the buffer: whole lines, from that of the word at an index on.
+// The next piece of a tree's text, over the first bytes of the buffer: whole lines, from that of the word at an index on, as many as fit.
 pub fn why_piece(
     words: &[u32; TREE],
     depths: &[u8; TREE],
@@ -703,15 +694,17 @@ pub fn why_piece(
     put_reasons(words, depths, count, atoms, from, out)
 }
 
-// Room for the words of a tree, and for their depths.
+// Room for the words of a tree, and for their depths: zeros.
 pub fn no_tree() -> [u32; TREE]
     ensures { λ r. ⌜ length r ≡ 131071 ⌝ }
+    ensures { λ r. ⌜ r ≡ replicate 131071 0 ⌝ }
 {
     [0u32; TREE]
 }
 
 pub fn no_depths() -> [u8; TREE]
     ensures { λ r. ⌜ length r ≡ 131071 ⌝ }
+    ensures { λ r. ⌜ r ≡ replicate 131071 0 ⌝ }
 {
     [0u8; TREE]
 }

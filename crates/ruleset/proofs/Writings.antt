@@ -3,12 +3,13 @@
 use mathlib.Core.Path.{_≡_, refl, sym, ap, ap₂, subst, _∙_}
 use mathlib.Core.Bool.{Bool, true, false, cond}
 use mathlib.Core.Logic.{⊎-elim}
+use mathlib.Mathlib.Data.Bool.Basic.{eq-false-of-not-eq-true}
 use mathlib.Core.List.{List, [], _∷_, _++_, map, foldl, map-map, map-append, append-nil, append-assoc}
 use Prim.Native.Nat.{ℕ, suc, _+_, _≤_, _<_}
 use native.Mathlib.Omega.{arith}
 use lib.Dec.{eqb, leb}
-use lib.ListN.{length, getD, length-append, List·getD-append}
-use lib.Seq.{getD-at}
+use lib.ListN.{length, getD, take, length-append, List·getD-append}
+use lib.Seq.{getD-at, take-append-seam}
 use borrow.Author.Tests.{eqb-true, eqb-false, le-leb}
 use Rattle.lists.specs.Search.{In, elem}
 use Rattle.lists.proofs.Search.{none-in, uncons, in-either, any-elim, elem-intro, elem-elim, keep-intro, keep-elim, keep-append, map-intro, map-elim, below-intro}
@@ -24,7 +25,7 @@ use Rattle.contact.proofs.Numbered.{atoms-map}
 use Rattle.kleene.specs.Code.{atomSign, postfix}
 use Rattle.solver.specs.Coded.{part, CodedFrom, Coded}
 use Rattle.ruleset.specs.declared.AtomPlace.{AtomPlace}
-use Rattle.ruleset.specs.Places.{atomAt, Writing, atomSigns, signsTo, placeFrom}
+use Rattle.ruleset.specs.Places.{atomAt, atomsIn, Writing, atomSigns, signsTo, placeFrom}
 
 -- ---- of those that are the same, the first stays
 
@@ -128,9 +129,13 @@ module _ (all : List (Atom Name)) (i many : ℕ) (code : List ℕ) where
   abbrev sign : Atom Name → ℕ
   sign a = atomSign (num a)
 
-  -- the atom at a place of a rule is the different atom with the number i
+  -- none of these atoms has the number i
+  abbrev NoneOf : List (Atom Name) → Type 0
+  NoneOf atoms = (y : Atom Name) → In y atoms → num y ≡ i → ⊥
+
+  -- the atom at a place of a rule is the different atom with the number i, and none before it there has this number
   abbrev IsThere : Formula Name → ℕ → Type 0
-  IsThere f k = (k < length (atomsOf f)) × (atomAt (atomsOf f) k ≡ atomAt (distinct same all) i)
+  IsThere f k = (k < length (atomsOf f)) × (atomAt (atomsOf f) k ≡ atomAt (distinct same all) i) × (num (atomAt (distinct same all) i) ≡ i) × NoneOf (take k (atomsOf f))
 
   signs-in : (f : Formula Name) (from end : ℕ) → part code from end ≡ postfix (mapForm num f) → atomSigns (part code from end) ≡ map sign (atomsOf f)
   signs-in f from end e = ap atomSigns e ∙ signs-of (mapForm num f) ∙ ap (map atomSign) (atoms-map num f) ∙ map-map atomSign num (atomsOf f)
@@ -148,6 +153,8 @@ module _ (all : List (Atom Name)) (i many : ℕ) (code : List ℕ) where
       (first-stays same (same-alike name-discrete) (pre ++ r .front) (r .back ++ rest) (r .at) (Atom.empty Term.zero)) none in (
         omega (arith, r .count, ap length (r .split), length-append (r .front) (r .at ∷ r .back)),
         ap₂ (λ (l : List (Atom Name)) (k : ℕ). atomAt l k) (r .split) (r .count) ∙ getD-at (r .front) (r .at) (r .back) (Atom.empty Term.zero) (length (r .front)) refl ∙ sym stays ∙ ap (atomAt (distinct same all)) is-i,
+        ap num (sym (ap (atomAt (distinct same all)) is-i) ∙ stays) ∙ is-i,
+        subst NoneOf (sym (ap₂ (λ (k : ℕ) (l : List (Atom Name)). take k l) (r .count) (r .split) ∙ take-append-seam (r .front) (r .at ∷ r .back))) (λ y j q. r .others y j (ap atomSign q)),
       )
 
   -- no atom of a rule has the number where the sign does not stand
@@ -168,6 +175,7 @@ module _ (all : List (Atom Name)) (i many : ℕ) (code : List ℕ) where
     rule-is : p .rule ≡ k + place
     few : place < length rules
     there : IsThere (getD rules place Form.truth) (p .atom)
+    earlier : NoneOf (allAtoms (take place rules))
 
   placed : (rules : List (Formula Name)) (ends : List ℕ) (from k : ℕ) (pre : List (Atom Name)) → CodedFrom many code from ends (map (mapForm num) rules) → pre ++ allAtoms rules ≡ all
       → ((y : Atom Name) → In y pre → num y ≡ i → ⊥) → (x : Atom Name) → In x (allAtoms rules) → num x ≡ i → There rules k (placeFrom (atomSign i) code from k ends)
@@ -187,10 +195,18 @@ module _ (all : List (Atom Name)) (i many : ℕ) (code : List ℕ) where
             rule-is = omega arith;
             few = omega arith;
             there = in-rule pre (allAtoms rules) f e h (signsTo (part code from end) (atomSign i)) (stands-in-rule f from end (c .0 .is-code) q);
+            earlier = λ y m. none-in m;
           }
       go false q r =
-          let m = r (not-in-rule f from end (c .0 .is-code) q) in
-          record { place = suc (m .place); rule-is = omega (arith, m .rule-is); few = omega (arith, m .few); there = m .there }
+          let none = not-in-rule f from end (c .0 .is-code) q in
+          let m = r none in
+          record {
+            place = suc (m .place);
+            rule-is = omega (arith, m .rule-is);
+            few = omega (arith, m .few);
+            there = m .there;
+            earlier = λ y l. ⊎-elim (none y) (m .earlier y) (in-either (atomsOf f) (allAtoms (take (m .place) rules)) l);
+          }
 
 -- some atom has each number
 some-atom : (rules : List (Formula Name)) (i : ℕ) → i < length (differentAtoms rules) → (x : Atom Name) × (i ≡ atomNumber rules x) × In x (allAtoms rules)
@@ -206,4 +222,13 @@ first-writing rules many code ends c i h =
     let r = placed (allAtoms rules) i many code rules ends 0 0 [] c refl (λ y j. none-in j) (x .0) (x .2) (sym (x .1)) in
     let k : r .place ≡ placeFrom (atomSign i) code 0 0 ends .rule = omega (arith, r .rule-is) in
     let there = subst (λ (n : ℕ). IsThere (allAtoms rules) i many code (getD rules n Form.truth) (placeFrom (atomSign i) code 0 0 ends .atom)) k (r .there) in
-    record { rule-there = omega (arith, k, r .few); atom-there = there .0; is-atom = there .1 }
+    let earlier = subst (λ (n : ℕ). NoneOf (allAtoms rules) i many code (allAtoms (take n rules))) k (r .earlier) in
+    let p = placeFrom (atomSign i) code 0 0 ends in
+    record {
+      rule-there = omega (arith, k, r .few);
+      atom-there = there .0;
+      is-atom = there .1;
+      none-before = λ y j. eq-false-of-not-eq-true
+          (λ e. ⊎-elim (earlier y) (there .3 y) (in-either (allAtoms (take (p .rule) rules)) (take (p .atom) (atomsIn rules (p .rule))) j)
+          (position-alike (sameAtom name-discrete) (same-alike name-discrete) (differentAtoms rules) y (atomAt (differentAtoms rules) i) e ∙ there .2));
+    }

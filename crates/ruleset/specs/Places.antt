@@ -1,15 +1,16 @@
 -- For proofs: where an atom is written first among rules, and where its sign stands first in their code; the contract of `first_writing`.
 -- Assumes nothing.
-use mathlib.Core.Bool.{cond}
+use mathlib.Core.Bool.{false, cond}
 use mathlib.Core.Path.{_≡_}
-use mathlib.Core.List.{List, [], _∷_}
+use mathlib.Core.List.{List, [], _∷_, _++_}
 use Prim.Native.Nat.{ℕ, suc, _<_}
 use lib.Dec.{eqb, leb}
-use lib.ListN.{length, getD}
-use Rattle.lists.specs.Search.{keep, elem}
+use lib.ListN.{length, getD, take}
+use Rattle.lists.specs.Search.{In, keep, elem}
 use Rattle.formula.specs.Formula.{Term, Atom, Form, Formula, Name}
 use Rattle.formula.specs.Atoms.{atomsOf}
-use Rattle.contact.specs.Numbering.{position, differentAtoms}
+use Rattle.formula.specs.Same.{name-discrete, sameAtom}
+use Rattle.contact.specs.Numbering.{allAtoms, position, differentAtoms}
 use Rattle.solver.specs.Coded.{part}
 use Rattle.ruleset.specs.declared.AtomPlace.{AtomPlace}
 use Rattle.ruleset.specs.declared.Compiling.{Compiling}
@@ -23,11 +24,16 @@ atomAt xs i = getD xs i (Atom.empty Term.zero)
 abbrev pub atomsIn : List (Formula Name) → ℕ → List (Atom Name)
 atomsIn rules k = atomsOf (getD rules k Form.truth)
 
--- at the place is the different atom with the number i, as it was written first
+-- the atoms that stand before the place
+abbrev pub atomsBefore : List (Formula Name) → AtomPlace → List (Atom Name)
+atomsBefore rules p = allAtoms (take (p .rule) rules) ++ take (p .atom) (atomsIn rules (p .rule))
+
+-- at the place is the different atom with the number i, as it was written first: none that stands before is the same
 pub record Writing (rules : List (Formula Name)) (i : ℕ) (p : AtomPlace) : Type 0 where
   pub rule-there : p .rule < length rules
   pub atom-there : p .atom < length (atomsIn rules (p .rule))
   pub is-atom : atomAt (atomsIn rules (p .rule)) (p .atom) ≡ atomAt (differentAtoms rules) i
+  pub none-before : (y : Atom Name) → In y (atomsBefore rules p) → sameAtom name-discrete y (atomAt (differentAtoms rules) i) ≡ false
 
 unfoldable pub WritingIs : Compiling → List ℕ → ℕ → AtomPlace → Type 0
 WritingIs c code i p = (rules : List (Formula Name)) (kept : List ℕ) → CompiledRules rules c kept code → Writing rules i p

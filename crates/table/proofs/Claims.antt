@@ -1,7 +1,7 @@
 -- What is proved of the table, for whoever builds on it: it is that of the standing rules whatever calls were made, these are made by the
 -- rows of the table of calls, and each call is answered by the first row of the table of calls that applies. Each claim cites the file
 -- that proves it. Assumes nothing.
-use Prim.Native.Nat.{ℕ, _≤_}
+use Prim.Native.Nat.{ℕ, _≤_, _<_}
 use mathlib.Core.Path.{_≡_, sym, _∙_}
 use mathlib.Core.Logic.{_↔_}
 use mathlib.Core.List.{List, [], _∷_, _++_}
@@ -11,6 +11,7 @@ use Rattle.table.specs.declared.AddAnswer.{AddAnswer}
 use Rattle.table.specs.declared.AddAnswer.the-variants as AddAnswer
 use Rattle.table.specs.declared.AddResult.{AddResult}
 use Rattle.table.specs.declared.WithdrawResult.{WithdrawResult}
+use Rattle.table.specs.declared.LoadAnswer.the-variants as LoadAnswer
 use Rattle.table.specs.declared.LoadResult.{LoadResult}
 use Rattle.table.specs.declared.AskResult.{AskResult}
 use Rattle.table.specs.declared.JudgeResult.{JudgeResult}
@@ -31,13 +32,17 @@ use Rattle.lists.specs.Often.{EquallyOften}
 use Rattle.lists.proofs.Often.{often-back}
 use Rattle.table.specs.Asking.{askAnswer, Asks, judgeAnswer, Judges}
 use Rattle.formula.specs.Formula.{Formula, Name}
+use Rattle.lexer.specs.Arrays.{lexed}
 use Rattle.syntax.specs.Rule.{ruleOf}
 use Rattle.plan.specs.declared.PlanRead.{PlanRead}
-use Rattle.plan.specs.Words.{Refusal}
-use Rattle.plan.specs.Arrays.{Reads}
+use Rattle.plan.specs.declared.Written.{Written}
+use Rattle.plan.specs.Words.{Refusal, Plan, wordsOf}
+use Rattle.plan.specs.Arrays.{Reads, Writes}
+use Rattle.printing.specs.declared.Printed.{Printed}
+use Rattle.printing.specs.Prints.{Prints as PrintsText}
 use Rattle.table.specs.declared.Outcome.{Outcome}
 use Rattle.table.specs.declared.Outcome.the-variants as Outcome
-use Rattle.table.specs.Numbers.{addOutcome, withdrawOutcome, CanCome, loadOutcome, askOutcome, judgeOutcome, printOutcome, explainOutcome, checkOutcome, stillOutcome, ruleOutcome, planOutcome}
+use Rattle.table.specs.Numbers.{addOutcome, withdrawOutcome, loadOutcome, askOutcome, judgeOutcome, printOutcome, explainOutcome, checkOutcome, stillOutcome, lexOutcome, ruleOutcome, planOutcome, writtenOutcome, printedOutcome}
 use Rattle.table.specs.Rows.{AddRow, WithdrawRow, LoadRow, AskRow, JudgeRow, PrintRow, ExplainRow, CheckRow, StillRow}
 use Rattle.table.specs.Stands.{Call, add, withdraw, load, ask, judge, print, explain, check, still, adds, Stands}
 use Rattle.table.specs.Runs.{step, run, after, standing, Faithful}
@@ -54,6 +59,7 @@ use Rattle.table.proofs.TreeRows as TreeRows
 use Rattle.table.proofs.StillRows as StillRows
 use Rattle.table.proofs.AtomText as AtomText
 use Rattle.table.proofs.Stands as Stands
+use Rattle.table.proofs.Parts as Parts
 
 -- ---- tables and lists
 
@@ -183,8 +189,8 @@ pub load-answered-only : (f : Text) (o : Outcome) → LoadRow f o → o ≡ load
 load-answered-only = LoadRows.load-row-only
 
 -- "The first refused line ends the load": no load answers that a line ends it and was added
-pub load-can-come : (f : Text) → CanCome (judgeLoad f)
-load-can-come = LoadRows.load-can-come
+pub load-line-refused : (f : Text) (n : ℕ) → judgeLoad f ≡ LoadAnswer.Line n AddAnswer.Added → ⊥
+load-line-refused = LoadRows.load-line-refused
 
 pub ask-answered : (q : Question) (room : ℕ) (rs : List Text) (fs : List (Formula Name)) → AreRules rs fs → AskRow q rs room (askOutcome (askAnswer q rs room))
 ask-answered q room rs fs are = AskRows.ask-row q room rs (Rules.are-read rs fs are)
@@ -230,6 +236,10 @@ atom-short = AtomText.atom-short
 
 -- ---- rule texts and plan words alone
 
+-- what the cutter of tokens refuses has the number and the place that add gives it, whatever rules stand
+pub tokens-refused : (rs : List Text) (s : Text) (k p : ℕ) → lexOutcome (lexed s .answer) ≡ Outcome.Refused k p → addOutcome (judgeAdd rs s) ≡ Outcome.Refused k p
+tokens-refused = Parts.tokens-refused
+
 -- what the reader of rule text refuses has the number and the place that add gives it, whatever rules stand
 pub text-refused : (rs : List Text) (s : Text) (k p : ℕ) → ruleOutcome (ruleOf s .answer) ≡ Outcome.Refused k p → addOutcome (judgeAdd rs s) ≡ Outcome.Refused k p
 text-refused = Rows.text-refused
@@ -237,3 +247,15 @@ text-refused = Rows.text-refused
 -- the reader of plan words refuses with 13 exactly where the words up to there begin no plan, or end early
 pub words-refused : (words : List ℕ) (q : PlanRead) → Reads words q → (j : ℕ) → (planOutcome (q .answer) ≡ Outcome.Refused 13 j) ↔ Refusal words j
 words-refused = AskRows.words-refused
+
+-- a plan is written where the buffer has room for its words, and else 12 has the words needed
+pub words-written : (p : Plan) (buffer : List ℕ) (w : Written) (exit : List ℕ) → Writes p buffer w exit
+    → (length (wordsOf p) ≤ length buffer → writtenOutcome w ≡ Outcome.Plan (length (wordsOf p)))
+    × (length buffer < length (wordsOf p) → writtenOutcome w ≡ Outcome.Refused 12 (length (wordsOf p)))
+words-written = Parts.words-written
+
+-- a text is printed where the buffer has room for its bytes, and else 12 has the bytes needed
+pub text-printed : (text buffer : List ℕ) (w : Printed) (exit : List ℕ) → PrintsText text buffer w exit
+    → (length text ≤ length buffer → printedOutcome w ≡ Outcome.Text (length text))
+    × (length buffer < length text → printedOutcome w ≡ Outcome.Refused 12 (length text))
+text-printed = Parts.text-printed

@@ -25,4 +25,5 @@ pub mod Printing
 pub mod AtomText
 pub mod Stands
 pub mod AskRows
+pub mod Parts
 pub mod Claims

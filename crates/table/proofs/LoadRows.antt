@@ -20,7 +20,7 @@ use Rattle.table.specs.Calls.{judgeAdd, judgeLines, isNone, judgeLoad}
 use Rattle.table.specs.Rules.{CanStand}
 use Rattle.table.specs.declared.Outcome.{Outcome}
 use Rattle.table.specs.declared.Outcome.the-variants as Outcome
-use Rattle.table.specs.Numbers.{addOutcome, onLine, CanCome, loadOutcome}
+use Rattle.table.specs.Numbers.{addOutcome, onLine, loadOutcome}
 use Rattle.table.specs.Rows.{AddRow, RefusedLine, LoadRow, long, blank, line, loads}
 use Rattle.table.proofs.Standing.{NotAdded, added-or, stand-none, stand-first, stand-more, stand-added}
 use Rattle.table.proofs.Loading.{judge-blank, judge-added, judge-refused, filled-blank, filled-more, not-none, too-long, all-blank, by-lines}
@@ -202,8 +202,8 @@ load-done f r = go Outcome.Done r refl
     go o (loads h n k) e = of-loads f h n k
 
 -- a line that ends a load is refused: else the load would be done
-pub load-can-come : (f : Text) → CanCome (judgeLoad f)
-load-can-come f n e =
+pub load-line-refused : (f : Text) (n : ℕ) → judgeLoad f ≡ LoadAnswer.Line n AddAnswer.Added → ⊥
+load-line-refused f n e =
     let z : LoadAnswer.Line n AddAnswer.Added ≡ LoadAnswer.Loaded = sym e ∙ load-done f (subst (LoadRow f) (ap loadOutcome e) (load-row f)) in
     absurd (let y : _≡_ {A = ℕ} 0 1 = cc in omega arith)
 

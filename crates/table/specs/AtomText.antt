@@ -1,4 +1,4 @@
--- What is meant: the text of an atom "as it was written" (document 02, T-06), for a program that prints trees. Assumes nothing.
+-- What is meant: the text of an atom as it was first written, for a program that prints trees; no document asks for it. Assumes nothing.
 use mathlib.Core.Bool.{cond}
 use mathlib.Core.List.{List, []}
 use Prim.Native.Nat.{ℕ}

@@ -1,6 +1,7 @@
--- What is computed: what each call gives, as a function of the list of standing texts and of what is passed beside the table: "Whether a
--- call is refused follows from the lines below, this list and what was passed beside the table, never from the stored table." Then the
--- calls' one requires (`FromUs`) and their contracts. Rows says what is meant; proofs/Claims.antt ties the two. Assumes nothing.
+-- What is computed: what add, withdraw and load give, as functions of the list of standing texts and of what is passed beside the table:
+-- "Whether a call is refused follows from the lines below, this list and what was passed beside the table, never from the stored table."
+-- Then the one requires of all calls (`FromUs`) and the contracts of these. Rows says what is meant; proofs/Claims.antt ties the two.
+-- Assumes nothing.
 use Prim.Native.Nat.{ℕ, suc, _+_, _-_}
 use mathlib.Core.Path.{_≡_}
 use mathlib.Core.List.{List, [], _∷_, _++_, map}

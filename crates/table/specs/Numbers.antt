@@ -1,10 +1,15 @@
 -- What is meant: document 01's number of each answer, and what it carries, by the table of calls; of print, explain, check_tree and still, that of document 02. Assumes nothing.
 use Prim.Native.Nat.{ℕ}
-use mathlib.Core.Path.{_≡_}
+use Rattle.lexer.specs.declared.LexAnswer.{LexAnswer}
+use Rattle.lexer.specs.declared.LexAnswer.the-variants as LexAnswer
 use Rattle.syntax.specs.declared.RuleAnswer.{RuleAnswer}
 use Rattle.syntax.specs.declared.RuleAnswer.the-variants as RuleAnswer
 use Rattle.plan.specs.declared.PlanAnswer.{PlanAnswer}
 use Rattle.plan.specs.declared.PlanAnswer.the-variants as PlanAnswer
+use Rattle.plan.specs.declared.Written.{Written}
+use Rattle.plan.specs.declared.Written.the-variants as Written
+use Rattle.printing.specs.declared.Printed.{Printed}
+use Rattle.printing.specs.declared.Printed.the-variants as Printed
 use Rattle.table.specs.declared.Outcome.{Outcome}
 use Rattle.table.specs.declared.Outcome.the-variants as Outcome
 use Rattle.table.specs.declared.AddAnswer.{AddAnswer}
@@ -57,15 +62,11 @@ onLine n Outcome.No = Outcome.No
 onLine n (Outcome.Refused k p) = Outcome.RefusedLine k n p
 onLine n (Outcome.RefusedLine k l p) = Outcome.RefusedLine k l p
 
--- an answer that can come of a load: the line that ends it is refused (`load-can-come` of proofs/Claims.antt). Of a line's answer Added
--- nothing is said: what `loadOutcome` gives there has no meaning
-abbrev pub CanCome : LoadAnswer → Type 0
-CanCome a = (n : ℕ) → a ≡ LoadAnswer.Line n AddAnswer.Added → ⊥
-
 abbrev pub loadOutcome : LoadAnswer → Outcome
 loadOutcome LoadAnswer.Loaded = Outcome.Done
 loadOutcome LoadAnswer.FileTooLong = Outcome.RefusedLine 15 0 0
 loadOutcome LoadAnswer.AllBlank = Outcome.RefusedLine 1 0 0
+-- of an added line Done, as add has it; no load answers so: the line that ends it is refused (`load-line-refused` of proofs/Claims.antt)
 loadOutcome (LoadAnswer.Line n a) = onLine n (addOutcome a)
 
 abbrev pub askOutcome : AskAnswer → Outcome
@@ -109,7 +110,16 @@ stillOutcome StillAnswer.Yes = Outcome.Yes
 stillOutcome StillAnswer.No = Outcome.No
 stillOutcome StillAnswer.NoRule = Outcome.Refused 11 0
 
--- ---- the same of the readers' answers
+-- ---- the same of the readers' and the writers' answers
+
+-- a text's tokens alone, as add has it
+abbrev pub lexOutcome : LexAnswer → Outcome
+lexOutcome LexAnswer.Tokens = Outcome.Done
+lexOutcome LexAnswer.TooLong = Outcome.Refused 2 256
+lexOutcome LexAnswer.NoToken = Outcome.Refused 1 0
+lexOutcome (LexAnswer.ForeignByte i) = Outcome.Refused 3 i
+lexOutcome (LexAnswer.LongName i) = Outcome.Refused 4 i
+lexOutcome (LexAnswer.Measured i) = Outcome.Refused 5 i
 
 -- a rule text alone, as add has it
 abbrev pub ruleOutcome : RuleAnswer → Outcome
@@ -125,3 +135,13 @@ ruleOutcome (RuleAnswer.GrammarAt i) = Outcome.Refused 6 i
 abbrev pub planOutcome : PlanAnswer → Outcome
 planOutcome PlanAnswer.Plan = Outcome.Done
 planOutcome (PlanAnswer.Refused i) = Outcome.Refused 13 i
+
+-- a plan written as words, as ask has it
+abbrev pub writtenOutcome : Written → Outcome
+writtenOutcome (Written.Words n) = Outcome.Plan n
+writtenOutcome (Written.Needs n) = Outcome.Refused 12 n
+
+-- a text printed, as print has it
+abbrev pub printedOutcome : Printed → Outcome
+printedOutcome (Printed.Text n) = Outcome.Text n
+printedOutcome (Printed.Needs n) = Outcome.Refused 12 n

@@ -1,9 +1,9 @@
 // The rule table: document 01, 'Calls, checked from the top down'. It holds nothing but the texts of the
 // standing rules, in canonical form; names, atoms and formulas are found from the texts whenever a call
 // needs them. The table goes into a call and comes back from it. The one requires is that it came from
-// `Table::empty` or from a call. What each call gives is in specs/Calls.antt and specs/Asking.antt, what its
-// answers mean in specs/Rows.antt, document 01's numbers are in specs/Numbers.antt, and what is proved of lists of calls
-// is in proofs/Claims.antt.
+// `Table::empty` or from a call. What each call gives is in specs/Calls.antt, Asking.antt, Printing.antt, Explaining.antt
+// and Still.antt, what its answers mean in specs/Rows.antt, the documents' numbers are in specs/Numbers.antt, and what is proved
+// of lists of calls is in proofs/Claims.antt.
 ghost use mathlib.Core.Path.{_≡_};
 ghost use mathlib.Core.List.{[], _∷_, _++_};
 ghost use Prim.Native.Nat.{ℕ, _+_, _-_, _*_, _≤_, _<_};
@@ -23,7 +23,7 @@ ghost use Rattle.table.specs.Printing.{Prints};
 ghost use Rattle.table.specs.Explaining.{explanationAnswer, Explains, verdictAnswer, Checks, GivesAtom};
 ghost use Rattle.table.specs.Still.{StillDoes, isMet, foundStill, DrawnIs, InHandIs, TextsInHand};
 ghost use Rattle.table.specs.Steps.{KnownTexts, Knowing, roomAdd, Tries, TextsCompiled, TextsSearched, PlanPut, TextsTold, TextsChecked, FirstPlace, loadResult, judgedAnswer};
-ghost use Rattle.table.specs.Numbers.{addOutcome, withdrawOutcome, onLine, CanCome, loadOutcome, askOutcome, judgeOutcome, printOutcome, explainOutcome, checkOutcome, stillOutcome};
+ghost use Rattle.table.specs.Numbers.{addOutcome, withdrawOutcome, onLine, loadOutcome, askOutcome, judgeOutcome, printOutcome, explainOutcome, checkOutcome, stillOutcome};
 use explaining::Explanation;
 use judging::Judged;
 use names::Names;
@@ -533,9 +533,9 @@ fn on_line(line: usize, said: Outcome) -> Outcome
     }
 }
 
-// That of load's answer, with the line and the place. No load answers that a line ends it and was added: of that nothing is said.
+// That of load's answer, with the line and the place.
 pub fn load_outcome(answer: LoadAnswer) -> Outcome
-    ensures { λ r. ⌜ (CanCome answer → r ≡ loadOutcome answer) ⌝ }
+    ensures { λ r. ⌜ r ≡ loadOutcome answer ⌝ }
 {
     match answer {
         LoadAnswer::Loaded => Outcome::Done,

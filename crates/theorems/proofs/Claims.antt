@@ -2,21 +2,20 @@
 -- table that the calls leave and the rules that stand after them; what it says is in specs/Demands.antt, what the order of a sheet leaves as
 -- it is in specs/Order.antt, and what a worked sheet says in specs/Worked.antt. Nothing is assumed.
 use mathlib.Core.Path.{_≡_}
+use mathlib.Core.Logic.{_↔_}
 use mathlib.Core.List.{List}
-use Prim.Native.Nat.{ℕ}
 use Rattle.lists.specs.Search.{In}
 use Rattle.table.specs.declared.Table.{Table}
-use Rattle.table.specs.declared.AskResult.{AskResult}
-use Rattle.contact.specs.Question.{Question}
-use Rattle.table.specs.Asking.{Asks}
+use Rattle.table.specs.Calls.{FromUs}
 use Rattle.table.specs.Sheet.{Text}
 use Rattle.table.specs.Stands.{Call, Stands}
 use Rattle.table.specs.Runs.{run}
 use Rattle.table.proofs.Claims as table
-use Rattle.theorems.specs.Demands.{Leaves, Answered, Meant, Same, Reasons, InHand}
+use Rattle.theorems.specs.Demands.{Leaves, Answered, Meant, Same, EnoughRoom, Reasons, InHand}
 use Rattle.theorems.specs.Order.{SameRules, InAnyOrder, SameLines, LinesInAnyOrder}
 use Rattle.theorems.specs.Worked.{WorkedSheet, workedSheets, Holds}
 use Rattle.theorems.proofs.Demands as Demands
+use Rattle.theorems.proofs.Room as Room
 use Rattle.theorems.proofs.Order as Order
 use Rattle.theorems.proofs.Worked as Worked
 
@@ -24,7 +23,11 @@ use Rattle.theorems.proofs.Worked as Worked
 pub calls-leave : (cs : List Call) → Leaves cs (run cs)
 calls-leave = Demands.leaves-run
 
--- and has its standing rules, one list of them only
+-- "A table is the empty one or one that a call gave back": what every call requires of a table is that some list of calls leaves it
+pub from-us-exactly : (t : Table) → FromUs t ↔ ((cs : List Call) × Leaves cs t)
+from-us-exactly = Room.from-us-exactly
+
+-- every list of calls has its standing rules, one list of them only
 pub rules-stand : (cs : List Call) → (rs : List Text) × Stands cs rs
 rules-stand = table.stands-some
 
@@ -42,10 +45,14 @@ pub demand-two : (cs : List Call) (t : Table) (rs : List Text) → Leaves cs t �
 demand-two = Demands.demand-two
 
 -- demand 3: after any calls, ask for either question with any buffer answers 11, no plan exactly where no finite floor that counts meets the
--- standing rules, the plan that is defined, or 12; and table, answer and every word are those of the calls that add only the standing rules
-pub demand-three : (cs : List Call) (t : Table) (rs : List Text) → Leaves cs t → Stands cs rs → (q : Question) (buffer : List ℕ) (r : AskResult) (exit : List ℕ) → Asks q t buffer r exit
-    → Same q rs t buffer r exit
+-- standing rules, the plan that is defined, or 12; and the table, and the answer and every word or byte of ask, judge, print, explain, check_tree
+-- and still are those of the calls that add only the standing rules
+pub demand-three : (cs : List Call) (t : Table) (rs : List Text) → Leaves cs t → Stands cs rs → Same rs t
 demand-three = Demands.demand-three
+
+-- after any calls, 530 words are room for every plan, 32,642 for every building, 131,071 for every tree and 256 bytes for every rule
+pub room-enough : (cs : List Call) (t : Table) → Leaves cs t → EnoughRoom t
+room-enough = Room.enough-room
 
 -- document 02, T-06: after any calls, what check_tree accepts has no plan, it accepts every tree that explain writes, and explain has a tree
 -- exactly where ask says "no plan"

@@ -60,7 +60,7 @@ use Rattle.table.proofs.Still.{stills-of}
 use Rattle.table.proofs.TreeRows.{had-tree, tree-written, first-tree, tree-kept}
 use Rattle.table.proofs.Asking.{asks-of, judges-of, words-none, words-written, words-short, first-words}
 use Rattle.table.proofs.Claims as table
-use Rattle.theorems.specs.Demands.{Called, Leaves, Exactly, Answered, Met, NotMet, Nowhere, Given, Meant, Same, Reasons, InHand}
+use Rattle.theorems.specs.Demands.{Called, Leaves, Exactly, Answered, Met, NotMet, Nowhere, Given, Meant, AskGives, Same, Reasons, InHand}
 use Rattle.plan.specs.Meant.{IsGiven, FirstUnmet}
 
 -- ---- calls of the code leave the table of the run
@@ -390,10 +390,9 @@ module _ (cs : List Call) where
       let before-held : rulesOf u ≡ before = ap rulesOf (left (adds before) u l) ∙ table.same-table (adds before) .holds ∙ table.adds-stand before (stand-first before (s ∷ later) can) in
       ap addOutcome (ap (λ (x : AddResult). x .answer) (h .result) ∙ ap (λ (rs : List Text). judgeAdd rs s) before-held ∙ table.next-added before s later can)
 
-  same : (q : Question) (buffer : List ℕ) (r : AskResult) (exit : List ℕ) → Asks q (run cs) buffer r exit → Same q (standing cs) (run cs) buffer r exit
-  same q buffer r exit h =
+  ask-gives : (q : Question) (buffer : List ℕ) (r : AskResult) (exit : List ℕ) → Asks q (run cs) buffer r exit → AskGives q (standing cs) buffer r exit
+  ask-gives q buffer r exit h =
       let row = ask-exactly q buffer r exit h in
-      let faithful = table.same-table cs in
       record {
         formulas = fs;
         rules = are;
@@ -402,13 +401,32 @@ module _ (cs : List Call) where
         plan = λ some p g l. (sym (row .only (Outcome.Plan (length (wordsOf p))) (AskRow.given some are g l)), asked-by q buffer r exit h .1 ∙ words-written q (standing cs) buffer some p g l);
         short = λ some p g l. (sym (row .only (Outcome.Refused 12 (length (wordsOf p))) (AskRow.short some are g l)), asked-by q buffer r exit h .1 ∙ words-short q (standing cs) buffer some p g l);
         otherwise = plan-found q fs;
-        table = λ u l. faithful .table ∙ sym (left (adds (standing cs)) u l);
+      }
+
+  same-left : (u : Table) → Leaves (adds (standing cs)) u → run cs ≡ u
+  same-left u l = table.same-table cs .table ∙ sym (left (adds (standing cs)) u l)
+
+  same : Same (standing cs) (run cs)
+  same =
+      record {
+        gives = ask-gives;
+        table = same-left;
         taken = taken;
-        same = λ u l s words k.
-            let e : run cs ≡ u = faithful .table ∙ sym (left (adds (standing cs)) u l) in (
-              h .result ∙ ap (λ (t : Table). asked q (rulesOf t) buffer) e ∙ sym (k .result),
-              h .words ∙ ap (λ (t : Table). askWords q (rulesOf t) buffer) e ∙ sym (k .words),
-            );
+        ask = λ u l q buffer r exit h s words k. (
+          h .result ∙ ap (λ (t : Table). asked q (rulesOf t) buffer) (same-left u l) ∙ sym (k .result),
+          h .words ∙ ap (λ (t : Table). askWords q (rulesOf t) buffer) (same-left u l) ∙ sym (k .words),
+        );
+        judge = λ u l words r h s k. h .result ∙ ap (λ (t : Table). judged (rulesOf t) words) (same-left u l) ∙ sym (k .result);
+        print = λ u l n buffer r exit h s bytes k. (
+          h .result ∙ ap (λ (t : Table). printed (rulesOf t) n buffer) (same-left u l) ∙ sym (k .result),
+          h .bytes ∙ ap (λ (t : Table). printBytes (rulesOf t) n buffer) (same-left u l) ∙ sym (k .bytes),
+        );
+        explain = λ u l buffer r exit h s words k. (
+          h .result ∙ ap (λ (t : Table). explained (rulesOf t) buffer) (same-left u l) ∙ sym (k .result),
+          h .words ∙ ap (λ (t : Table). explainWords (rulesOf t) buffer) (same-left u l) ∙ sym (k .words),
+        );
+        check = λ u l words r h s k. h .result ∙ ap (λ (t : Table). treeChecked (rulesOf t) words) (same-left u l) ∙ sym (k .result);
+        still = λ u l words r h s k. h .result ∙ ap (λ (t : Table). stillGiven (rulesOf t) words) (same-left u l) ∙ sym (k .result);
       }
 
   -- ---- document 02, T-06
@@ -503,10 +521,8 @@ demand-one cs = carried cs Answered (answered cs)
 pub demand-two : (cs : List Call) (t : Table) (rs : List Text) → Leaves cs t → Stands cs rs → Meant rs t
 demand-two cs = carried cs Meant (meant cs)
 
-pub demand-three : (cs : List Call) (t : Table) (rs : List Text) → Leaves cs t → Stands cs rs → (q : Question) (buffer : List ℕ) (r : AskResult) (exit : List ℕ) → Asks q t buffer r exit
-    → Same q rs t buffer r exit
-demand-three cs t rs l s q buffer r exit =
-    carried cs (λ ss u. Asks q u buffer r exit → Same q ss u buffer r exit) (same cs q buffer r exit) t rs l s
+pub demand-three : (cs : List Call) (t : Table) (rs : List Text) → Leaves cs t → Stands cs rs → Same rs t
+demand-three cs = carried cs Same (same cs)
 
 pub reasons-hold : (cs : List Call) (t : Table) (rs : List Text) → Leaves cs t → Stands cs rs → Reasons rs t
 reasons-hold cs = carried cs Reasons (reasons cs)

@@ -1,4 +1,5 @@
 pub mod Demands
+pub mod Room
 pub mod Order
 pub mod Worked
 pub mod Claims

@@ -12,11 +12,10 @@ use Rattle.lists.specs.Search.{In, here}
 use Rattle.lists.specs.Often.{EquallyOften}
 use Rattle.lists.proofs.Search.{none-in}
 use Rattle.lists.proofs.Often.{often-in, often-back}
-use Rattle.contact.specs.Question.{Question, plain, building, NoFloor}
-use Rattle.contact.specs.Numbering.{namesOf, differentAtoms}
+use Rattle.contact.specs.Question.{Question, NoFloor}
 use Rattle.plan.specs.Words.{Plan}
 use Rattle.plan.specs.Meant.{IsGiven}
-use Rattle.plan.proofs.Claims.{no-plan-given, given-exactly, given-words, room-words}
+use Rattle.plan.proofs.Claims.{no-plan-given, given-exactly}
 use Rattle.table.specs.declared.Table.{Table}
 use Rattle.table.specs.declared.Outcome.{Outcome}
 use Rattle.table.specs.declared.Outcome.the-variants as Outcome
@@ -32,13 +31,14 @@ use Rattle.table.specs.Rows.{LoadRow, SomeStand, AskRow}
 use Rattle.table.specs.Stands.{Call, adds, StandsAfter, StandsFrom, Stands}
 use Rattle.table.specs.Runs.{run}
 use Rattle.table.proofs.Results.{adds-of, loads-of}
-use Rattle.table.proofs.Rules.{of-computed, are-one}
+use Rattle.table.proofs.Rules.{of-computed}
 use Rattle.table.proofs.Stands.{done-added}
 use Rattle.table.proofs.Standing.{stand-none, stand-more}
 use Rattle.table.proofs.Claims as table
-use Rattle.theorems.specs.Demands.{Called, Leaves, Exactly}
-use Rattle.theorems.specs.Order.{SameRules, AcceptsAll, LongEnough, wordsEnough, BothSay, AnswersAlike, InAnyOrder, SameLines, LoadsAll, LinesInAnyOrder}
+use Rattle.theorems.specs.Demands.{Called, Leaves, Exactly, wordsEnough}
+use Rattle.theorems.specs.Order.{SameRules, AcceptsAll, LongEnough, BothSay, AnswersAlike, InAnyOrder, SameLines, LoadsAll, LinesInAnyOrder}
 use Rattle.theorems.proofs.Demands.{leaves-run, taken, demand-one}
+use Rattle.theorems.proofs.Room.{plan-few}
 
 -- ---- what the empty table accepts
 
@@ -91,12 +91,7 @@ both-say q rs ss often o p (Says.no-plan none) (Says.no-plan never) = BothSay.no
 
 -- the plan of rules that can stand has no more words
 stand-enough : (q : Question) (rs : List Text) → CanStand rs → (buffer : List ℕ) → wordsEnough q ≤ length buffer → LongEnough q rs buffer
-stand-enough plain rs h buffer l fs are p g =
-    let e : h .formulas ≡ fs = are-one rs (h .formulas) fs (h .rules) are in
-    omega (arith, given-words fs (omega (arith, h .atoms, ap (λ (gs : List (Formula Name)). length (differentAtoms gs)) e)) p (given-exactly plain fs p .1 g))
-stand-enough building rs h buffer l fs are p g =
-    let e : h .formulas ≡ fs = are-one rs (h .formulas) fs (h .rules) are in
-    omega (arith, room-words building fs p (given-exactly building fs p .1 g) (omega (arith, h .names, ap (λ (gs : List (Formula Name)). length (namesOf gs)) e)))
+stand-enough q rs h buffer l fs are p g = omega (arith, plan-few rs h q fs are p g)
 
 -- a list of the same rules has a rule
 some-too : (rs ss : List Text) → EquallyOften rs ss → SomeStand rs → SomeStand ss

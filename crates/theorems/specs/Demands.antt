@@ -14,7 +14,7 @@ use Rattle.lists.specs.Search.{In}
 use Rattle.lists.specs.Buffer.{over}
 use Rattle.syntax.specs.RuleText.{IsRule}
 use Rattle.contact.specs.Meaning.{Floor, meetsAll}
-use Rattle.contact.specs.Question.{Question, plain, Counts, NoFloor}
+use Rattle.contact.specs.Question.{Question, plain, building, Counts, NoFloor}
 use Rattle.contact.specs.Numbering.{namesOf}
 use Rattle.plan.specs.declared.PlanAnswer.the-variants as PlanAnswer
 use Rattle.plan.specs.declared.PlanRead.{PlanRead}
@@ -172,7 +172,7 @@ pub record Meant (rs : List Text) (t : Table) : Type 0 where
 
 -- what ask gives after the list, for a question, with any plan buffer; of one building (document 02, T-04): ""No" is said only if no finite floor
 -- that hangs together meets the standing rules, and the claim about withdrawn rules holds for this question as well."
-pub record Same (q : Question) (rs : List Text) (t : Table) (buffer : List ℕ) (r : AskResult) (exit : List ℕ) : Type 0 where
+pub record AskGives (q : Question) (rs : List Text) (buffer : List ℕ) (r : AskResult) (exit : List ℕ) : Type 0 where
   -- what the standing rules mean
   pub formulas : List (Formula Name)
   pub rules : AreRules rs formulas
@@ -186,13 +186,46 @@ pub record Same (q : Question) (rs : List Text) (t : Table) (buffer : List ℕ) 
   pub short : SomeStand rs → (p : Plan) → IsGiven q formulas p → length buffer < length (wordsOf p)
       → (askOutcome (r .answer) ≡ Outcome.Refused 12 (length (wordsOf p))) × (exit ≡ buffer)
   pub otherwise : (F : Floor Name) → Counts q (namesOf formulas) F → meetsAll F formulas ≡ true → (p : Plan) × IsGiven q formulas p
+
+-- the table after the list, and what is answered and left in what is lent then
+pub record Same (rs : List Text) (t : Table) : Type 0 where
+  pub gives : (q : Question) (buffer : List ℕ) (r : AskResult) (exit : List ℕ) → Asks q t buffer r exit → AskGives q rs buffer r exit
   -- "the table after the list .. equal to what comes from an empty table to which only the standing rules are added, in their order":
   -- "none of these adds is refused"
   pub table : (u : Table) → Leaves (adds rs) u → t ≡ u
   pub taken : (before : List Text) (s : Text) (later : List Text) → rs ≡ before ++ s ∷ later
       → (u : Table) → Leaves (adds before) u → (r : AddResult) → Adds u s r → addOutcome (r .answer) ≡ Outcome.Done
   -- "the answer that ask then gives, a refusal too, and every word of its plan buffer .. when ask is lent the same plan buffer"
-  pub same : (u : Table) → Leaves (adds rs) u → (s : AskResult) (words : List ℕ) → Asks q u buffer s words → (r ≡ s) × (exit ≡ words)
+  pub ask : (u : Table) → Leaves (adds rs) u → (q : Question) (buffer : List ℕ) (r : AskResult) (exit : List ℕ) → Asks q t buffer r exit
+      → (s : AskResult) (words : List ℕ) → Asks q u buffer s words → (r ≡ s) × (exit ≡ words)
+  -- and so for the other calls that leave the rules as they are: the answer, the table, and every byte or word that is lent
+  pub judge : (u : Table) → Leaves (adds rs) u → (words : List ℕ) (r : JudgeResult) → Judges t words r → (s : JudgeResult) → Judges u words s → r ≡ s
+  pub print : (u : Table) → Leaves (adds rs) u → (k : ℕ) (buffer : List ℕ) (r : PrintResult) (exit : List ℕ) → Prints t k buffer r exit
+      → (s : PrintResult) (bytes : List ℕ) → Prints u k buffer s bytes → (r ≡ s) × (exit ≡ bytes)
+  pub explain : (u : Table) → Leaves (adds rs) u → (buffer : List ℕ) (r : ExplainResult) (exit : List ℕ) → Explains t buffer r exit
+      → (s : ExplainResult) (words : List ℕ) → Explains u buffer s words → (r ≡ s) × (exit ≡ words)
+  pub check : (u : Table) → Leaves (adds rs) u → (words : List ℕ) (r : CheckResult) → Checks t words r → (s : CheckResult) → Checks u words s → r ≡ s
+  pub still : (u : Table) → Leaves (adds rs) u → (words : List ℕ) (r : StillResult) → StillDoes t words r → (s : StillResult) → StillDoes u words s → r ≡ s
+
+-- ---- room: a buffer that never gets 12
+
+-- "An answered plan takes at most 530 words."; a one-building plan has "up to 255 points" (T-08): with its contacts 32,642 words
+abbrev pub wordsEnough : Question → ℕ
+wordsEnough plain = 530
+wordsEnough building = 32642
+
+-- a tree of 16 atoms that splits on all of them in each branch
+abbrev pub treeEnough : ℕ
+treeEnough = 131071
+
+-- a rule that was read has at most 256 bytes, and "A written rule is never longer than the one that was read" (T-02)
+pub record EnoughRoom (t : Table) : Type 0 where
+  pub ask : (q : Question) (buffer : List ℕ) (r : AskResult) (exit : List ℕ) → Asks q t buffer r exit → wordsEnough q ≤ length buffer
+      → (needed : ℕ) → askOutcome (r .answer) ≡ Outcome.Refused 12 needed → ⊥
+  pub explain : (buffer : List ℕ) (r : ExplainResult) (exit : List ℕ) → Explains t buffer r exit → treeEnough ≤ length buffer
+      → (needed : ℕ) → explainOutcome (r .answer) ≡ Outcome.Refused 12 needed → ⊥
+  pub print : (k : ℕ) (buffer : List ℕ) (r : PrintResult) (exit : List ℕ) → Prints t k buffer r exit → 256 ≤ length buffer
+      → (needed : ℕ) → printOutcome (r .answer) ≡ Outcome.Refused 12 needed → ⊥
 
 -- ---- document 02, T-06: the reasons
 

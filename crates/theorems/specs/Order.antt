@@ -7,7 +7,7 @@ use mathlib.Core.List.{List, [], _∷_, _++_}
 use lib.ListN.{length}
 use Rattle.formula.specs.Formula.{Formula, Name}
 use Rattle.lists.specs.Often.{EquallyOften}
-use Rattle.contact.specs.Question.{Question, plain, building}
+use Rattle.contact.specs.Question.{Question}
 use Rattle.plan.specs.Words.{Plan, wordsOf}
 use Rattle.plan.specs.Meant.{IsGiven}
 use Rattle.table.specs.declared.Table.{Table}
@@ -24,7 +24,7 @@ use Rattle.table.specs.Asking.{Asks}
 use Rattle.table.specs.Numbers.{addOutcome, loadOutcome, askOutcome}
 use Rattle.table.specs.Rows.{SomeStand}
 use Rattle.table.specs.Stands.{Call, adds}
-use Rattle.theorems.specs.Demands.{Leaves}
+use Rattle.theorems.specs.Demands.{Leaves, wordsEnough}
 
 -- "two lists of the same rules, at least one rule and each equally often": a rule is its text as it came, and the texts may be any
 pub record SameRules (rs ss : List Text) : Type 0 where
@@ -40,11 +40,6 @@ AcceptsAll rs =
 -- "buffers that are long enough": for the plan that is given of the rules, where there is one
 abbrev pub LongEnough : Question → List Text → List ℕ → Type 0
 LongEnough q rs buffer = (fs : List (Formula Name)) → AreRules rs fs → (p : Plan) → IsGiven q fs p → length (wordsOf p) ≤ length buffer
-
--- "An answered plan takes at most 530 words."; a one-building plan has "up to 255 points" (T-08): with its contacts 32,642 words
-abbrev pub wordsEnough : Question → ℕ
-wordsEnough plain = 530
-wordsEnough building = 32642
 
 -- "Both answers are then plan, or both no plan"; "The plans may differ, since names are numbered by place.", and so may their lengths
 pub data BothSay : Outcome → Outcome → Type 0 where

@@ -18,7 +18,8 @@ use Rattle.contact.specs.Numbering.{AtomBelow}
 use Rattle.contact.specs.Row.{Row, unknown, PartialRow, Extends, rulesTrue}
 use Rattle.contact.specs.Plan.{marksOf}
 use Rattle.contact.specs.Check.{passes}
-use Rattle.contact.specs.Tableau.{kleeneValue, refuted, refutes}
+use Rattle.contact.specs.Kleene.{kleeneValue}
+use Rattle.contact.specs.Tableau.{refuted, refutes}
 use Rattle.contact.proofs.Claims.{check-exactly, refutes-sound}
 use Rattle.trees.specs.Trees.{Tree, split, rule, floorless, missing, Whole}
 use Rattle.trees.specs.Closed.{Unrealised, decided, root, RuleFalse, Right, Closed}

@@ -12,7 +12,8 @@ use borrow.Author.Tests.{eqb-true, eq-eqb, ltb-true, lt-ltb}
 use Rattle.formula.specs.Formula.{Form}
 use Rattle.lists.proofs.Truth.{clash, side}
 use Rattle.contact.specs.Row.{Three, is, unknown, PartialRow}
-use Rattle.contact.specs.Tableau.{kleeneValue, refuted}
+use Rattle.contact.specs.Kleene.{kleeneValue}
+use Rattle.contact.specs.Tableau.{refuted}
 use Rattle.trees.specs.Trees.{splitWord, ruleWord, floorlessWord}
 use Rattle.trees.specs.Closed.{valueIn, RuleFalse, Splits}
 use Rattle.trees.specs.Refusal.{Stands, Stands.splits, Stands.refutes, Stands.excludes}

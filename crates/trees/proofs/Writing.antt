@@ -14,7 +14,8 @@ use Rattle.lists.specs.Search.{In, any, first, from, orElse}
 use Rattle.lists.proofs.Search.{none-intro, none-elim, first-some, first-none, place, in-tail, below-intro}
 use Rattle.lists.proofs.Truth.{clash, cases, side}
 use Rattle.contact.specs.Row.{Row, is, unknown, PartialRow}
-use Rattle.contact.specs.Tableau.{kleeneValue, refuted, refutes, search}
+use Rattle.contact.specs.Kleene.{kleeneValue}
+use Rattle.contact.specs.Tableau.{refuted, refutes, search}
 use Rattle.trees.specs.Trees.{Tree, split, rule, floorless, missing, wordsOf, Whole}
 use Rattle.trees.specs.Closed.{valueIn, decided, root, RuleFalse, Splits, Right, Closed}
 use Rattle.trees.specs.Written.{NoRule, FirstFalse, Written}

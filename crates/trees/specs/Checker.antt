@@ -12,7 +12,8 @@ use Rattle.contact.specs.Question.{Question, plain}
 use Rattle.contact.specs.Numbering.{namesOf, differentAtoms, numberedAtoms, rowAtoms}
 use Rattle.contact.specs.Plan.{marksOf}
 use Rattle.contact.specs.Check.{passes}
-use Rattle.contact.specs.Tableau.{kleeneValue, refuted}
+use Rattle.contact.specs.Kleene.{kleeneValue}
+use Rattle.contact.specs.Tableau.{refuted}
 use Rattle.trees.specs.declared.Verdict.{Verdict}
 use Rattle.trees.specs.declared.Verdict.the-variants.{Accepts, Refuses}
 use Rattle.trees.specs.Trees.{Tree, split, rule, floorless}

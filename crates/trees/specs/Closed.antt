@@ -10,7 +10,7 @@ use Rattle.formula.specs.Formula.{Atom, Form}
 use Rattle.contact.specs.Meaning.{Floor}
 use Rattle.contact.specs.Question.{Question, Counts}
 use Rattle.contact.specs.Row.{Three, is, unknown, PartialRow, RealisesPart}
-use Rattle.contact.specs.Tableau.{kleeneValue}
+use Rattle.contact.specs.Kleene.{kleeneValue}
 use Rattle.trees.specs.Trees.{Tree, split, rule, floorless, missing, Whole}
 
 -- "no finite plan gives the decided atoms their values"; the names are those that the rules use

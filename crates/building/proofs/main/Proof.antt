@@ -57,10 +57,10 @@ enum-known-answer : tie.Need-enum-known-answer
 enum-known-answer c = search needs
 
 array-share-prefix-text : tie.Need-array-share-prefix-text
-array-share-prefix-text c = answered-text _ (c .before .before .before .before .report-building .ensures) _ (c .before .answer .given .1) .fits
+array-share-prefix-text c = answered-text _ (c .before .before .before .before .report-building .ensures .answers) _ (c .before .answer .given .1) .fits
 
 slice-aggregate-write-all : tie.Need-slice-aggregate-write-all
-slice-aggregate-write-all c = sym (length-take-le _ _ (answered-text _ (c .before .before .before .before .before .report-building .ensures) _ (c .before .before .answer .given .1) .fits))
+slice-aggregate-write-all c = sym (length-take-le _ _ (answered-text _ (c .before .before .before .before .before .report-building .ensures .answers) _ (c .before .before .answer .given .1) .fits))
 
 write-all-requires : tie.Need-write-all-requires
 write-all-requires c κs = search needs

@@ -14,21 +14,18 @@ enum-known-said : tie.Need-enum-known-said
 enum-known-said c = search needs
 
 returns : tie.Need-returns
-returns c =
-    let s = c .before .before in
-    no-number (c .before .load-outcome .result) (c .match .keys2) ∙ ap outcomeNumber (c .before .load-outcome .ensures (s .pre .0))
+returns c = no-number (c .before .load-outcome .result) (c .match .keys2) ∙ ap outcomeNumber (c .before .load-outcome .ensures)
 
 refusal-requires : tie.Need-refusal-requires
 unfolding Fits
 refusal-requires c κs =
     let s = c .before .before .before .before in
-    let small = s .pre .1 _ _ _ (sym (c .before .before .before .load-outcome .ensures (s .pre .0)) ∙ c .before .said .given .1) in
+    let small = s .pre _ _ _ (sym (c .before .before .before .load-outcome .ensures) ∙ c .before .said .given .1) in
     (omega (arith, small .number-at-most), small .line-at-most, omega (arith, small .place-at-most))
 
 returns-2 : tie.Need-returns-2
 returns-2 c =
-    let s = c .before .before .before .before .before in
-    c .refusal .ensures ∙ ap outcomeNumber (sym (c .before .before .said .given .1) ∙ c .before .before .before .before .load-outcome .ensures (s .pre .0))
+    c .refusal .ensures ∙ ap outcomeNumber (sym (c .before .before .said .given .1) ∙ c .before .before .before .before .load-outcome .ensures)
 
 pub refused-spec : {M : Type 1} → statement M
 refused-spec =

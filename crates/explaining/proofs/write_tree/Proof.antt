@@ -1,7 +1,7 @@
 -- `explaining::write_tree` meets its contract: a buffer that is long enough for every tree of so many atoms is written at once, and for a
 -- shorter one the words are counted first. Assumes nothing.
 use native.Mathlib.Omega.{arith}
-use Rattle.explaining.proofs.Puts.{root-asks, root-ends, writes-tells, writes-short, writes-counted}
+use Rattle.explaining.proofs.Puts.{root-asks, root-some, root-ends, writes-tells, writes-short, writes-counted}
 use borrow.Author.Needs.{needs}
 use Rattle.explaining.proofs.write_tree.Statement.{statement}
 use Rattle.explaining.proofs.write_tree.Tie as tie
@@ -14,6 +14,9 @@ add-if1 c = search needs
 
 shl-if1 : tie.Need-shl-if1
 shl-if1 c = search needs
+
+sub-if1 : tie.Need-sub-if1
+sub-if1 c = root-some _ (c .before .before .before .before .before .pre .2)
 
 put-requires : tie.Need-put-requires
 put-requires c κs = root-asks (c .before .before .before .before .before .before .before .before .args .code .now) (c .before .before .before .before .before .before .before .before .args .ends .now) (c .before .before .before .before .before .before .before .before .args .bits .now) (c .before .before .before .before .before .before .before .before .args .n) (c .before .before .before .before .before .before .before .before .pre)
@@ -54,6 +57,7 @@ write-tree-spec =
     falses-requires
     add-if1
     shl-if1
+    sub-if1
     put-requires
     same-length
     returns

@@ -1,5 +1,5 @@
 -- `report::atom_text` meets its contract: the bytes that the table gives, as many as it says (Told.antt). Assumes nothing.
-use Rattle.report.proofs.Told.{lengthIn, held-atom}
+use Rattle.report.proofs.Told.{lengthIn, kept-atom}
 use mathlib.Core.Path.{refl, ap}
 use borrow.Author.Needs.{needs}
 use Rattle.report.proofs.atom_text.Statement.{statement}
@@ -18,10 +18,10 @@ enum-known-printed-2 : tie.Need-enum-known-printed-2
 enum-known-printed-2 c = search needs
 
 returns : tie.Need-returns
-returns c = held-atom _ (c .before .before .before .before .before .before .pre) _ _ refl _ _ (c .before .before .before .before .atom .ensures) _ (ap lengthIn (c .before .printed .given .1))
+returns c = kept-atom _ (c .before .before .before .before .before .before .pre) _ _ refl _ _ (c .before .before .before .before .atom .ensures) _ (ap lengthIn (c .before .printed .given .1))
 
 returns-2 : tie.Need-returns-2
-returns-2 c = held-atom _ (c .before .before .before .before .before .before .pre) _ _ refl _ _ (c .before .before .before .before .atom .ensures) _ (ap lengthIn (c .before .printed2 .given .1))
+returns-2 c = kept-atom _ (c .before .before .before .before .before .before .pre) _ _ refl _ _ (c .before .before .before .before .atom .ensures) _ (ap lengthIn (c .before .printed2 .given .1))
 
 pub atom-text-spec : {M : Type 1} → statement M
 atom-text-spec =

@@ -1,17 +1,17 @@
 -- `report::atom_texts` meets its contract: so far the texts before place i are kept (Told.antt). Assumes nothing.
-use mathlib.Core.Path.{_≡_, subst, _∙_}
+use mathlib.Core.Path.{_≡_, subst}
 use Prim.Native.Nat.{_-_, _≤_}
 use native.Mathlib.Omega.{arith}
 use borrow.Author.Needs.{needs}
-use lib.ListN.{length, length-set}
 use Rattle.table.specs.Store.{rulesOf}
 use Rattle.table.specs.Calls.{formulasOf}
-use Rattle.report.proofs.Told.{HeldTo, held-next, held-all, few-atoms}
+use Rattle.table.specs.AtomText.{atomTextOf}
+use Rattle.report.proofs.Told.{KeptTo, kept-next, kept-all}
 use Rattle.report.proofs.atom_texts.Statement.{statement}
 use Rattle.report.proofs.atom_texts.Tie as tie
 
 abbrev Inv-loop : tie.InvT-loop
-Inv-loop table texts₀ i₀ texts i = (i ≤ 16) × (length texts ≡ 16) × HeldTo (formulasOf (rulesOf table)) texts i
+Inv-loop table texts₀ i₀ texts i = (i ≤ 16) × KeptTo (atomTextOf (formulasOf (rulesOf table))) texts i
 
 abbrev μ-loop : tie.MeasureT-loop
 μ-loop table texts₀ i₀ texts i = 16 - i
@@ -20,7 +20,7 @@ no-texts-requires : tie.Need-no-texts-requires Inv-loop μ-loop
 no-texts-requires c κs = search needs
 
 loop-holds : tie.Need-loop-holds Inv-loop μ-loop
-loop-holds c = (omega arith, c .no-texts .ensures, λ j l. absurd (omega arith))
+loop-holds c = (omega arith, c .no-texts .ensures)
 
 atom-text-requires : tie.Need-atom-text-requires Inv-loop μ-loop
 atom-text-requires c κs = search needs
@@ -40,14 +40,14 @@ loop-less c = omega arith
 loop-again : tie.Need-loop-again Inv-loop μ-loop
 loop-again c =
     let k = c .before .before .loop in
-    (omega arith, length-set (k .texts) (k .i) (c .atom-text .result) ∙ k .inv .1, held-next _ (k .texts) (k .i) (c .atom-text .result) (omega (arith, k .inv .1)) (k .inv .2) (c .atom-text .ensures))
+    (omega arith, kept-next _ (k .texts) (k .i) (c .atom-text .result) (omega arith) (k .inv .1) (c .atom-text .ensures))
 
 returns : tie.Need-returns Inv-loop μ-loop
 returns c =
     let s = c .before .before .before in
     let k = c .before .loop in
     let all : k .i ≡ 16 = omega arith in
-    held-all _ (k .texts) (k .inv .1) (few-atoms (s .args .table) (s .pre)) (subst (HeldTo (formulasOf (rulesOf (s .args .table))) (k .texts)) all (k .inv .2))
+    kept-all _ (k .texts) (subst (KeptTo (atomTextOf (formulasOf (rulesOf (s .args .table)))) (k .texts)) all (k .inv .1))
 
 pub atom-texts-spec : {M : Type 1} → statement M
 atom-texts-spec =

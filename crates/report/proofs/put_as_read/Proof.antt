@@ -3,7 +3,7 @@ use borrow.Author.Needs.{needs}
 use native.Mathlib.Omega.{arith}
 use Rattle.lists.proofs.Putting.{puts-text}
 use Rattle.report.specs.Lines.{ruleLines}
-use Rattle.report.proofs.Reporting.{told-not-loaded, answer-comes, refused-text, loaded-text}
+use Rattle.report.proofs.Reporting.{told-not-loaded, refused-text, loaded-text}
 use Rattle.report.proofs.put_as_read.Statement.{statement}
 use Rattle.report.proofs.put_as_read.Tie as tie
 
@@ -17,7 +17,7 @@ enum-told : tie.Need-enum-told
 enum-told c = search needs
 
 put-refusal-requires : tie.Need-put-refusal-requires
-put-refusal-requires c κs = (answer-comes _ _ _ (c .before .before .load .ensures), omega arith)
+put-refusal-requires c κs = omega arith
 
 same-length : tie.Need-same-length
 same-length c = search needs

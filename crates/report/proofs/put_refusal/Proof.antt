@@ -18,7 +18,7 @@ returns : tie.Need-returns
 returns c =
     let s = c .before .before .before in
     let a = s .args in
-    puts-text (sym (no-refusal-text (c .before .load-outcome .result) (c .match .keys2)) ∙ ap outcomeText (c .before .load-outcome .ensures (s .pre .0))) (puts-none (a .at) (a .out .now) (omega (arith, s .pre .1)))
+    puts-text (sym (no-refusal-text (c .before .load-outcome .result) (c .match .keys2)) ∙ ap outcomeText (c .before .load-outcome .ensures)) (puts-none (a .at) (a .out .now) (omega (arith, s .pre)))
 
 put-refused-requires : tie.Need-put-refused-requires
 put-refused-requires c κs = search needs
@@ -28,7 +28,7 @@ same-length c = search needs
 
 returns-2 : tie.Need-returns-2
 returns-2 c =
-    puts-text (ap outcomeText (sym (c .before .before .before .before .before .said .given .1) ∙ c .before .before .before .before .before .before .before .load-outcome .ensures (c .before .before .before .before .before .before .before .before .before .pre .0))) (c .before .before .put-refused .ensures)
+    puts-text (ap outcomeText (sym (c .before .before .before .before .before .said .given .1) ∙ c .before .before .before .before .before .before .before .load-outcome .ensures)) (c .before .before .put-refused .ensures)
 
 pub put-refusal-spec : {M : Type 1} → statement M
 put-refusal-spec =

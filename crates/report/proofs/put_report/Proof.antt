@@ -1,10 +1,14 @@
 -- `report::put_report` meets its contract: the sheet is loaded or refused, and each has its text (Reporting.antt). Assumes nothing.
+use mathlib.Core.Path.{refl, sym, ap, _∙_}
+use Rattle.contact.specs.Numbering.{namesOf}
+use Rattle.names.specs.Gather.{arraysOf}
+use Rattle.plan.specs.Plans.{plansOf}
 use Rattle.lists.proofs.Putting.{puts-text}
 use Rattle.search.specs.Asked.{questionOf}
 use Rattle.report.specs.Output.{rulesText}
 use Rattle.report.proofs.Putting.{puts-over}
-use Rattle.report.proofs.Pieces.{tells-short, tells-text}
-use Rattle.report.proofs.Reporting.{told-not-loaded, answer-comes, refused-text, loaded-some, loaded-text}
+use Rattle.report.proofs.Lent.{tells-short, tells-other}
+use Rattle.report.proofs.Reporting.{told-not-loaded, refused-text, refused-none, loaded-some, loaded-text, loaded-given}
 use borrow.Author.Needs.{needs}
 use Rattle.report.proofs.put_report.Statement.{statement}
 use Rattle.report.proofs.put_report.Tie as tie
@@ -19,7 +23,7 @@ enum-told : tie.Need-enum-told
 enum-told c = search needs
 
 put-refusal-requires : tie.Need-put-refusal-requires
-put-refusal-requires c κs = (answer-comes _ _ _ (c .before .before .load .ensures), search needs)
+put-refusal-requires c κs = search needs
 
 no-names-requires : tie.Need-no-names-requires
 no-names-requires c κs = search needs
@@ -28,7 +32,12 @@ same-length : tie.Need-same-length
 same-length c = search needs
 
 returns : tie.Need-returns
-returns c = tells-short (puts-over _ _ _ _ (puts-text (refused-text _ _ _ (c .before .before .before .before .before .before .load .ensures) (rulesText (questionOf (c .before .before .before .before .before .before .before .before .before .before .before .args .asked))) (told-not-loaded _ (c .before .before .before .before .before .match .keys2))) (c .before .before .before .put-refusal .ensures)))
+returns c =
+    let load = c .before .before .before .before .before .before .load .ensures in
+    let q = questionOf (c .before .before .before .before .before .before .before .before .before .before .before .args .asked) in
+    let other = told-not-loaded _ (c .before .before .before .before .before .match .keys2) in
+    tells-short refl (refused-none _ _ _ load (plansOf q) other) (c .no-names .ensures ∙ ap arraysOf (sym (refused-none _ _ _ load namesOf other))) refl
+    (puts-over _ _ _ _ (puts-text (refused-text _ _ _ load (rulesText q) other) (c .before .before .before .put-refusal .ensures)))
 
 put-rules-requires : tie.Need-put-rules-requires
 put-rules-requires c κs =
@@ -42,7 +51,11 @@ same-length-3 : tie.Need-same-length-3
 same-length-3 c = search needs
 
 returns-2 : tie.Need-returns-2
-returns-2 c = tells-text (loaded-text _ _ _ (c .before .before .before .before .before .before .before .before .before .before .load .ensures) (c .before .before .before .before .before .before .before .before .enum-told .given .1) (rulesText (questionOf (c .before .before .before .before .before .before .before .before .before .before .before .before .before .before .before .args .asked)))) (c .before .before .before .before .put-rules .ensures)
+returns-2 c =
+    let load = c .before .before .before .before .before .before .before .before .before .before .load .ensures in
+    let q = questionOf (c .before .before .before .before .before .before .before .before .before .before .before .before .before .before .before .args .asked) in
+    let good = c .before .before .before .before .before .before .before .before .enum-told .given .1 in
+    tells-other (loaded-text _ _ _ load good (rulesText q)) (loaded-given _ _ _ load good (plansOf q)) (loaded-given _ _ _ load good namesOf) (c .before .before .before .before .put-rules .ensures)
 
 pub put-report-spec : {M : Type 1} → statement M
 put-report-spec =

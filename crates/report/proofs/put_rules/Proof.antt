@@ -2,11 +2,12 @@
 -- Assumes nothing.
 use mathlib.Core.Path.{refl}
 use Rattle.lists.proofs.Putting.{puts-text}
+use Rattle.table.specs.Calls.{namesIn}
 use Rattle.search.specs.Asked.{questionOf}
 use Rattle.report.specs.Pieces.{Answers}
 use Rattle.report.proofs.Putting.{puts-over}
-use Rattle.report.proofs.Pieces.{tells-short}
-use Rattle.report.proofs.Reporting.{told-other, Asking, no-text, plan-told, plan-room}
+use Rattle.report.proofs.Lent.{tells-short}
+use Rattle.report.proofs.Reporting.{told-other, Asking, no-plans, words-kept, no-text, plan-lent, plan-told, plan-room}
 use borrow.Author.Needs.{needs}
 use Rattle.report.proofs.put_rules.Statement.{statement}
 use Rattle.report.proofs.put_rules.Tie as tie
@@ -36,15 +37,22 @@ same-length-2 : tie.Need-same-length-2
 same-length-2 c = search needs
 
 returns : tie.Need-returns
-returns c = tells-short (puts-over _ _ _ _ (puts-text (no-text (asking (c .before .before .before .before .before .before .before .before)) (told-other _ (c .before .before .before .before .before .match .keys2))) (c .before .before .put-text .ensures)))
+unfolding namesIn
+returns c =
+    let a = c .before .before .before .before .before .before .before .before in
+    let other = told-other _ (c .before .before .before .before .before .match .keys2) in
+    tells-short refl (no-plans (asking a) other) (a .before .before .names .ensures) (words-kept (asking a) other) (puts-over _ _ _ _ (puts-text (no-text (asking a) other) (c .before .before .put-text .ensures)))
 
 same-length-3 : tie.Need-same-length-3
 same-length-3 c = search needs
 
 returns-2 : tie.Need-returns-2
+unfolding namesIn
 returns-2 c =
     let e = c .before .answer .given .1 in
-    record { answers = Answers.lines (plan-told (asking (c .before .before .before .before .before)) _ e _ (c .before .before .before .before .before .before .before .names .ensures)) refl; room = λ n f. plan-room (asking (c .before .before .before .before .before)) _ e }
+    let a = asking (c .before .before .before .before .before) in
+    let names = c .before .before .before .before .before .before .before .names .ensures in
+    record { lends = plan-lent a _ e; names-are = names; answers = Answers.lines (plan-told a _ e _ names) refl; room = λ n f. plan-room a _ e }
 
 pub put-rules-spec : {M : Type 1} → statement M
 put-rules-spec =

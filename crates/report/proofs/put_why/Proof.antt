@@ -3,8 +3,9 @@ use mathlib.Core.Path.{refl}
 use native.Mathlib.Omega.{arith}
 use Rattle.lists.proofs.Putting.{puts-text}
 use Rattle.report.specs.Pieces.{Answers}
+use Rattle.report.proofs.Lent.{whys-short}
 use Rattle.report.proofs.Putting.{puts-over}
-use Rattle.report.proofs.Told.{told-no-tree, Explaining, no-tree-text, ToldTree, tree-told, tree-text}
+use Rattle.report.proofs.Told.{told-no-tree, Explaining, no-trees, no-tree-text, ToldTree, tree-told, tree-lent, tree-depths, tree-text}
 use borrow.Author.Needs.{needs}
 use Rattle.report.proofs.put_why.Statement.{statement}
 use Rattle.report.proofs.put_why.Tie as tie
@@ -37,7 +38,11 @@ same-length-2 : tie.Need-same-length-2
 same-length-2 c = search needs
 
 returns : tie.Need-returns
-returns c = Answers.short (puts-over _ _ _ _ (puts-text (no-tree-text (explaining (c .before .before .before .before .before .before .before .before)) (told-no-tree _ (c .before .before .before .before .before .match .keys2))) (c .before .before .put-text .ensures)))
+returns c =
+    let a = c .before .before .before .before .before .before .before .before in
+    let other = told-no-tree _ (c .before .before .before .before .before .match .keys2) in
+    let none = no-trees (explaining a) other in
+    whys-short refl (none .0) (a .before .before .atom-texts .ensures) (none .1) (puts-over _ _ _ _ (puts-text (no-tree-text (explaining a) other) (c .before .before .put-text .ensures)))
 
 slice-reshare-prefix-put-depths : tie.Need-slice-reshare-prefix-put-depths
 slice-reshare-prefix-put-depths c = tree (c .before) .within
@@ -57,7 +62,10 @@ same-length-4 c = search needs
 returns-2 : tie.Need-returns-2
 returns-2 c =
     let e = c .before .before .before .before .before .before .answer .given .1 in
-    Answers.lines (tree-text (explaining (c .before .before .before .before .before .before .before .before .before .before)) _ e _ _ _ (c .before .before .put-depths .ensures .1) _ (c .before .before .before .before .before .before .before .before .before .before .before .before .atom-texts .ensures)) refl
+    let h = explaining (c .before .before .before .before .before .before .before .before .before .before) in
+    let says = c .before .before .put-depths .ensures .1 in
+    let atoms = c .before .before .before .before .before .before .before .before .before .before .before .before .atom-texts .ensures in
+    record { lends = tree-lent h _ e; depths-are = tree-depths h _ e _ _ _ says; atoms-are = atoms; answers = Answers.lines (tree-text h _ e _ _ _ says _ atoms) refl }
 
 pub put-why-spec : {M : Type 1} → statement M
 put-why-spec =

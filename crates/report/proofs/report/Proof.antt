@@ -1,6 +1,7 @@
 -- `report::report` meets its contract: the text is short, or its lines have room in one piece (Pieces.antt). Assumes nothing.
 use native.Mathlib.Omega.{arith}
-use Rattle.report.proofs.Pieces.{answered-text, told-whole}
+use Rattle.report.proofs.Pieces.{answered-text}
+use Rattle.report.proofs.Lent.{told-whole}
 use borrow.Author.Needs.{needs}
 use Rattle.report.proofs.report.Statement.{statement}
 use Rattle.report.proofs.report.Tie as tie

@@ -24,16 +24,16 @@ on-line-requires : tie.Need-on-line-requires
 on-line-requires c κs = search needs
 
 returns : tie.Need-returns
-returns c can = search needs
+returns c = search needs
 
 returns-2 : tie.Need-returns-2
-returns-2 c can = search needs
+returns-2 c = search needs
 
 returns-3 : tie.Need-returns-3
-returns-3 c can = search needs
+returns-3 c = search needs
 
 returns-4 : tie.Need-returns-4
-returns-4 c can = c .on-line .ensures ∙ ap (onLine _) (c .before .add-outcome .ensures) ∙ sym (ap loadOutcome (c .before .before .before .answer .given .1))
+returns-4 c = c .on-line .ensures ∙ ap (onLine _) (c .before .add-outcome .ensures) ∙ sym (ap loadOutcome (c .before .before .before .answer .given .1))
 
 pub load-outcome-spec : {M : Type 1} → statement M
 load-outcome-spec =
