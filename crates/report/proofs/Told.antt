@@ -67,14 +67,14 @@ textIn bytes len = record { bytes = bytes; len = len }
 pub kept-atom : (t : Table) → FromUs t → (which : ℕ) (buffer : List ℕ) → buffer ≡ replicate 256 0 → (r : Printed) (exit : List ℕ)
     → GivesAtom (formulasOf (rulesOf t)) which buffer r exit → (len : ℕ) → lengthIn r ≡ len
     → record { bytes = exit; len = len } ≡ keptText (atomTextOf (formulasOf (rulesOf t)) which)
-unfolding keptText over
+unfolding keptText
 kept-atom t v which buffer zeros r exit g len e =
     let xs = atomTextOf (formulasOf (rulesOf t)) which in
     let long : length buffer ≡ 256 = ap length zeros in
     let fits : leb (length xs) (length buffer) ≡ true = le-leb (length xs) (length buffer) (omega (arith, atom-short (rulesOf t) (v .standing) which, long)) in
     let is : len ≡ length xs = sym e ∙ ap lengthIn (g .answer ∙ ap (λ (b : Bool). cond b (Printed.Text (length xs)) (Printed.Needs (length xs))) fits) in
     ap₂ textIn
-    (g .bytes ∙ ap (λ (b : Bool). cond b (xs ++ drop (length xs) buffer) buffer) fits ∙ ap (λ (l : List ℕ). xs ++ drop (length xs) l) zeros)
+    (g .bytes ∙ ap (λ (b : Bool). cond b (over xs buffer) buffer) fits ∙ ap (over xs) zeros)
     is
 
 -- past the array there is none

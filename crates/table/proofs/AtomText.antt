@@ -8,6 +8,7 @@ use native.Mathlib.Omega.{arith}
 use lib.Dec.{ltb, leb}
 use lib.ListN.{length, getD, length-map}
 use borrow.Author.Tests.{ltb-true, ltb-false, lt-ltb, le-ltb, le-leb}
+use Rattle.lists.specs.Buffer.{over}
 use Rattle.lists.proofs.Lists.{map-at}
 use Rattle.lists.specs.Search.{In}
 use Rattle.lists.proofs.Search.{placed, map-elim, collect-elim}
@@ -70,7 +71,7 @@ module _ (t : Table) (v : FromUs t) (which : ℕ) (p : AtomPlace) (first : First
 
   -- a place in no rule
   pub gives-none : t .count ≤ p .rule → (buffer : List ℕ) → GivesAtom rules which buffer (Printed.Text 0) buffer
-  unfolding atomTextOf
+  unfolding atomTextOf over
   gives-none past buffer =
       let high : length (differentAtoms rules) ≤ which = cases (ltb which (length (differentAtoms rules))) (λ e. absurd (omega (arith, as-many t v, first .there (ltb-true _ _ e) .rule-there))) (λ e. ltb-false _ _ e) in
       let none : atomTextOf rules which ≡ [] = ap (λ (b : Bool). cond b ws []) (le-ltb _ _ high) in
