@@ -6,7 +6,7 @@ use mathlib.Core.Bool.{Bool, true, cond}
 use mathlib.Core.List.{List, []}
 use native.Mathlib.Omega.{arith}
 use lib.Dec.{ltb, leb}
-use lib.ListN.{length, getD, length-map}
+use lib.ListN.{length, getD, take, length-map}
 use borrow.Author.Tests.{ltb-true, ltb-false, lt-ltb, le-ltb, le-leb}
 use Rattle.lists.specs.Buffer.{over}
 use Rattle.lists.proofs.Lists.{map-at}
@@ -35,12 +35,13 @@ use Rattle.table.specs.Store.{rulesOf}
 use Rattle.table.specs.Sheet.{Text}
 use Rattle.table.specs.Rules.{CanStand}
 use Rattle.table.specs.Calls.{formulasOf, FromUs}
-use Rattle.table.specs.Steps.{FirstPlace}
+use Rattle.table.specs.Steps.{FirstPlace, PlaceIs, TextsPlaced}
 use Rattle.table.specs.AtomText.{atomTextOf}
 use Rattle.table.specs.Explaining.{GivesAtom}
 use Rattle.table.proofs.Lines.{count-is}
 use Rattle.table.proofs.Recount.{text, text-is}
 use Rattle.table.proofs.Rules.{can-read}
+use Rattle.table.proofs.Compiled.{reached-all}
 
 -- as many formulas as rules
 pub as-many : (t : Table) → FromUs t → length (formulasOf (rulesOf t)) ≡ t .count
@@ -48,22 +49,27 @@ as-many t v = length-map (rulesOf t) meaningOf ∙ sym (count-is t v)
 
 -- ---- where the atom is written first
 
-module _ (rules : List (Formula Name)) (c : Compiling) (kept code : List ℕ) (h : CompiledRules rules c kept code) (which : ℕ) where
-  many : c .known .atoms .chart .atoms ≡ length (differentAtoms rules)
-  many = h .known .compiled .counted ∙ length-map (differentAtoms rules) (mapAtom (numberOf rules))
+many : (rules : List (Formula Name)) (c : Compiling) (kept code : List ℕ) → CompiledRules rules c kept code → c .known .atoms .chart .atoms ≡ length (differentAtoms rules)
+many rules c kept code h = h .known .compiled .counted ∙ length-map (differentAtoms rules) (mapAtom (numberOf rules))
 
-  pub place-none : c .known .atoms .chart .atoms ≤ which → (p : AtomPlace) → length rules ≤ p .rule → FirstPlace rules which p
-  place-none high p past = record { there = λ low. absurd (omega (arith, many)); none = λ l. past }
+module _ (c : Compiling) (code : List ℕ) (which : ℕ) (p : AtomPlace) where
+  pub place-none : c .known .atoms .chart .atoms ≤ which → c .known .count ≤ p .rule → PlaceIs c code which p
+  unfolding PlaceIs
+  place-none high past rules kept h = record { there = λ low. absurd (omega (arith, many rules c kept code h)); none = λ l. omega (arith, h .known .counted) }
 
-  pub place-found : which < c .known .atoms .chart .atoms → (p : AtomPlace) → WritingIs c code which p → FirstPlace rules which p
-  unfolding WritingIs
-  place-found low p says = record { there = λ l. says rules kept h; none = λ high. absurd (omega (arith, many)) }
+  pub place-found : which < c .known .atoms .chart .atoms → WritingIs c code which p → PlaceIs c code which p
+  unfolding WritingIs PlaceIs
+  place-found low says rules kept h = record { there = λ l. says rules kept h; none = λ high. absurd (omega (arith, many rules c kept code h)) }
 
 -- ---- its text
 
-module _ (t : Table) (v : FromUs t) (which : ℕ) (p : AtomPlace) (first : FirstPlace (formulasOf (rulesOf t)) which p) where
+module _ (t : Table) (v : FromUs t) (which : ℕ) (p : AtomPlace) (by : TextsPlaced (take (t .count) (rulesOf t)) which p) where
   abbrev rules : List (Formula Name)
   rules = formulasOf (rulesOf t)
+
+  first : FirstPlace rules which p
+  unfolding PlaceIs
+  first = by .says rules (by .compiled .kept) (reached-all t (by .compiling) (by .code) v (by .compiled))
 
   -- the text of the atom with the number, whether there is one or not
   abbrev ws : List ℕ

@@ -22,12 +22,13 @@ ghost use Rattle.table.specs.Asking.{Asks, Judges};
 ghost use Rattle.table.specs.Printing.{Prints};
 ghost use Rattle.table.specs.Explaining.{explanationAnswer, Explains, verdictAnswer, Checks, GivesAtom};
 ghost use Rattle.table.specs.Still.{StillDoes, isMet, foundStill, DrawnIs, InHandIs, TextsInHand};
-ghost use Rattle.table.specs.Steps.{KnownTexts, Knowing, roomAdd, Tries, TextsCompiled, TextsSearched, PlanPut, TextsTold, TextsChecked, FirstPlace, loadResult, judgedAnswer};
+ghost use Rattle.table.specs.Steps.{KnownTexts, Knowing, roomAdd, Tries, TextsCompiled, TextsSearched, PlanPut, JudgementIs, TextsJudged, TextsTold, TextsChecked, PlaceIs, TextsPlaced, loadResult, judgedAnswer};
 ghost use Rattle.table.specs.Numbers.{addOutcome, withdrawOutcome, onLine, loadOutcome, askOutcome, judgeOutcome, printOutcome, explainOutcome, checkOutcome, stillOutcome};
 use explaining::Explanation;
 use judging::Judged;
 use names::Names;
 use plan::PlanAnswer;
+use plan::PlanArrays;
 use plan::Written;
 use printing::Printed;
 use ruleset::AtomPlace;
@@ -440,6 +441,19 @@ fn judged_answer(j: Judged) -> JudgeAnswer
     }
 }
 
+// What judge answers by the compiled rules for a plan that was read: another number of names, or the judgement.
+fn judgement(c: Compiling, code: &[u8], plan: PlanArrays) -> JudgeAnswer
+    requires { ⌜ Whole c (now code) ⌝ }
+    ensures { λ r. ⌜ JudgementIs c (now (code .entry)) plan r ⌝ }
+{
+    let names = plan.names as usize;
+    if names != c.known.atoms.chart.names {
+        return JudgeAnswer::NamesDiffer(names);
+    }
+    let judged = ruleset::judged(c, code, plan);
+    judged_answer(judged)
+}
+
 // Whether the plan was judged to meet every rule.
 fn is_met(j: Judged) -> bool
     ensures { λ r. ⌜ r ≡ isMet j ⌝ }
@@ -493,6 +507,19 @@ fn in_hand(c: Compiling, code: &[u8], words: &[u32]) -> StillAnswer
     }
     let found = ruleset::row_of(c, code, Asked::Plain);
     found_still(found)
+}
+
+// Where the different atom with this number, from 0, is written first among the compiled rules; where there is no such atom, a place behind
+// the last rule.
+fn place_of(c: Compiling, code: &[u8], which: usize) -> AtomPlace
+    requires { ⌜ Whole c (now code) ⌝ }
+    ensures { λ r. ⌜ PlaceIs c (now (code .entry)) which r ⌝ }
+{
+    let rule = c.known.count;
+    if c.known.atoms.chart.atoms <= which {
+        return AtomPlace { rule, atom: 0 };
+    }
+    ruleset::first_writing(c, code, which)
 }
 
 // Document 01's number of add's answer, and what it carries.
@@ -854,6 +881,21 @@ impl Table {
         self.answered(Asked::Building, buffer)
     }
 
+    // The first so many of the standing rules compiled, and what judge answers by them for a plan that was read.
+    fn judgement(self, rules: usize, plan: PlanArrays) -> JudgeAnswer
+        requires { ⌜ FromUs self × (rules ≤ self .count) ⌝ }
+        ensures { λ r. ⌜ TextsJudged (take rules (rulesOf self)) plan r ⌝ }
+    {
+        if rules <= HALF {
+            let mut code = half_code();
+            let c = self.compiled(rules, &mut code);
+            return judgement(c, &code, plan);
+        }
+        let mut code = no_code();
+        let c = self.compiled(rules, &mut code);
+        judgement(c, &code, plan)
+    }
+
     // The judgement of a plan that is read from words, by the standing rules: yes, or the lowest rule that it does not meet; ahead of any
     // rule, that it has a name and a point at evaluation 0. Where no rule stands, where the words are no plan, or where it has another
     // number of names than the rules, the answer says so. The table comes back as it was.
@@ -876,19 +918,8 @@ impl Table {
                 answer: JudgeAnswer::NotAPlan(at),
             };
         }
-        let mut code = no_code();
-        let c = self.compiled(count, &mut code);
-        let chart = c.known.atoms.chart;
         let plan = read.plan;
-        let names = plan.names as usize;
-        if names != chart.names {
-            return JudgeResult {
-                table: self,
-                answer: JudgeAnswer::NamesDiffer(names),
-            };
-        }
-        let judged = ruleset::judged(c, &code, plan);
-        let answer = judged_answer(judged);
+        let answer = self.judgement(count, plan);
         JudgeResult {
             table: self,
             answer,
@@ -1006,23 +1037,19 @@ impl Table {
         }
     }
 
-    // Where the different atom with this number, from 0, is written first among the standing rules; where there is no such atom, a place
-    // behind the last rule.
-    fn atom_place(self, which: usize) -> AtomPlace
-        requires { ⌜ FromUs self ⌝ }
-        ensures { λ r. ⌜ FirstPlace (formulasOf (rulesOf self)) which r ⌝ }
+    // The first so many of the standing rules compiled, and where the different atom with this number is written first among them.
+    fn atom_place(self, rules: usize, which: usize) -> AtomPlace
+        requires { ⌜ FromUs self × (rules ≤ self .count) ⌝ }
+        ensures { λ r. ⌜ TextsPlaced (take rules (rulesOf self)) which r ⌝ }
     {
-        let count = self.count;
-        let mut code = no_code();
-        let c = self.compiled(count, &mut code);
-        let chart = c.known.atoms.chart;
-        if chart.atoms <= which {
-            return AtomPlace {
-                rule: count,
-                atom: 0,
-            };
+        if rules <= HALF {
+            let mut code = half_code();
+            let c = self.compiled(rules, &mut code);
+            return place_of(c, &code, which);
         }
-        ruleset::first_writing(c, &code, which)
+        let mut code = no_code();
+        let c = self.compiled(rules, &mut code);
+        place_of(c, &code, which)
     }
 
     // The text of the different atom with this number, from 0 by first place, as it was read there, over the first bytes of the buffer; no
@@ -1032,9 +1059,10 @@ impl Table {
         requires { ⌜ FromUs self ⌝ }
         ensures { λ r. ⌜ GivesAtom (formulasOf (rulesOf self)) which (now (buffer .entry)) r (now (buffer .exit)) ⌝ }
     {
-        let place = self.atom_place(which);
+        let count = self.count;
+        let place = self.atom_place(count, which);
         let at = place.rule;
-        if self.count <= at {
+        if count <= at {
             return Printed::Text(0);
         }
         let line = self.lines[at];
