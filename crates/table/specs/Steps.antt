@@ -112,12 +112,6 @@ pub record FirstPlace (rules : List (Formula Name)) (which : ℕ) (p : AtomPlace
 unfoldable pub PlaceIs : Compiling → List ℕ → ℕ → AtomPlace → Type 0
 PlaceIs c code which p = (rules : List (Formula Name)) (kept : List ℕ) → CompiledRules rules c kept code → FirstPlace rules which p
 
-pub record TextsPlaced (texts : List Text) (which : ℕ) (p : AtomPlace) : Type 0 where
-  pub compiling : Compiling
-  pub code : List ℕ
-  pub compiled : TextsCompiled texts compiling code
-  pub says : PlaceIs compiling code which p
-
 abbrev pub loadResult : Table → LoadAnswer → LoadResult
 loadResult t a = record { table = t; answer = a }
 

@@ -7,7 +7,7 @@
 ghost use mathlib.Core.Path.{_≡_};
 ghost use mathlib.Core.List.{[], _∷_, _++_};
 ghost use Prim.Native.Nat.{ℕ, _+_, _-_, _*_, _≤_, _<_};
-ghost use lib.ListN.{length, take, drop};
+ghost use lib.ListN.{length, take, drop, replicate};
 ghost use Rattle.contact.specs.Question.{plain, building};
 ghost use Rattle.names.specs.Gather.{arraysOf};
 ghost use Rattle.evalset.specs.Most.{most};
@@ -20,9 +20,10 @@ ghost use Rattle.table.specs.Calls.{formulasOf, namesIn, readAnswer, lin
 ghost use Rattle.table.specs.Sheet.{blankLine, linesOf};
 ghost use Rattle.table.specs.Asking.{Asks, Judges};
 ghost use Rattle.table.specs.Printing.{Prints};
-ghost use Rattle.table.specs.Explaining.{explanationAnswer, Explains, verdictAnswer, Checks, GivesAtom};
+ghost use Rattle.table.specs.Explaining.{explanationAnswer, Explains, verdictAnswer, Checks, GivesAtom, keptText, textsOf};
+ghost use Rattle.table.specs.AtomText.{atomTextOf};
 ghost use Rattle.table.specs.Still.{StillDoes, isMet, foundStill, DrawnIs, InHandIs, TextsInHand};
-ghost use Rattle.table.specs.Steps.{KnownTexts, Knowing, roomAdd, Tries, TextsCompiled, TextsSearched, PlanPut, JudgementIs, TextsJudged, TextsTold, TextsChecked, PlaceIs, TextsPlaced, loadResult, judgedAnswer};
+ghost use Rattle.table.specs.Steps.{KnownTexts, Knowing, roomAdd, Tries, TextsCompiled, TextsSearched, PlanPut, JudgementIs, TextsJudged, TextsTold, TextsChecked, PlaceIs, loadResult, judgedAnswer};
 ghost use Rattle.table.specs.Numbers.{addOutcome, withdrawOutcome, onLine, loadOutcome, askOutcome, judgeOutcome, printOutcome, explainOutcome, checkOutcome, stillOutcome};
 use explaining::Explanation;
 use judging::Judged;
@@ -194,6 +195,12 @@ pub enum StillAnswer {
 pub struct StillResult {
     pub table: Table,
     pub answer: StillAnswer,
+}
+
+// The text of an atom: its first bytes, as many as its length.
+pub struct AtomText {
+    pub bytes: [u8; 256],
+    pub len: usize,
 }
 
 // What an answer says: done, a plan of so many words, no plan, yes, the lowest unmet rule, a text of so many bytes, a tree of so many words,
@@ -520,6 +527,15 @@ fn place_of(c: Compiling, code: &[u8], which: usize) -> AtomPlace
         return AtomPlace { rule, atom: 0 };
     }
     ruleset::first_writing(c, code, which)
+}
+
+// Sixteen texts of no bytes.
+pub fn no_texts() -> [AtomText; 16]
+    ensures { λ r. ⌜ r ≡ replicate 16 (keptText []) ⌝ }
+{
+    let bytes = [0u8; 256];
+    let text = AtomText { bytes, len: 0 };
+    [text; 16]
 }
 
 // Document 01's number of add's answer, and what it carries.
@@ -1037,19 +1053,23 @@ impl Table {
         }
     }
 
-    // The first so many of the standing rules compiled, and where the different atom with this number is written first among them.
-    fn atom_place(self, rules: usize, which: usize) -> AtomPlace
-        requires { ⌜ FromUs self × (rules ≤ self .count) ⌝ }
-        ensures { λ r. ⌜ TextsPlaced (take rules (rulesOf self)) which r ⌝ }
+    // The text of the different atom with this number, from 0 by first place, over the first bytes of the buffer, where the standing rules are
+    // compiled: the rule in which it is written first is read again.
+    fn atom_by(self, c: Compiling, code: &[u8], which: usize, buffer: &mut [u8]) -> Printed
+        requires { ⌜ FromUs self × TextsCompiled (take (self .count) (rulesOf self)) c (now code) ⌝ }
+        ensures { λ r. ⌜ GivesAtom (formulasOf (rulesOf self)) which (now (buffer .entry)) r (now (buffer .exit)) ⌝ }
     {
-        if rules <= HALF {
-            let mut code = half_code();
-            let c = self.compiled(rules, &mut code);
-            return place_of(c, &code, which);
+        let place = place_of(c, code, which);
+        let at = place.rule;
+        if self.count <= at {
+            return Printed::Text(0);
         }
-        let mut code = no_code();
-        let c = self.compiled(rules, &mut code);
-        place_of(c, &code, which)
+        let line = self.lines[at];
+        let len = line.len;
+        let bytes = line.bytes;
+        let text = &bytes[..len];
+        let rule = syntax::read_rule(text);
+        printing::print_atom(text, rule, place.atom, buffer)
     }
 
     // The text of the different atom with this number, from 0 by first place, as it was read there, over the first bytes of the buffer; no
@@ -1059,18 +1079,60 @@ impl Table {
         requires { ⌜ FromUs self ⌝ }
         ensures { λ r. ⌜ GivesAtom (formulasOf (rulesOf self)) which (now (buffer .entry)) r (now (buffer .exit)) ⌝ }
     {
-        let count = self.count;
-        let place = self.atom_place(count, which);
-        let at = place.rule;
-        if count <= at {
-            return Printed::Text(0);
+        let rules = self.count;
+        if rules <= HALF {
+            let mut code = half_code();
+            let c = self.compiled(rules, &mut code);
+            return self.atom_by(c, &code, which, buffer);
         }
-        let line = self.lines[at];
-        let len = line.len;
-        let bytes = line.bytes;
-        let text = &bytes[..len];
-        let rule = syntax::read_rule(text);
-        printing::print_atom(text, rule, place.atom, buffer)
+        let mut code = no_code();
+        let c = self.compiled(rules, &mut code);
+        self.atom_by(c, &code, which, buffer)
+    }
+
+    // The same text in an array.
+    fn atom_text(self, c: Compiling, code: &[u8], which: usize) -> AtomText
+        requires { ⌜ FromUs self × TextsCompiled (take (self .count) (rulesOf self)) c (now code) ⌝ }
+        ensures { λ r. ⌜ r ≡ keptText (atomTextOf (formulasOf (rulesOf self)) which) ⌝ }
+    {
+        let mut bytes = lexer::zeros();
+        let printed = self.atom_by(c, code, which, &mut bytes);
+        match printed {
+            Printed::Text(len) => AtomText { bytes, len },
+            Printed::Needs(len) => AtomText { bytes, len },
+        }
+    }
+
+    // Those of all numbers that atoms may have.
+    fn atom_texts(self, c: Compiling, code: &[u8]) -> [AtomText; 16]
+        requires { ⌜ FromUs self × TextsCompiled (take (self .count) (rulesOf self)) c (now code) ⌝ }
+        ensures { λ r. ⌜ r ≡ textsOf (atomTextOf (formulasOf (rulesOf self))) ⌝ }
+    {
+        let mut texts = no_texts();
+        let mut i: usize = 0;
+        while i < 16 {
+            let text = self.atom_text(c, code, i);
+            texts[i] = text;
+            i += 1;
+        }
+        texts
+    }
+
+    // The texts of the different atoms by their numbers, of no bytes where there is none: what `atom` gives for each, with the rules compiled
+    // once.
+    pub fn atoms(self) -> [AtomText; 16]
+        requires { ⌜ FromUs self ⌝ }
+        ensures { λ r. ⌜ r ≡ textsOf (atomTextOf (formulasOf (rulesOf self))) ⌝ }
+    {
+        let rules = self.count;
+        if rules <= HALF {
+            let mut code = half_code();
+            let c = self.compiled(rules, &mut code);
+            return self.atom_texts(c, &code);
+        }
+        let mut code = no_code();
+        let c = self.compiled(rules, &mut code);
+        self.atom_texts(c, &code)
     }
 
     // The k-th rule, from 1, as it was read, its text written over the first bytes of the buffer. Where there is no such rule the answer

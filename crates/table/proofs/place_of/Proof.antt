@@ -1,7 +1,7 @@
 -- `table::place_of` meets its contract: there is no such atom, or its sign is sought in the code. Assumes nothing.
 use borrow.Author.Needs.{needs}
 use native.Mathlib.Omega.{arith}
-use Rattle.table.proofs.AtomText.{place-none, place-found}
+use Rattle.table.proofs.Atoms.{place-none, place-found}
 use Rattle.table.proofs.place_of.Statement.{statement}
 use Rattle.table.proofs.place_of.Tie as tie
 

@@ -1,10 +1,10 @@
--- `table::Table::atom_place` meets its contract: the rules are compiled into the smaller or the larger room, and the place is found in their code.
--- Assumes nothing.
+-- `table::Table::atoms` meets its contract: the rules are compiled into the smaller or the larger room, and the texts are by them. Assumes
+-- nothing.
 use borrow.Author.Needs.{needs}
 use native.Mathlib.Omega.{arith}
 use Rattle.table.proofs.Lines.{count-few}
-use Rattle.table.proofs.Table.atom_place.Statement.{statement}
-use Rattle.table.proofs.Table.atom_place.Tie as tie
+use Rattle.table.proofs.Table.atoms.Statement.{statement}
+use Rattle.table.proofs.Table.atoms.Tie as tie
 
 half-code-requires : tie.Need-half-code-requires
 half-code-requires c κs = search needs
@@ -15,11 +15,11 @@ slice-aggregate-compiled c = search needs
 compiled-requires : tie.Need-compiled-requires
 compiled-requires c κs = search needs
 
-slice-aggregate-place-of : tie.Need-slice-aggregate-place-of
-slice-aggregate-place-of c = search needs
+slice-aggregate-atom-texts : tie.Need-slice-aggregate-atom-texts
+slice-aggregate-atom-texts c = search needs
 
-place-of-requires : tie.Need-place-of-requires
-place-of-requires c κs = search needs
+atom-texts-requires : tie.Need-atom-texts-requires
+atom-texts-requires c κs = search needs
 
 returns : tie.Need-returns
 returns c = search needs
@@ -33,30 +33,30 @@ slice-aggregate-compiled-2 c = search needs
 compiled-requires-2 : tie.Need-compiled-requires-2
 compiled-requires-2 c κs =
     let pre = c .before .before .before .pre in
-    (pre .0, pre .1, omega (arith, count-few _ (pre .0), pre .1, c .before .no-code .ensures))
+    (pre, omega arith, omega (arith, count-few _ pre, c .before .no-code .ensures))
 
-slice-aggregate-place-of-2 : tie.Need-slice-aggregate-place-of-2
-slice-aggregate-place-of-2 c = search needs
+slice-aggregate-atom-texts-2 : tie.Need-slice-aggregate-atom-texts-2
+slice-aggregate-atom-texts-2 c = search needs
 
-place-of-requires-2 : tie.Need-place-of-requires-2
-place-of-requires-2 c κs = search needs
+atom-texts-requires-2 : tie.Need-atom-texts-requires-2
+atom-texts-requires-2 c κs = search needs
 
 returns-2 : tie.Need-returns-2
 returns-2 c = search needs
 
-pub atom-place-spec : {M : Type 1} → statement M
-atom-place-spec =
+pub atoms-spec : {M : Type 1} → statement M
+atoms-spec =
     tie.close
     (tie.spec
     half-code-requires
     slice-aggregate-compiled
     compiled-requires
-    slice-aggregate-place-of
-    place-of-requires
+    slice-aggregate-atom-texts
+    atom-texts-requires
     returns
     no-code-requires
     slice-aggregate-compiled-2
     compiled-requires-2
-    slice-aggregate-place-of-2
-    place-of-requires-2
+    slice-aggregate-atom-texts-2
+    atom-texts-requires-2
     returns-2)
