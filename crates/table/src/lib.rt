@@ -786,10 +786,7 @@ impl Table {
                 let tried = with_text(known, text, &mut symbols);
                 let answer = tried.answer;
                 let AddAnswer::Added = answer else {
-                    return LoadResult {
-                        table: self,
-                        answer: LoadAnswer::Line { line, answer },
-                    };
+                    return kept(self, LoadAnswer::Line { line, answer });
                 };
                 known = tried.known;
                 let last = line_of(text);
