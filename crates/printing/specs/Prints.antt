@@ -1,10 +1,11 @@
 -- What is computed: what `print` answers, and every byte of the lent buffer after it. Assumes nothing.
 use mathlib.Core.Path.{_≡_}
 use mathlib.Core.Bool.{Bool, cond}
-use mathlib.Core.List.{List, _++_}
+use mathlib.Core.List.{List}
 use Prim.Native.Nat.{ℕ}
 use lib.Dec.{leb}
-use lib.ListN.{length, getD, drop}
+use lib.ListN.{length, getD}
+use Rattle.lists.specs.Buffer.{over}
 use Rattle.formula.specs.Formula.{Term, Atom, Form, Name}
 use Rattle.formula.specs.Atoms.{atomsOf}
 use Rattle.syntax.specs.Rule.{ruleOf, meaningOf}
@@ -40,4 +41,4 @@ pub record Prints (ws buf : List ℕ) (result : Printed) (exit : List ℕ) : Typ
   -- "the answer carries the length written"; 12 "with the bytes needed"
   pub answer : result ≡ cond (fits ws buf) (Text (length ws)) (Needs (length ws))
   -- "what lies past it is kept"; of 12: "the buffer keeps its contents"
-  pub bytes : exit ≡ cond (fits ws buf) (ws ++ drop (length ws) buf) buf
+  pub bytes : exit ≡ cond (fits ws buf) (over ws buf) buf

@@ -15,7 +15,8 @@ use Rattle.report.specs.declared.PlanResult.{PlanResult}
 use Rattle.report.specs.declared.WhyResult.{WhyResult}
 use Rattle.report.specs.declared.TextAnswer.the-variants as TextAnswer
 use Rattle.report.specs.Pieces.{planLineAt, depthsOf, Answers, GivesPiece}
-use Rattle.report.specs.Lent.{lentAnswer, lentWords, lentBytes, Lends, Tells, textsOf, Whys}
+use Rattle.table.specs.Explaining.{textsOf}
+use Rattle.report.specs.Lent.{lentAnswer, lentWords, lentBytes, Lends, Tells, Whys}
 use Rattle.report.specs.Putting.{textRoom, Reports}
 use Rattle.report.proofs.Pieces.{answered-lines, one-piece}
 

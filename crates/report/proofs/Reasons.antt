@@ -15,7 +15,7 @@ use Rattle.contact.specs.Row.{PartialRow}
 use Rattle.trees.specs.Trees.{Tree, split, rule, floorless, missing, splitWord, ruleWord, floorlessWord, wordsOf}
 use Rattle.trees.specs.Closed.{decided}
 use Rattle.trees.specs.Written.{Written}
-use Rattle.report.specs.declared.AtomText.{AtomText}
+use Rattle.table.specs.declared.AtomText.{AtomText}
 use Rattle.report.specs.Lines.{margin, indented, splitText, ruleText, floorlessText, reasonLines}
 use Rattle.report.specs.Pieces.{wordText, saying, heldAt, lineAt, linesFrom, depthsOf, Shallow, DepthsSay}
 use Rattle.report.proofs.Pieces.{first-there, behind-it, behind-part, lines-more}

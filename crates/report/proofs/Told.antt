@@ -1,14 +1,14 @@
 -- What explain wrote is the tree of the writer, so that its lines with the depths that were put are the text of the rules; where it wrote none a
 -- plan exists, because a rule stands and the words are enough. Before it, the texts of atoms that an array holds. Assumes nothing.
 use Prim.Native.Nat.{ℕ, zero, suc, _+_, _-_, _^_, _≤_, _<_}
-use mathlib.Core.Path.{_≡_, refl, sym, ap, ap₂, subst, _∙_, fun-ext}
-use mathlib.Core.Bool.{Bool, true, cond}
+use mathlib.Core.Path.{_≡_, refl, sym, ap, subst, _∙_, fun-ext}
+use mathlib.Core.Bool.{Bool, cond}
 use mathlib.Core.Logic.{⊎-elim}
-use mathlib.Core.List.{List, [], _∷_, _++_, map, append-nil, map-append}
+use mathlib.Core.List.{List, [], _∷_, map, append-nil}
 use native.Mathlib.Omega.{arith}
 use lib.Pow.{pow-mono}
 use lib.Dec.{leb}
-use lib.ListN.{length, getD, replicate, take, drop, set, length-append, length-map, List·getD-eq-default}
+use lib.ListN.{length, getD, take, drop, length-append, List·getD-eq-default}
 use lib.Seq.{take-append-seam}
 use borrow.Author.Tests.{le-ltb, le-leb}
 use types.Run.{OneOf, miss}
@@ -16,15 +16,11 @@ use denote.Enum.Declared.{tagOf}
 use Rattle.formula.specs.Formula.{Form, Formula, Name}
 use Rattle.lexer.specs.Text.{bytes}
 use Rattle.lists.specs.Search.{below, from}
-use Rattle.lists.proofs.Search.{from-append, from-length}
-use Rattle.lists.proofs.Lists.{set-behind}
 use Rattle.lists.proofs.Truth.{side}
 use Rattle.lists.specs.Buffer.{over}
 use Rattle.lists.proofs.Buffer.{written-over}
 use Rattle.contact.specs.Numbering.{differentAtoms, numberedAtoms}
 use Rattle.printing.specs.Text.{textOf}
-use Rattle.printing.specs.declared.Printed.{Printed}
-use Rattle.printing.specs.declared.Printed.the-variants as Printed
 use Rattle.ruleset.specs.Places.{atomAt}
 use Rattle.trees.specs.Trees.{Tree, wordsOf}
 use Rattle.trees.specs.Closed.{root}
@@ -40,42 +36,19 @@ use Rattle.table.specs.Store.{rulesOf}
 use Rattle.table.specs.Calls.{formulasOf, atomsIn, FromUs}
 use Rattle.table.specs.Rows.{SomeStand}
 use Rattle.table.specs.AtomText.{atomTextOf}
-use Rattle.table.specs.Explaining.{GivesAtom, toldAnswer, toldWords, explained, Explains}
+use Rattle.table.specs.Explaining.{toldAnswer, toldWords, explained, Explains, keptText, textsOf}
 use Rattle.table.proofs.Rules.{can-atoms}
-use Rattle.table.proofs.Claims.{atom-short}
 use Rattle.table.proofs.TreeRows.{told-some, words-some, few-for}
-use Rattle.report.specs.declared.AtomText.{AtomText}
+use Rattle.table.specs.declared.AtomText.{AtomText}
 use Rattle.report.specs.Lines.{ended, reasonLines}
 use Rattle.report.specs.Output.{treesText, reasonsText}
 use Rattle.report.specs.Pieces.{held, heldAt, lineAt, linesFrom, depthsOf, Shallow, DepthsSay}
-use Rattle.report.specs.Lent.{lentWords, Lends, keptText, textsOf}
+use Rattle.report.specs.Lent.{lentWords, Lends}
 use Rattle.report.specs.declared.TextAnswer.the-variants as TextAnswer
 use Rattle.report.proofs.Lent.{lends-lines}
 use Rattle.report.proofs.Reasons.{tree-lines, written-shallow}
 
 -- ---- the texts of atoms
-
--- the length that the table answers with
-abbrev pub lengthIn : Printed → ℕ
-lengthIn (Printed.Text n) = n
-lengthIn (Printed.Needs n) = n
-
-abbrev textIn : List ℕ → ℕ → AtomText
-textIn bytes len = record { bytes = bytes; len = len }
-
--- what the table gives as the text of an atom: 256 bytes have room for it
-pub kept-atom : (t : Table) → FromUs t → (which : ℕ) (buffer : List ℕ) → buffer ≡ replicate 256 0 → (r : Printed) (exit : List ℕ)
-    → GivesAtom (formulasOf (rulesOf t)) which buffer r exit → (len : ℕ) → lengthIn r ≡ len
-    → record { bytes = exit; len = len } ≡ keptText (atomTextOf (formulasOf (rulesOf t)) which)
-unfolding keptText over
-kept-atom t v which buffer zeros r exit g len e =
-    let xs = atomTextOf (formulasOf (rulesOf t)) which in
-    let long : length buffer ≡ 256 = ap length zeros in
-    let fits : leb (length xs) (length buffer) ≡ true = le-leb (length xs) (length buffer) (omega (arith, atom-short (rulesOf t) (v .standing) which, long)) in
-    let is : len ≡ length xs = sym e ∙ ap lengthIn (g .answer ∙ ap (λ (b : Bool). cond b (Printed.Text (length xs)) (Printed.Needs (length xs))) fits) in
-    ap₂ textIn
-    (g .bytes ∙ ap (λ (b : Bool). cond b (xs ++ drop (length xs) buffer) buffer) fits ∙ ap (λ (l : List ℕ). xs ++ drop (length xs) l) zeros)
-    is
 
 -- past the array there is none
 held-past : (atoms : List AtomText) (j : ℕ) → length atoms ≤ j → heldAt atoms j ≡ []
@@ -95,31 +68,7 @@ module _ (atom : ℕ → List ℕ) where
   abbrev kept : ℕ → AtomText
   kept j = keptText (atom j)
 
-  -- the texts before place i are kept, and the others have no bytes
-  abbrev pub KeptTo : List AtomText → ℕ → Type 0
-  KeptTo texts i = texts ≡ map kept (below i) ++ replicate (16 - i) (keptText [])
-
-  pub kept-next : (texts : List AtomText) (i : ℕ) (text : AtomText) → i < 16 → KeptTo texts i → text ≡ keptText (atom i) → KeptTo (set texts i text) (i + 1)
-  kept-next texts i text h before e =
-      let m : 16 - i - 1 ≡ 16 - (i + 1) = omega arith in
-      let z : 0 + i ≡ i = omega arith in
-      let more : map kept (below (i + 1)) ≡ map kept (below i) ++ kept i ∷ []
-      = ap (map kept) (from-append 0 i 1) ∙ map-append kept (below i) (from (0 + i) 1) ∙ ap (λ (x : ℕ). map kept (below i) ++ kept x ∷ []) z in
-      ap₂ (λ (l : List AtomText) (a : AtomText). set l i a) before e
-      ∙ set-behind (map kept (below i)) (keptText []) (kept i) (16 - i) i (length-map (below i) kept ∙ from-length 0 i) (omega arith)
-      ∙ ap (λ (k : ℕ). map kept (below i) ++ kept i ∷ [] ++ replicate k (keptText [])) m
-      ∙ ap (λ (l : List AtomText). l ++ replicate (16 - (i + 1)) (keptText [])) (sym more)
-
-  pub kept-all : (texts : List AtomText) → KeptTo texts 16 → texts ≡ textsOf atom
-  unfolding textsOf
-  kept-all texts all = all ∙ append-nil (map kept (below 16))
-
-  -- of a sheet that is refused none has a byte
-  pub kept-none : ((j : ℕ) → atom j ≡ []) → replicate 16 (keptText []) ≡ textsOf atom
-  unfolding textsOf
-  kept-none none = ap (λ (f : ℕ → List ℕ). map (λ (j : ℕ). keptText (f j)) (below 16)) (fun-ext (λ j. sym (none j)))
-
-  -- they are what the array holds, where there is none past it
+  -- the texts are what the array holds, where there is none past it
   held-texts : ((j : ℕ) → 16 ≤ j → atom j ≡ []) → heldAt (textsOf atom) ≡ atom
   unfolding heldAt textsOf
   held-texts none =

@@ -3,18 +3,17 @@
 use mathlib.Core.Path.{_≡_}
 use mathlib.Core.List.{List, [], _∷_, map}
 use Prim.Native.Nat.{ℕ, _≤_}
-use lib.ListN.{length, replicate}
+use lib.ListN.{length}
 use Rattle.formula.specs.Formula.{Formula, Name}
 use Rattle.contact.specs.Question.{Question}
-use Rattle.lists.specs.Search.{below}
 use Rattle.lists.specs.Buffer.{over}
 use Rattle.names.specs.Gather.{arraysOf, knownOf}
 use Rattle.plan.specs.Words.{Plan, wordsOf as planWords}
 use Rattle.table.specs.Sheet.{Text, linesOf, filled}
 use Rattle.table.specs.Calls.{formulasOf, judgeLoad, ifLoaded}
 use Rattle.table.specs.AtomText.{atomTextOf}
+use Rattle.table.specs.Explaining.{textsOf}
 use Rattle.trees.specs.Trees.{Tree, wordsOf}
-use Rattle.report.specs.declared.AtomText.{AtomText}
 use Rattle.report.specs.declared.TextAnswer.{TextAnswer}
 use Rattle.report.specs.declared.TextAnswer.the-variants as TextAnswer
 use Rattle.report.specs.declared.PlanResult.{PlanResult}
@@ -60,13 +59,6 @@ pub record Tells (q : Question) (text : List ℕ) (plans : List Plan) (names : L
   pub room : (n : ℕ) → r .answer ≡ TextAnswer.Lines n → length text ≤ textRoom q
 
 -- ---- a tree: its words with their depths, and the texts of the rules' atoms
-
--- a text in an array, zeros behind it, and those of sixteen numbers
-unfoldable pub keptText : List ℕ → AtomText
-keptText text = record { bytes = over text (replicate 256 0); len = length text }
-
-unfoldable pub textsOf : (ℕ → List ℕ) → List AtomText
-textsOf atom = map (λ i. keptText (atom i)) (below 16)
 
 pub record Whys (text : List ℕ) (trees : List Tree) (atom : ℕ → List ℕ) (words depths buffer : List ℕ) (r : WhyResult) (words-exit depths-exit exit : List ℕ) : Type 0 where
   pub lends : Lends text (map wordsOf trees) words words-exit buffer exit (r .answer)

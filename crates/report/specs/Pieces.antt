@@ -11,7 +11,7 @@ use Rattle.formula.specs.Formula.{Name}
 use Rattle.lists.specs.Search.{collect, from}
 use Rattle.lists.specs.Putting.{Puts}
 use Rattle.trees.specs.Trees.{Tree, split, rule, floorless, missing, wordsOf}
-use Rattle.report.specs.declared.AtomText.{AtomText}
+use Rattle.table.specs.declared.AtomText.{AtomText}
 use Rattle.report.specs.declared.TextAnswer.{TextAnswer}
 use Rattle.report.specs.declared.TextAnswer.the-variants as TextAnswer
 use Rattle.report.specs.declared.Piece.{Piece}

@@ -25,14 +25,14 @@ ghost use Rattle.trees.specs.Checker.{treesOf};
 ghost use Rattle.report.specs.Output.{outcomeText, rulesText, outputOf, asReadOf, reasonsText, whyOf};
 ghost use Rattle.report.specs.Lines.{decimal, labelled, headLine, nameIf, pointNames, namesOrNone, blanked, pointLine, contactLine, ruleLines, refusedText, margin, indented};
 ghost use Rattle.report.specs.Pieces.{planLine, planLineAt, saying, held, heldAt, lineAt, DepthsSay, GivesPiece};
-ghost use Rattle.report.specs.Lent.{ofSheet, sheetAtoms, keptText, textsOf, Tells, Whys};
+ghost use Rattle.report.specs.Lent.{ofSheet, sheetAtoms, Tells, Whys};
 ghost use Rattle.report.specs.Putting.{wordRoom, Reports};
 use names::KeptName;
 use names::Names;
-use printing::Printed;
 use search::Asked;
 use table::AskAnswer;
 use table::AskResult;
+use table::AtomText;
 use table::ExplainAnswer;
 use table::LoadAnswer;
 use table::Outcome;
@@ -459,12 +459,6 @@ pub fn as_read(file: &[u8], out: &mut [u8; ROOM]) -> usize
 // The words of the largest tree.
 pub const TREE: usize = 131071;
 
-// The text of an atom: its first bytes, as many as its length.
-pub struct AtomText {
-    pub bytes: [u8; 256],
-    pub len: usize,
-}
-
 // What `why` hands back: for a tree, the texts of the atoms by their numbers.
 pub struct WhyResult {
     pub answer: TextAnswer,
@@ -596,51 +590,14 @@ fn put_depths(words: &[u32], at: usize, depth: u8, depths: &mut [u8]) -> usize
     }
 }
 
-// The text of the atom with this number, of no bytes where there is none.
-fn atom_text(table: Table, which: usize) -> AtomText
-    requires { ⌜ FromUs table ⌝ }
-    ensures { λ r. ⌜ r ≡ keptText (atomTextOf (formulasOf (rulesOf table)) which) ⌝ }
-{
-    let mut bytes = [0u8; 256];
-    let printed = table.atom(which, &mut bytes);
-    match printed {
-        Printed::Text(len) => AtomText { bytes, len },
-        Printed::Needs(len) => AtomText { bytes, len },
-    }
-}
-
-// Room for the texts of atoms.
-fn no_texts() -> [AtomText; 16]
-    ensures { λ r. ⌜ r ≡ replicate 16 (keptText []) ⌝ }
-{
-    let bytes = [0u8; 256];
-    let text = AtomText { bytes, len: 0 };
-    [text; 16]
-}
-
-// The texts of the atoms by their numbers.
-fn atom_texts(table: Table) -> [AtomText; 16]
-    requires { ⌜ FromUs table ⌝ }
-    ensures { λ r. ⌜ r ≡ textsOf (atomTextOf (formulasOf (rulesOf table))) ⌝ }
-{
-    let mut texts = no_texts();
-    let mut i: usize = 0;
-    while i < 16 {
-        let text = atom_text(table, i);
-        texts[i] = text;
-        i += 1;
-    }
-    texts
-}
-
 // Why the rules that stand have no plan.
 fn put_why(table: Table, words: &mut [u32], depths: &mut [u8], out: &mut [u8]) -> WhyResult
     requires { ⌜ FromUs table × SomeStand (rulesOf table) × (length (now words) ≡ 131071) × (length (now depths) ≡ 131071) × (16384 ≤ length (now out)) ⌝ }
     ensures { λ r. ⌜ Whys (reasonsText (formulasOf (rulesOf table))) (treesOf (formulasOf (rulesOf table))) (atomTextOf (formulasOf (rulesOf table))) (now (words .entry)) (now (depths .entry)) (now (out .entry)) r (now (words .exit)) (now (depths .exit)) (now (out .exit)) ⌝ }
 {
-    let atoms = atom_texts(table);
     let given = table.explain(words);
     let answer = given.answer;
+    let atoms = table.atoms();
     let ExplainAnswer::Tree(n) = answer else {
         let len = put_text(b"PLAN EXISTS\n", out, 0);
         return WhyResult {
@@ -670,7 +627,7 @@ pub fn why(
     let answer = loaded.answer;
     let LoadAnswer::Loaded = answer else {
         let len = put_refusal(answer, out, 0);
-        let atoms = no_texts();
+        let atoms = table::no_texts();
         return WhyResult {
             answer: TextAnswer::Text(len),
             atoms,

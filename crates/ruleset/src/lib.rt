@@ -139,11 +139,8 @@ pub fn with_rule(
     let enough = gathered.answer;
     if let NamesAnswer::TooManyNames(p) = enough {
         let answer = RoomAnswer::TooManyNames(p);
-        return Grown {
-            known,
-            end: from,
-            answer,
-        };
+        let end = from;
+        return Grown { known, end, answer };
     }
     let names = gathered.names;
     let numbers = gathered.numbers;
@@ -155,16 +152,14 @@ pub fn with_rule(
     let mut atoms = compiled.atoms;
     atoms.chart.names = names.count;
     let count = known.count + 1;
+    let known = Known {
+        names,
+        atoms,
+        count,
+    };
+    let end = compiled.end;
     let answer = room(compiled.enough);
-    Grown {
-        known: Known {
-            names,
-            atoms,
-            count,
-        },
-        end: compiled.end,
-        answer,
-    }
+    Grown { known, end, answer }
 }
 
 // The rule of this text, for which there is room, behind those that are compiled.

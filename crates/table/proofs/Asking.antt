@@ -43,7 +43,7 @@ use Rattle.table.specs.Store.{rulesOf}
 use Rattle.table.specs.Sheet.{Text}
 use Rattle.table.specs.Calls.{formulasOf, FromUs}
 use Rattle.table.specs.Asking.{foundAnswer, askAnswer, foundWords, askWords, asked, Asks, judgementAnswer, judgeDecoded, judgePlan, judgeReading, judgeAnswer, judged, Judges}
-use Rattle.table.specs.Steps.{judgedAnswer}
+use Rattle.table.specs.Steps.{JudgementIs, judgedAnswer}
 use Rattle.table.specs.Rows.{SomeStand}
 use Rattle.table.proofs.Lines.{count-is, none-stand}
 use Rattle.plan.specs.Meant.{IsGiven}
@@ -140,20 +140,17 @@ same-judgement true j = refl
 same-judgement false yes = refl
 same-judgement false (unmet k) = refl
 
--- how a plan that arrays hold is judged by the rules, from an answer
-abbrev SaysOf : List (Formula Name) → PlanArrays → JudgeAnswer → Type 0
-SaysOf rules arrays a = (p : Plan) (h : IsPlan p) → Stored arrays p → a ≡ judgePlan rules p h
-
-module _ (rules : List (Formula Name)) (c : Compiling) (kept code : List ℕ) (arrays : PlanArrays) (compiled : CompiledRules rules c kept code) where
-  pub judge-differs : (arrays .names ≡ c .known .atoms .chart .names → ⊥) → SaysOf rules arrays (JudgeAnswer.NamesDiffer (arrays .names))
-  judge-differs differ p h stored =
+module _ (c : Compiling) (code : List ℕ) (arrays : PlanArrays) where
+  pub judge-differs : (arrays .names ≡ c .known .atoms .chart .names → ⊥) → JudgementIs c code arrays (JudgeAnswer.NamesDiffer (arrays .names))
+  unfolding JudgementIs
+  judge-differs differ rules kept compiled p h stored =
       ap JudgeAnswer.NamesDiffer (stored .names)
       ∙ sym (ap (λ (b : Bool). cond b (judgeDecoded rules p h) (JudgeAnswer.NamesDiffer (p .names)))
       (ne-eqb (p .names) (length (namesOf rules)) (λ e. differ (stored .names ∙ e ∙ sym (compiled .known .names-counted)))))
 
-  pub judge-equal : arrays .names ≡ c .known .atoms .chart .names → (j : Judged) → JudgedIs c code arrays j → (a : JudgeAnswer) → a ≡ judgedAnswer j → SaysOf rules arrays a
-  unfolding JudgedIs
-  judge-equal e j says a f p h stored =
+  pub judge-equal : arrays .names ≡ c .known .atoms .chart .names → (j : Judged) → JudgedIs c code arrays j → (a : JudgeAnswer) → a ≡ judgedAnswer j → JudgementIs c code arrays a
+  unfolding JudgedIs JudgementIs
+  judge-equal e j says a f rules kept compiled p h stored =
       let named : p .names ≡ length (namesOf rules) = sym (stored .names) ∙ e ∙ compiled .known .names-counted in
       f ∙ ap judgedAnswer (says rules kept compiled p h named stored) ∙ same-judgement (uncovered p) (judge (namedFloor rules p h) rules)
       ∙ sym (ap (λ (b : Bool). cond b (judgeDecoded rules p h) (JudgeAnswer.NamesDiffer (p .names)))
@@ -181,10 +178,12 @@ module _ (t : Table) (v : FromUs t) (words : List ℕ) where
         go (plan p) says q = absurd (let z : _≡_ {A = ℕ} 0 1 = cc in omega arith)
         go (refused j) says q = let z : j ≡ at = cc in ap JudgeAnswer.NotAPlan z
 
-    -- they are one
-    pub judges-plan : 0 < t .count → r .answer ≡ PlanAnswer.Plan → (a : JudgeAnswer) → SaysOf (formulasOf (rulesOf t)) (r .plan) a → Judges t words (judgeResult t a)
-    judges-plan h e a says = judges-some h a (go (readOf words) (exact words) (sym (reads .answer) ∙ e) (reads .plan))
+    -- they are one, and it is judged by the compiled rules
+    pub judges-plan : 0 < t .count → r .answer ≡ PlanAnswer.Plan → (c : Compiling) (kept code : List ℕ) → CompiledRules (formulasOf (rulesOf t)) c kept code
+        → (a : JudgeAnswer) → JudgementIs c code (r .plan) a → Judges t words (judgeResult t a)
+    unfolding JudgementIs
+    judges-plan h e c kept code compiled a says = judges-some h a (go (readOf words) (exact words) (sym (reads .answer) ∙ e) (reads .plan))
       where
         go : (x : Reading) (s : ReadingSays words x) → answerOf x ≡ PlanAnswer.Plan → Stored (r .plan) (planIn x) → a ≡ judgeReading (formulasOf (rulesOf t)) words x s
-        go (plan p) s q stored = says p (s .0) stored
+        go (plan p) s q stored = says (formulasOf (rulesOf t)) kept compiled p (s .0) stored
         go (refused j) s q stored = absurd (let z : _≡_ {A = ℕ} 0 1 = cc in omega arith)

@@ -57,7 +57,7 @@ use Rattle.table.proofs.AskRows as AskRows
 use Rattle.table.proofs.PrintRows as PrintRows
 use Rattle.table.proofs.TreeRows as TreeRows
 use Rattle.table.proofs.StillRows as StillRows
-use Rattle.table.proofs.AtomText as AtomText
+use Rattle.table.proofs.Atoms as Atoms
 use Rattle.table.proofs.Stands as Stands
 use Rattle.table.proofs.Parts as Parts
 
@@ -232,7 +232,7 @@ still-answered-only = StillRows.still-row-only
 
 -- 256 bytes have room for each that `Table::atom` gives
 pub atom-short : (rs : List Text) → CanStand rs → (which : ℕ) → length (atomTextOf (formulasOf rs) which) ≤ 256
-atom-short = AtomText.atom-short
+atom-short = Atoms.atom-short
 
 -- ---- rule texts and plan words alone
 

@@ -22,7 +22,7 @@ pub mod Explaining
 pub mod StillRows
 pub mod Still
 pub mod Printing
-pub mod AtomText
+pub mod Atoms
 pub mod Stands
 pub mod AskRows
 pub mod Parts

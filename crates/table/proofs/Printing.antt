@@ -6,7 +6,6 @@ use mathlib.Core.List.{List, []}
 use native.Mathlib.Omega.{arith}
 use lib.Dec.{leb}
 use lib.ListN.{length, getD}
-use Rattle.lists.specs.Buffer.{over}
 use Rattle.printing.specs.declared.Printed.{Printed}
 use Rattle.printing.specs.declared.Printed.the-variants as Printed
 use Rattle.printing.specs.Prints.{printedText}
@@ -48,7 +47,7 @@ module _ (t : Table) (v : FromUs t) (k : ℕ) (buffer : List ℕ) where
   -- the printer's answer for the text at the k-th place
   pub prints-text : 0 < k → k ≤ t .count → (s : Text) → s ≡ getD (rulesOf t) (k - 1) [] → (p : Printed) (exit : List ℕ) → printing.Prints (printedText s) buffer p exit
       → (a : PrintAnswer) → printedAnswer p ≡ a → Prints t k buffer (printResult t a) exit
-  unfolding printAnswer printBytes over
+  unfolding printAnswer printBytes
   prints-text low high s is p exit h a e =
       let good = withdraw-good (rulesOf t) k low (omega (arith, count-is t v)) in
       let ws = printedText (getD (rulesOf t) (k - 1) []) in

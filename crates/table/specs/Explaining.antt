@@ -1,13 +1,14 @@
 -- What is computed: what explain and check_tree give (document 02, T-06), as functions of the list of standing texts and of what is lent
 -- beside the table, and their contracts. Rows says what is meant; proofs/Claims.antt ties the two. Then what
--- atom gives, whose text is meant in AtomText. Assumes nothing.
+-- atom and atoms give, whose texts are meant in AtomText. Assumes nothing.
 use Prim.Native.Nat.{ℕ}
 use mathlib.Core.Path.{_≡_}
 use mathlib.Core.Bool.{cond}
-use mathlib.Core.List.{List, [], _∷_}
+use mathlib.Core.List.{List, [], _∷_, map}
 use lib.Dec.{leb}
-use lib.ListN.{length}
+use lib.ListN.{length, replicate}
 use Rattle.lists.specs.Buffer.{over}
+use Rattle.lists.specs.Search.{below}
 use Rattle.formula.specs.Formula.{Formula, Name}
 use Rattle.printing.specs.declared.Printed.{Printed}
 use Rattle.printing.specs.Prints.{Prints}
@@ -17,6 +18,7 @@ use Rattle.trees.specs.Trees.{Tree, wordsOf}
 use Rattle.trees.specs.Checker.{checkedOf, treesOf}
 use Rattle.explaining.specs.declared.Explanation.{Explanation}
 use Rattle.explaining.specs.declared.Explanation.the-variants as Explanation
+use Rattle.table.specs.declared.AtomText.{AtomText}
 use Rattle.table.specs.declared.Table.{Table}
 use Rattle.table.specs.declared.ExplainAnswer.{ExplainAnswer}
 use Rattle.table.specs.declared.ExplainAnswer.the-variants as ExplainAnswer
@@ -89,8 +91,15 @@ pub record Checks (t : Table) (words : List ℕ) (r : CheckResult) : Type 0 wher
   pub same : r .table ≡ t
   pub from-us : FromUs (r .table)
 
--- ---- atom
+-- ---- atom and atoms
 
 -- its text is printed into the buffer, as that of a rule is
 abbrev pub GivesAtom : List (Formula Name) → ℕ → List ℕ → Printed → List ℕ → Type 0
 GivesAtom rules which = Prints (atomTextOf rules which)
+
+-- a text in an array, zeros behind it, and those of sixteen numbers
+unfoldable pub keptText : List ℕ → AtomText
+keptText text = record { bytes = over text (replicate 256 0); len = length text }
+
+unfoldable pub textsOf : (ℕ → List ℕ) → List AtomText
+textsOf atom = map (λ i. keptText (atom i)) (below 16)

@@ -18,6 +18,9 @@ use Rattle.search.specs.Rows.{rowBits}
 use Rattle.plan.specs.declared.Written.{Written}
 use Rattle.plan.specs.Arrays.{Writes}
 use Rattle.plan.specs.Plans.{rowPlan}
+use Rattle.plan.specs.declared.PlanArrays.{PlanArrays}
+use Rattle.plan.specs.Words.{Plan, IsPlan}
+use Rattle.plan.specs.Stored.{Stored}
 use Rattle.explaining.specs.declared.Explanation.{Explanation}
 use Rattle.trees.specs.declared.Verdict.{Verdict}
 use Rattle.judging.specs.declared.Judged.{Judged}
@@ -34,6 +37,7 @@ use Rattle.table.specs.declared.Searched.{Searched}
 use Rattle.table.specs.Sheet.{Text}
 use Rattle.table.specs.Calls.{formulasOf, judgeAdd}
 use Rattle.table.specs.Rules.{CanStand}
+use Rattle.table.specs.Asking.{judgePlan}
 
 -- "Rules, names and atoms are counted in this list": what is known of texts
 abbrev pub KnownTexts : List Text → Known → List ℕ → Type 0
@@ -74,6 +78,18 @@ PlanPut q c row buffer r exit =
     (rules : List (Formula Name)) (kept code : List ℕ) → CompiledRules rules c kept code
     → Writes (rowPlan q rules (rowBits (c .known .atoms .chart .atoms) row)) buffer r exit
 
+-- what judge answers by them for the plan that arrays hold
+unfoldable pub JudgementIs : Compiling → List ℕ → PlanArrays → JudgeAnswer → Type 0
+JudgementIs c code arrays r =
+    (rules : List (Formula Name)) (kept : List ℕ) → CompiledRules rules c kept code → (p : Plan) (h : IsPlan p) → Stored arrays p → r ≡ judgePlan rules p h
+
+-- the texts are compiled, and a plan is judged by them
+pub record TextsJudged (texts : List Text) (arrays : PlanArrays) (r : JudgeAnswer) : Type 0 where
+  pub compiling : Compiling
+  pub code : List ℕ
+  pub compiled : TextsCompiled texts compiling code
+  pub says : JudgementIs compiling code arrays r
+
 -- or the writer puts their tree into a buffer
 pub record TextsTold (texts : List Text) (before after : List ℕ) (r : Explanation) : Type 0 where
   pub compiling : Compiling
@@ -92,6 +108,9 @@ pub record TextsChecked (texts : List Text) (words : List ℕ) (r : Verdict) : T
 pub record FirstPlace (rules : List (Formula Name)) (which : ℕ) (p : AtomPlace) : Type 0 where
   pub there : which < length (differentAtoms rules) → Writing rules which p
   pub none : length (differentAtoms rules) ≤ which → length rules ≤ p .rule
+
+unfoldable pub PlaceIs : Compiling → List ℕ → ℕ → AtomPlace → Type 0
+PlaceIs c code which p = (rules : List (Formula Name)) (kept : List ℕ) → CompiledRules rules c kept code → FirstPlace rules which p
 
 abbrev pub loadResult : Table → LoadAnswer → LoadResult
 loadResult t a = record { table = t; answer = a }

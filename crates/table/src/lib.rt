@@ -7,7 +7,7 @@
 ghost use mathlib.Core.Path.{_≡_};
 ghost use mathlib.Core.List.{[], _∷_, _++_};
 ghost use Prim.Native.Nat.{ℕ, _+_, _-_, _*_, _≤_, _<_};
-ghost use lib.ListN.{length, take, drop};
+ghost use lib.ListN.{length, take, drop, replicate};
 ghost use Rattle.contact.specs.Question.{plain, building};
 ghost use Rattle.names.specs.Gather.{arraysOf};
 ghost use Rattle.evalset.specs.Most.{most};
@@ -20,14 +20,16 @@ ghost use Rattle.table.specs.Calls.{formulasOf, namesIn, readAnswer, lin
 ghost use Rattle.table.specs.Sheet.{blankLine, linesOf};
 ghost use Rattle.table.specs.Asking.{Asks, Judges};
 ghost use Rattle.table.specs.Printing.{Prints};
-ghost use Rattle.table.specs.Explaining.{explanationAnswer, Explains, verdictAnswer, Checks, GivesAtom};
+ghost use Rattle.table.specs.Explaining.{explanationAnswer, Explains, verdictAnswer, Checks, GivesAtom, keptText, textsOf};
+ghost use Rattle.table.specs.AtomText.{atomTextOf};
 ghost use Rattle.table.specs.Still.{StillDoes, isMet, foundStill, DrawnIs, InHandIs, TextsInHand};
-ghost use Rattle.table.specs.Steps.{KnownTexts, Knowing, roomAdd, Tries, TextsCompiled, TextsSearched, PlanPut, TextsTold, TextsChecked, FirstPlace, loadResult, judgedAnswer};
+ghost use Rattle.table.specs.Steps.{KnownTexts, Knowing, roomAdd, Tries, TextsCompiled, TextsSearched, PlanPut, JudgementIs, TextsJudged, TextsTold, TextsChecked, PlaceIs, loadResult, judgedAnswer};
 ghost use Rattle.table.specs.Numbers.{addOutcome, withdrawOutcome, onLine, loadOutcome, askOutcome, judgeOutcome, printOutcome, explainOutcome, checkOutcome, stillOutcome};
 use explaining::Explanation;
 use judging::Judged;
 use names::Names;
 use plan::PlanAnswer;
+use plan::PlanArrays;
 use plan::Written;
 use printing::Printed;
 use ruleset::AtomPlace;
@@ -193,6 +195,12 @@ pub enum StillAnswer {
 pub struct StillResult {
     pub table: Table,
     pub answer: StillAnswer,
+}
+
+// The text of an atom: its first bytes, as many as its length.
+pub struct AtomText {
+    pub bytes: [u8; 256],
+    pub len: usize,
 }
 
 // What an answer says: done, a plan of so many words, no plan, yes, the lowest unmet rule, a text of so many bytes, a tree of so many words,
@@ -440,6 +448,19 @@ fn judged_answer(j: Judged) -> JudgeAnswer
     }
 }
 
+// What judge answers by the compiled rules for a plan that was read: another number of names, or the judgement.
+fn judgement(c: Compiling, code: &[u8], plan: PlanArrays) -> JudgeAnswer
+    requires { ⌜ Whole c (now code) ⌝ }
+    ensures { λ r. ⌜ JudgementIs c (now (code .entry)) plan r ⌝ }
+{
+    let names = plan.names as usize;
+    if names != c.known.atoms.chart.names {
+        return JudgeAnswer::NamesDiffer(names);
+    }
+    let judged = ruleset::judged(c, code, plan);
+    judged_answer(judged)
+}
+
 // Whether the plan was judged to meet every rule.
 fn is_met(j: Judged) -> bool
     ensures { λ r. ⌜ r ≡ isMet j ⌝ }
@@ -493,6 +514,28 @@ fn in_hand(c: Compiling, code: &[u8], words: &[u32]) -> StillAnswer
     }
     let found = ruleset::row_of(c, code, Asked::Plain);
     found_still(found)
+}
+
+// Where the different atom with this number, from 0, is written first among the compiled rules; where there is no such atom, a place behind
+// the last rule.
+fn place_of(c: Compiling, code: &[u8], which: usize) -> AtomPlace
+    requires { ⌜ Whole c (now code) ⌝ }
+    ensures { λ r. ⌜ PlaceIs c (now (code .entry)) which r ⌝ }
+{
+    let rule = c.known.count;
+    if c.known.atoms.chart.atoms <= which {
+        return AtomPlace { rule, atom: 0 };
+    }
+    ruleset::first_writing(c, code, which)
+}
+
+// Sixteen texts of no bytes.
+pub fn no_texts() -> [AtomText; 16]
+    ensures { λ r. ⌜ r ≡ replicate 16 (keptText []) ⌝ }
+{
+    let bytes = [0u8; 256];
+    let text = AtomText { bytes, len: 0 };
+    [text; 16]
 }
 
 // Document 01's number of add's answer, and what it carries.
@@ -743,10 +786,7 @@ impl Table {
                 let tried = with_text(known, text, &mut symbols);
                 let answer = tried.answer;
                 let AddAnswer::Added = answer else {
-                    return LoadResult {
-                        table: self,
-                        answer: LoadAnswer::Line { line, answer },
-                    };
+                    return kept(self, LoadAnswer::Line { line, answer });
                 };
                 known = tried.known;
                 let last = line_of(text);
@@ -854,6 +894,21 @@ impl Table {
         self.answered(Asked::Building, buffer)
     }
 
+    // The first so many of the standing rules compiled, and what judge answers by them for a plan that was read.
+    fn judgement(self, rules: usize, plan: PlanArrays) -> JudgeAnswer
+        requires { ⌜ FromUs self × (rules ≤ self .count) ⌝ }
+        ensures { λ r. ⌜ TextsJudged (take rules (rulesOf self)) plan r ⌝ }
+    {
+        if rules <= HALF {
+            let mut code = half_code();
+            let c = self.compiled(rules, &mut code);
+            return judgement(c, &code, plan);
+        }
+        let mut code = no_code();
+        let c = self.compiled(rules, &mut code);
+        judgement(c, &code, plan)
+    }
+
     // The judgement of a plan that is read from words, by the standing rules: yes, or the lowest rule that it does not meet; ahead of any
     // rule, that it has a name and a point at evaluation 0. Where no rule stands, where the words are no plan, or where it has another
     // number of names than the rules, the answer says so. The table comes back as it was.
@@ -876,19 +931,8 @@ impl Table {
                 answer: JudgeAnswer::NotAPlan(at),
             };
         }
-        let mut code = no_code();
-        let c = self.compiled(count, &mut code);
-        let chart = c.known.atoms.chart;
         let plan = read.plan;
-        let names = plan.names as usize;
-        if names != chart.names {
-            return JudgeResult {
-                table: self,
-                answer: JudgeAnswer::NamesDiffer(names),
-            };
-        }
-        let judged = ruleset::judged(c, &code, plan);
-        let answer = judged_answer(judged);
+        let answer = self.judgement(count, plan);
         JudgeResult {
             table: self,
             answer,
@@ -1006,33 +1050,13 @@ impl Table {
         }
     }
 
-    // Where the different atom with this number, from 0, is written first among the standing rules; where there is no such atom, a place
-    // behind the last rule.
-    fn atom_place(self, which: usize) -> AtomPlace
-        requires { ⌜ FromUs self ⌝ }
-        ensures { λ r. ⌜ FirstPlace (formulasOf (rulesOf self)) which r ⌝ }
-    {
-        let count = self.count;
-        let mut code = no_code();
-        let c = self.compiled(count, &mut code);
-        let chart = c.known.atoms.chart;
-        if chart.atoms <= which {
-            return AtomPlace {
-                rule: count,
-                atom: 0,
-            };
-        }
-        ruleset::first_writing(c, &code, which)
-    }
-
-    // The text of the different atom with this number, from 0 by first place, as it was read there, over the first bytes of the buffer; no
-    // byte where there is no such atom. Where the buffer is shorter than the text the answer has the bytes needed, which are at most 256.
-    // The bytes past the text, and all bytes of the other answer, keep their values.
-    pub fn atom(self, which: usize, buffer: &mut [u8]) -> Printed
-        requires { ⌜ FromUs self ⌝ }
+    // The text of the different atom with this number, from 0 by first place, over the first bytes of the buffer, where the standing rules are
+    // compiled: the rule in which it is written first is read again.
+    fn atom_by(self, c: Compiling, code: &[u8], which: usize, buffer: &mut [u8]) -> Printed
+        requires { ⌜ FromUs self × TextsCompiled (take (self .count) (rulesOf self)) c (now code) ⌝ }
         ensures { λ r. ⌜ GivesAtom (formulasOf (rulesOf self)) which (now (buffer .entry)) r (now (buffer .exit)) ⌝ }
     {
-        let place = self.atom_place(which);
+        let place = place_of(c, code, which);
         let at = place.rule;
         if self.count <= at {
             return Printed::Text(0);
@@ -1043,6 +1067,69 @@ impl Table {
         let text = &bytes[..len];
         let rule = syntax::read_rule(text);
         printing::print_atom(text, rule, place.atom, buffer)
+    }
+
+    // The text of the different atom with this number, from 0 by first place, as it was read there, over the first bytes of the buffer; no
+    // byte where there is no such atom. Where the buffer is shorter than the text the answer has the bytes needed, which are at most 256.
+    // The bytes past the text, and all bytes of the other answer, keep their values.
+    pub fn atom(self, which: usize, buffer: &mut [u8]) -> Printed
+        requires { ⌜ FromUs self ⌝ }
+        ensures { λ r. ⌜ GivesAtom (formulasOf (rulesOf self)) which (now (buffer .entry)) r (now (buffer .exit)) ⌝ }
+    {
+        let rules = self.count;
+        if rules <= HALF {
+            let mut code = half_code();
+            let c = self.compiled(rules, &mut code);
+            return self.atom_by(c, &code, which, buffer);
+        }
+        let mut code = no_code();
+        let c = self.compiled(rules, &mut code);
+        self.atom_by(c, &code, which, buffer)
+    }
+
+    // The same text in an array.
+    fn atom_text(self, c: Compiling, code: &[u8], which: usize) -> AtomText
+        requires { ⌜ FromUs self × TextsCompiled (take (self .count) (rulesOf self)) c (now code) ⌝ }
+        ensures { λ r. ⌜ r ≡ keptText (atomTextOf (formulasOf (rulesOf self)) which) ⌝ }
+    {
+        let mut bytes = lexer::zeros();
+        let printed = self.atom_by(c, code, which, &mut bytes);
+        match printed {
+            Printed::Text(len) => AtomText { bytes, len },
+            Printed::Needs(len) => AtomText { bytes, len },
+        }
+    }
+
+    // Those of all numbers that atoms may have.
+    fn atom_texts(self, c: Compiling, code: &[u8]) -> [AtomText; 16]
+        requires { ⌜ FromUs self × TextsCompiled (take (self .count) (rulesOf self)) c (now code) ⌝ }
+        ensures { λ r. ⌜ r ≡ textsOf (atomTextOf (formulasOf (rulesOf self))) ⌝ }
+    {
+        let mut texts = no_texts();
+        let mut i: usize = 0;
+        while i < 16 {
+            let text = self.atom_text(c, code, i);
+            texts[i] = text;
+            i += 1;
+        }
+        texts
+    }
+
+    // The texts of the different atoms by their numbers, of no bytes where there is none: what `atom` gives for each, with the rules compiled
+    // once.
+    pub fn atoms(self) -> [AtomText; 16]
+        requires { ⌜ FromUs self ⌝ }
+        ensures { λ r. ⌜ r ≡ textsOf (atomTextOf (formulasOf (rulesOf self))) ⌝ }
+    {
+        let rules = self.count;
+        if rules <= HALF {
+            let mut code = half_code();
+            let c = self.compiled(rules, &mut code);
+            return self.atom_texts(c, &code);
+        }
+        let mut code = no_code();
+        let c = self.compiled(rules, &mut code);
+        self.atom_texts(c, &code)
     }
 
     // The k-th rule, from 1, as it was read, its text written over the first bytes of the buffer. Where there is no such rule the answer

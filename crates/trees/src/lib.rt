@@ -197,27 +197,22 @@ fn tree_from(
     }
     let w = words[at];
     let next = at + 1;
-    let known = b.known;
-    let truth = b.truth;
-    let bit = split_bit(w, many, known);
+    let bit = split_bit(w, many, b.known);
     if bit == 0 {
         if closes(w, code, ends, list, many, contacts, b, ys, ns) {
             return Reached::End(next);
         }
         return Reached::Stop(at);
     }
-    let yes = Branch {
-        known: known | bit,
-        truth: truth | bit,
-    };
+    let known = b.known | bit;
+    let truth = b.truth | bit;
+    let yes = Branch { known, truth };
     let first = tree_from(words, next, code, ends, list, many, contacts, yes, ys, ns);
     let Reached::End(middle) = first else {
         return first;
     };
-    let no = Branch {
-        known: known | bit,
-        truth,
-    };
+    let truth = b.truth;
+    let no = Branch { known, truth };
     tree_from(words, middle, code, ends, list, many, contacts, no, ys, ns)
 }
 

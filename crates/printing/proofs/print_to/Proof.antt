@@ -9,6 +9,7 @@ use borrow.Author.Needs.{needs}
 use borrow.Author.Tests.{le-leb, lt-leb}
 use lib.ListN.{length, take, drop, length-drop}
 use lib.Seq.{take-all, take-length}
+use Rattle.lists.specs.Buffer.{over}
 use Rattle.printing.specs.Prints.{fits, Prints}
 use Rattle.printing.specs.Places.{textTo, Filled}
 use Rattle.printing.specs.declared.Printed.the-variants.{Text, Needs}
@@ -26,6 +27,7 @@ module _ (ws made : List ℕ) (from : ℕ) (f : Filled ws made from) (buf : List
 
   enough : 256 - from ≤ length buf → (out : List ℕ) → out ≡ take (length (take (256 - from) (drop from made))) (take (256 - from) (drop from made)) ++ drop (length (take (256 - from) (drop from made))) buf
       → Prints ws buf (Text (256 - from)) out
+  unfolding over
   enough h out e =
       let b : fits ws buf ≡ true = le-leb (length ws) (length buf) (omega (arith, long)) in
       let t : take (256 - from) (drop from made) ≡ ws = take-all (256 - from) (drop from made) (omega (arith, length-drop from made, f .whole)) ∙ f .text in

@@ -6,7 +6,7 @@ use Rattle.trees.specs.Checker.{treesOf}
 use Rattle.report.specs.Output.{reasonsText}
 use Rattle.report.proofs.Putting.{puts-over}
 use Rattle.report.proofs.Lent.{whys-short, whys-other}
-use Rattle.report.proofs.Told.{kept-none}
+use Rattle.table.proofs.Atoms.{kept-none}
 use Rattle.report.proofs.Reporting.{told-not-loaded, refused-text, refused-none, loaded-some, loaded-text, loaded-given}
 use borrow.Author.Needs.{needs}
 use Rattle.report.proofs.why.Statement.{statement}

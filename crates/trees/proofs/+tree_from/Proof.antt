@@ -68,9 +68,9 @@ tree-from-returns-3 t c =
 
 tree-from-tree-from-requires : (t : ℕ) → tree-from-lts.Need-tree-from-requires (tree-from-calls t) (tree-from-at t) tree-from.Post
 tree-from-tree-from-requires t c κs =
-    let p = c .before .before .before .before .before .before .before .before .before .before .pre in
-    let l = c .before .before .before .before .before .if1 .left in
-    let n : c .before .before .before .before .before .before .before .before .before .before .args .at < length (c .before .before .before .before .before .before .before .before .before .before .args .words .now) = omega (arith, l, p .1 .4) in
+    let p = c .before .before .before .before .before .before .before .before .before .before .before .before .pre in
+    let l = c .before .before .before .before .before .before .before .if1 .left in
+    let n : c .before .before .before .before .before .before .before .before .before .before .before .before .args .at < length (c .before .before .before .before .before .before .before .before .before .before .before .before .args .words .now) = omega (arith, l, p .1 .4) in
     (fewer _ _ _ _ (p .0) (omega arith) (omega (arith, n)), (p .1 .0, p .1 .1, p .1 .2, p .1 .3, omega (arith, n)))
 
 tree-from-enum-known-first : (t : ℕ) → tree-from-lts.Need-enum-known-first (tree-from-calls t) (tree-from-at t) tree-from.Post
@@ -81,32 +81,32 @@ tree-from-enum-told t c = search needs
 
 tree-from-returns-4 : (t : ℕ) → tree-from-lts.Need-returns-4 (tree-from-calls t) (tree-from-at t) tree-from.Post
 tree-from-returns-4 t c =
-    let p = c .before .before .before .before .before .before .before .before .before .before .before .before .before .pre .1 in
-    let l = c .before .before .before .before .before .before .before .before .if1 .left in
+    let p = c .before .before .before .before .before .before .before .before .before .before .before .before .before .before .before .pre .1 in
+    let l = c .before .before .before .before .before .before .before .before .before .before .if1 .left in
     let e = c .before .before .tree-from .ensures in (
       e .0,
       e .1,
       moves-stop _ _ _ _ (c .enum-told .given .1),
-      reached-first _ _ _ _ _ _ (p .1) _ _ (omega (arith, l, p .4)) _ (c .before .before .before .before .before .before .split-bit .ensures) (c .before .before .before .before .before .if2 .left) _ _ (c .enum-told .given .1) (e .3),
+      reached-first _ _ _ _ _ _ (p .1) _ _ (omega (arith, l, p .4)) _ (c .before .before .before .before .before .before .before .before .split-bit .ensures) (c .before .before .before .before .before .before .before .if2 .left) _ _ (c .enum-told .given .1) (e .3),
     )
 
 tree-from-tree-from-requires-2 : (t : ℕ) → tree-from-lts.Need-tree-from-requires-2 (tree-from-calls t) (tree-from-at t) tree-from.Post
 tree-from-tree-from-requires-2 t c κs =
-    let p = c .before .before .before .before .before .before .before .before .before .before .before .before .before .before .before .before .pre in
+    let p = c .before .before .before .before .before .before .before .before .before .before .before .before .before .before .before .before .before .before .pre in
     let e = c .before .before .before .before .before .tree-from .ensures in
     let v = moves-end _ _ _ _ (c .before .before .before .first .given .1) (e .2) in
     (fewer _ _ _ _ (p .0) (omega (arith, v)) (v .1), (p .1 .0, p .1 .1, e .0, e .1, v .1))
 
 tree-from-returns-5 : (t : ℕ) → tree-from-lts.Need-returns-5 (tree-from-calls t) (tree-from-at t) tree-from.Post
 tree-from-returns-5 t c =
-    let p = c .before .before .before .before .before .before .before .before .before .before .before .before .before .before .before .before .before .pre .1 in
-    let l = c .before .before .before .before .before .before .before .before .before .before .before .before .if1 .left in
+    let p = c .before .before .before .before .before .before .before .before .before .before .before .before .before .before .before .before .before .before .before .pre .1 in
+    let l = c .before .before .before .before .before .before .before .before .before .before .before .before .before .before .if1 .left in
     let e = c .before .before .before .before .before .before .tree-from .ensures in
     let d = c .tree-from2 .ensures in (
       d .0,
       d .1,
       moves-both _ _ _ _ (c .tree-from2 .result) (c .before .before .before .before .first .given .1) (e .2) (d .2),
-      reached-second _ _ _ _ _ _ (p .1) _ _ (omega (arith, l, p .4)) _ (c .before .before .before .before .before .before .before .before .before .before .split-bit .ensures) (c .before .before .before .before .before .before .before .before .before .if2 .left) _ _ (c .before .before .before .before .first .given .1) (e .3) _ (d .3),
+      reached-second _ _ _ _ _ _ (p .1) _ _ (omega (arith, l, p .4)) _ (c .before .before .before .before .before .before .before .before .before .before .before .before .split-bit .ensures) (c .before .before .before .before .before .before .before .before .before .before .before .if2 .left) _ _ (c .before .before .before .before .first .given .1) (e .3) _ (d .3),
     )
 
 pub +tree-from-spec : {M : Type 1} → statement M

@@ -1,66 +1,70 @@
--- `table::Table::atom` meets its contract: there is no such atom, or the rule in which it is written first is read again, and the atom
--- printed. Assumes nothing.
+-- `table::Table::atom` meets its contract: the rules are compiled into the smaller or the larger room, and the text is by them. Assumes
+-- nothing.
 use borrow.Author.Needs.{needs}
-use Prim.Native.Nat.{_<_}
-use mathlib.Core.Path.{ap, _∙_}
 use native.Mathlib.Omega.{arith}
 use Rattle.table.proofs.Lines.{count-few}
-use Rattle.table.proofs.Recount.{text-within, text-length, text-read}
-use Rattle.table.proofs.AtomText.{gives-none, atom-there, gives-text}
 use Rattle.table.proofs.Table.atom.Statement.{statement}
 use Rattle.table.proofs.Table.atom.Tie as tie
 
-atom-place-requires : tie.Need-atom-place-requires
-atom-place-requires c κs = search needs
+half-code-requires : tie.Need-half-code-requires
+half-code-requires c κs = search needs
 
-returns : tie.Need-returns
-returns c = gives-none _ (c .before .before .before .pre) _ _ (c .before .atom-place .ensures) (c .if1 .taken) _
+slice-aggregate-compiled : tie.Need-slice-aggregate-compiled
+slice-aggregate-compiled c = search needs
 
--- the line is that of a rule
-low : (c : tie.Else1) → c .before .atom-place .result .rule < c .before .before .before .args .t1 .count
-low c = c .if1 .left
+compiled-requires : tie.Need-compiled-requires
+compiled-requires c κs = search needs
 
-mul-line : tie.Need-mul-line
-mul-line c = omega (arith, low c, count-few _ (c .before .before .before .pre))
+slice-aggregate-atom-by : tie.Need-slice-aggregate-atom-by
+slice-aggregate-atom-by c = search needs
 
-element-copy-out-line : tie.Need-element-copy-out-line
-element-copy-out-line c = omega (arith, low c, count-few _ (c .before .before .before .pre))
-
-array-share-prefix-bytes : tie.Need-array-share-prefix-bytes
-array-share-prefix-bytes c = text-within (c .before .before .before .before .before .pre) (low (c .before .before))
-
-slice-aggregate-text : tie.Need-slice-aggregate-text
-slice-aggregate-text c = text-length (c .before .before .before .before .before .before .pre) (low (c .before .before .before))
-
-read-rule-requires : tie.Need-read-rule-requires
-read-rule-requires c κs = search needs
-
-print-atom-requires : tie.Need-print-atom-requires
-print-atom-requires c κs =
-    let e = c .before .read-rule .ensures in
-    let start = c .before .before .before .before .before .before .before .before in
-    let left = low (c .before .before .before .before .before) in
-    (record { read = e; formula = ap (λ r. r .answer) e ∙ text-read (start .pre) left }, atom-there _ (start .pre) _ _ (c .before .before .before .before .before .before .atom-place .ensures) left)
+atom-by-requires : tie.Need-atom-by-requires
+atom-by-requires c κs = search needs
 
 same-length : tie.Need-same-length
 same-length c = search needs
 
+returns : tie.Need-returns
+returns c = search needs
+
+no-code-requires : tie.Need-no-code-requires
+no-code-requires c κs = search needs
+
+slice-aggregate-compiled-2 : tie.Need-slice-aggregate-compiled-2
+slice-aggregate-compiled-2 c = search needs
+
+compiled-requires-2 : tie.Need-compiled-requires-2
+compiled-requires-2 c κs =
+    let pre = c .before .before .before .before .pre in
+    (pre, omega arith, omega (arith, count-few _ pre, c .before .no-code .ensures))
+
+slice-aggregate-atom-by-2 : tie.Need-slice-aggregate-atom-by-2
+slice-aggregate-atom-by-2 c = search needs
+
+atom-by-requires-2 : tie.Need-atom-by-requires-2
+atom-by-requires-2 c κs = search needs
+
+same-length-2 : tie.Need-same-length-2
+same-length-2 c = search needs
+
 returns-2 : tie.Need-returns-2
-returns-2 c =
-    gives-text _ (c .before .before .before .before .before .before .before .before .before .before .before .pre) _ _ (c .before .before .before .before .before .before .before .before .before .atom-place .ensures) (low (c .before .before .before .before .before .before .before .before))
-    _ _ _ (c .before .before .print-atom .ensures)
+returns-2 c = search needs
 
 pub atom-spec : {M : Type 1} → statement M
 atom-spec =
     tie.close
     (tie.spec
-    atom-place-requires
-    returns
-    mul-line
-    element-copy-out-line
-    array-share-prefix-bytes
-    slice-aggregate-text
-    read-rule-requires
-    print-atom-requires
+    half-code-requires
+    slice-aggregate-compiled
+    compiled-requires
+    slice-aggregate-atom-by
+    atom-by-requires
     same-length
+    returns
+    no-code-requires
+    slice-aggregate-compiled-2
+    compiled-requires-2
+    slice-aggregate-atom-by-2
+    atom-by-requires-2
+    same-length-2
     returns-2)

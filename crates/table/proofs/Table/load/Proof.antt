@@ -69,15 +69,19 @@ with-text-requires c κs = let inv = c .before .before .before .before .before .
 enum-told : tie.Need-enum-told Inv-loop μ-loop
 enum-told c = search needs
 
+kept-requires-2 : tie.Need-kept-requires-2 Inv-loop μ-loop
+kept-requires-2 c κs = search needs
+
 returns-2 : tie.Need-returns-2 Inv-loop μ-loop
 returns-2 c =
-    let old = c .before .before .before .before .before .before .before .before .before .before .before .before .before .before in
-    let at = c .before .before .before .before .before .before .before .before .loop in
-    let cut = c .before .before .before .before .before .before .line-end .ensures in
-    let filled = sym (c .before .before .before .before .blank-line .ensures) ∙ not-true _ (c .before .before .before .if2 .taken) in
-    loaded-by (old .args .self) _ _ _ (old .pre)
-    (line-refused _ _ _ _ _ _ _ (at .inv) (c .before .before .before .before .before .before .before .loop-test .taken) (cut .0) (cut .1) (cut .2) _ filled _ (c .before .with-text .ensures) (told-refused _ (c .match .keys2)))
-    (old .pre .same)
+    let old = c .before .before .before .before .before .before .before .before .before .before .before .before .before .before .before in
+    let at = c .before .before .before .before .before .before .before .before .before .loop in
+    let cut = c .before .before .before .before .before .before .before .line-end .ensures in
+    let filled = sym (c .before .before .before .before .before .blank-line .ensures) ∙ not-true _ (c .before .before .before .before .if2 .taken) in
+    subst (Loads (old .args .self) (old .args .file .now)) (sym (c .kept2 .ensures))
+    (loaded-by (old .args .self) _ _ _ (old .pre)
+    (line-refused _ _ _ _ _ _ _ (at .inv) (c .before .before .before .before .before .before .before .before .loop-test .taken) (cut .0) (cut .1) (cut .2) _ filled _ (c .before .before .with-text .ensures) (told-refused _ (c .before .match .keys2)))
+    (old .pre .same))
 
 line-of-requires : tie.Need-line-of-requires Inv-loop μ-loop
 line-of-requires c κs =
@@ -126,13 +130,13 @@ loop-again c =
     (after-blank _ _ _ _ _ _ _ (at .inv) h (cut .0) (cut .1) (cut .2) (sym (c .before .blank-line .ensures) ∙ not-false _ (w .0 .left))))))
     (c .if2 .came)
 
-kept-requires-2 : tie.Need-kept-requires-2 Inv-loop μ-loop
-kept-requires-2 c κs = search needs
+kept-requires-3 : tie.Need-kept-requires-3 Inv-loop μ-loop
+kept-requires-3 c κs = search needs
 
 returns-3 : tie.Need-returns-3 Inv-loop μ-loop
 returns-3 c =
     let old = c .before .before .before .before .before .before .before .before .before in
-    let same : c .kept2 .result ≡ loadResult (old .args .self) LoadAnswer.AllBlank = c .kept2 .ensures in
+    let same : c .kept3 .result ≡ loadResult (old .args .self) LoadAnswer.AllBlank = c .kept3 .ensures in
     subst (Loads (old .args .self) (old .args .file .now)) (sym same)
     (loaded-by (old .args .self) _ _ _ (old .pre) (nothing-kept _ _ _ _ _ _ (c .before .before .before .loop .inv) (c .before .before .loop-test .left) (c .before .if3 .taken)) (old .pre .same))
 
@@ -162,6 +166,7 @@ load-spec =
     blank-line-requires
     with-text-requires
     enum-told
+    kept-requires-2
     returns-2
     line-of-requires
     mul-last
@@ -170,6 +175,6 @@ load-spec =
     add-from
     loop-less
     loop-again
-    kept-requires-2
+    kept-requires-3
     returns-3
     returns-4)

@@ -1,20 +1,20 @@
--- `report::atom_texts` meets its contract: so far the texts before place i are kept (Told.antt). Assumes nothing.
+-- `table::Table::atom_texts` meets its contract: so far the texts before place i are kept (Atoms.antt). Assumes nothing.
 use mathlib.Core.Path.{_≡_, subst}
 use Prim.Native.Nat.{_-_, _≤_}
 use native.Mathlib.Omega.{arith}
 use borrow.Author.Needs.{needs}
 use Rattle.table.specs.Store.{rulesOf}
 use Rattle.table.specs.Calls.{formulasOf}
 use Rattle.table.specs.AtomText.{atomTextOf}
-use Rattle.report.proofs.Told.{KeptTo, kept-next, kept-all}
-use Rattle.report.proofs.atom_texts.Statement.{statement}
-use Rattle.report.proofs.atom_texts.Tie as tie
+use Rattle.table.proofs.Atoms.{KeptTo, kept-next, kept-all}
+use Rattle.table.proofs.Table.atom_texts.Statement.{statement}
+use Rattle.table.proofs.Table.atom_texts.Tie as tie
 
 abbrev Inv-loop : tie.InvT-loop
-Inv-loop table texts₀ i₀ texts i = (i ≤ 16) × KeptTo (atomTextOf (formulasOf (rulesOf table))) texts i
+Inv-loop table c code texts₀ i₀ texts i = (i ≤ 16) × KeptTo (atomTextOf (formulasOf (rulesOf table))) texts i
 
 abbrev μ-loop : tie.MeasureT-loop
-μ-loop table texts₀ i₀ texts i = 16 - i
+μ-loop table c code texts₀ i₀ texts i = 16 - i
 
 no-texts-requires : tie.Need-no-texts-requires Inv-loop μ-loop
 no-texts-requires c κs = search needs
@@ -44,10 +44,10 @@ loop-again c =
 
 returns : tie.Need-returns Inv-loop μ-loop
 returns c =
-    let s = c .before .before .before in
+    let s = c .before .before .before .before in
     let k = c .before .loop in
     let all : k .i ≡ 16 = omega arith in
-    kept-all _ (k .texts) (subst (KeptTo (atomTextOf (formulasOf (rulesOf (s .args .table)))) (k .texts)) all (k .inv .1))
+    kept-all _ (k .texts) (subst (KeptTo (atomTextOf (formulasOf (rulesOf (s .args .self)))) (k .texts)) all (k .inv .1))
 
 pub atom-texts-spec : {M : Type 1} → statement M
 atom-texts-spec =
