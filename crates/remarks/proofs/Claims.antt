@@ -20,9 +20,9 @@ use Rattle.table.specs.declared.Outcome.the-variants as Outcome
 use Rattle.table.proofs.LoadRows.{load-done}
 use Rattle.table.proofs.Claims.{load-answered, load-line-refused}
 use Rattle.remarks.specs.declared.Expected.the-variants as Expected
-use Rattle.remarks.specs.Remark.{leading, goneOn, BeginsRule, spelling, expectedAt, sentence, said, twoLines, Under, remarkOf}
+use Rattle.remarks.specs.Remark.{goneOn, BeginsRule, spelling, expectedAt, sentence, said, twoLines, Under, remarkOf}
 use Rattle.remarks.proofs.Standing.{stands, expected-stands}
-use Rattle.remarks.proofs.Lines.{under, sentence-few, lines-few}
+use Rattle.remarks.proofs.Lines.{under, some-bytes, sentence-few, lines-few}
 use Rattle.remarks.proofs.Examples
 
 -- ---- the two lines
@@ -37,11 +37,6 @@ pub stands-begins : (text : Text) (place : ℕ) → (expectedAt text place ≡ E
 stands-begins text place some = stands text place (spelling (expectedAt text place)) (expected-stands text place some)
 
 -- ---- a sheet
-
--- two lines are some bytes
-some-bytes : (number : ℕ) (line : Text) (place refusal : ℕ) (words : List ℕ) → twoLines number line place refusal words ≡ [] → ⊥
-unfolding twoLines leading
-some-bytes number line place refusal words e = nil≢cons (sym e)
 
 -- a load whose remark has no byte
 loaded-only : (sheet : Text) → remarkOf sheet (judgeLoad sheet) ≡ [] → judgeLoad sheet ≡ LoadAnswer.Loaded

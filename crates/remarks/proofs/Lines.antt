@@ -2,7 +2,7 @@
 -- Assumes nothing.
 use mathlib.Core.Path.{_≡_, refl, sym, ap, ap₂, _∙_}
 use mathlib.Core.Bool.{Bool, true, false, cond}
-use mathlib.Core.List.{List, [], _∷_, _++_, map, append-assoc, map-append}
+use mathlib.Core.List.{List, [], _∷_, _++_, map, append-assoc, map-append, nil≢cons}
 use Prim.Native.Nat.{ℕ, _+_, _-_, _^_, min, _≤_, _<_}
 use native.Mathlib.Omega.{arith}
 use lib.Dec.{ltb, leb, eqb}
@@ -26,9 +26,10 @@ module _ (line : Text) (place : ℕ) (h : place ≤ length line) where
   abbrev start : ℕ
   start = shownFrom line place
 
-  near : (start ≤ place) × (place ≤ start + 72)
+  near : (start ≤ place) × (place ≤ start + 72) × (place < length line → place < start + 72)
   unfolding shownFrom
-  near = cases (ltb 72 (length line)) (λ e. rw e (omega arith, omega arith)) (λ e. rw e (omega arith, omega (arith, ltb-false 72 (length line) e)))
+  near = cases (ltb 72 (length line)) (λ e. rw e (omega arith, omega arith, λ l. omega arith))
+      (λ e. let short = ltb-false 72 (length line) e in rw e (omega arith, omega arith, λ l. omega arith))
 
   -- what is shown, before the place and from it on
   parted : map shownByte (take 72 (drop start line)) ≡ map shownByte (take (place - start) (drop start line)) ++ map shownByte (take (start + 72 - place) (drop place line))
@@ -55,6 +56,7 @@ module _ (line : Text) (place : ℕ) (h : place ≤ length line) where
       omega (arith, length-append front (map shownByte (take (place - start) (drop start line))), before-length) in
       record {
         from = start;
+        shown = (near .0, near .2);
         before = leading number start ++ map shownByte (take (place - start) (drop start line));
         behind = map shownByte (take (start + 72 - place) (drop place line)) ++ dots (ltb 72 (length (drop start line)));
         before-is = refl;
@@ -65,7 +67,12 @@ module _ (line : Text) (place : ℕ) (h : place ≤ length line) where
             ∙ simp append-assoc;
       }
 
--- ---- no remark is long
+-- ---- no remark is long, and each has some bytes
+
+-- two lines are some bytes
+pub some-bytes : (number : ℕ) (line : Text) (place refusal : ℕ) (words : List ℕ) → twoLines number line place refusal words ≡ [] → ⊥
+unfolding twoLines leading
+some-bytes number line place refusal words e = nil≢cons (sym e)
 
 pub leading-few : (number from : ℕ) → number < 2 ^ 64 → length (leading number from) ≤ 29
 unfolding leading

@@ -191,6 +191,13 @@ lines-put number line place refusal words at from lead e f g =
     ap₂ (λ (l : List ℕ) (n : ℕ). leading number from ++ shownPart l ++ replicate (n + (at - from)) 32 ++ said refusal words) (part-from line from) g
     ∙ ap (whole at) f ∙ ap (λ (a : ℕ). whole a (shownFrom line a)) e
 
+-- the place counts up to the line's end alone
+pub same-caret : (number : ℕ) (line : Text) (p q refusal : ℕ) (words : List ℕ) → min p (length line) ≡ min q (length line)
+    → twoLines number line p refusal words ≡ twoLines number line q refusal words
+unfolding twoLines
+same-caret number line p q refusal words e =
+    ap (λ (a : ℕ). leading number (shownFrom line a) ++ shownPart (drop (shownFrom line a) line) ++ replicate (length (leading number (shownFrom line a)) + (a - shownFrom line a)) 32 ++ said refusal words) e
+
 -- ---- a sheet
 
 -- an outcome that is no refusal

@@ -4,7 +4,7 @@
 use mathlib.Core.Path.{_≡_}
 use mathlib.Core.Bool.{Bool, true, false, cond}
 use mathlib.Core.List.{List, [], _∷_, _++_, map}
-use Prim.Native.Nat.{ℕ, _+_, _-_, min}
+use Prim.Native.Nat.{ℕ, _+_, _-_, min, _≤_, _<_}
 use Prim.Native.String.{String}
 use lib.Dec.{eqb, ltb, leb}
 use lib.ListN.{length, getD, take, drop, replicate}
@@ -162,6 +162,8 @@ twoLines number line place refusal words =
 -- the second begins (`caret-under` of proofs/Claims.antt)
 pub record Under (number : ℕ) (line : Text) (place : ℕ) (words text : List ℕ) : Type 0 where
   pub from : ℕ
+  -- the byte at the place is one of those that are shown
+  pub shown : (from ≤ place) × (place < length line → place < from + 72)
   pub before : List ℕ
   pub behind : List ℕ
   pub before-is : before ≡ leading number from ++ map shownByte (take (place - from) (drop from line))
