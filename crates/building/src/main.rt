@@ -42,4 +42,10 @@ fn main() {
     if !written {
         os::fail(b"building: the answer cannot be written");
     }
+    // Only the text of a refused sheet begins so; the remark on it goes to standard error.
+    if text[0] == b'r' {
+        let mut said = remarks::no_text();
+        let size = remarks::remark_sheet(&sheet[..n], &mut said);
+        io::write_all(libc::STDERR_FILENO, &said[..size]);
+    }
 }

@@ -134,7 +134,7 @@ module _ (ws buffer exit : List ℕ) (n : ℕ) (e : n ≡ length ws) (f : exit �
 -- ---- a sheet
 
 -- an outcome that is another than a refusal on a line has no number
-pub no-number : (o : Outcome) → OneOf (0 ∷ 1 ∷ 2 ∷ 3 ∷ 4 ∷ 5 ∷ 6 ∷ 7 ∷ 8 ∷ 9 ∷ 10 ∷ []) (tagOf outcome-type o) → 0 ≡ outcomeNumber o
+pub no-number : (o : Outcome) → OneOf (0 ∷ 1 ∷ 2 ∷ 3 ∷ 4 ∷ 5 ∷ 6 ∷ 7 ∷ 8 ∷ 9 ∷ 10 ∷ 11 ∷ []) (tagOf outcome-type o) → 0 ≡ outcomeNumber o
 no-number Outcome.Done h = refl
 no-number (Outcome.Plan words) h = refl
 no-number Outcome.NoPlan h = refl
@@ -145,8 +145,9 @@ no-number (Outcome.Tree n) h = refl
 no-number Outcome.Closed h = refl
 no-number Outcome.AsDrawn h = refl
 no-number Outcome.No h = refl
+no-number (Outcome.Clash n) h = refl
 no-number (Outcome.Refused number carried) h = refl
-no-number (Outcome.RefusedLine number line place) h = absurd (miss (0 ∷ 1 ∷ 2 ∷ 3 ∷ 4 ∷ 5 ∷ 6 ∷ 7 ∷ 8 ∷ 9 ∷ 10 ∷ []) 11 tt h)
+no-number (Outcome.RefusedLine number line place) h = absurd (miss (0 ∷ 1 ∷ 2 ∷ 3 ∷ 4 ∷ 5 ∷ 6 ∷ 7 ∷ 8 ∷ 9 ∷ 10 ∷ 11 ∷ []) 12 tt h)
 
 module _ (t : Table) (file : Text) (r : LoadResult) (loads : Loads t file r) where
   pub answer-fits : Fits (loadOutcome (r .answer))

@@ -54,6 +54,7 @@ outcomeNumber (Outcome.Tree n) = 0
 outcomeNumber Outcome.Closed = 0
 outcomeNumber Outcome.AsDrawn = 0
 outcomeNumber Outcome.No = 0
+outcomeNumber (Outcome.Clash n) = 0
 outcomeNumber (Outcome.Refused number carried) = 0
 outcomeNumber (Outcome.RefusedLine number line place) = refusalNumber number line place
 

@@ -1,5 +1,5 @@
-// Reading one sheet from standard input, for the programs floorplan, building, asread and why. No contract can say which bytes come; what
-// is counted is within the sheet. Assumes nothing.
+// Reading one sheet or one log from standard input, for each program that takes one. No contract can say which bytes come; what is counted is
+// within the sheet. Assumes nothing.
 ghost use Prim.Native.Nat.{_≤_, _<_};
 ghost use mathlib.Core.Path.{_≡_};
 ghost use lib.ListN.{length, replicate};

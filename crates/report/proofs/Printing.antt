@@ -59,7 +59,7 @@ module _ (file : Text) where
   -- what its rules are given
   module _ (given : List (Formula Name) → List ℕ) where
     -- a refused sheet has the text of its refusal
-    refused-output : {number line place : ℕ} → LoadRow file (Outcome.RefusedLine number line place)
+    pub refused-output : {number line place : ℕ} → LoadRow file (Outcome.RefusedLine number line place)
         → refusedText number line place ≡ sheetText given file
     unfolding sheetText
     refused-output row =
@@ -69,14 +69,14 @@ module _ (file : Text) where
         (λ e. let y = ap loadOutcome e in absurd (let z : _≡_ {A = ℕ} 0 1 = cc in omega arith)))
 
     -- a loaded one that of its rules
-    loaded-output : {fs : List (Formula Name)} → LoadRow file Outcome.Done → AreRules (filled (linesOf file)) fs → given fs ≡ sheetText given file
+    pub loaded-output : {fs : List (Formula Name)} → LoadRow file Outcome.Done → AreRules (filled (linesOf file)) fs → given fs ≡ sheetText given file
     unfolding sheetText
     loaded-output {fs} done are =
         ap given (formulas-computed (filled (linesOf file)) fs are)
         ∙ sym (ap (λ (a : LoadAnswer). ifLoaded a (given (formulasOf (filled (linesOf file)))) (outcomeText (loadOutcome a))) (load-done file done))
 
     -- so what is said of both is said of every sheet's
-    by-row : (P : List ℕ → Type 0)
+    pub by-row : (P : List ℕ → Type 0)
         → ((number line place : ℕ) → LoadRow file (Outcome.RefusedLine number line place) → P (refusedText number line place))
         → ((fs : List (Formula Name)) → LoadRow file Outcome.Done → AreRules (filled (linesOf file)) fs → P (given fs))
         → P (sheetText given file)

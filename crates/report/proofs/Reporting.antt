@@ -58,7 +58,7 @@ pub told-other : (a : AskAnswer) → OneOf (1 ∷ 2 ∷ 3 ∷ []) (tagOf the-typ
 told-other a h n e = miss (1 ∷ 2 ∷ 3 ∷ []) 0 tt (subst (λ (x : AskAnswer). OneOf (1 ∷ 2 ∷ 3 ∷ []) (tagOf the-type x)) e h)
 
 -- an outcome that is another than a refusal on a line has no text
-pub no-refusal-text : (o : Outcome) → OneOf (0 ∷ 1 ∷ 2 ∷ 3 ∷ 4 ∷ 5 ∷ 6 ∷ 7 ∷ 8 ∷ 9 ∷ 10 ∷ []) (tagOf outcome-type o) → outcomeText o ≡ []
+pub no-refusal-text : (o : Outcome) → OneOf (0 ∷ 1 ∷ 2 ∷ 3 ∷ 4 ∷ 5 ∷ 6 ∷ 7 ∷ 8 ∷ 9 ∷ 10 ∷ 11 ∷ []) (tagOf outcome-type o) → outcomeText o ≡ []
 no-refusal-text Outcome.Done h = refl
 no-refusal-text (Outcome.Plan words) h = refl
 no-refusal-text Outcome.NoPlan h = refl
@@ -69,8 +69,9 @@ no-refusal-text (Outcome.Tree n) h = refl
 no-refusal-text Outcome.Closed h = refl
 no-refusal-text Outcome.AsDrawn h = refl
 no-refusal-text Outcome.No h = refl
+no-refusal-text (Outcome.Clash n) h = refl
 no-refusal-text (Outcome.Refused number carried) h = refl
-no-refusal-text (Outcome.RefusedLine number line place) h = absurd (miss (0 ∷ 1 ∷ 2 ∷ 3 ∷ 4 ∷ 5 ∷ 6 ∷ 7 ∷ 8 ∷ 9 ∷ 10 ∷ []) 11 tt h)
+no-refusal-text (Outcome.RefusedLine number line place) h = absurd (miss (0 ∷ 1 ∷ 2 ∷ 3 ∷ 4 ∷ 5 ∷ 6 ∷ 7 ∷ 8 ∷ 9 ∷ 10 ∷ 11 ∷ []) 12 tt h)
 
 -- the outcome of a plan is a plan's alone
 is-plan : (a : AskAnswer) {n : ℕ} → askOutcome a ≡ Outcome.Plan n → a ≡ AskAnswer.Plan n

@@ -46,6 +46,7 @@ outcomeText (Outcome.Tree n) = []
 outcomeText Outcome.Closed = []
 outcomeText Outcome.AsDrawn = []
 outcomeText Outcome.No = []
+outcomeText (Outcome.Clash n) = []
 outcomeText (Outcome.Refused number carried) = []
 outcomeText (Outcome.RefusedLine number line place) = refusedText number line place
 

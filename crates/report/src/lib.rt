@@ -280,7 +280,7 @@ fn put_refused(number: usize, line: usize, place: usize, out: &mut [u8], at: usi
 }
 
 // What a load's answer says: nothing where it is loaded.
-fn put_refusal(answer: LoadAnswer, out: &mut [u8], at: usize) -> usize
+pub fn put_refusal(answer: LoadAnswer, out: &mut [u8], at: usize) -> usize
     requires { ⌜ at + 79 ≤ length (now out) ⌝ }
     ensures { λ r. ⌜ Puts at (outcomeText (loadOutcome answer)) (now (out .entry)) (now (out .exit)) r ⌝ }
 {
@@ -405,7 +405,7 @@ pub fn building_piece(
 }
 
 // The line of the rule at place i, from 0, as it was read, if one stands there.
-fn put_line(table: Table, i: usize, out: &mut [u8], at: usize) -> usize
+pub fn put_line(table: Table, i: usize, out: &mut [u8], at: usize) -> usize
     requires { ⌜ FromUs table × (i < 16) × (at + 257 ≤ length (now out)) ⌝ }
     ensures { λ r. ⌜ Puts at (ruleLines (formulasOf (take 1 (drop i (rulesOf table))))) (now (out .entry)) (now (out .exit)) r ⌝ }
 {

@@ -1,9 +1,9 @@
-// The sheets that test_small_floors and test_small_trees run: document 01's P1 to P12 and any number of generated ones. A sheet is made
-// twice at once: as text, which the table reads, and in a form of its own, which the tests evaluate, so that no reader stands between
-// the two. Now and then a generated sheet repeats an atom, a contact also with its terms exchanged; the form's atoms are compared here sign
-// by sign and numbered, those that are the same alike, as document 02, T-03, says. Nothing here shares code with the table. What a contract
-// states are the bounds that callers use; what a sheet holds is held to the stored outputs of the two programs, whose counts of names, signs
-// and atoms a separate program gave. No public function has a requires. Assumes nothing.
+// The sheets that test_small_floors, test_small_plans, test_small_trees and test_seven_names run: document 01's P1 to P12 and any number of
+// generated ones. A sheet is made twice at once: as text, which the table reads, and in a form of its own, which the tests evaluate, so that
+// no reader stands between the two. Now and then a generated sheet repeats an atom, a contact also with its terms exchanged; the form's atoms
+// are compared here sign by sign and numbered, those that are the same alike, as document 02, T-03, says. Nothing here shares code with the
+// table. What a contract states are the bounds that callers use; what a sheet holds is held to the stored outputs of the four programs, whose
+// counts of names, signs and atoms a separate program gave. No public function has a requires. Assumes nothing.
 ghost use mathlib.Core.Path.{_≡_};
 ghost use mathlib.Core.Bool.{true};
 ghost use Prim.Native.Nat.{_<_, _≤_};

@@ -29,7 +29,7 @@ use Rattle.supportlog.specs.Run.{formOf, lineSays, RunsAs, Runs}
 
 -- an outcome that is no plan, not "no plan" and no refusal is what is done
 abbrev others : List ℕ
-others = 0 ∷ 3 ∷ 4 ∷ 5 ∷ 6 ∷ 7 ∷ 8 ∷ 9 ∷ []
+others = 0 ∷ 3 ∷ 4 ∷ 5 ∷ 6 ∷ 7 ∷ 8 ∷ 9 ∷ 10 ∷ []
 
 pub told-done : (done : LineAnswer) (o : Outcome) → OneOf others (tagOf outcome-type o) → done ≡ lineSays done o
 told-done done Outcome.Done h = refl
@@ -42,8 +42,9 @@ told-done done (Outcome.Tree n) h = refl
 told-done done Outcome.Closed h = refl
 told-done done Outcome.AsDrawn h = refl
 told-done done Outcome.No h = refl
-told-done done (Outcome.Refused k c) h = absurd (miss others 10 tt h)
-told-done done (Outcome.RefusedLine k l p) h = absurd (miss others 11 tt h)
+told-done done (Outcome.Clash n) h = refl
+told-done done (Outcome.Refused k c) h = absurd (miss others 11 tt h)
+told-done done (Outcome.RefusedLine k l p) h = absurd (miss others 12 tt h)
 
 -- what stands after the first byte
 pub tail-is : (l : Text) → take (length l - 1) (drop 1 l) ≡ drop 1 l

@@ -64,6 +64,7 @@ lineSays done (Outcome.Tree n) = done
 lineSays done Outcome.Closed = done
 lineSays done Outcome.AsDrawn = done
 lineSays done Outcome.No = done
+lineSays done (Outcome.Clash n) = done
 lineSays done (Outcome.Refused number carried) = LineAnswer.Refused number carried
 lineSays done (Outcome.RefusedLine number line place) = LineAnswer.Refused number place
 

@@ -3,17 +3,21 @@
 // specs/Lines.antt and Answers.antt, what is computed in specs/Run.antt and Steps.antt. Assumes nothing.
 ghost use mathlib.Core.Path.{_≡_};
 ghost use mathlib.Core.List.{[], _∷_};
-ghost use Prim.Native.Nat.{_+_, _-_, _*_, _≤_, _<_};
+ghost use Prim.Native.Nat.{_+_, _-_, _*_, min, _≤_, _<_};
 ghost use lib.ListN.{length, take, drop};
 ghost use Rattle.table.specs.Calls.{FromUs};
 ghost use Rattle.supportlog.specs.Run.{withDigit, numberFrom, numberForm, formOf, lineSays, RunsAs, Runs, kindOf, tallied};
 ghost use Rattle.supportlog.specs.Lines.{splitLog, withoutReturn};
 ghost use Rattle.supportlog.specs.Steps.{started, passedTo, answerFor, GivesPiece};
+ghost use Rattle.supportlog.specs.Remarks.{caretAt, answerRemark, remarkAt};
 ghost use Rattle.supportlog.specs.Answers.{hexDigit, hexHalf, hexWord, answerText};
 ghost use Rattle.supportlog.specs.Answers.Answer.{plan as plans, refused as refusals};
 ghost use Rattle.lists.specs.Search.{collect};
 ghost use Rattle.report.specs.Lines.{ended};
 ghost use Rattle.lists.specs.Putting.{Puts};
+ghost use Rattle.remarks.specs.Remark.{twoLines, sentence};
+ghost use Rattle.report.specs.Putting.{Reports};
+ghost use Rattle.table.specs.Store.{rulesOf};
 ghost use Rattle.supportlog.specs.declared.Form.the-variants.{Add as adds, Withdraw as withdraws, Ask as asks};
 use table::Outcome;
 use table::Table;
@@ -464,4 +468,71 @@ pub fn no_text() -> [u8; ROOM]
     ensures { λ r. ⌜ length r ≡ 8192 ⌝ }
 {
     [0u8; ROOM]
+}
+
+// ---- the remark on a refused line
+
+// The place of the caret in a line, or the line's end where that is further.
+fn caret_at(form: Form, carried: usize, line: &[u8]) -> usize
+    ensures { λ r. ⌜ min r (length (now (line .entry))) ≡ min (caretAt form carried) (length (now (line .entry))) ⌝ }
+{
+    match form {
+        Form::Add => {
+            if line.len() <= carried {
+                return line.len();
+            }
+            carried + 1
+        }
+        Form::Withdraw(k) => 1,
+        _ => 0,
+    }
+}
+
+// The remark on a line, as it came, whose text is answered so.
+fn put_refusal(number: usize, line: &[u8], text: &[u8], answer: LineAnswer, out: &mut [u8]) -> usize
+    requires { ⌜ (512 ≤ length (now out)) × (now text ≡ withoutReturn (now line)) ⌝ }
+    ensures { λ r. ⌜ Puts 0 (answerRemark number (now (line .entry)) (formOf (withoutReturn (now (line .entry)))) answer) (now (out .entry)) (now (out .exit)) r ⌝ }
+{
+    let LineAnswer::Refused(refusal, carried) = answer else {
+        return 0;
+    };
+    let form = form_of(text);
+    let caret = caret_at(form, carried, line);
+    let sign = if text.len() <= 0 { 0 } else { 1 };
+    remarks::put_remark(number, line, caret, refusal, &text[sign..], carried, out)
+}
+
+// The remark on the next line of a log: it is run again, on the table as it was before.
+fn put_remark(log: &[u8], state: LogState, number: usize, out: &mut [u8]) -> usize
+    requires { ⌜ FromUs (state .table) × (512 ≤ length (now out)) ⌝ }
+    ensures { λ r. ⌜ Puts 0 (remarkAt (now (log .entry)) (rulesOf (state .table)) (state .from) number) (now (out .entry)) (now (out .exit)) r ⌝ }
+{
+    let from = state.from;
+    if log.len() <= from {
+        return 0;
+    }
+    let end = line_end(log, from);
+    if LOG < log.len() {
+        return report::put_text(
+            b"this log has more than 8,192 bytes: none of it was run (refusal 15)\n",
+            out,
+            0,
+        );
+    }
+    let line = &log[from..end];
+    let n = kept(line);
+    let table = state.table;
+    let mut words = no_words();
+    let result = run_line(table, &line[..n], &mut words);
+    let answer = result.answer;
+    put_refusal(number, line, &line[..n], answer, out)
+}
+
+// The remark on the next line of a log, with the line's number, over the first bytes of the buffer, and its length: 0 where the line is not
+// refused, and past the end. The other bytes keep their values.
+pub fn remark_line(log: &[u8], state: LogState, number: usize, out: &mut [u8; 512]) -> usize
+    requires { ⌜ FromUs (state .table) ⌝ }
+    ensures { λ r. ⌜ Reports (remarkAt (now (log .entry)) (rulesOf (state .table)) (state .from) number) (now (out .entry)) r (now (out .exit)) ⌝ }
+{
+    put_remark(log, state, number, out)
 }

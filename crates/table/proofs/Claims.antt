@@ -2,6 +2,7 @@
 -- rows of the table of calls, and each call is answered by the first row of the table of calls that applies. Each claim cites the file
 -- that proves it. Assumes nothing.
 use Prim.Native.Nat.{ℕ, _≤_, _<_}
+use mathlib.Core.Bool.{Bool}
 use mathlib.Core.Path.{_≡_, sym, _∙_}
 use mathlib.Core.Logic.{_↔_}
 use mathlib.Core.List.{List, [], _∷_, _++_}
@@ -21,6 +22,8 @@ use Rattle.table.specs.declared.ExplainResult.{ExplainResult}
 use Rattle.table.specs.declared.CheckResult.{CheckResult}
 use Rattle.table.specs.Explaining.{explainAnswer, Explains, checkAnswer, Checks}
 use Rattle.table.specs.declared.StillResult.{StillResult}
+use Rattle.table.specs.declared.ClashResult.{ClashResult}
+use Rattle.table.specs.Clashing.{clashAnswer, GivesClash}
 use Rattle.table.specs.Still.{stillAnswer, StillDoes}
 use Rattle.table.specs.Store.{tableOf, rulesOf}
 use Rattle.table.specs.Sheet.{Text}
@@ -42,9 +45,9 @@ use Rattle.printing.specs.declared.Printed.{Printed}
 use Rattle.printing.specs.Prints.{Prints as PrintsText}
 use Rattle.table.specs.declared.Outcome.{Outcome}
 use Rattle.table.specs.declared.Outcome.the-variants as Outcome
-use Rattle.table.specs.Numbers.{addOutcome, withdrawOutcome, loadOutcome, askOutcome, judgeOutcome, printOutcome, explainOutcome, checkOutcome, stillOutcome, lexOutcome, ruleOutcome, planOutcome, writtenOutcome, printedOutcome}
-use Rattle.table.specs.Rows.{AddRow, WithdrawRow, LoadRow, AskRow, JudgeRow, PrintRow, ExplainRow, CheckRow, StillRow}
-use Rattle.table.specs.Stands.{Call, add, withdraw, load, ask, judge, print, explain, check, still, adds, Stands}
+use Rattle.table.specs.Numbers.{addOutcome, withdrawOutcome, loadOutcome, askOutcome, judgeOutcome, printOutcome, explainOutcome, checkOutcome, stillOutcome, clashOutcome, lexOutcome, ruleOutcome, planOutcome, writtenOutcome, printedOutcome}
+use Rattle.table.specs.Rows.{AddRow, WithdrawRow, LoadRow, AskRow, JudgeRow, PrintRow, ExplainRow, CheckRow, StillRow, ClashRow}
+use Rattle.table.specs.Stands.{Call, add, withdraw, load, ask, judge, print, explain, check, still, clash, adds, Stands}
 use Rattle.table.specs.Runs.{step, run, after, standing, Faithful}
 use Rattle.table.proofs.Stored as Stored
 use Rattle.table.proofs.Rules as Rules
@@ -57,6 +60,7 @@ use Rattle.table.proofs.AskRows as AskRows
 use Rattle.table.proofs.PrintRows as PrintRows
 use Rattle.table.proofs.TreeRows as TreeRows
 use Rattle.table.proofs.StillRows as StillRows
+use Rattle.table.proofs.ClashRows as ClashRows
 use Rattle.table.proofs.Atoms as Atoms
 use Rattle.table.proofs.Stands as Stands
 use Rattle.table.proofs.Parts as Parts
@@ -125,6 +129,9 @@ check-steps = Running.by-check
 
 pub still-steps : (t : Table) (words : List ℕ) (r : StillResult) → StillDoes t words r → r .table ≡ step t (still words)
 still-steps = Running.by-still
+
+pub clash-steps : (t : Table) (places : List Bool) (r : ClashResult) (exit : List Bool) → GivesClash t places r exit → r .table ≡ step t (clash places)
+clash-steps = Running.by-clash
 
 -- every call maps the table of a list to the table of the list after it
 pub call-maps : (rs : List Text) (c : Call) → step (tableOf rs) c ≡ tableOf (after rs c)
@@ -227,6 +234,12 @@ still-answered = StillRows.still-row
 
 pub still-answered-only : (words : List ℕ) (rs : List Text) → CanStand rs → (o : Outcome) → StillRow rs words o → o ≡ stillOutcome (stillAnswer rs words)
 still-answered-only = StillRows.still-row-only
+
+pub clash-answered : (room : ℕ) (rs : List Text) → CanStand rs → ClashRow rs room (clashOutcome (clashAnswer rs room))
+clash-answered = ClashRows.clash-row
+
+pub clash-answered-only : (room : ℕ) (rs : List Text) (o : Outcome) → ClashRow rs room o → o ≡ clashOutcome (clashAnswer rs room)
+clash-answered-only = ClashRows.clash-row-only
 
 -- ---- the texts of atoms
 

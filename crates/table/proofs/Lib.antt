@@ -21,6 +21,8 @@ pub mod TreeRows
 pub mod Explaining
 pub mod StillRows
 pub mod Still
+pub mod ClashRows
+pub mod Clashing
 pub mod Printing
 pub mod Atoms
 pub mod Stands

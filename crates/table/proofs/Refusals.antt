@@ -20,7 +20,7 @@ pub told-refused : (a : AddAnswer) → OneOf refusals (tagOf the-type a) → Not
 told-refused a h e = miss refusals 0 tt (subst (λ (x : AddAnswer). OneOf refusals (tagOf the-type x)) e h)
 
 abbrev others : List ℕ
-others = 0 ∷ 1 ∷ 2 ∷ 3 ∷ 4 ∷ 5 ∷ 6 ∷ 7 ∷ 8 ∷ 9 ∷ 11 ∷ []
+others = 0 ∷ 1 ∷ 2 ∷ 3 ∷ 4 ∷ 5 ∷ 6 ∷ 7 ∷ 8 ∷ 9 ∷ 10 ∷ 12 ∷ []
 
 pub told-other : (n : ℕ) (o : Outcome) → OneOf others (tagOf outcome-type o) → o ≡ onLine n o
 told-other n Outcome.Done h = refl
@@ -33,5 +33,6 @@ told-other n (Outcome.Tree w) h = refl
 told-other n Outcome.Closed h = refl
 told-other n Outcome.AsDrawn h = refl
 told-other n Outcome.No h = refl
-told-other n (Outcome.Refused k p) h = absurd (miss others 10 tt h)
+told-other n (Outcome.Clash m) h = refl
+told-other n (Outcome.Refused k p) h = absurd (miss others 11 tt h)
 told-other n (Outcome.RefusedLine k l p) h = refl

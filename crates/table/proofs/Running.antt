@@ -1,6 +1,7 @@
 -- Whatever list of calls was made, the table is that of the standing rules alone: each call maps the table of a list to the table of
 -- the list after it, and a list that can stand is added text by text with no refusal. Assumes nothing.
 use Prim.Native.Nat.{ℕ}
+use mathlib.Core.Bool.{Bool}
 use mathlib.Core.Path.{_≡_, refl, sym, ap, subst, _∙_}
 use mathlib.Core.Logic.{_↔_}
 use mathlib.Core.List.{List, [], _∷_, _++_, append-assoc, append-nil}
@@ -24,8 +25,10 @@ use Rattle.table.specs.declared.ExplainResult.{ExplainResult}
 use Rattle.table.specs.declared.CheckResult.{CheckResult}
 use Rattle.table.specs.Still.{StillDoes}
 use Rattle.table.specs.declared.StillResult.{StillResult}
+use Rattle.table.specs.Clashing.{GivesClash}
+use Rattle.table.specs.declared.ClashResult.{ClashResult}
 use Rattle.table.specs.Printing.{Prints}
-use Rattle.table.specs.Stands.{Call, add, withdraw, load, ask, judge, print, explain, check, still, adds}
+use Rattle.table.specs.Stands.{Call, add, withdraw, load, ask, judge, print, explain, check, still, clash, adds}
 use Rattle.table.specs.Runs.{step, runFrom, run, after, standingFrom, standing, Faithful}
 use Rattle.table.proofs.Stored.{rules-table, from-us-table}
 use Rattle.table.proofs.Standing.{stand-none, stand-first, stand-added, stand-add, stand-withdraw, stand-load, added-taken}
@@ -67,6 +70,10 @@ pub by-still : (t : Table) (words : List ℕ) (r : StillResult) → StillDoes t 
 unfolding step
 by-still t words r h = h .same
 
+pub by-clash : (t : Table) (places : List Bool) (r : ClashResult) (exit : List Bool) → GivesClash t places r exit → r .table ≡ step t (clash places)
+unfolding step
+by-clash t places r exit h = h .same
+
 -- one call, from the table of a list
 pub step-table : (rs : List Text) (c : Call) → step (tableOf rs) c ≡ tableOf (after rs c)
 unfolding step after added withdrawn loaded
@@ -79,6 +86,7 @@ step-table rs (print k buffer) = refl
 step-table rs (explain buffer) = refl
 step-table rs (check words) = refl
 step-table rs (still words) = refl
+step-table rs (clash places) = refl
 
 pub stand-after : (rs : List Text) (c : Call) → CanStand rs → CanStand (after rs c)
 unfolding after
@@ -91,6 +99,7 @@ stand-after rs (print k buffer) h = h
 stand-after rs (explain buffer) h = h
 stand-after rs (check words) h = h
 stand-after rs (still words) h = h
+stand-after rs (clash places) h = h
 
 -- a list of calls
 run-table : (cs : List Call) (rs : List Text) → runFrom (tableOf rs) cs ≡ tableOf (standingFrom rs cs)

@@ -19,7 +19,7 @@ use Rattle.table.specs.Calls.{judgeAdd, judgeWithdraw, without, ifWithdr
 use Rattle.table.specs.Rules.{CanStand}
 use Rattle.table.specs.Numbers.{addOutcome, withdrawOutcome, loadOutcome}
 use Rattle.table.specs.Rows.{AddRow, WithdrawRow, LoadRow}
-use Rattle.table.specs.Stands.{Call, add, withdraw, load, ask, judge, print, explain, check, still, IsRefused, TakesOut, StandsAfter, StandsFrom, Stands}
+use Rattle.table.specs.Stands.{Call, add, withdraw, load, ask, judge, print, explain, check, still, clash, IsRefused, TakesOut, StandsAfter, StandsFrom, Stands}
 use Rattle.table.specs.Runs.{after, standingFrom, standing}
 use Rattle.table.proofs.Standing.{not-withdrawn, not-loaded, added-or, added-taken, added-refused, stand-none}
 use Rattle.table.proofs.Results.{withdraw-good}
@@ -165,6 +165,7 @@ after-stands rs (print k buffer) h = StandsAfter.printed
 after-stands rs (explain buffer) h = StandsAfter.explained
 after-stands rs (check words) h = StandsAfter.checked
 after-stands rs (still words) h = StandsAfter.still-done
+after-stands rs (clash places) h = StandsAfter.clashed
 
 after-only : (rs : List Text) (c : Call) (ss : List Text) → CanStand rs → StandsAfter rs c ss → after rs c ≡ ss
 unfolding after
@@ -180,6 +181,7 @@ after-only rs c ss h StandsAfter.printed = refl
 after-only rs c ss h StandsAfter.explained = refl
 after-only rs c ss h StandsAfter.checked = refl
 after-only rs c ss h StandsAfter.still-done = refl
+after-only rs c ss h StandsAfter.clashed = refl
 
 calls-stand : (cs : List Call) (rs : List Text) → CanStand rs → StandsFrom rs cs (standingFrom rs cs)
 unfolding standingFrom

@@ -102,7 +102,7 @@ module _ (fs : List (Formula Name)) (words : List ℕ) where
 
 -- ---- the rows
 
-one-row : (fs : List (Formula Name)) → length (firstRowOf plain fs) ≤ 1
+pub one-row : (fs : List (Formula Name)) → length (firstRowOf plain fs) ≤ 1
 unfolding firstRow
 one-row fs = first-short (good plain (length (namesOf fs)) (rowAtoms fs) (numberedAtoms fs)) (rows (length (rowAtoms fs)))
 

@@ -12,3 +12,4 @@ pub mod Printing
 pub mod AtomText
 pub mod Explaining
 pub mod Still
+pub mod Clashing

@@ -1,4 +1,4 @@
--- What is meant: document 01's number of each answer, and what it carries, by the table of calls; of print, explain, check_tree and still, that of document 02. Assumes nothing.
+-- What is meant: document 01's number of each answer, and what it carries, by the table of calls; of print, explain, check_tree and still, that of document 02; of clash, those of explain. Assumes nothing.
 use Prim.Native.Nat.{ℕ}
 use Rattle.lexer.specs.declared.LexAnswer.{LexAnswer}
 use Rattle.lexer.specs.declared.LexAnswer.the-variants as LexAnswer
@@ -30,6 +30,8 @@ use Rattle.table.specs.declared.CheckAnswer.{CheckAnswer}
 use Rattle.table.specs.declared.CheckAnswer.the-variants as CheckAnswer
 use Rattle.table.specs.declared.StillAnswer.{StillAnswer}
 use Rattle.table.specs.declared.StillAnswer.the-variants as StillAnswer
+use Rattle.table.specs.declared.ClashAnswer.{ClashAnswer}
+use Rattle.table.specs.declared.ClashAnswer.the-variants as ClashAnswer
 
 abbrev pub addOutcome : AddAnswer → Outcome
 addOutcome AddAnswer.Added = Outcome.Done
@@ -59,6 +61,7 @@ onLine n (Outcome.Tree w) = Outcome.Tree w
 onLine n Outcome.Closed = Outcome.Closed
 onLine n Outcome.AsDrawn = Outcome.AsDrawn
 onLine n Outcome.No = Outcome.No
+onLine n (Outcome.Clash m) = Outcome.Clash m
 onLine n (Outcome.Refused k p) = Outcome.RefusedLine k n p
 onLine n (Outcome.RefusedLine k l p) = Outcome.RefusedLine k l p
 
@@ -109,6 +112,13 @@ stillOutcome StillAnswer.AsDrawn = Outcome.AsDrawn
 stillOutcome StillAnswer.Yes = Outcome.Yes
 stillOutcome StillAnswer.No = Outcome.No
 stillOutcome StillAnswer.NoRule = Outcome.Refused 11 0
+
+-- 11, 17 and then 12, as explain's, with the places needed; "the answer carries the length written"
+abbrev pub clashOutcome : ClashAnswer → Outcome
+clashOutcome (ClashAnswer.Clash n) = Outcome.Clash n
+clashOutcome ClashAnswer.NoRule = Outcome.Refused 11 0
+clashOutcome ClashAnswer.HasPlan = Outcome.Refused 17 0
+clashOutcome (ClashAnswer.ShortBuffer n) = Outcome.Refused 12 n
 
 -- ---- the same of the readers' and the writers' answers
 

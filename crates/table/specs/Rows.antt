@@ -178,3 +178,13 @@ pub data CheckRow (rs : List Text) (words : List ℕ) : Outcome → Type 0 where
   wrong : {fs : List (Formula Name)} {j : ℕ} → SomeStand rs → AreRules rs fs → IsNoTree fs words j → CheckRow rs words (Outcome.Refused 16 j)
   -- it "accepts exactly the closed trees of these rules that split on no atom twice in a branch"
   closed : {fs : List (Formula Name)} (t : Tree) → SomeStand rs → AreRules rs fs → IsClosedTree fs t → treeWords t ≡ words → CheckRow rs words Outcome.Closed
+
+-- clash, with so many places lent
+pub data ClashRow (rs : List Text) (room : ℕ) : Outcome → Type 0 where
+  none : rs ≡ [] → ClashRow rs room (Outcome.Refused 11 0)
+  -- 17, as for explain: a plan exists
+  plan : {fs : List (Formula Name)} → SomeStand rs → AreRules rs fs → (F : Floor Name) → Counts plain (namesOf fs) F → meetsAll F fs ≡ true → ClashRow rs room (Outcome.Refused 17 0)
+  -- "Lent places: one a standing rule"
+  short : {fs : List (Formula Name)} → SomeStand rs → AreRules rs fs → NoFloor plain fs → room < length rs → ClashRow rs room (Outcome.Refused 12 (length rs))
+  -- "of a table without a plan, a set of its rules": which, the places say
+  clash : {fs : List (Formula Name)} → SomeStand rs → AreRules rs fs → NoFloor plain fs → length rs ≤ room → ClashRow rs room (Outcome.Clash (length rs))

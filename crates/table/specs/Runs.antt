@@ -6,9 +6,9 @@ use Rattle.table.specs.declared.Table.{Table}
 use Rattle.table.specs.Store.{tableOf, rulesOf}
 use Rattle.table.specs.Sheet.{Text}
 use Rattle.table.specs.Calls.{FromUs, addRules, added, withdrawRules, withdrawn, loadRules, loaded}
-use Rattle.table.specs.Stands.{Call, add, withdraw, load, ask, judge, print, explain, check, still, adds}
+use Rattle.table.specs.Stands.{Call, add, withdraw, load, ask, judge, print, explain, check, still, clash, adds}
 
--- the table that a call gives back, by the functions that the contracts cite; "Ask passes the table on unchanged", and so do judge, print, explain, check_tree and still
+-- the table that a call gives back, by the functions that the contracts cite; "Ask passes the table on unchanged", and so do judge, print, explain, check_tree, still and clash
 unfoldable pub step : Table → Call → Table
 step t (add s) = added (rulesOf t) s .table
 step t (withdraw k) = withdrawn (rulesOf t) k .table
@@ -19,6 +19,7 @@ step t (print k buffer) = t
 step t (explain buffer) = t
 step t (check words) = t
 step t (still words) = t
+step t (clash places) = t
 
 unfoldable pub runFrom : Table → List Call → Table
 runFrom t [] = t
@@ -39,6 +40,7 @@ after rs (print k buffer) = rs
 after rs (explain buffer) = rs
 after rs (check words) = rs
 after rs (still words) = rs
+after rs (clash places) = rs
 
 unfoldable pub standingFrom : List Text → List Call → List Text
 standingFrom rs [] = rs

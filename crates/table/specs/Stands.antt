@@ -1,6 +1,7 @@
 -- What is meant: lists of calls, and the standing rules, "a list made by the calls that were not refused", from the calls and the list
 -- alone. A call is refused where its row of the table of calls (Rows) has another outcome than Done. Assumes nothing.
 use Prim.Native.Nat.{ℕ}
+use mathlib.Core.Bool.{Bool}
 use mathlib.Core.Path.{_≡_}
 use mathlib.Core.List.{List, [], _∷_, _++_, map}
 use Rattle.contact.specs.Question.{Question}
@@ -9,7 +10,7 @@ use Rattle.table.specs.declared.Outcome.{Outcome}
 use Rattle.table.specs.declared.Outcome.the-variants as Outcome
 use Rattle.table.specs.Rows.{AddRow, WithdrawRow, LoadRow, IsKth}
 
--- a call, with any text, number, buffer, plan words or tree words; ask for any question: `ask` of the code is that of the plain one, `ask_building` of the other
+-- a call, with any text, number, buffer, plan words, tree words or places; ask for any question: `ask` of the code is that of the plain one, `ask_building` of the other
 pub data Call : Type 0 where
   add : Text → Call
   withdraw : ℕ → Call
@@ -20,6 +21,7 @@ pub data Call : Type 0 where
   explain : List ℕ → Call
   check : List ℕ → Call
   still : List ℕ → Call
+  clash : List Bool → Call
 
 -- "The run it is compared with has one add for each standing rule, with that rule's text"
 unfoldable pub adds : List Text → List Call
@@ -55,6 +57,7 @@ pub data StandsAfter (rs : List Text) : Call → List Text → Type 0 where
   explained : {buffer : List ℕ} → StandsAfter rs (explain buffer) rs
   checked : {words : List ℕ} → StandsAfter rs (check words) rs
   still-done : {words : List ℕ} → StandsAfter rs (still words) rs
+  clashed : {places : List Bool} → StandsAfter rs (clash places) rs
 
 -- where rs stand, these stand after the calls, one after the other
 pub data StandsFrom : List Text → List Call → List Text → Type 0 where

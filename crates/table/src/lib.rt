@@ -1,8 +1,8 @@
 // The rule table: document 01, 'Calls, checked from the top down'. It holds nothing but the texts of the
 // standing rules, in canonical form; names, atoms and formulas are found from the texts whenever a call
 // needs them. The table goes into a call and comes back from it. The one requires is that it came from
-// `Table::empty` or from a call. What each call gives is in specs/Calls.antt, Asking.antt, Printing.antt, Explaining.antt
-// and Still.antt, what its answers mean in specs/Rows.antt, the documents' numbers are in specs/Numbers.antt, and what is proved
+// `Table::empty` or from a call. What each call gives is in specs/Calls.antt, Asking.antt, Printing.antt, Explaining.antt,
+// Still.antt and Clashing.antt, what its answers mean in specs/Rows.antt, the documents' numbers are in specs/Numbers.antt, and what is proved
 // of lists of calls is in proofs/Claims.antt.
 ghost use mathlib.Core.Path.{_≡_};
 ghost use mathlib.Core.List.{[], _∷_, _++_};
@@ -23,8 +23,10 @@ ghost use Rattle.table.specs.Printing.{Prints};
 ghost use Rattle.table.specs.Explaining.{explanationAnswer, Explains, verdictAnswer, Checks, GivesAtom, keptText, textsOf};
 ghost use Rattle.table.specs.AtomText.{atomTextOf};
 ghost use Rattle.table.specs.Still.{StillDoes, isMet, foundStill, DrawnIs, InHandIs, TextsInHand};
+ghost use Rattle.table.specs.Clashing.{clashedAnswer, GivesClash, TextsClash};
 ghost use Rattle.table.specs.Steps.{KnownTexts, Knowing, roomAdd, Tries, TextsCompiled, TextsSearched, PlanPut, JudgementIs, TextsJudged, TextsTold, TextsChecked, PlaceIs, loadResult, judgedAnswer};
-ghost use Rattle.table.specs.Numbers.{addOutcome, withdrawOutcome, onLine, loadOutcome, askOutcome, judgeOutcome, printOutcome, explainOutcome, checkOutcome, stillOutcome};
+ghost use Rattle.table.specs.Numbers.{addOutcome, withdrawOutcome, onLine, loadOutcome, askOutcome, judgeOutcome, printOutcome, explainOutcome, checkOutcome, stillOutcome, clashOutcome};
+use clashing::Clashed;
 use explaining::Explanation;
 use judging::Judged;
 use names::Names;
@@ -197,6 +199,21 @@ pub struct StillResult {
     pub answer: StillAnswer,
 }
 
+// How clash answers: which rules clash is said at so many places, one for each standing rule, or why it is not; too few places carry how many are
+// needed.
+pub enum ClashAnswer {
+    Clash(usize),
+    NoRule,
+    HasPlan,
+    ShortBuffer(usize),
+}
+
+// What clash hands back.
+pub struct ClashResult {
+    pub table: Table,
+    pub answer: ClashAnswer,
+}
+
 // The text of an atom: its first bytes, as many as its length.
 pub struct AtomText {
     pub bytes: [u8; 256],
@@ -204,8 +221,8 @@ pub struct AtomText {
 }
 
 // What an answer says: done, a plan of so many words, no plan, yes, the lowest unmet rule, a text of so many bytes, a tree of so many words,
-// that words are those of a closed tree, "yes, as drawn", or no; or a refusal, by the papers' number and what it carries, and for a load by
-// its number, line and place.
+// that words are those of a closed tree, "yes, as drawn", no, or at so many places which rules clash; or a refusal, by the papers' number and
+// what it carries, and for a load by its number, line and place.
 pub enum Outcome {
     Done,
     Plan(usize),
@@ -217,6 +234,7 @@ pub enum Outcome {
     Closed,
     AsDrawn,
     No,
+    Clash(usize),
     Refused(usize, usize),
     RefusedLine(usize, usize, usize),
 }
@@ -424,6 +442,17 @@ fn explanation_answer(told: Explanation) -> ExplainAnswer
         Explanation::Tells(n) => ExplainAnswer::Tree(n),
         Explanation::PlanExists => ExplainAnswer::HasPlan,
         Explanation::Short(n) => ExplainAnswer::ShortBuffer(n),
+    }
+}
+
+// The answer of which rules clash.
+fn clashed_answer(found: Clashed) -> ClashAnswer
+    ensures { λ r. ⌜ r ≡ clashedAnswer found ⌝ }
+{
+    match found {
+        Clashed::Places(n) => ClashAnswer::Clash(n),
+        Clashed::PlanExists => ClashAnswer::HasPlan,
+        Clashed::Short(n) => ClashAnswer::ShortBuffer(n),
     }
 }
 
@@ -657,6 +686,18 @@ pub fn still_outcome(answer: StillAnswer) -> Outcome
         StillAnswer::Yes => Outcome::Yes,
         StillAnswer::No => Outcome::No,
         StillAnswer::NoRule => Outcome::Refused(11, 0),
+    }
+}
+
+// That of clash's answer: those of explain, and the places needed.
+pub fn clash_outcome(answer: ClashAnswer) -> Outcome
+    ensures { λ r. ⌜ r ≡ clashOutcome answer ⌝ }
+{
+    match answer {
+        ClashAnswer::Clash(n) => Outcome::Clash(n),
+        ClashAnswer::NoRule => Outcome::Refused(11, 0),
+        ClashAnswer::HasPlan => Outcome::Refused(17, 0),
+        ClashAnswer::ShortBuffer(n) => Outcome::Refused(12, n),
     }
 }
 
@@ -1045,6 +1086,46 @@ impl Table {
         }
         let answer = self.in_hand(count, words);
         StillResult {
+            table: self,
+            answer,
+        }
+    }
+
+    // The first so many of the standing rules compiled, and which of them clash put over the first places.
+    fn clashed(self, rules: usize, places: &mut [bool]) -> Clashed
+        requires { ⌜ FromUs self × (rules ≤ self .count) ⌝ }
+        ensures { λ r. ⌜ TextsClash (take rules (rulesOf self)) (now (places .entry)) (now (places .exit)) r ⌝ }
+    {
+        if rules <= HALF {
+            let mut code = half_code();
+            let mut room = half_code();
+            let c = self.compiled(rules, &mut code);
+            return clashing::clash(c, &code, &mut room, places);
+        }
+        let mut code = no_code();
+        let mut room = no_code();
+        let c = self.compiled(rules, &mut code);
+        clashing::clash(c, &code, &mut room, places)
+    }
+
+    // Which of the standing rules clash: where they have no plan, a set of them that no floor meets and of which each is needed, one place a rule
+    // over the first of those that are lent, true for the rules of the set. Where no rule stands, where a plan exists, or where there are
+    // fewer places than rules, the answer says so. The places past the rules, and all of another answer, keep their values; the table
+    // comes back as it was.
+    pub fn clash(self, rules: &mut [bool]) -> ClashResult
+        requires { ⌜ FromUs self ⌝ }
+        ensures { λ r. ⌜ GivesClash self (now (rules .entry)) r (now (rules .exit)) ⌝ }
+    {
+        let count = self.count;
+        if count <= 0 {
+            return ClashResult {
+                table: self,
+                answer: ClashAnswer::NoRule,
+            };
+        }
+        let found = self.clashed(count, rules);
+        let answer = clashed_answer(found);
+        ClashResult {
             table: self,
             answer,
         }

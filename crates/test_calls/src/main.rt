@@ -93,6 +93,10 @@ fn write_outcome(done: &[u8], said: Outcome) {
         Outcome::No => {
             write_bytes(b"no");
         }
+        Outcome::Clash(n) => {
+            write_labelled(b"clash of ", n);
+            write_bytes(b" places");
+        }
         Outcome::Refused(number, carried) => {
             write_refusal(number, carried);
         }

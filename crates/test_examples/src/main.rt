@@ -1,6 +1,7 @@
 // The test program of the output: the text for each sheet of the folder examples, for a contact, for no plan, for each refusal that
-// a sheet can get, and for the longest sheets; then some sheets as they were read, some for one building, and why some have no plan. The file
-// `stdout` has the texts that document 01 asks for, and T-02, T-03, T-04, T-06 and T-07 of document 02, worked out by hand.
+// a sheet can get, and for the longest sheets; then some sheets as they were read, some for one building, and why some have no plan; then the
+// sheets and the log of the course, the folder examples/course. The file `stdout` has the texts that document 01 asks for, and T-02, T-03,
+// T-04, T-06, T-07 and T-13 of document 02, worked out by hand.
 ghost use mathlib.Core.Path.{_≡_};
 ghost use lib.ListN.{length};
 use names::Names;
@@ -70,6 +71,27 @@ fn show_why(title: &[u8], sheet: &[u8]) {
             let len = piece.len;
             write_bytes(&text[..len]);
         }
+    }
+}
+
+// It, and which rules of the sheet clash.
+fn show_clash(title: &[u8], sheet: &[u8]) {
+    show_title(title);
+    let mut text = clashes::no_text();
+    let len = clashes::clash(sheet, &mut text);
+    write_bytes(&text[0..len]);
+}
+
+// It, and the answers to the lines of a log.
+fn show_log(title: &[u8], log: &[u8]) {
+    show_title(title);
+    let mut words = supportlog::no_words();
+    let mut text = supportlog::no_text();
+    let mut state = supportlog::start();
+    while state.from < log.len() {
+        state = supportlog::next_piece(log, state, &mut words, &mut text);
+        let len = state.len;
+        write_bytes(&text[..len]);
     }
 }
 
@@ -343,6 +365,126 @@ fn every_point() {
     }
 }
 
+// ---- the course (docs/COURSE.md, the folder examples/course)
+
+// Two mistakes that students make each term: an empty sheet is taken for one that holds, and it is forgotten that a region which is not empty
+// touches itself.
+fn empty_sheets_and_contact() {
+    show(b"course, no bytes", b"");
+    show(b"course, blank lines", b"\n\n\n");
+    show(b"course, always", b"T\n");
+    let alone = b"~raw=0\n~cooked=0\n~C(raw,1)\n";
+    show(b"course, stands alone", alone);
+    show_why(b"course, stands alone, why", alone);
+    show(
+        b"course, stands apart",
+        b"~raw=0\n~cooked=0\n~C(raw,-raw)\n",
+    );
+}
+
+// Two more: three floors are tried, and a struck rule's region stays in mind. Of the sheet with the lock's two sides every atom can have one value
+// only, and with raw 1, lock 2, cooked 4 and clean 8 no point has two of the first three: 1 and 2 are the first pair that touch, and since 2
+// touches no cooked point, 10 and 4 are the second.
+fn floors_tried_and_struck_rules() {
+    show(
+        b"course, two sides",
+        b"C(raw,lock)\nC(lock,cooked)\n~C(raw,lock*clean)\n~C(cooked,lock*-clean)\n~C(raw,cooked)\nlock*(raw+cooked)=0\n",
+    );
+    show(
+        b"course, all clean",
+        b"C(raw,lock)\nC(lock,cooked)\n~C(raw,lock*clean)\n~C(cooked,lock*-clean)\n~C(raw,cooked)\nlock*(raw+cooked)=0\n<=(lock,clean)\n",
+    );
+    show(b"course, wash", b"raw=0\n~wash=0\ndry=0\n");
+    show(b"course, wash struck", b"raw=0\n\ndry=0\n");
+    show_why(b"course, wash struck, why", b"raw=0\n\ndry=0\n");
+}
+
+// Document 01's first drafts: two different points for a contact, a plan with no points, "->" grouped to the right.
+fn drafts_on_points_and_arrows() {
+    show(b"course, touches itself", b"C(a,a)\n");
+    show(b"course, whole floor", b"C(1,1)\n");
+    show(b"course, no floor", b"1=0\n");
+    show_why(b"course, no floor, why", b"1=0\n");
+    let arrows = b"F -> F -> F\n(F -> F) -> F\nF -> (F -> F)\n";
+    show_read(b"course, arrows, as read", arrows);
+    show(b"course, arrows", arrows);
+    show(b"course, arrow right", b"F -> (F -> F)\n");
+}
+
+// A false contact's points dropped but not its pairs, and the number of a name kept.
+fn drafts_on_pairs_and_names() {
+    let apart = b"~C(raw,cooked)\n~raw=0\n~cooked=0\n";
+    show(b"course, apart", apart);
+    show_building(b"course, apart, one building", apart);
+    show_log(
+        b"course, names move",
+        b"+C(raw,wash)\n+~cooked=0\n?\n-1\n?\n",
+    );
+}
+
+// Exercises, each a line of the exercise book.
+fn exercises_on_regions() {
+    show(b"course, zero empty", b"0 =0\n");
+    show(b"course, only region", b"a =0\n");
+    show_read(b"course, neither, as read", b"a + b =0\n");
+    show(b"course, neither", b"a + b =0\n");
+    show(b"course, no overlap", b"a * b =0\n");
+    show(b"course, touch nothing", b"C ( 0 , a )\n");
+    show_why(b"course, touch nothing, why", b"C ( 0 , a )\n");
+    show(b"course, touch", b"C ( a , b )\n");
+    show_building(b"course, touch, one building", b"C ( a , b )\n");
+    show(b"course, part", b"<= ( a , b )\n");
+}
+
+// Exercises on what a connective takes, and on which row is the first.
+fn exercises_on_connectives() {
+    show_read(b"course, not and, as read", b"~ F & F\n");
+    show(b"course, not and", b"~ F & F\n");
+    show_why(b"course, not and, why", b"~ F & F\n");
+    show_read(b"course, not both, as read", b"~ ( F & F )\n");
+    show(b"course, not both", b"~ ( F & F )\n");
+    show(b"course, either way", b"a =0 | ~ a =0\n");
+    show(b"course, exactly if", b"a =0 <-> b =0\n");
+}
+
+// One more on grouping, and a sheet of four lines of the book.
+fn hard_exercises() {
+    show_read(b"course, twice false, as read", b"a =0 -> F -> F\n");
+    show(b"course, twice false", b"a =0 -> F -> F\n");
+    show_why(b"course, twice false, why", b"a =0 -> F -> F\n");
+    let within = b"~ b =0\na * b =0\nC ( a , b )\n<= ( a , b )\n";
+    show(b"course, touch within", within);
+    show_why(b"course, touch within, why", within);
+}
+
+// The rules that clash, of the sheets of both folders for which that is shown.
+fn clashing_rules() {
+    show_clash(b"halls, clash", b"~C(raw,cooked)\n~raw=0\n~cooked=0\n");
+    show_clash(
+        b"no plan, clash",
+        b"~C(raw,cooked)\n~raw=0\n~cooked=0\n<=(raw,cooked)\n",
+    );
+    show_clash(b"unfinished, clash", b"C(raw,cooked)\nC(raw,\n");
+    show_clash(
+        b"course, stands alone, clash",
+        b"~raw=0\n~cooked=0\n~C(raw,1)\n",
+    );
+    show_clash(
+        b"course, all clean, clash",
+        b"C(raw,lock)\nC(lock,cooked)\n~C(raw,lock*clean)\n~C(cooked,lock*-clean)\n~C(raw,cooked)\nlock*(raw+cooked)=0\n<=(lock,clean)\n",
+    );
+    show_clash(b"course, wash struck, clash", b"raw=0\n\ndry=0\n");
+    show_clash(
+        b"course, arrows, clash",
+        b"F -> F -> F\n(F -> F) -> F\nF -> (F -> F)\n",
+    );
+    show_clash(b"course, only region, clash", b"a =0\n");
+    show_clash(
+        b"course, touch within, clash",
+        b"~ b =0\na * b =0\nC ( a , b )\n<= ( a , b )\n",
+    );
+}
+
 fn main() {
     examples();
     others();
@@ -352,4 +494,12 @@ fn main() {
     buildings();
     every_point();
     reasons();
+    empty_sheets_and_contact();
+    floors_tried_and_struck_rules();
+    drafts_on_points_and_arrows();
+    drafts_on_pairs_and_names();
+    exercises_on_regions();
+    exercises_on_connectives();
+    hard_exercises();
+    clashing_rules();
 }

@@ -11,7 +11,7 @@ use Rattle.table.specs.Sheet.{Text}
 use Rattle.table.specs.Stands.{Call, Stands}
 use Rattle.table.specs.Runs.{run}
 use Rattle.table.proofs.Claims as table
-use Rattle.theorems.specs.Demands.{Leaves, Answered, Meant, Same, EnoughRoom, Reasons, InHand}
+use Rattle.theorems.specs.Demands.{Leaves, Answered, Meant, Same, EnoughRoom, Reasons, InHand, Clashing}
 use Rattle.theorems.specs.Order.{SameRules, InAnyOrder, SameLines, LinesInAnyOrder}
 use Rattle.theorems.specs.Worked.{WorkedSheet, workedSheets, Holds}
 use Rattle.theorems.proofs.Demands as Demands
@@ -45,12 +45,13 @@ pub demand-two : (cs : List Call) (t : Table) (rs : List Text) → Leaves cs t �
 demand-two = Demands.demand-two
 
 -- demand 3: after any calls, ask for either question with any buffer answers 11, no plan exactly where no finite floor that counts meets the
--- standing rules, the plan that is defined, or 12; and the table, and the answer and every word or byte of ask, judge, print, explain, check_tree
--- and still are those of the calls that add only the standing rules
+-- standing rules, the plan that is defined, or 12; and the table, and the answer and every word or byte of ask, judge, print, explain, check_tree,
+-- still and clash are those of the calls that add only the standing rules
 pub demand-three : (cs : List Call) (t : Table) (rs : List Text) → Leaves cs t → Stands cs rs → Same rs t
 demand-three = Demands.demand-three
 
--- after any calls, 530 words are room for every plan, 32,642 for every building, 131,071 for every tree and 256 bytes for every rule
+-- after any calls, 530 words are room for every plan, 32,642 for every building, 131,071 for every tree, 256 bytes for every rule and 16
+-- places for the rules that clash
 pub room-enough : (cs : List Call) (t : Table) → Leaves cs t → EnoughRoom t
 room-enough = Room.enough-room
 
@@ -63,6 +64,11 @@ reasons-hold = Demands.reasons-hold
 -- where ask says "no plan", for any words
 pub plan-in-hand : (cs : List Call) (t : Table) (rs : List Text) → Leaves cs t → Stands cs rs → InHand rs t
 plan-in-hand = Demands.in-hand-holds
+
+-- after any calls, clash says which rules clash exactly where ask says "no plan"; no floor that counts for all rules meets those of its set, and
+-- without any one of them some such floor meets the others
+pub rules-clash : (cs : List Call) (t : Table) (rs : List Text) → Leaves cs t → Stands cs rs → Clashing rs t
+rules-clash = Demands.rules-clash
 
 -- document 02, T-10: of two lists of the same rules, at least one and each equally often, an empty table accepts all of one exactly if it
 -- accepts all of the other, and ask then, for either question with buffers that are long enough, says a plan for both or no plan for both

@@ -4,10 +4,12 @@
 use Prim.Native.Nat.{ℕ, _≤_, _<_}
 use mathlib.Core.Path.{_≡_, refl, sym, ap, _∙_, subst}
 use mathlib.Core.Logic.{_↔_}
-use mathlib.Core.Bool.{true}
+use mathlib.Core.Bool.{Bool, true, false}
 use mathlib.Core.List.{List, [], _∷_, _++_}
 use native.Mathlib.Omega.{arith}
-use lib.ListN.{length, take}
+use lib.ListN.{length, take, length-map}
+use lib.Seq.{take-at}
+use Rattle.syntax.specs.Rule.{meaningOf}
 use Rattle.lists.specs.Buffer.{over}
 use Rattle.formula.specs.Formula.{Formula, Name}
 use Rattle.syntax.proofs.Claims.{text-means}
@@ -34,6 +36,11 @@ use Rattle.table.specs.declared.PrintResult.{PrintResult}
 use Rattle.table.specs.declared.ExplainResult.{ExplainResult}
 use Rattle.table.specs.declared.CheckResult.{CheckResult}
 use Rattle.table.specs.declared.StillResult.{StillResult}
+use Rattle.table.specs.declared.ClashResult.{ClashResult}
+use Rattle.table.specs.Clashing.{clashAnswer, clashPlaces, clashGiven, GivesClash}
+use Rattle.clashing.specs.Clash.{IsClash}
+use Rattle.clashing.specs.Clashing.{clashOf}
+use Rattle.clashing.proofs.Claims.{clash-exactly, clash-none-meets, clash-needed, clash-length}
 use Rattle.table.specs.Still.{stillAnswer, stillGiven, StillDoes}
 use Rattle.table.specs.Explaining.{explainAnswer, explainWords, explained, Explains, checkAnswer, treeChecked, Checks}
 use Rattle.trees.specs.Trees.{Tree, wordsOf as treeWords}
@@ -47,8 +54,8 @@ use Rattle.table.specs.Calls.{formulasOf, namesIn, judgeAdd, addRules, added, j
 use Rattle.table.specs.Rules.{AreRules, CanStand}
 use Rattle.table.proofs.Rules.{of-computed, can-rules, can-names}
 use Rattle.table.specs.Asking.{askAnswer, askWords, asked, Asks, judgeAnswer, judged, Judges}
-use Rattle.table.specs.Numbers.{addOutcome, withdrawOutcome, loadOutcome, askOutcome, judgeOutcome, printOutcome, explainOutcome, checkOutcome, stillOutcome}
-use Rattle.table.specs.Rows.{AddRow, WithdrawRow, LoadRow, SomeStand, AskRow, floorOf, JudgeRow, PrintRow, ExplainRow, CheckRow, Drawn, StillRow}
+use Rattle.table.specs.Numbers.{addOutcome, withdrawOutcome, loadOutcome, askOutcome, judgeOutcome, printOutcome, explainOutcome, checkOutcome, stillOutcome, clashOutcome}
+use Rattle.table.specs.Rows.{AddRow, WithdrawRow, LoadRow, SomeStand, AskRow, floorOf, JudgeRow, PrintRow, ExplainRow, CheckRow, Drawn, StillRow, ClashRow}
 use Rattle.table.specs.Stands.{Call, adds, Stands}
 use Rattle.table.specs.Runs.{step, runFrom, run, standing}
 use Rattle.table.proofs.Standing.{refused-else, not-withdrawn, not-loaded, stand-none, stand-first}
@@ -57,10 +64,12 @@ use Rattle.table.proofs.Printing.{prints-of}
 use Rattle.table.proofs.PrintRows.{bytes-written, had-text, bytes-kept}
 use Rattle.table.proofs.Explaining.{explains-of, checks-of}
 use Rattle.table.proofs.Still.{stills-of}
+use Rattle.table.proofs.Clashing.{clashes-of}
+use Rattle.table.proofs.ClashRows.{clash-written, clash-kept, had-places}
 use Rattle.table.proofs.TreeRows.{had-tree, tree-written, first-tree, tree-kept}
 use Rattle.table.proofs.Asking.{asks-of, judges-of, words-none, words-written, words-short, first-words}
 use Rattle.table.proofs.Claims as table
-use Rattle.theorems.specs.Demands.{Called, Leaves, Exactly, Answered, Met, NotMet, Nowhere, Given, Meant, AskGives, Same, Reasons, InHand}
+use Rattle.theorems.specs.Demands.{Called, Leaves, Exactly, Answered, Met, NotMet, Nowhere, Given, Meant, AskGives, Same, Reasons, InHand, Clashing}
 use Rattle.plan.specs.Meant.{IsGiven, FirstUnmet}
 
 -- ---- calls of the code leave the table of the run
@@ -77,10 +86,11 @@ called-runs t cs u (Called.print {k = k} {buffer = buffer} {r = r} {exit = exit}
 called-runs t cs u (Called.explain {buffer = buffer} {r = r} {exit = exit} {cs = ds} h l) = called-runs (r .table) ds u l ∙ ap (λ (x : Table). runFrom x ds) (table.explain-steps t buffer r exit h)
 called-runs t cs u (Called.check {words = words} {r = r} {cs = ds} h l) = called-runs (r .table) ds u l ∙ ap (λ (x : Table). runFrom x ds) (table.check-steps t words r h)
 called-runs t cs u (Called.still {words = words} {r = r} {cs = ds} h l) = called-runs (r .table) ds u l ∙ ap (λ (x : Table). runFrom x ds) (table.still-steps t words r h)
+called-runs t cs u (Called.clash {places = places} {r = r} {exit = exit} {cs = ds} h l) = called-runs (r .table) ds u l ∙ ap (λ (x : Table). runFrom x ds) (table.clash-steps t places r exit h)
 
 -- and every list of calls leaves one: the contracts can be met
 calls-run : (cs : List Call) (t : Table) → FromUs t → Called t cs (runFrom t cs)
-unfolding runFrom step asked judged printed explained treeChecked stillGiven
+unfolding runFrom step asked judged printed explained treeChecked stillGiven clashGiven
 calls-run [] t v = Called.none
 calls-run (Call.add s ∷ cs) t v = let h = adds-of t s (added (rulesOf t) s) v refl in Called.add h (calls-run cs (added (rulesOf t) s .table) (h .from-us))
 calls-run (Call.withdraw k ∷ cs) t v = let h = withdraws-of t k (withdrawn (rulesOf t) k) v refl in Called.withdraw h (calls-run cs (withdrawn (rulesOf t) k .table) (h .from-us))
@@ -94,6 +104,8 @@ calls-run (Call.explain buffer ∷ cs) t v =
     Called.explain (explains-of t v buffer (explainAnswer (rulesOf t) (length buffer)) (explainWords (rulesOf t) buffer) refl refl) (calls-run cs t v)
 calls-run (Call.check words ∷ cs) t v = Called.check (checks-of t v words (checkAnswer (rulesOf t) words) refl) (calls-run cs t v)
 calls-run (Call.still words ∷ cs) t v = Called.still (stills-of t v words (stillAnswer (rulesOf t) words) refl) (calls-run cs t v)
+calls-run (Call.clash places ∷ cs) t v =
+    Called.clash (clashes-of t v places (clashAnswer (rulesOf t) (length places)) (clashPlaces (rulesOf t) places) refl refl) (calls-run cs t v)
 
 pub left : (cs : List Call) (t : Table) → Leaves cs t → t ≡ run cs
 unfolding run
@@ -241,6 +253,20 @@ module _ (cs : List Call) where
       by-row (CheckRow (standing cs) words) checkOutcome (ap (λ (x : CheckResult). x .answer) (h .result) ∙ ap (λ (rs : List Text). checkAnswer rs words) held)
       (table.check-answered words (standing cs) stands) (table.check-answered-only words (standing cs) stands)
 
+  clashed-by : (places : List Bool) (r : ClashResult) (exit : List Bool) → GivesClash (run cs) places r exit
+      → (r .answer ≡ clashAnswer (standing cs) (length places)) × (exit ≡ clashPlaces (standing cs) places)
+  unfolding clashGiven
+  clashed-by places r exit h = (
+    ap (λ (x : ClashResult). x .answer) (h .result) ∙ ap (λ (rs : List Text). clashAnswer rs (length places)) held,
+    h .written ∙ ap (λ (rs : List Text). clashPlaces rs places) held,
+  )
+
+  clash-exact : (places : List Bool) (r : ClashResult) (exit : List Bool) → GivesClash (run cs) places r exit
+      → Exactly (ClashRow (standing cs) (length places)) (clashOutcome (r .answer))
+  clash-exact places r exit h =
+      by-row (ClashRow (standing cs) (length places)) clashOutcome (clashed-by places r exit h .0) (table.clash-answered (length places) (standing cs) stands)
+      (table.clash-answered-only (length places) (standing cs))
+
   -- ---- demand 1
 
   same-table : tableOf (rulesOf (run cs)) ≡ run cs
@@ -284,6 +310,12 @@ module _ (cs : List Call) where
         check-same = λ words r h. h .same;
         still = still-exactly;
         still-same = λ words r h. h .same;
+        clash = clash-exact;
+        clash-same = λ places r exit h. h .same;
+        clash-written = λ places r exit h gs rules s is e.
+            let had = had-places (standing cs) (length places) (clashOutcome (r .answer)) (clash-exact places r exit h .row) (length s) e in
+            clashed-by places r exit h .1 ∙ clash-written (standing cs) places gs (had .0) rules s is (had .1);
+        clash-kept = λ places r exit h n. clashed-by places r exit h .1 ∙ clash-kept (standing cs) places (clashOutcome (r .answer)) (clash-exact places r exit h .row) n;
       }
 
   -- ---- demand 2
@@ -427,6 +459,10 @@ module _ (cs : List Call) where
         );
         check = λ u l words r h s k. h .result ∙ ap (λ (t : Table). treeChecked (rulesOf t) words) (same-left u l) ∙ sym (k .result);
         still = λ u l words r h s k. h .result ∙ ap (λ (t : Table). stillGiven (rulesOf t) words) (same-left u l) ∙ sym (k .result);
+        clash = λ u l places r exit h s kept k. (
+          h .result ∙ ap (λ (t : Table). clashGiven (rulesOf t) places) (same-left u l) ∙ sym (k .result),
+          h .written ∙ ap (λ (t : Table). clashPlaces (rulesOf t) places) (same-left u l) ∙ sym (k .written),
+        );
       }
 
   -- ---- document 02, T-06
@@ -508,6 +544,46 @@ module _ (cs : List Call) where
   reasons : Reasons (standing cs) (run cs)
   reasons = record { accepted = accepted; written = tree-closed; told = tree-or-plan }
 
+  -- ---- which rules clash
+
+  clash-is : (places : List Bool) (r : ClashResult) (exit : List Bool) → GivesClash (run cs) places r exit → (n : ℕ) → clashOutcome (r .answer) ≡ Outcome.Clash n
+      → (gs : List (Formula Name)) → AreRules (standing cs) gs → IsClash gs (take n exit)
+  clash-is places r exit h n e gs rules =
+      let had = had-places (standing cs) (length places) (clashOutcome (r .answer)) (clash-exact places r exit h .row) n e in
+      let set = clashOf fs in
+      let is : IsClash fs set = clash-exactly fs (had .2) set .0 refl in
+      let many : n ≡ length (standing cs) = counted (clashOutcome (r .answer)) (clash-exact places r exit h .row) e in
+      let long : length set ≡ n = clash-length fs ∙ length-map (standing cs) meaningOf ∙ sym many in
+      let first : take n exit ≡ set = ap (take n) (clashed-by places r exit h .1 ∙ clash-written (standing cs) places fs (had .0) are set is (had .1)) ∙ take-at set _ n long in
+      subst (λ (hs : List (Formula Name)). IsClash hs (take n exit)) (table.formulas-one (standing cs) fs gs are rules) (subst (IsClash fs) (sym first) is)
+    where
+      counted : {room n : ℕ} (o : Outcome) → ClashRow (standing cs) room o → o ≡ Outcome.Clash n → n ≡ length (standing cs)
+      counted o (ClashRow.none z) f = absurd (let z : _≡_ {A = ℕ} 0 1 = cc in omega arith)
+      counted o (ClashRow.plan some others F counts meets) f = absurd (let z : _≡_ {A = ℕ} 0 1 = cc in omega arith)
+      counted o (ClashRow.short some others never l) f = absurd (let z : _≡_ {A = ℕ} 0 1 = cc in omega arith)
+      counted o (ClashRow.clash some others never l) f = cc
+
+  clashing : Clashing (standing cs) (run cs)
+  clashing =
+      record {
+        answered = λ places r exit h room lent s words k. (
+          λ e. let had = had-places (standing cs) (length places) (clashOutcome (r .answer)) (clash-exact places r exit h .row) (length (standing cs)) e in
+              sym (ask-exactly plain lent s words k .only Outcome.NoPlan (AskRow.without (had .0) are (had .2))),
+          λ e. said-clash places r exit h room (askOutcome (s .answer)) (ask-exactly plain lent s words k .row) e,
+        );
+        is = clash-is;
+        none = λ places r exit h n e gs rules. clash-none-meets gs (take n exit) (clash-is places r exit h n e gs rules);
+        needed = λ places r exit h n e gs rules. clash-needed gs (take n exit) (clash-is places r exit h n e gs rules);
+      }
+    where
+      said-clash : (places : List Bool) (r : ClashResult) (exit : List Bool) → GivesClash (run cs) places r exit → length (standing cs) ≤ length places → {lent : ℕ} (o : Outcome)
+          → AskRow plain (standing cs) lent o → o ≡ Outcome.NoPlan → clashOutcome (r .answer) ≡ Outcome.Clash (length (standing cs))
+      said-clash places r exit h room o (AskRow.none z) f = absurd (let z : _≡_ {A = ℕ} 0 1 = cc in omega arith)
+      said-clash places r exit h room o (AskRow.without some rules never) f =
+          sym (clash-exact places r exit h .only (Outcome.Clash (length (standing cs))) (ClashRow.clash some rules never room))
+      said-clash places r exit h room o (AskRow.short some rules g l) f = absurd (let z : _≡_ {A = ℕ} 0 1 = cc in omega arith)
+      said-clash places r exit h room o (AskRow.given some rules g l) f = absurd (let z : _≡_ {A = ℕ} 0 1 = cc in omega arith)
+
 -- ---- the calls of the code
 
 -- what holds of the computed table and rules holds of the table that is left and of the rules that stand
@@ -529,3 +605,6 @@ reasons-hold cs = carried cs Reasons (reasons cs)
 
 pub in-hand-holds : (cs : List Call) (t : Table) (rs : List Text) → Leaves cs t → Stands cs rs → InHand rs t
 in-hand-holds cs = carried cs InHand (in-hand cs)
+
+pub rules-clash : (cs : List Call) (t : Table) (rs : List Text) → Leaves cs t → Stands cs rs → Clashing rs t
+rules-clash cs = carried cs Clashing (clashing cs)

@@ -22,8 +22,8 @@ use Rattle.table.specs.declared.Outcome.the-variants as Outcome
 use Rattle.table.specs.Sheet.{Text}
 use Rattle.table.specs.Rules.{AreRules, CanStand}
 use Rattle.table.specs.Calls.{FromUs}
-use Rattle.table.specs.Numbers.{askOutcome, printOutcome, explainOutcome}
-use Rattle.table.specs.Rows.{AskRow, PrintRow, ExplainRow}
+use Rattle.table.specs.Numbers.{askOutcome, printOutcome, explainOutcome, clashOutcome}
+use Rattle.table.specs.Rows.{AskRow, PrintRow, ExplainRow, ClashRow}
 use Rattle.table.specs.Stands.{Call, Stands}
 use Rattle.table.specs.Runs.{run, standing}
 use Rattle.table.proofs.Rules.{are-one}
@@ -61,6 +61,12 @@ module _ (rs : List Text) (h : CanStand rs) where
   explain-fits room l o (ExplainRow.short {fs} w some are is s) n e = omega (arith, l, s, tree-few fs are w is)
   explain-fits room l o (ExplainRow.tree w some are is s) n e = absurd (let z : _≡_ {A = ℕ} 0 1 = cc in omega arith)
 
+  clash-fits : (room : ℕ) → 16 ≤ room → (o : Outcome) → ClashRow rs room o → (n : ℕ) → o ≡ Outcome.Refused 12 n → ⊥
+  clash-fits room l o (ClashRow.none z) n e = absurd (let z : _≡_ {A = ℕ} 11 12 = cc in omega arith)
+  clash-fits room l o (ClashRow.plan some are F counts meets) n e = absurd (let z : _≡_ {A = ℕ} 17 12 = cc in omega arith)
+  clash-fits room l o (ClashRow.short some are never s) n e = omega (arith, l, s, h .few)
+  clash-fits room l o (ClashRow.clash some are never s) n e = absurd (let z : _≡_ {A = ℕ} 0 1 = cc in omega arith)
+
 print-fits : (rs : List Text) (k room : ℕ) → 256 ≤ room → (o : Outcome) → PrintRow rs k room o → (n : ℕ) → o ≡ Outcome.Refused 12 n → ⊥
 print-fits rs k room l o (PrintRow.none z) n e = absurd (let z : _≡_ {A = ℕ} 10 12 = cc in omega arith)
 print-fits rs k room l o (PrintRow.short {s} {f} at rule x) n e = omega (arith, l, x, never-longer s f rule, rule .short)
@@ -76,6 +82,7 @@ enough-room cs t l =
       ask = λ q buffer r exit h room. ask-fits rs can q (length buffer) room (askOutcome (r .answer)) (answered .ask q buffer r exit h .row);
       explain = λ buffer r exit h room. explain-fits rs can (length buffer) room (explainOutcome (r .answer)) (answered .explain buffer r exit h .row);
       print = λ k buffer r exit h room. print-fits rs k (length buffer) room (printOutcome (r .answer)) (answered .print k buffer r exit h .row);
+      clash = λ places r exit h room. clash-fits rs can (length places) room (clashOutcome (r .answer)) (answered .clash places r exit h .row);
     }
 
 pub from-us-exactly : (t : Table) → FromUs t ↔ ((cs : List Call) × Leaves cs t)

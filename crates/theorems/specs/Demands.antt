@@ -1,14 +1,14 @@
 -- What is meant: the customer's three demands, each as one statement about a list of calls from the empty table. The list is any list of
--- add, withdraw, load, ask for either question, judge, print, explain, check_tree and still, refused ones included, each with any text, number, buffer or plan words; the standing rules rs are those that
+-- add, withdraw, load, ask for either question, judge, print, explain, check_tree, still and clash, refused ones included, each with any text, number, buffer, plan words or places; the standing rules rs are those that
 -- `Stands` makes of the calls alone, by the rows of the table of calls, and their formulas those that the grammar derives. The calls of
--- the code come in by their contracts (Adds, Withdraws, Loads, Asks, Judges, Prints, Explains, Checks, StillDoes, Reads): what holds of every result that a contract allows
+-- the code come in by their contracts (Adds, Withdraws, Loads, Asks, Judges, Prints, Explains, Checks, StillDoes, GivesClash, Reads): what holds of every result that a contract allows
 -- holds of what the code gives. Assumes nothing.
 use Prim.Native.Nat.{ℕ, _≤_, _<_}
 use mathlib.Core.Path.{_≡_}
 use mathlib.Core.Logic.{_↔_}
-use mathlib.Core.Bool.{true}
+use mathlib.Core.Bool.{Bool, true, false}
 use mathlib.Core.List.{List, [], _∷_, _++_}
-use lib.ListN.{length, take}
+use lib.ListN.{length, getD, set, take, drop}
 use Rattle.formula.specs.Formula.{Formula, Name}
 use Rattle.lists.specs.Search.{In}
 use Rattle.lists.specs.Buffer.{over}
@@ -33,6 +33,7 @@ use Rattle.table.specs.declared.PrintResult.{PrintResult}
 use Rattle.table.specs.declared.ExplainResult.{ExplainResult}
 use Rattle.table.specs.declared.CheckResult.{CheckResult}
 use Rattle.table.specs.declared.StillResult.{StillResult}
+use Rattle.table.specs.declared.ClashResult.{ClashResult}
 use Rattle.table.specs.Store.{tableOf}
 use Rattle.table.specs.Sheet.{Text}
 use Rattle.table.specs.Rules.{AreRules}
@@ -41,11 +42,13 @@ use Rattle.table.specs.Asking.{Asks, Judges}
 use Rattle.table.specs.Printing.{Prints}
 use Rattle.table.specs.Explaining.{Explains, Checks}
 use Rattle.table.specs.Still.{StillDoes}
+use Rattle.table.specs.Clashing.{GivesClash}
+use Rattle.clashing.specs.Clash.{chosen, NoneMeets, SomeMeets, IsClash}
 use Rattle.trees.specs.Trees.{Tree, wordsOf as treeWords}
 use Rattle.trees.specs.OfRules.{IsWrittenTree}
 use Rattle.printing.specs.Text.{textOf}
-use Rattle.table.specs.Numbers.{addOutcome, withdrawOutcome, loadOutcome, askOutcome, judgeOutcome, printOutcome, explainOutcome, checkOutcome, stillOutcome}
-use Rattle.table.specs.Rows.{AddRow, WithdrawRow, LoadRow, SomeStand, AskRow, Decodes, floorOf, JudgeRow, IsKth, PrintRow, ExplainRow, CheckRow, Drawn, StillRow}
+use Rattle.table.specs.Numbers.{addOutcome, withdrawOutcome, loadOutcome, askOutcome, judgeOutcome, printOutcome, explainOutcome, checkOutcome, stillOutcome, clashOutcome}
+use Rattle.table.specs.Rows.{AddRow, WithdrawRow, LoadRow, SomeStand, AskRow, Decodes, floorOf, JudgeRow, IsKth, PrintRow, ExplainRow, CheckRow, Drawn, StillRow, ClashRow}
 use Rattle.table.specs.Stands.{Call, adds}
 use Rattle.plan.specs.Meant.{IsGiven, FirstUnmet}
 
@@ -62,6 +65,7 @@ pub data Called : Table → List Call → Table → Type 0 where
   explain : {t : Table} {buffer : List ℕ} {r : ExplainResult} {exit : List ℕ} {cs : List Call} {u : Table} → Explains t buffer r exit → Called (r .table) cs u → Called t (Call.explain buffer ∷ cs) u
   check : {t : Table} {words : List ℕ} {r : CheckResult} {cs : List Call} {u : Table} → Checks t words r → Called (r .table) cs u → Called t (Call.check words ∷ cs) u
   still : {t : Table} {words : List ℕ} {r : StillResult} {cs : List Call} {u : Table} → StillDoes t words r → Called (r .table) cs u → Called t (Call.still words ∷ cs) u
+  clash : {t : Table} {places : List Bool} {r : ClashResult} {exit : List Bool} {cs : List Call} {u : Table} → GivesClash t places r exit → Called (r .table) cs u → Called t (Call.clash places ∷ cs) u
 
 -- "from an empty table", which is what `Table::empty` gives
 abbrev pub Leaves : List Call → Table → Type 0
@@ -113,6 +117,12 @@ pub record Answered (rs : List Text) (t : Table) : Type 0 where
   -- document 02, T-09
   pub still : (words : List ℕ) (r : StillResult) → StillDoes t words r → Exactly (StillRow rs words) (stillOutcome (r .answer))
   pub still-same : (words : List ℕ) (r : StillResult) → StillDoes t words r → r .table ≡ t
+  -- which rules clash: "Lent places: one a standing rule, true exactly for the set's rules, places past them kept; all kept for another answer."
+  pub clash : (places : List Bool) (r : ClashResult) (exit : List Bool) → GivesClash t places r exit → Exactly (ClashRow rs (length places)) (clashOutcome (r .answer))
+  pub clash-same : (places : List Bool) (r : ClashResult) (exit : List Bool) → GivesClash t places r exit → r .table ≡ t
+  pub clash-written : (places : List Bool) (r : ClashResult) (exit : List Bool) → GivesClash t places r exit → (fs : List (Formula Name)) → AreRules rs fs → (s : List Bool) → IsClash fs s
+      → clashOutcome (r .answer) ≡ Outcome.Clash (length s) → exit ≡ s ++ drop (length s) places
+  pub clash-kept : (places : List Bool) (r : ClashResult) (exit : List Bool) → GivesClash t places r exit → ((n : ℕ) → clashOutcome (r .answer) ≡ Outcome.Clash n → ⊥) → exit ≡ places
 
 -- ---- demand 2: "Rule text is read as the grammar of document 01 has it, and a plan given meets every standing rule .. Plan words read
 -- back give the plan that was written, and a stranger's plan is judged by the same definition."
@@ -206,6 +216,8 @@ pub record Same (rs : List Text) (t : Table) : Type 0 where
       → (s : ExplainResult) (words : List ℕ) → Explains u buffer s words → (r ≡ s) × (exit ≡ words)
   pub check : (u : Table) → Leaves (adds rs) u → (words : List ℕ) (r : CheckResult) → Checks t words r → (s : CheckResult) → Checks u words s → r ≡ s
   pub still : (u : Table) → Leaves (adds rs) u → (words : List ℕ) (r : StillResult) → StillDoes t words r → (s : StillResult) → StillDoes u words s → r ≡ s
+  pub clash : (u : Table) → Leaves (adds rs) u → (places : List Bool) (r : ClashResult) (exit : List Bool) → GivesClash t places r exit
+      → (s : ClashResult) (left : List Bool) → GivesClash u places s left → (r ≡ s) × (exit ≡ left)
 
 -- ---- room: a buffer that never gets 12
 
@@ -226,6 +238,9 @@ pub record EnoughRoom (t : Table) : Type 0 where
       → (needed : ℕ) → explainOutcome (r .answer) ≡ Outcome.Refused 12 needed → ⊥
   pub print : (k : ℕ) (buffer : List ℕ) (r : PrintResult) (exit : List ℕ) → Prints t k buffer r exit → 256 ≤ length buffer
       → (needed : ℕ) → printOutcome (r .answer) ≡ Outcome.Refused 12 needed → ⊥
+  -- at most 16 rules stand
+  pub clash : (places : List Bool) (r : ClashResult) (exit : List Bool) → GivesClash t places r exit → 16 ≤ length places
+      → (needed : ℕ) → clashOutcome (r .answer) ≡ Outcome.Refused 12 needed → ⊥
 
 -- ---- document 02, T-06: the reasons
 
@@ -249,3 +264,20 @@ pub record InHand (rs : List Text) (t : Table) : Type 0 where
   -- "It is "no" exactly when the full question would have no plan, for any lent words, damaged ones too."
   pub no : (words : List ℕ) (r : StillResult) → StillDoes t words r → (lent : List ℕ) (s : AskResult) (exit : List ℕ) → Asks plain t lent s exit
       → (stillOutcome (r .answer) ≡ Outcome.No) ↔ (askOutcome (s .answer) ≡ Outcome.NoPlan)
+
+-- ---- which rules clash
+
+pub record Clashing (rs : List Text) (t : Table) : Type 0 where
+  -- "clash has an answer exactly where ask says "no plan"", where it is lent a place for each rule
+  pub answered : (places : List Bool) (r : ClashResult) (exit : List Bool) → GivesClash t places r exit → length rs ≤ length places
+      → (buffer : List ℕ) (s : AskResult) (words : List ℕ) → Asks plain t buffer s words
+      → (clashOutcome (r .answer) ≡ Outcome.Clash (length rs)) ↔ (askOutcome (s .answer) ≡ Outcome.NoPlan)
+  -- the places have the set that is meant
+  pub is : (places : List Bool) (r : ClashResult) (exit : List Bool) → GivesClash t places r exit → (n : ℕ) → clashOutcome (r .answer) ≡ Outcome.Clash n
+      → (fs : List (Formula Name)) → AreRules rs fs → IsClash fs (take n exit)
+  -- "no such floor meets all rules of the set"
+  pub none : (places : List Bool) (r : ClashResult) (exit : List Bool) → GivesClash t places r exit → (n : ℕ) → clashOutcome (r .answer) ≡ Outcome.Clash n
+      → (fs : List (Formula Name)) → AreRules rs fs → NoneMeets (namesOf fs) (chosen (take n exit) fs)
+  -- "for each rule of the set some such floor meets the others"
+  pub needed : (places : List Bool) (r : ClashResult) (exit : List Bool) → GivesClash t places r exit → (n : ℕ) → clashOutcome (r .answer) ≡ Outcome.Clash n
+      → (fs : List (Formula Name)) → AreRules rs fs → (i : ℕ) → getD (take n exit) i false ≡ true → SomeMeets (namesOf fs) (chosen (set (take n exit) i false) fs)

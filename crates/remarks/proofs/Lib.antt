@@ -1,0 +1,5 @@
+pub mod Parts
+pub mod Standing
+pub mod Lines
+pub mod Examples
+pub mod Claims
