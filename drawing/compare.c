@@ -228,7 +228,7 @@ static void ask_program(const char *program, const char *path) {
     if (file == NULL || fwrite(sheet, 1, sheet_len, file) != sheet_len || fclose(file) != 0) {
         fail("no file written");
     }
-    snprintf(command, sizeof command, "'%s' < '%s'", program, path);
+    snprintf(command, sizeof command, "'%s' < '%s' 2> /dev/null", program, path);
     refused = line = place = points = words = 0;
     number_names();
     FILE *said = popen(command, "r");
