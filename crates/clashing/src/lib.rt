@@ -13,7 +13,7 @@ use search::Asked;
 use solver::RowAnswer;
 
 // What is answered: which rules clash, at so many places, that a plan exists, or the places needed.
-#[derive(Drop)]
+#[derive(Clone, Copy)]
 pub enum Clashed {
     Places(usize),
     PlanExists,
@@ -24,7 +24,7 @@ pub enum Clashed {
 const RULES: usize = 16;
 
 // The rules that are chosen, but for their code, which is lent: where the code of each ends, and how many they are.
-#[derive(Drop)]
+#[derive(Clone, Copy)]
 struct Chosen {
     ends: [usize; RULES],
     count: usize,

@@ -20,7 +20,7 @@ use lexer::{
 use search::{ATOMS, Chart};
 
 // The different atoms: their chart, and how many symbols the terms of each have. The symbols are lent (spelling keeps them).
-#[derive(Drop)]
+#[derive(Clone, Copy)]
 pub struct Atoms {
     pub chart: Chart,
     pub lens: [u8; ATOMS],
@@ -28,7 +28,7 @@ pub struct Atoms {
 
 // The atoms with the rule's behind them, the place after the rule's code, and whether sixteen atoms are enough. Where they are
 // not, nothing is said of the rest.
-#[derive(Drop)]
+#[derive(Clone, Copy)]
 pub struct CompiledRule {
     pub atoms: Atoms,
     pub end: usize,
@@ -237,7 +237,7 @@ fn whole(chart: Chart, lens: [u8; ATOMS], end: usize, enough: bool) -> CompiledR
 }
 
 // How far the terms are passed: how many sets are on the stack, symbols in the row, and names behind.
-#[derive(Drop)]
+#[derive(Clone, Copy)]
 struct Passed {
     height: usize,
     len: usize,

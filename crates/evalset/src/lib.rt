@@ -16,13 +16,13 @@ pub const ROOM: usize = 256;
 pub const NAMES: usize = 8;
 
 // A set of evaluations: bit e % 64 of word e / 64 is set if evaluation e is in it.
-#[derive(Drop)]
+#[derive(Clone, Copy)]
 pub struct EvalSet {
     pub words: [u64; 4],
 }
 
 // An evaluation, or none.
-#[derive(Drop)]
+#[derive(Clone, Copy)]
 pub enum Found {
     At(usize),
     Nothing,

@@ -20,7 +20,7 @@ use syntax::Judged;
 const ROOM: usize = 56520;
 
 // What is answered: the book, of so many bytes, or that it needs so many.
-#[derive(Drop)]
+#[derive(Clone, Copy)]
 pub enum BookAnswer {
     Text(usize),
     ShortBuffer(usize),

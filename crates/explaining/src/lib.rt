@@ -19,7 +19,7 @@ use search::{ATOMS, Asked, Chart};
 use solver::RowAnswer;
 
 // What the writer answers: a tree of so many words, that a plan exists, or the words needed.
-#[derive(Drop)]
+#[derive(Clone, Copy)]
 pub enum Explanation {
     Tells(usize),
     PlanExists,

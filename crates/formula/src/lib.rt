@@ -5,7 +5,7 @@ ghost use Rattle.std.specs.Prelude.{◌≡◌};
 ghost use Rattle.formula.specs.Sign.{level_of, joins_terms};
 
 // The binary signs: -> <-> | & join formulas, + * join terms.
-#[derive(Drop)]
+#[derive(Clone, Copy)]
 pub enum Sign {
     Implies,
     Iff,

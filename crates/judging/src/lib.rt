@@ -18,7 +18,7 @@ use plan::{PlanArrays, PlanPoints};
 use search::{ATOMS, Chart};
 
 // What judging a plan answers: it meets every rule, or the number of the lowest rule that it does not meet, from 1, or it is uncovered.
-#[derive(Drop)]
+#[derive(Clone, Copy)]
 pub enum Judged {
     Yes,
     Unmet(usize),

@@ -8,7 +8,7 @@ ghost use Rattle.kleene.specs.Code.{Safe};
 ghost use Rattle.kleene.specs.Rails.{duo, no_of, sure, push_of, exec, word_rows, whole_at, rails_at};
 
 // A value for each row: where it is surely true, and where surely false.
-#[derive(Drop)]
+#[derive(Clone, Copy)]
 pub struct Words {
     pub yes: u64,
     pub no: u64,

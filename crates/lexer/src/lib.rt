@@ -12,7 +12,7 @@ ghost use Rattle.lexer.specs.Arrays.{code_of, tokens_of, lexed};
 ghost use Rattle.lexer.specs.Steps.{sign_of, minus_sign, less_sign, equals_sign, resume, refusal, finish};
 
 // The class of a byte.
-#[derive(Drop)]
+#[derive(Clone, Copy)]
 pub enum Class {
     Blank,
     Alphanumeric,
@@ -21,7 +21,7 @@ pub enum Class {
 }
 
 // What a token is.
-#[derive(Drop)]
+#[derive(Clone, Copy)]
 pub enum Kind {
     Implies,
     Iff,
@@ -45,7 +45,7 @@ pub enum Kind {
 }
 
 // What stands first in a text: a blank byte, a token with its length in bytes, or what is refused.
-#[derive(Drop)]
+#[derive(Clone, Copy)]
 enum Piece {
     Blank,
     Token(Kind, u8),
@@ -56,7 +56,7 @@ enum Piece {
 
 // How a text is answered. What is refused carries its place; a text that is too long, or has no
 // token, has none.
-#[derive(Drop)]
+#[derive(Clone, Copy)]
 pub enum LexAnswer {
     Tokens,
     TooLong,
@@ -68,7 +68,7 @@ pub enum LexAnswer {
 
 // The tokens of a text: the first n entries of each array. The entries past them are 0. A place in
 // a text of at most 256 bytes fits a byte.
-#[derive(Drop)]
+#[derive(Clone, Copy)]
 pub struct Tokens {
     pub kinds: [u8; 256],
     pub starts: [u8; 256],
@@ -77,7 +77,7 @@ pub struct Tokens {
 }
 
 // The answer, and the tokens beside it: none for a refusal.
-#[derive(Drop)]
+#[derive(Clone, Copy)]
 pub struct Lexed {
     pub answer: LexAnswer,
     pub tokens: Tokens,

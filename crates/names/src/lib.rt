@@ -14,21 +14,21 @@ use lexer::NAME;
 use syntax::Rule;
 
 // A name's bytes, zeros after them.
-#[derive(Drop)]
+#[derive(Clone, Copy)]
 pub struct KeptName {
     pub bytes: [u8; 16],
     pub len: u8,
 }
 
 // The names in the order of their numbers; the entries past them are empty.
-#[derive(Drop)]
+#[derive(Clone, Copy)]
 pub struct Names {
     pub list: [KeptName; NAMES],
     pub count: usize,
 }
 
 // Whether eight names are enough, or where the ninth different one stands first.
-#[derive(Drop)]
+#[derive(Clone, Copy)]
 pub enum NamesAnswer {
     Enough,
     TooManyNames(usize),
@@ -36,7 +36,7 @@ pub enum NamesAnswer {
 
 // The names that are known after a text, the numbers of the names in it, place by place with zeros after
 // them, and the answer. At a ninth name these are the names and numbers before it.
-#[derive(Drop)]
+#[derive(Clone, Copy)]
 pub struct Gathered {
     pub names: Names,
     pub numbers: [u8; 256],

@@ -23,7 +23,7 @@ ghost use Rattle.plan.specs.Private.{plan_of, Opens, pointing_of, PointsCome, Po
 use evalset::{EvalSet, Found, ROOM};
 
 // A plan: the evaluations of its points, ascending, and the square of contacts, one row for each point, four words a row.
-#[derive(Drop)]
+#[derive(Clone, Copy)]
 pub struct PlanArrays {
     pub names: u8,
     pub count: usize,
@@ -32,7 +32,7 @@ pub struct PlanArrays {
 }
 
 // A plan without its contacts, which are lent beside it.
-#[derive(Drop)]
+#[derive(Clone, Copy)]
 pub struct PlanPoints {
     pub names: u8,
     pub count: usize,
@@ -40,56 +40,56 @@ pub struct PlanPoints {
 }
 
 // What reading words answers: a plan, or refusal 13 and its index.
-#[derive(Drop)]
+#[derive(Clone, Copy)]
 pub enum PlanAnswer {
     Plan,
     Refused(usize),
 }
 
 // The answer and the plan beside it: the blank one where the words are refused.
-#[derive(Drop)]
+#[derive(Clone, Copy)]
 pub struct PlanRead {
     pub answer: PlanAnswer,
     pub plan: PlanArrays,
 }
 
 // What the first word says: the names and the number of points of a plan, or nothing that a plan starts with.
-#[derive(Drop)]
+#[derive(Clone, Copy)]
 enum Opening {
     Plan { names: u8, count: usize },
     Wrong,
 }
 
 // What a word says where a point is wanted.
-#[derive(Drop)]
+#[derive(Clone, Copy)]
 enum Pointing {
     Evaluation(u8),
     Wrong,
 }
 
 // Whether all points were read, or refusal 13 and its index.
-#[derive(Drop)]
+#[derive(Clone, Copy)]
 enum PointsAnswer {
     All,
     Refused(usize),
 }
 
 // The points, and beside them whether all were read.
-#[derive(Drop)]
+#[derive(Clone, Copy)]
 struct PointsRead {
     answer: PointsAnswer,
     points: [u8; ROOM],
 }
 
 // What a word says after the points: one more contact, or what all words are.
-#[derive(Drop)]
+#[derive(Clone, Copy)]
 enum Linking {
     Pair { smaller: usize, larger: usize },
     Over(PlanAnswer),
 }
 
 // What a word says; Other is a word of no kind, or one with an unnamed bit set.
-#[derive(Drop)]
+#[derive(Clone, Copy)]
 enum Word {
     First { names: u32, points: u32 },
     Point(u32),
@@ -409,14 +409,14 @@ pub fn read_plan(words: &[u32]) -> PlanRead
 }
 
 // A set as a list.
-#[derive(Drop)]
+#[derive(Clone, Copy)]
 struct Listed {
     count: usize,
     points: [u8; ROOM],
 }
 
 // What writing a plan answers: its number of words, or, where the buffer is too short, the number needed.
-#[derive(Drop)]
+#[derive(Clone, Copy)]
 pub enum Written {
     Words(usize),
     Needs(usize),

@@ -49,14 +49,14 @@ const ROWS: [u8; 200] = *b"\
     \x05(\x02*\x03)..";
 
 // How many bytes were written, or how many are needed.
-#[derive(Drop)]
+#[derive(Clone, Copy)]
 pub enum Printed {
     Text(usize),
     Needs(usize),
 }
 
 // How many symbols of a rule's order, and how many of its tokens, lead up to the end of a formula.
-#[derive(Drop)]
+#[derive(Clone, Copy)]
 struct Place {
     order: usize,
     tokens: usize,
@@ -89,7 +89,7 @@ fn put(out: &mut [u8], at: usize, w: &[u8])
     requires { at + length w.now ≤ length out.old }
     ensures { out.new ≡ sets out.old at w.now }
 {
-    bytes::copy(w, &mut out[at..]);
+    out[at..at + w.len()].copy_from_slice(w);
 }
 
 // The jobs of a row put on the stack: its height after them.
@@ -161,7 +161,7 @@ fn print_to(text: &[u8], rule: Rule, place: Place, buffer: &mut [u8]) -> Printed
     if buffer.len() < n {
         return Printed::Needs(n);
     }
-    bytes::copy(&made[from..256], buffer);
+    buffer[..n].copy_from_slice(&made[from..256]);
     Printed::Text(n)
 }
 

@@ -28,7 +28,7 @@ const RULE: usize = 256;
 const LINE_END: u8 = 10;
 
 // What can stand at a place.
-#[derive(Drop)]
+#[derive(Clone, Copy)]
 pub enum Expected {
     Formula,
     Region,

@@ -44,21 +44,21 @@ pub const BUILDING: usize = 32642;
 const KIND: u32 = 0x1000_0000;
 
 // What is answered for a sheet: a text of so many bytes, which is in the buffer, or one of so many words, whose lines are given in pieces.
-#[derive(Drop)]
+#[derive(Clone, Copy)]
 pub enum TextAnswer {
     Text(usize),
     Lines(usize),
 }
 
 // A piece of a text: its bytes, and the index of the word whose line is next.
-#[derive(Drop)]
+#[derive(Clone, Copy)]
 pub struct Piece {
     pub len: usize,
     pub next: usize,
 }
 
 // What is handed back for a plan: with the answer, the names, of which the lines speak.
-#[derive(Drop)]
+#[derive(Clone, Copy)]
 pub struct PlanResult {
     pub answer: TextAnswer,
     pub names: Names,
@@ -455,7 +455,7 @@ pub fn as_read(file: &[u8], out: &mut [u8; ROOM]) -> usize
 pub const TREE: usize = 131071;
 
 // What `why` hands back: for a tree, the texts of the atoms by their numbers.
-#[derive(Drop)]
+#[derive(Clone, Copy)]
 pub struct WhyResult {
     pub answer: TextAnswer,
     pub atoms: [AtomText; 16],

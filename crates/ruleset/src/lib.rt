@@ -29,7 +29,7 @@ use trees::Verdict;
 
 // What is known of rules, but for the symbols of their atoms' terms, which are lent: their names, their different atoms, and how many
 // rules there are.
-#[derive(Drop)]
+#[derive(Clone, Copy)]
 pub struct Known {
     pub names: Names,
     pub atoms: Atoms,
@@ -37,7 +37,7 @@ pub struct Known {
 }
 
 // Whether there is room for a rule, or why not: refusals 7, with its place, and 8.
-#[derive(Drop)]
+#[derive(Clone, Copy)]
 pub enum RoomAnswer {
     Room,
     TooManyNames(usize),
@@ -46,7 +46,7 @@ pub enum RoomAnswer {
 
 // What is known with a rule put last, where its code ends, and whether there is room for it; where there is none, nothing is said of
 // the rest.
-#[derive(Drop)]
+#[derive(Clone, Copy)]
 pub struct Grown {
     pub known: Known,
     pub end: usize,
@@ -54,14 +54,14 @@ pub struct Grown {
 }
 
 // What is compiled so far, but for the code, which is lent: what is known, and where the code of each rule ends.
-#[derive(Drop)]
+#[derive(Clone, Copy)]
 pub struct Compiling {
     pub known: Known,
     pub ends: [usize; 16],
 }
 
 // A place of an atom in rules: the number of the rule, and the atom's number among those of the rule, both from 0.
-#[derive(Drop)]
+#[derive(Clone, Copy)]
 pub struct AtomPlace {
     pub rule: usize,
     pub atom: usize,

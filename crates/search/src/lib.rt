@@ -18,7 +18,7 @@ ghost use Rattle.search.specs.Building.{PieceSays, met_of, MetSays, FoundSays, B
 use evalset::{EvalSet, Found, ROOM};
 
 // What is asked: document 01's question, or document 02's of one building.
-#[derive(Drop)]
+#[derive(Clone, Copy)]
 pub enum Asked {
     Plain,
     Building,
@@ -29,7 +29,7 @@ pub const ATOMS: usize = 16;
 
 // The chart of a list of rules: for each of their atoms whether it is a contact, and its first and second term as sets of
 // evaluations. Of a zero atom xs has the zero term, and ys is empty.
-#[derive(Drop)]
+#[derive(Clone, Copy)]
 pub struct Chart {
     pub names: usize,
     pub atoms: usize,
@@ -39,7 +39,7 @@ pub struct Chart {
 }
 
 // The first piece of a row: whether one meets the row, and its evaluations, none where there is no such piece.
-#[derive(Drop)]
+#[derive(Clone, Copy)]
 struct FoundPiece {
     found: bool,
     piece: EvalSet,

@@ -12,7 +12,7 @@ use small_sheets::{
 // bit e for evaluation e.
 
 // The points of a floor, and for each evaluation those in contact with it.
-#[derive(Drop)]
+#[derive(Clone, Copy)]
 pub struct Floor {
     pub points: u8,
     pub touch: [u8; 8],
@@ -22,7 +22,7 @@ pub struct Floor {
 // uppermost that of the first operand; the numbers of the form's atoms, and how many atoms are still to come; the row so far, a number
 // with atom 0 as its highest bit, so that of two rows the first is the larger; whether every rule so far is met; and whether all of it
 // was evaluated.
-#[derive(Drop)]
+#[derive(Clone, Copy)]
 pub struct Machine {
     pub values: [u8; 32],
     pub height: usize,
@@ -314,14 +314,14 @@ pub fn on_floor(code: &[u8], numbers: Numbers, floor: Floor) -> Machine {
 pub const UNWRITTEN: u32 = 0xFFFF_FFFF;
 
 // The first words of a buffer, so many.
-#[derive(Drop)]
+#[derive(Clone, Copy)]
 pub struct Words {
     pub words: [u32; 64],
     pub count: usize,
 }
 
 // The floor that some words have, and the evaluations of its points in the words' order.
-#[derive(Drop)]
+#[derive(Clone, Copy)]
 struct Reading {
     floor: Floor,
     order: [u8; 8],

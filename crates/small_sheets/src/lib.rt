@@ -55,7 +55,7 @@ pub const RULE: u8 = 19;
 
 // A sheet: its lines, each ended by byte 10, and its form, each with how many bytes of the array it has; the names that the form has; the
 // number of the line that is withdrawn, which the form leaves out, or 0; and whether there was room for all of it.
-#[derive(Drop)]
+#[derive(Clone, Copy)]
 pub struct Sheet {
     pub text: [u8; 1100],
     pub end: usize,
@@ -127,7 +127,7 @@ const EXCHANGED_OUTSIDE: u8 = 205;
 // An item is a byte of text, a formula or a term with so many leaves in a place of some level (from 128 on), a name (from 192 on), one of
 // the six above, or a sign of the form (from 224 on). Levels are document 01's, loosest first: 0 -> and <->, 1 | and +, 2 & and *,
 // 3 ~ and -.
-#[derive(Drop)]
+#[derive(Clone, Copy)]
 struct Maker {
     items: [u8; 64],
     height: usize,
@@ -800,7 +800,7 @@ fn worked_sheet(k: u64) -> Sheet
 
 // The atoms of a form in their order: the number of each, how many there are, where those stand that are the first with their number,
 // how many numbers there are, and whether a contact stands with its terms exchanged.
-#[derive(Drop)]
+#[derive(Clone, Copy)]
 pub struct Numbers {
     pub of: [u8; 32],
     pub places: usize,

@@ -23,7 +23,7 @@ use pairing::PLACES;
 use search::{ATOMS, Asked, Chart};
 
 // What the search answers: a row by its number, or none.
-#[derive(Drop)]
+#[derive(Clone, Copy)]
 pub enum RowAnswer {
     At(usize),
     Nothing,
@@ -31,7 +31,7 @@ pub enum RowAnswer {
 
 // How a search cuts the atoms: the first k number the blocks, the next w the words of a block, the last r the rows of a word. With
 // the contacts, and whether some pair serves no atom (`lone`), or none above the last r (`above`); and what is asked.
-#[derive(Drop)]
+#[derive(Clone, Copy)]
 struct Cut {
     asked: Asked,
     k: usize,

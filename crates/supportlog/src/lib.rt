@@ -27,7 +27,7 @@ const GREATEST: usize = 9999;
 const NO_FORM: usize = 19;
 
 // What a line is: "+" and a text, "-" and a number, "?" alone, or none of these.
-#[derive(Drop)]
+#[derive(Clone, Copy)]
 pub enum Form {
     Add,
     Withdraw(usize),
@@ -36,7 +36,7 @@ pub enum Form {
 }
 
 // How a line is answered: a plan with its number of words, a refusal with its number and what it carries.
-#[derive(Drop)]
+#[derive(Clone, Copy)]
 pub enum LineAnswer {
     Added,
     Withdrawn,
@@ -46,14 +46,14 @@ pub enum LineAnswer {
 }
 
 // What a line hands back.
-#[derive(Drop)]
+#[derive(Clone, Copy)]
 pub struct LineResult {
     pub table: Table,
     pub answer: LineAnswer,
 }
 
 // The same beside the tally after it.
-#[derive(Drop)]
+#[derive(Clone, Copy)]
 pub struct Lined {
     pub result: LineResult,
     pub tally: Tally,
@@ -276,7 +276,7 @@ fn kept(line: &[u8]) -> usize
 }
 
 // A log run so far: the table and the tally after its lines, the place of the next one, and the bytes of the piece that was put last.
-#[derive(Drop)]
+#[derive(Clone, Copy)]
 pub struct LogState {
     pub table: Table,
     pub tally: Tally,

@@ -21,7 +21,7 @@ use lexer::{
 const END: u8 = 19;
 
 // How a rule text is answered; what is refused carries its place.
-#[derive(Drop)]
+#[derive(Clone, Copy)]
 pub enum RuleAnswer {
     Formula,
     TooLong,
@@ -34,7 +34,7 @@ pub enum RuleAnswer {
 
 // A rule as read: its tokens, and the kinds of those that are its formula in postfix order, of which there
 // are len; the names of the order are those of the text, in their order. A refusal comes with neither.
-#[derive(Drop)]
+#[derive(Clone, Copy)]
 pub struct Rule {
     pub answer: RuleAnswer,
     pub tokens: Tokens,
@@ -44,7 +44,7 @@ pub struct Rule {
 
 // What a reader answers: a value, whether it is a term, the token after it and the length of the order
 // so far; or the token that is refused.
-#[derive(Drop)]
+#[derive(Clone, Copy)]
 enum Read {
     Value(bool, usize, usize),
     Refused(usize),
@@ -52,7 +52,7 @@ enum Read {
 
 // What tokens alone are: a formula, refused at one of them or at their end, or more than 256, which no
 // rule text has.
-#[derive(Drop)]
+#[derive(Clone, Copy)]
 pub enum Judged {
     Formula,
     RefusedAt(usize),

@@ -48,21 +48,21 @@ const HALF: usize = 8;
 const LINE_END: u8 = 10;
 
 // A text, zeros after its bytes. It is public so that another crate may put a table into a struct of its own.
-#[derive(Drop)]
+#[derive(Clone, Copy)]
 pub struct Line {
     bytes: [u8; 256],
     len: usize,
 }
 
 // The lines of the standing rules in order; the lines past them are empty.
-#[derive(Drop)]
+#[derive(Clone, Copy)]
 pub struct Table {
     lines: [Line; 16],
     count: usize,
 }
 
 // How add answers. What is refused carries its place where it has one.
-#[derive(Drop)]
+#[derive(Clone, Copy)]
 pub enum AddAnswer {
     Added,
     TooLong,
@@ -77,28 +77,28 @@ pub enum AddAnswer {
 }
 
 // What add hands back.
-#[derive(Drop)]
+#[derive(Clone, Copy)]
 pub struct AddResult {
     pub table: Table,
     pub answer: AddAnswer,
 }
 
 // How withdraw answers; a refusal carries the number that was passed.
-#[derive(Drop)]
+#[derive(Clone, Copy)]
 pub enum WithdrawAnswer {
     Withdrawn,
     NoSuchRule(usize),
 }
 
 // What withdraw hands back.
-#[derive(Drop)]
+#[derive(Clone, Copy)]
 pub struct WithdrawResult {
     pub table: Table,
     pub answer: WithdrawAnswer,
 }
 
 // How load answers; a refused line carries its number, from 1, and how its text was answered.
-#[derive(Drop)]
+#[derive(Clone, Copy)]
 pub enum LoadAnswer {
     Loaded,
     FileTooLong,
@@ -107,14 +107,14 @@ pub enum LoadAnswer {
 }
 
 // What load hands back.
-#[derive(Drop)]
+#[derive(Clone, Copy)]
 pub struct LoadResult {
     pub table: Table,
     pub answer: LoadAnswer,
 }
 
 // How ask answers: a plan with its number of words, no plan, or why neither is said; a short buffer carries the words needed.
-#[derive(Drop)]
+#[derive(Clone, Copy)]
 pub enum AskAnswer {
     Plan(usize),
     NoPlan,
@@ -123,7 +123,7 @@ pub enum AskAnswer {
 }
 
 // What ask hands back.
-#[derive(Drop)]
+#[derive(Clone, Copy)]
 pub struct AskResult {
     pub table: Table,
     pub answer: AskAnswer,
@@ -132,7 +132,7 @@ pub struct AskResult {
 // How judge answers: the plan meets every rule, or the lowest that it does not meet, from 1, or it is uncovered, having a name and a point
 // that lies in none, or why nothing of these is said. Words that are no plan carry the index, and a plan of another number of names carries
 // that number.
-#[derive(Drop)]
+#[derive(Clone, Copy)]
 pub enum JudgeAnswer {
     Yes,
     Unmet(usize),
@@ -143,7 +143,7 @@ pub enum JudgeAnswer {
 }
 
 // What judge hands back.
-#[derive(Drop)]
+#[derive(Clone, Copy)]
 pub struct JudgeResult {
     pub table: Table,
     pub answer: JudgeAnswer,
@@ -151,7 +151,7 @@ pub struct JudgeResult {
 
 // How print answers: the text of the rule is written, with its number of bytes, or why it is not. A number of which there is no rule is
 // carried as it was passed, and a short buffer carries the bytes needed.
-#[derive(Drop)]
+#[derive(Clone, Copy)]
 pub enum PrintAnswer {
     Text(usize),
     NoSuchRule(usize),
@@ -159,14 +159,14 @@ pub enum PrintAnswer {
 }
 
 // What print hands back.
-#[derive(Drop)]
+#[derive(Clone, Copy)]
 pub struct PrintResult {
     pub table: Table,
     pub answer: PrintAnswer,
 }
 
 // How explain answers: a tree of so many words, or why none is written; a short buffer carries the words needed.
-#[derive(Drop)]
+#[derive(Clone, Copy)]
 pub enum ExplainAnswer {
     Tree(usize),
     NoRule,
@@ -175,14 +175,14 @@ pub enum ExplainAnswer {
 }
 
 // What explain hands back.
-#[derive(Drop)]
+#[derive(Clone, Copy)]
 pub struct ExplainResult {
     pub table: Table,
     pub answer: ExplainAnswer,
 }
 
 // How check_tree answers: the words are those of a closed tree, or why not; others carry the index of the word that is wrong, or their number.
-#[derive(Drop)]
+#[derive(Clone, Copy)]
 pub enum CheckAnswer {
     Closed,
     NoRule,
@@ -190,14 +190,14 @@ pub enum CheckAnswer {
 }
 
 // What check_tree hands back.
-#[derive(Drop)]
+#[derive(Clone, Copy)]
 pub struct CheckResult {
     pub table: Table,
     pub answer: CheckAnswer,
 }
 
 // How still answers: the plan in hand meets the rules as it is drawn, it does not and another plan does, or none does; or no rule stands.
-#[derive(Drop)]
+#[derive(Clone, Copy)]
 pub enum StillAnswer {
     AsDrawn,
     Yes,
@@ -206,7 +206,7 @@ pub enum StillAnswer {
 }
 
 // What still hands back.
-#[derive(Drop)]
+#[derive(Clone, Copy)]
 pub struct StillResult {
     pub table: Table,
     pub answer: StillAnswer,
@@ -214,7 +214,7 @@ pub struct StillResult {
 
 // How clash answers: which rules clash is said at so many places, one for each standing rule, or why it is not; too few places carry how many are
 // needed.
-#[derive(Drop)]
+#[derive(Clone, Copy)]
 pub enum ClashAnswer {
     Clash(usize),
     NoRule,
@@ -223,14 +223,14 @@ pub enum ClashAnswer {
 }
 
 // What clash hands back.
-#[derive(Drop)]
+#[derive(Clone, Copy)]
 pub struct ClashResult {
     pub table: Table,
     pub answer: ClashAnswer,
 }
 
 // The text of an atom: its first bytes, as many as its length.
-#[derive(Drop)]
+#[derive(Clone, Copy)]
 pub struct AtomText {
     pub bytes: [u8; 256],
     pub len: usize,
@@ -239,7 +239,7 @@ pub struct AtomText {
 // What an answer says: done, a plan of so many words, no plan, yes, the lowest unmet rule, a text of so many bytes, a tree of so many words,
 // that words are those of a closed tree, "yes, as drawn", no, or at so many places which rules clash; or a refusal, by the papers' number and
 // what it carries, and for a load by its number, line and place.
-#[derive(Drop)]
+#[derive(Clone, Copy)]
 pub enum Outcome {
     Done,
     Plan(usize),
@@ -257,14 +257,14 @@ pub enum Outcome {
 }
 
 // What is known after a text was put to rules, and how the text was answered. Where it is refused, nothing is said of what is known.
-#[derive(Drop)]
+#[derive(Clone, Copy)]
 struct Tried {
     known: Known,
     answer: AddAnswer,
 }
 
 // Rules compiled, and their first row.
-#[derive(Drop)]
+#[derive(Clone, Copy)]
 struct Searched {
     compiled: Compiling,
     found: RowAnswer,

@@ -26,7 +26,7 @@ use test_kit::{
 };
 
 // What a line of a script is.
-#[derive(Drop)]
+#[derive(Clone, Copy)]
 enum Command {
     Heading,
     Add,

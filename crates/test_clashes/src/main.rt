@@ -34,14 +34,14 @@ use test_kit::{write_bytes, write_counts, write_labelled, write_refusal};
 // ---- what clash says
 
 // An answer: 0 where rules clash, else a refusal's number; and what it carries.
-#[derive(Drop)]
+#[derive(Clone, Copy)]
 struct Said {
     number: usize,
     carried: usize,
 }
 
 // What clash hands back, and the places after it.
-#[derive(Drop)]
+#[derive(Clone, Copy)]
 struct Lent {
     table: Table,
     said: Said,
@@ -50,7 +50,7 @@ struct Lent {
 
 // What clash says of so many places, and for each of twenty what becomes of it: `0` or `1` where that is written, `.` where it is kept, and
 // `!` where it is the other value than before.
-#[derive(Drop)]
+#[derive(Clone, Copy)]
 struct Answer {
     said: Said,
     places: [u8; 20],
@@ -416,7 +416,7 @@ const ROWS: usize = 32;
 
 // Sets of rules are bytes, bit i for the rule in place i. What a floor gives: its row, the rules that it meets, and whether all of the form
 // was evaluated.
-#[derive(Drop)]
+#[derive(Clone, Copy)]
 struct Evaluated {
     row: u32,
     rules: u8,
@@ -425,7 +425,7 @@ struct Evaluated {
 
 // The floors of some points, of those with the same row one, and their rows; the sets of rules that floors meet so far, of these and of other
 // points, true at the place of each; and whether all of it was evaluated and had room.
-#[derive(Drop)]
+#[derive(Clone, Copy)]
 struct Found {
     floors: [Floor; ROWS],
     rows: [u32; ROWS],

@@ -14,7 +14,7 @@ fn write_bytes(bytes: &[u8]) {
 }
 
 // A rule's text as it is printed: a buffer, and how many bytes of it are the text.
-#[derive(Drop)]
+#[derive(Clone, Copy)]
 struct Page {
     bytes: [u8; 256],
     n: usize,

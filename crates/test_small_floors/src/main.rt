@@ -27,7 +27,7 @@ use test_kit::{write_bytes, write_counts, write_labelled, write_words};
 // ---- the search over small floors
 
 // Whether a floor is found that meets the rules, for one building one that hangs together, and the first of the rows of such floors.
-#[derive(Drop)]
+#[derive(Clone, Copy)]
 struct Found {
     building: bool,
     some: bool,
@@ -36,7 +36,7 @@ struct Found {
 }
 
 // What is found for the two questions.
-#[derive(Drop)]
+#[derive(Clone, Copy)]
 struct Both {
     plain: Found,
     building: Found,
@@ -170,7 +170,7 @@ const TRUE_ZERO: u8 = 3;
 const FALSE_ZERO: u8 = 4;
 
 // An atom in a row: for a contact its two terms, for a zero atom its term, each as the evaluations in which it holds.
-#[derive(Drop)]
+#[derive(Clone, Copy)]
 struct RowAtom {
     kind: u8,
     first: u8,
@@ -178,7 +178,7 @@ struct RowAtom {
 }
 
 // The atoms in a row, and the evaluations in true zero terms.
-#[derive(Drop)]
+#[derive(Clone, Copy)]
 struct Atoms {
     list: [RowAtom; 16],
     names: usize,
@@ -477,7 +477,7 @@ fn same_words(words: &[u32; 530], expected: Words) -> bool {
 // ---- the checks: what the table answers
 
 // What the table answers.
-#[derive(Drop)]
+#[derive(Clone, Copy)]
 enum Answer {
     Plan(usize),
     NoPlan,
@@ -590,7 +590,7 @@ fn asked(table: Table, refused: u8, building: bool, words: &mut [u32; 530]) -> A
 // ---- the checks: the answer held to the search
 
 // What a check finds.
-#[derive(Drop)]
+#[derive(Clone, Copy)]
 enum Finding {
     Plan(usize),
     NoPlan,

@@ -18,7 +18,7 @@ const UNWRITTEN: u32 = 0xFFFF_FFFF;
 
 // What explain and check_tree say, document 02, T-06: a tree of so many words, which is closed; that there is a plan, and that there are
 // floors; or anything else.
-#[derive(Drop)]
+#[derive(Clone, Copy)]
 enum Reasons {
     Tree(usize),
     HasPlan,

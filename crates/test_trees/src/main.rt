@@ -111,7 +111,7 @@ fn operands(sign: u8) -> usize {
 // What is known after some signs of a form, which are taken from the last to the first: the values that are still wanted, the uppermost
 // that of the first operand; how many atoms and rules there are; the atoms that are true, bit i for atom i; and the rules that are false,
 // bit k for rule k, "counted from 1".
-#[derive(Drop)]
+#[derive(Clone, Copy)]
 struct Reading {
     values: [u8; 16],
     height: usize,
@@ -225,7 +225,7 @@ fn floorless(form: &[u8], branch: usize) -> bool {
 }
 
 // What a word does in a branch: it splits it on an atom, closes it, or may not stand there.
-#[derive(Drop)]
+#[derive(Clone, Copy)]
 enum Role {
     Splits(usize),
     Closes,
@@ -289,7 +289,7 @@ fn judged(form: &[u8], words: &[u32]) -> usize {
 // ---- the checks
 
 // How many words the trees have, how many lists of words were checked, and how many of these are closed trees.
-#[derive(Drop)]
+#[derive(Clone, Copy)]
 struct Counts {
     words: usize,
     lists: usize,

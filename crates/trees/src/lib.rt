@@ -15,21 +15,21 @@ ghost use Rattle.trees.specs.Branch.{served_by, FloorSays, LeavesSay, start_of, 
 use search::{ATOMS, Chart};
 
 // The atoms that a branch has decided, and those of them that are true.
-#[derive(Drop)]
+#[derive(Clone, Copy)]
 pub struct Branch {
     known: u32,
     truth: u32,
 }
 
 // Where the words of a branch's tree end, or the index of refusal 16.
-#[derive(Drop)]
+#[derive(Clone, Copy)]
 enum Reached {
     End(usize),
     Stop(usize),
 }
 
 // What the checker answers: the words are a closed tree's, or the index of refusal 16.
-#[derive(Drop)]
+#[derive(Clone, Copy)]
 pub enum Verdict {
     Accepts,
     Refuses(usize),
