@@ -1,0 +1,17 @@
+-- `compile::is_atom` meets its contract: the kind is =0 or C, or the test for <= decides. Assumes nothing.
+use mathlib.Core.Path.{sym}
+use borrow.Author.Tests.{ne_eqb}
+use Rattle.compile.specs.Kinds.{atom_kind}
+use Rattle.compile.proofs.is_atom.Goals as goal
+
+pub returns-in-10 : goal.returns-in-10
+unfolding atom_kind
+returns-in-10 c = rw c.in-10.is
+
+pub returns-in-14 : goal.returns-in-14
+unfolding atom_kind
+returns-in-14 c = rw c.in-14.is
+
+pub returns-in_default : goal.returns-in_default
+unfolding atom_kind
+returns-in_default c = sym (simp (ne_eqb _ 10 c.in_default.in_default-own.rest.0.1, ne_eqb _ 14 c.in_default.in_default-own.rest.1))

@@ -1,0 +1,35 @@
+-- `evalset::least` meets its contract: all words before were clear, and the lowest bit of the first that is not is the least member.
+-- Assumes nothing.
+use mathlib.Core.Path.{sym, ap, ◌∙◌}
+use Prim.Native.Nat.{◌-◌}
+use native.Mathlib.Omega.{arith}
+use Rattle.evalset.specs.Bit.{word_bits, bit}
+use Rattle.evalset.specs.Sets.{found_of}
+use Rattle.evalset.proofs.Walk.{found_least, found_nothing}
+use Rattle.evalset.proofs.Words.{clear_more, clear_all, least_at}
+use Rattle.evalset.proofs.least.Goals as goal
+
+pub loop-k-init : goal.loop-k-init
+loop-k-init c = (omega arith, λ d l. absurd (omega arith))
+
+pub overflow_mul-result : goal.overflow_mul-result
+overflow_mul-result c = omega (arith, c.loop-k.invariant.0)
+
+pub overflow_add-result : goal.overflow_add-result
+overflow_add-result c =
+    let e = c.in-At.e in
+    let found = found_least (bit _) word_bits e (sym c.word_least.ensures ∙ c.in-At.is) in
+    omega (arith, found.within)
+
+pub returns-in-At : goal.returns-in-At
+returns-in-At c =
+    let e = c.in-At.e in
+    let found = found_least (bit _) word_bits e (sym c.word_least.ensures ∙ c.in-At.is) in
+    sym (ap found_of (least_at _ _ (omega arith) c.loop-k.invariant.1 e found))
+
+pub loop-k-preserved : goal.loop-k-preserved
+loop-k-preserved c =
+    (omega arith, clear_more _ _ (omega arith) c.loop-k.invariant.1 (found_nothing (bit _) word_bits (sym c.word_least.ensures ∙ c.in_default.is)))
+
+pub returns : goal.returns
+returns c = sym (ap found_of (clear_all _ (λ d l. c.loop-k.invariant.1 d (omega (arith, c.loop-k.invariant.0)))))

@@ -1,0 +1,92 @@
+-- `names::gather` meets its contract: the names and numbers that are in the arrays, and what follows for the tokens that are left, give
+-- the answer for the whole text (the invariant); the tokens that are left fall. Assumes nothing.
+use Prim.Native.Nat.{ℕ, ◌+◌, ◌-◌, ◌≤◌, ◌<◌}
+use mathlib.Core.Path.{◌≡◌, ap}
+use mathlib.Core.List.{List}
+use native.Mathlib.Omega.{arith}
+use lib.Arith.{lt_of_le-ne}
+use lib.ListN.{length, get_or, take, drop, length-take}
+use Rattle.names.proofs.Gathering.{going_first, few_tokens, few_names, number_few, going_end, token_inside, token_short, going_other, going_ninth, going_name}
+use Rattle.names.proofs.gather.Goals as goal
+
+module _ (c : goal.After-wide) where
+  -- the token lies in the text
+  name_within : c.wide-start.result + c.wide.result ≤ length c.args.text.now
+  name_within =
+      omega (
+        arith,
+        token_inside c.loop-i.invariant c.loop-i-test.true,
+        c.wide-start.ensures,
+        c.wide.ensures,
+      )
+
+  -- what is lent of the text is the token's bytes, at most 16
+  abbrev lent : ℕ → List ℕ
+  lent n = take n (drop c.wide-start.result c.args.text.now)
+
+  abbrev size : ℕ
+  size = c.wide-start.result + c.wide.result - c.wide-start.result
+
+  size_is : size ≡ get_or c.args.rule.tokens.lens c.loop-i.i 0
+  size_is = omega (arith, c.wide.ensures)
+
+  lent_short : length (lent size) ≤ 16
+  lent_short = simp length-take (omega (arith, c.wide.ensures, token_short c.loop-i.invariant c.loop-i-test.true))
+
+-- the numbers have room for one more
+number_room : (c : goal.After-with_name-known) → c.loop-i.m < 256
+number_room c = omega (arith, few_tokens c.loop-i.invariant, c.loop-i.invariant.fewer)
+
+pub loop-i-init : goal.loop-i-init
+loop-i-init c =
+    going_first c.args.text.now c.args.rule c.args.names c.zeros-numbers.result c.requires c.zeros-numbers.ensures
+
+pub bounds-kinds-i : goal.bounds-kinds-i
+bounds-kinds-i c = omega (arith, few_tokens c.loop-i.invariant)
+
+pub overflow_add-i : goal.overflow_add-i
+overflow_add-i c = omega (arith, few_tokens c.loop-i.invariant)
+
+pub loop-i-preserved-then-kinds-i-ne-NAME : goal.loop-i-preserved-then-kinds-i-ne-NAME
+loop-i-preserved-then-kinds-i-ne-NAME c = going_other c.loop-i.invariant c.loop-i-test.true c.if-kinds-i-ne-NAME.true
+
+pub bounds-starts-i : goal.bounds-starts-i
+bounds-starts-i c = omega (arith, few_tokens c.loop-i.invariant)
+
+pub bounds-lens-i : goal.bounds-lens-i
+bounds-lens-i c = omega (arith, few_tokens c.loop-i.invariant)
+
+pub overflow_add-end : goal.overflow_add-end
+overflow_add-end c = omega (arith, name_within c)
+
+pub number_of-number-requires : goal.number_of-number-requires
+number_of-number-requires c = (few_names c.loop-i.invariant, lent_short c.before)
+
+pub returns-then-number-eq-NAMES : goal.returns-then-number-eq-NAMES
+returns-then-number-eq-NAMES c =
+    let cut = c.before.before.before in
+    going_ninth cut.loop-i.invariant cut.loop-i-test.true _ _ _ cut.if-kinds-i-ne-NAME.false cut.wide-start.ensures (ap (lent cut) (size_is cut)) c.number_of-number.ensures c.if-number-eq-NAMES.true
+
+pub with_name-known-requires : goal.with_name-known-requires
+with_name-known-requires c =
+    (lt_of_le-ne (number_few c.loop-i.invariant _ _ c.number_of-number.ensures) c.if-number-eq-NAMES.false, lent_short c.before.before.before.before)
+
+pub overflow_cast-numbers : goal.overflow_cast-numbers
+overflow_cast-numbers c = omega (arith, number_few c.loop-i.invariant _ _ c.number_of-number.ensures)
+
+pub bounds-numbers-m : goal.bounds-numbers-m
+bounds-numbers-m c = number_room c
+
+pub overflow_add-m : goal.overflow_add-m
+overflow_add-m c = omega (arith, number_room c)
+
+pub overflow_add-i-in-loop-i : goal.overflow_add-i-in-loop-i
+overflow_add-i-in-loop-i c = omega (arith, few_tokens c.loop-i.invariant)
+
+pub loop-i-preserved : goal.loop-i-preserved
+loop-i-preserved c =
+    let cut = c.before.before.before.before.before in
+    going_name cut.loop-i.invariant cut.loop-i-test.true _ _ _ cut.if-kinds-i-ne-NAME.false cut.wide-start.ensures (ap (lent cut) (size_is cut)) c.number_of-number.ensures c.if-number-eq-NAMES.false _ c.with_name-known.ensures
+
+pub returns : goal.returns
+returns c = going_end c.loop-i.invariant c.loop-i-test.false

@@ -1,0 +1,42 @@
+-- `plan::contact` meets its contract: each test that fails is the machine's, and what passes them all is taken. Assumes nothing.
+use mathlib.Core.Path.{sym, ap, ◌∙◌}
+use native.Mathlib.Omega.{arith}
+use Rattle.plan.specs.declared.Linking.TheVariants.{Over}
+use Rattle.plan.specs.Private.{linking_of}
+use Rattle.plan.proofs.ReadLoop.{not_link, link_equal, link_far, link_late, link_taken}
+use Rattle.plan.proofs.contact.Goals as goal
+
+pub returns-then-j-i : goal.returns-then-j-i
+returns-then-j-i c =
+    let a = c.args in
+    let given = c.word-1.given in
+    link_equal a.count a.low a.at a.len a.word given.0.0 given.0.1.0 given.1 (omega arith)
+
+pub returns-then-count-j : goal.returns-then-count-j
+returns-then-count-j c =
+    let a = c.args in
+    let given = c.word-1.given in
+    link_far a.count a.low a.at a.len a.word given.0.0 given.0.1.0 given.1 (omega arith)
+
+pub returns-then-key-low : goal.returns-then-key-low
+returns-then-key-low c =
+    let a = c.args in
+    let given = c.word-1.given in
+    link_late a.count a.low a.at a.len a.word given.0.0 given.0.1.0 given.1 (omega arith)
+
+pub returns-else-key-low : goal.returns-else-key-low
+returns-else-key-low c =
+    let a = c.args in
+    let given = c.word-1.given in
+    link_taken a.count a.low a.at a.len a.word given.0.0 given.0.1.0 given.1
+    (omega arith) (omega arith) (omega arith)
+
+pub returns-in-Last : goal.returns-in-Last
+returns-in-Last c =
+    let a = c.args in
+    ap Over c.last.ensures ∙ sym (ap (linking_of a.count a.low a.at a.len) c.in-Last.is)
+
+pub returns-in_default : goal.returns-in_default
+returns-in_default c =
+    let a = c.args in
+    not_link a.count a.low a.at a.len a.word c.in_default.in_default-own.keys3

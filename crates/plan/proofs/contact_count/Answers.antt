@@ -1,0 +1,49 @@
+-- `plan::contact_count` meets its contract: the contacts are the rows' one after the other. Assumes nothing.
+use native.Mathlib.Omega.{arith}
+use Prim.Native.Nat.{ℕ, ◌+◌, ◌-◌}
+use mathlib.Core.Path.{◌≡◌, sym, ap, ap₂, ◌∙◌}
+use mathlib.Core.Bool.{Bool}
+use lib.ListN.{length, length-append}
+use Rattle.evalset.specs.Sets.{mem}
+use Rattle.squares.specs.Square.{square_at}
+use Rattle.plan.specs.Links.{row_to, links_to}
+use Rattle.plan.specs.Private.{rows_by}
+use Rattle.plan.proofs.Contacts.{links_none, links_more, links_small, row_small}
+use Rattle.plan.proofs.contact_count.Goals as goal
+
+pub loop-i-init : goal.loop-i-init
+loop-i-init c =
+    let a = c.args in
+    (omega arith, sym (ap length (links_none a.n (rows_by a.n a.points (mem a.given) (square_at a.apart.now)))))
+
+pub row_size-size-requires : goal.row_size-size-requires
+row_size-size-requires c = (omega arith, omega arith)
+
+pub overflow_add-size : goal.overflow_add-size
+overflow_add-size c =
+    let a = c.args in
+    let k = c.loop-i in
+    omega (
+      arith,
+      c.row_size-size.ensures,
+      row_small a.n k.i (mem c.contact_row-row.result),
+      k.invariant.1,
+      links_small k.i a.n (rows_by a.n a.points (mem a.given) (square_at a.apart.now)) c.requires.0,
+    )
+
+pub loop-i-preserved : goal.loop-i-preserved
+loop-i-preserved c =
+    let a = c.args in
+    let k = c.loop-i in
+    let t = rows_by a.n a.points (mem a.given) (square_at a.apart.now) in (
+      omega arith,
+      ap₂ ◌+◌ k.invariant.1 (c.row_size-size.ensures ∙ ap (λ (row : ℕ → Bool). length (row_to a.n k.i row)) c.contact_row-row.ensures)
+          ∙ sym (length-append (links_to k.i a.n t) (row_to a.n k.i (t k.i))) ∙ ap length (links_more k.i a.n t),
+    )
+
+pub returns : goal.returns
+returns c =
+    let a = c.args in
+    let k = c.loop-i in
+    let e : k.i ≡ a.n = omega arith in
+    k.invariant.1 ∙ ap (λ (x : ℕ). length (links_to x a.n (rows_by a.n a.points (mem a.given) (square_at a.apart.now)))) e

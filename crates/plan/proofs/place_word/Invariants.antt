@@ -1,0 +1,12 @@
+-- `plan::place_word` meets its contract: so far the word holds the positions from its start up to j. Assumes nothing.
+use Prim.Native.Nat.{◌+◌, ◌-◌, ◌≤◌}
+use lib.ListN.{get_or}
+use Rattle.evalset.specs.Sets.{mem}
+use Rattle.plan.proofs.WordOf.{Held}
+use Rattle.plan.proofs.place_word.Given as goal
+
+abbrev pub invariant-loop-j : goal.invariant-loop-j
+invariant-loop-j l = (l.start ≤ l.j) × (l.j ≤ l.start + (l.n - l.start)) × Held l.start l.j (λ i. mem l.x (get_or l.points i 0)) l.word
+
+abbrev pub decreases-loop-j : goal.decreases-loop-j
+decreases-loop-j l = l.n - l.j

@@ -1,0 +1,15 @@
+-- `report::count_of` meets its contract: as many as are counted, and no more than there are. Assumes nothing.
+use native.Mathlib.Omega.{arith}
+use mathlib.Core.Path.{◌≡◌}
+use lib.ListN.{length, length-map}
+use Rattle.report.proofs.Kept.{known_count}
+use Rattle.report.proofs.count_of.Goals as goal
+
+long : (s : goal.Start) → length s.args.names.list ≡ 8
+long s = simp length-map at s.well_formed.0.1.1.0.1.0.1
+
+pub returns-then-count-lt8 : goal.returns-then-count-lt8
+returns-then-count-lt8 c = let s = c.before in (omega (arith, known_count s.args.names, long s, c.if-count-lt8.true), omega (arith, c.if-count-lt8.true))
+
+pub returns-else-count-lt8 : goal.returns-else-count-lt8
+returns-else-count-lt8 c = let s = c.before in (omega (arith, known_count s.args.names, long s, c.if-count-lt8.false), omega arith)

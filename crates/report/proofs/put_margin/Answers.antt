@@ -1,0 +1,36 @@
+-- `report::put_margin` meets its contract: so far the blanks of the levels below this one are put. Assumes nothing.
+use mathlib.Core.Path.{refl}
+use mathlib.Core.List.{List}
+use Prim.Native.Nat.{ℕ, ◌-◌}
+use native.Mathlib.Omega.{arith}
+use Rattle.lists.proofs.Putting.{puts_none, puts_length, turn_fits, turn_puts, turns_put}
+use Rattle.lexer.specs.Text.{bytes}
+use Rattle.report.specs.Lines.{margin}
+use Rattle.report.proofs.put_margin.Goals as goal
+
+abbrev blanks : ℕ → List ℕ
+blanks level = bytes "  "
+
+pub loop-level-init : goal.loop-level-init
+loop-level-init c =
+    (omega arith, puts_none c.args.at c.args.out.now (omega (arith, c.requires)))
+
+pub put_text-end-requires : goal.put_text-end-requires
+unfolding margin
+put_text-end-requires c =
+    let k = c.loop-level in
+    turn_fits blanks k.level k.invariant.1 c.args.depth (omega arith) (omega (arith, c.requires))
+
+pub loop-level-preserved : goal.loop-level-preserved
+loop-level-preserved c =
+    let k = c.loop-level in
+    (omega arith, turn_puts blanks k.level k.invariant.1 c.put_text-end.ensures)
+
+pub shape_of-out : goal.shape_of-out
+shape_of-out c = puts_length c.loop-level.invariant.1
+
+pub returns : goal.returns
+unfolding margin
+returns c =
+    let k = c.loop-level in
+    turns_put blanks k.level k.invariant.1 c.args.depth (omega arith) refl

@@ -1,0 +1,45 @@
+-- `solver::no_leaves` meets its contract: the entries before i are turned round, and the others are 0.
+-- Assumes nothing.
+use mathlib.Core.Bool.{not}
+use mathlib.Core.Path.{◌≡◌, refl, ◌∙◌}
+use Prim.Native.Nat.{ℕ, ◌-◌, ◌<◌}
+use native.Mathlib.Omega.{arith}
+use lib.ListN.{length, get_or, length-set}
+use lib.Seq.{get_or-set_other}
+use mathlib.Core.List.{List}
+use Rattle.evalset.specs.Bit.{bit}
+use Rattle.lists.proofs.Lists.{repeated_at}
+use Rattle.kleene.specs.Rails.{word_rows}
+use Rattle.solver.proofs.Whole.{set_next}
+use Rattle.solver.proofs.no_leaves.Goals as goal
+
+-- a word has the opposite of an atom's values
+abbrev Opposite : List ℕ → ℕ → ℕ → Type 0
+Opposite ts i w = (e : ℕ) → e < word_rows → bit w e ≡ not (bit (get_or ts i 0) e)
+
+pub loop-i-init : goal.loop-i-init
+loop-i-init c = (omega arith, refl, λ j a b. absurd (omega arith), λ j l. repeated_at (λ (x : ℕ). x ≡ 0) refl refl 16 j)
+
+pub bounds-yes-i : goal.bounds-yes-i
+bounds-yes-i c = omega (arith, c.requires)
+
+pub flipped-requires : goal.flipped-requires
+flipped-requires c = tt
+
+pub bounds-out-i : goal.bounds-out-i
+bounds-out-i c = omega (arith, c.requires)
+
+pub loop-i-preserved : goal.loop-i-preserved
+loop-i-preserved c =
+    let loop = c.loop-i in
+    let within : loop.i < length loop.out = omega (arith, loop.invariant.1, c.requires) in (
+      omega arith,
+      length-set loop.out _ _ ∙ loop.invariant.1,
+      set_next (Opposite c.args.yes.now) 0 loop.i c.flipped.result loop.out within loop.invariant.2 c.flipped.ensures,
+      λ j l. get_or-set_other loop.out loop.i j _ 0 (λ z. omega arith) ∙ loop.invariant.3 j (omega arith),
+    )
+
+pub returns : goal.returns
+returns c =
+    let loop = c.loop-i in
+    record { are = λ i l. loop.invariant.2 i (omega arith) (omega arith); none = λ i l. loop.invariant.3 i (omega arith) }

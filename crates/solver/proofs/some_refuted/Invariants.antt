@@ -1,0 +1,19 @@
+-- `solver::some_refuted` meets its contract: what is joined so far is what the parts passed refute.
+-- Assumes nothing.
+use mathlib.Core.Path.{◌≡◌}
+use mathlib.Core.List.{List}
+use Prim.Native.Nat.{ℕ, ◌-◌}
+use lib.ListN.{length, drop}
+use Rattle.formula.specs.Formula.{Form}
+use Rattle.evalset.specs.Bit.{bit}
+use Rattle.solver.specs.Coded.{SafeFrom, Coded}
+use Rattle.solver.proofs.Codes.{Joined}
+use Rattle.solver.proofs.some_refuted.Given as goal
+
+abbrev pub invariant-loop-i : goal.invariant-loop-i
+invariant-loop-i l =
+    SafeFrom l.code l.from (drop l.i l.ends) × (length l.ys ≡ 128) × (length l.ns ≡ 128)
+    × ((many : ℕ) (rules : List (Form ℕ)) → Coded many l.code l.ends rules → Joined (Known l.yes l.no) many l.code l.from (drop l.i l.ends) (bit l.acc) rules)
+
+abbrev pub decreases-loop-i : goal.decreases-loop-i
+decreases-loop-i l = length l.ends - l.i

@@ -1,0 +1,74 @@
+-- `squares::row_of` meets its contract: the words of the row are those of the set.
+-- Assumes nothing.
+use mathlib.Core.Path.{◌≡◌, ap, ◌∙◌}
+use mathlib.Core.List.{◌∷◌}
+use Prim.Native.Nat.{ℕ, ◌+◌, ◌*◌, ◌≤◌, ◌<◌}
+use native.Mathlib.Omega.{arith}
+use lib.ListN.{length, get_or}
+use Rattle.evalset.specs.Sets.{mem}
+use Rattle.squares.proofs.Rows.{narrow_is, wide_is, narrow_row, wide_row, within, short}
+use Rattle.squares.proofs.row_of.Goals as goal
+
+-- the row is in the square
+narrow_in : (c : goal.Then-ws-eq64) → c.args.p < length c.args.ws.now
+narrow_in c = omega (arith, within c.args.ws.now c.args.p 1 (narrow_is _ c.if-ws-eq64.true) c.requires.1)
+
+wide_in : (c : goal.Else-ws-eq64) → 4 * c.args.p + 4 ≤ length c.args.ws.now
+wide_in c = within c.args.ws.now c.args.p 4 (wide_is _ c.if-ws-eq64.false) c.requires.1
+
+pub offset_bounds-ws-p : goal.offset_bounds-ws-p
+offset_bounds-ws-p c = omega (arith, narrow_in c, c.if-ws-eq64.true)
+
+pub bounds-ws-p : goal.bounds-ws-p
+bounds-ws-p c = narrow_in c.before
+
+pub returns-then-ws-eq64 : goal.returns-then-ws-eq64
+returns-then-ws-eq64 c =
+    let ws = c.args.ws.now in
+    let p = c.args.p in
+    let z : p ≡ 1 * p + 0 = omega arith in
+    ap (λ (i : ℕ). mem (record { words = get_or ws i 0 ∷ 0 ∷ 0 ∷ 0 ∷ [] })) z ∙ narrow_row ws p (narrow_is ws c.if-ws-eq64.true)
+
+pub overflow_mul-at : goal.overflow_mul-at
+overflow_mul-at c = omega (arith, wide_in c)
+
+pub offset_bounds-ws-at : goal.offset_bounds-ws-at
+offset_bounds-ws-at c = omega (arith, wide_in c, short c.args.ws.now c.requires.0)
+
+pub bounds-ws-at : goal.bounds-ws-at
+bounds-ws-at c = omega (arith, wide_in c.before)
+
+pub overflow_add-result : goal.overflow_add-result
+overflow_add-result c = omega (arith, wide_in c.before, short c.args.ws.now c.requires.0)
+
+pub offset_bounds-ws-at-2 : goal.offset_bounds-ws-at-2
+offset_bounds-ws-at-2 c = omega (arith, wide_in c.before, short c.args.ws.now c.requires.0)
+
+pub bounds-ws-at-2 : goal.bounds-ws-at-2
+bounds-ws-at-2 c = omega (arith, wide_in c.before.before)
+
+pub overflow_add-result-2 : goal.overflow_add-result-2
+overflow_add-result-2 c = omega (arith, wide_in c.before.before, short c.args.ws.now c.requires.0)
+
+pub offset_bounds-ws-at-3 : goal.offset_bounds-ws-at-3
+offset_bounds-ws-at-3 c = omega (arith, wide_in c.before.before, short c.args.ws.now c.requires.0)
+
+pub bounds-ws-at-3 : goal.bounds-ws-at-3
+bounds-ws-at-3 c = omega (arith, wide_in c.before.before.before)
+
+pub overflow_add-result-3 : goal.overflow_add-result-3
+overflow_add-result-3 c = omega (arith, wide_in c.before.before.before, short c.args.ws.now c.requires.0)
+
+pub offset_bounds-ws-at-4 : goal.offset_bounds-ws-at-4
+offset_bounds-ws-at-4 c = omega (arith, wide_in c.before.before.before, short c.args.ws.now c.requires.0)
+
+pub bounds-ws-at-4 : goal.bounds-ws-at-4
+bounds-ws-at-4 c = omega (arith, wide_in c.before.before.before.before)
+
+pub returns : goal.returns
+returns c =
+    let ws = c.args.ws.now in
+    let p = c.args.p in
+    let z : 4 * p ≡ 4 * p + 0 = omega arith in
+    ap (λ (i : ℕ). mem (record { words = get_or ws i 0 ∷ get_or ws (4 * p + 1) 0 ∷ get_or ws (4 * p + 2) 0 ∷ get_or ws (4 * p + 3) 0 ∷ [] })) z
+    ∙ wide_row ws p (wide_is ws c.if-ws-eq64.false)

@@ -1,0 +1,10 @@
+-- `table::Table::atom_text` meets its contract: the bytes that the table gives, as many as it says (Atoms.antt). Assumes nothing.
+use Rattle.table.proofs.Atoms.{length_in, kept_atom}
+use mathlib.Core.Path.{ap}
+use Rattle.table.proofs.Table.atom_text.Goals as goal
+
+pub returns-in-Text : goal.returns-in-Text
+returns-in-Text c = kept_atom _ c.requires.0 _ _ c.zeros-bytes.ensures _ _ c.atom_by-printed.ensures _ (ap length_in c.in-Text.is)
+
+pub returns-in-Needs : goal.returns-in-Needs
+returns-in-Needs c = kept_atom _ c.requires.0 _ _ c.zeros-bytes.ensures _ _ c.atom_by-printed.ensures _ (ap length_in c.in-Needs.is)

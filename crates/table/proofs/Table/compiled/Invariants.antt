@@ -1,0 +1,13 @@
+-- `table::Table::compiled` meets its contract: so far the first i texts are compiled. Assumes nothing.
+use borrow.Author.Rules.{rules}
+use Prim.Native.Nat.{◌-◌, ◌≤◌}
+use mathlib.Core.Path.{◌≡◌}
+use lib.ListN.{length}
+use Rattle.table.proofs.Compiled.{Reached}
+use Rattle.table.proofs.Table.compiled.Given as goal
+
+abbrev pub invariant-loop-i : goal.invariant-loop-i
+invariant-loop-i l = (l.i ≤ l.rules) × (length l.code ≡ length l.initial.code) × Reached l.self l.c l.kept l.code l.i
+
+abbrev pub decreases-loop-i : goal.decreases-loop-i
+decreases-loop-i l = l.rules - l.i

@@ -1,0 +1,11 @@
+-- `table::Table::known` meets its contract: so far the first i texts are known (Recount.antt). Assumes nothing.
+use borrow.Author.Rules.{rules}
+use Prim.Native.Nat.{◌-◌}
+use Rattle.table.proofs.Recount.{KnownTo}
+use Rattle.table.proofs.Table.known.Given as goal
+
+abbrev pub invariant-loop-i : goal.invariant-loop-i
+invariant-loop-i l = KnownTo l.self l.known l.kept l.i
+
+abbrev pub decreases-loop-i : goal.decreases-loop-i
+decreases-loop-i l = l.rules - l.i

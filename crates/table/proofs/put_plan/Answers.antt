@@ -1,0 +1,11 @@
+-- `table::put_plan` meets its contract: the square has room for the evaluations of the names. Assumes nothing.
+use native.Mathlib.Omega.{arith}
+use Rattle.table.proofs.put_plan.Goals as goal
+
+pub put_plan_in-requires : goal.put_plan_in-requires
+put_plan_in-requires c =
+    (c.requires.0, c.requires.1, c.few_square-few.ensures c.args.c.known.atoms.chart.names (omega arith))
+
+pub put_plan_in-requires-2 : goal.put_plan_in-requires-2
+put_plan_in-requires-2 c =
+    (c.requires.0, c.requires.1, c.all_square-many.ensures c.args.c.known.atoms.chart.names c.requires.0)

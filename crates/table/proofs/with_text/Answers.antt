@@ -1,0 +1,31 @@
+-- `table::with_text` meets its contract: the reader decides first, then whether a line is free, and then what is known of the rules before
+-- (Counting.antt). Assumes nothing.
+use mathlib.Core.Path.{◌≡◌, ap, ◌∙◌}
+use native.Mathlib.Omega.{arith}
+use lib.ListN.{length}
+use Rattle.table.proofs.Refusals.{told_refused}
+use Rattle.table.proofs.Counting.{text_judged, tries_refused, tries_full, ready, tries_room}
+use Rattle.table.proofs.with_text.Goals as goal
+
+-- the array is as long as its type says
+zeros_long : (c : goal.After-zeros-code) → length c.zeros-code.result ≡ 256
+zeros_long c = ap length c.zeros-code.ensures
+
+pub returns-in_default : goal.returns-in_default
+returns-in_default c =
+    tries_refused _ _ _ _ _ (text_judged _ _ _ c.read_rule-rule.ensures c.read_answer-read.ensures) (told_refused _ c.in_default.in_default-own.keys2)
+
+pub returns-then-known-ge-RULES : goal.returns-then-known-ge-RULES
+returns-then-known-ge-RULES c =
+    tries_full _ _ _ (text_judged _ _ _ c.read_rule-rule.ensures c.read_answer-read.ensures ∙ c.in-Added.is) _ c.if-known-ge-RULES.true
+
+pub with_rule-grown-requires : goal.with_rule-grown-requires
+with_rule-grown-requires c =
+    let read = c.read_rule-rule.ensures in
+    ready _ _ _ (text_judged _ _ _ read c.read_answer-read.ensures ∙ c.in-Added.is) c.if-known-ge-RULES.false _ read _ (omega (arith, zeros_long c.before.before)) c.requires
+
+pub returns : goal.returns
+returns c =
+    let read = c.read_rule-rule.ensures in
+    tries_room _ _ _ (text_judged _ _ _ read c.read_answer-read.ensures ∙ c.in-Added.is) c.if-known-ge-RULES.false _ read _ (omega (arith, zeros_long c.before.before.before.before.before.before))
+    _ _ _ c.with_rule-grown.ensures _ c.room_answer-answer.ensures
