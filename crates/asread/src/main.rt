@@ -1,6 +1,8 @@
 // The program: it reads one sheet from standard input and writes its rules as the tool has read them, one a line, or its refusal as floorplan
 // has it (document 02, T-02); `report` makes the text. A read that fails, or a standard output that does not take the text, is said on
 // standard error and never as an answer. The file `stdout` has the text for the sheet `stdin`, worked out by hand from T-02's words.
+#![tactic(auto)]
+
 use reading::Got;
 
 fn main() {

@@ -6,6 +6,8 @@
 // The file `stdout` has the lines for document 01's P2, the sheet `stdin`: its plan has 5 words; its building has the evaluations 1, 2 and 3,
 // all in contact, which is one word in front, three points, three contacts and one word behind; it has a plan, so that no tree is written, and
 // no words are no tree; judge and still say yes, and there is one rule.
+#![tactic(auto)]
+
 ghost use Rattle.table.specs.Calls.{FromUs};
 
 use reading::Got;

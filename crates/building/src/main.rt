@@ -3,6 +3,8 @@
 // error and never as an answer. The file `stdout` has the text for the air lock, the sheet `stdin`. Raw and cooked may not touch, so no
 // point is in both, and raw and cooked points are separated; the lock overlaps neither, and every point lies in a region (document 02,
 // T-07). Allowed are the evaluations 1, 2 and 4, and 4 is separated from none: all three are one piece, in contact but for 1 with 2.
+#![tactic(auto)]
+
 use names::Names;
 use reading::Got;
 use report::TextAnswer;

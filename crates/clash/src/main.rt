@@ -4,6 +4,8 @@
 // has the text for the sheet `stdin`, P4 with blank lines and two rules more, worked out by hand: from the last line to the first, the rule on
 // line 9 is left out, since those before it have no floor; that on line 8 is needed, since without it the others have one; that on line 6 is
 // left out, since raw is part of cooked and not empty whether or not cooked is said not to be; those on lines 4 and 1 are needed.
+#![tactic(auto)]
+
 use reading::Got;
 
 fn main() {

@@ -1,6 +1,8 @@
 // The text that the program clash writes for a sheet: the rules that clash, one a line, with the number of the sheet's line and the rule as it was
 // read; or that a plan exists; or the refusal, as floorplan has it. What is meant is in specs/Printed.antt, what is computed in specs/Output.antt. The text is put into a buffer
 // part by part, as report does; there is room for every text. Assumes nothing.
+#![tactic(auto)]
+
 ghost use Rattle.std.specs.Prelude.{◌≡◌, ◌++◌, ◌+◌, ◌≤◌, ◌<◌, length, take, drop, replicate};
 ghost use Rattle.lists.specs.Padded.{pad};
 ghost use Rattle.lists.specs.Putting.{Puts};

@@ -2,6 +2,8 @@
 // each is left out where the search finds no row for those before it and those kept. The rules are compiled once; the code of those that
 // are left is put together for each search, since the search takes the codes of rules one behind the other. What is meant is in
 // specs/Clash.antt, what is computed in specs/Clashing.antt. Only our own crates call these functions. Assumes nothing.
+#![tactic(auto)]
+
 ghost use Rattle.std.specs.Prelude.{◌≡◌, ◌++◌, ◌+◌, ◌≤◌, length, take, drop};
 ghost use Rattle.std.proofs.lemmas.List.Edits.{sets};
 ghost use Rattle.solver.specs.Coded.{SafeFrom};

@@ -3,6 +3,8 @@
 // are the same count as one" (document 02, T-03): spelling tells which are. The order is passed once, with a stack of sets for the
 // terms that are whole and a row of their symbols. Only our own crates compile rules, and only what was read: the requires of
 // `compile_rule` says so, since to test for it would read the rule twice.
+#![tactic(auto)]
+
 ghost use Rattle.std.specs.Prelude.{◌≡◌, [], ◌+◌, ◌*◌, ◌≤◌, ◌<◌, length, get_or};
 ghost use Rattle.evalset.specs.Sets.{mem, mem_at};
 ghost use Rattle.evalset.specs.Most.{most};

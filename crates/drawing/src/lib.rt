@@ -1,6 +1,8 @@
 // The entry of the drawing program, which is written in C and can show 8 points (document 02, T-11). It takes a sheet and a lent buffer of
 // bytes, each as a pointer and a length; drawing/vorzhadell.h declares it. What is meant is in specs/Drawn.antt, what is computed in
 // specs/Drawing.antt. Assumes nothing; nothing proves what the caller passes, so the header says what it owes.
+#![tactic(auto)]
+
 ghost use Rattle.std.specs.Prelude.{◌≡◌, ◌+◌, ◌*◌, ◌≤◌, ◌<◌, length};
 ghost use Rattle.table.specs.Store.{rules_of};
 ghost use Rattle.table.specs.Calls.{formulas_of, FromUs};

@@ -3,6 +3,8 @@
 // what is out of range is answered, and the answer stated. No code outside this crate uses that a set is words: callers go by
 // members and by `room`, and `word_of` goes from a set to its words. Words of 64 rows, for the search, have functions of their own.
 // Assumes nothing.
+#![tactic(auto)]
+
 ghost use Rattle.std.specs.Prelude.{◌≡◌, not, ◌||◌, ℕ, ◌+◌, ◌*◌, ◌<◌, eqb};
 ghost use Rattle.lists.specs.Search.{any, first, below};
 ghost use Rattle.evalset.specs.Bit.{word_bits, bit};

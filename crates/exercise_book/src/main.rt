@@ -1,5 +1,7 @@
 // The program: it writes the course's exercise book, which `exercises` makes (document 02, T-12), to standard output. A standard output that
 // does not take the text is said on standard error.
+#![tactic(auto)]
+
 use exercises::BookAnswer;
 
 fn main() {

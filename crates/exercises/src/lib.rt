@@ -2,6 +2,8 @@
 // specs/Tokens.antt, Meant.antt, Order.antt and Lines.antt, the walk that finds them in specs/Book.antt, and what is proved of it in
 // proofs/Claims.antt. Here the book's text is put into a buffer line by line: each private function puts one piece at a place, and answers
 // the place after it. A string is the numbers of its tokens, in their order. Assumes nothing.
+#![tactic(auto)]
+
 ghost use Rattle.std.specs.Prelude.{◌≡◌, true, [], ◌∷◌, ◌++◌, ◌+◌, ◌≤◌, ◌<◌, eqb, length, replicate, take, get_or};
 ghost use Rattle.lists.specs.Padded.{pad};
 ghost use Rattle.lists.specs.Search.{collect};

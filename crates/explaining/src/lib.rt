@@ -4,6 +4,8 @@
 // decided atoms their values). The rules are run for 63 nodes at once, a block: from a node down to five atoms more. Contracts speak of all
 // atoms and rules that code and chart come from. A requires asks only that the code can be run and that indices are in range: our own
 // crates alone call these functions. Assumes nothing.
+#![tactic(auto)]
+
 ghost use Rattle.std.specs.Prelude.{◌≡◌, false, ℕ, ◌+◌, ◌-◌, ◌*◌, ◌/◌, ◌^◌, ◌≤◌, ◌<◌, length, set};
 ghost use Rattle.lists.specs.Search.{first, from};
 ghost use Rattle.kleene.specs.Rails.{yes_of, no_of, word_rows};

@@ -1,5 +1,7 @@
 // The program: it reads one sheet from standard input and writes the text for it, which `report` makes (document 01, 'Worked sheets').
 // A read that fails, or a standard output that does not take the text, is said on standard error and never as an answer.
+#![tactic(auto)]
+
 use reading::Got;
 
 fn main() {

@@ -1,6 +1,8 @@
 // Terms and formulas of the rule language, and how tightly its binary signs bind: what the reader of
 // rule text and the meaning of rules both stand on (document 01, 'Rule text' and 'Meaning'). The trees
 // are definitions, in specs/Formula.antt; code holds a formula in postfix order (crate syntax).
+#![tactic(auto)]
+
 ghost use Rattle.std.specs.Prelude.{◌≡◌};
 ghost use Rattle.formula.specs.Sign.{level_of, joins_terms};
 

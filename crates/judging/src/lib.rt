@@ -3,6 +3,8 @@
 // The plan gives each atom of the chart its value, and the code of each rule is run on these values. What is judged, `judge`, is
 // the plan crate's, on the floor of the plan that the arrays hold. The chart and the code come from our own crates: `judge_plan`
 // requires that they can be run, as the charts and the codes of rules can (`runnable` of solver/proofs/Claims.antt). Assumes nothing.
+#![tactic(auto)]
+
 ghost use Rattle.std.specs.Prelude.{◌≡◌, ℕ, ◌≤◌, ◌<◌};
 ghost use Rattle.evalset.specs.Bit.{bit};
 ghost use Rattle.squares.specs.Square.{Square, square_at};

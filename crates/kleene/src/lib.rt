@@ -2,6 +2,8 @@
 // word for each rail has a value for each of 64 rows (`run_rails`). What is on neither rail is undecided. Values are pairs, `Duo` of
 // specs/Rails.antt, and each contract says the pair in each row. Where every atom is decided one rail is enough (`run_whole`). The code
 // comes from our own compiler: the runs require that it is safe, as that of a formula is (proofs/Formed.antt). Assumes nothing.
+#![tactic(auto)]
+
 ghost use Rattle.std.specs.Prelude.{◌≡◌, not, List, [], ◌∷◌, ℕ, ◌≤◌, ◌<◌, length};
 ghost use Rattle.evalset.specs.Bit.{bit};
 ghost use Rattle.kleene.specs.Code.{Safe};

@@ -2,6 +2,8 @@
 // of the table of calls. A text is cut from the left; its tokens come back by value, as arrays of
 // kinds, first bytes and lengths beside the answer. No public function has a requires. What a
 // cutting is meant to be is in specs/Cutting.antt, and proofs/Claims.antt has what is proved of it.
+#![tactic(auto)]
+
 ghost use Rattle.std.specs.Prelude.{◌≡◌, [], ◌+◌, ◌≤◌, ◌<◌, length, get_or, drop, replicate};
 ghost use Rattle.lists.specs.Search.{all};
 ghost use Rattle.lexer.specs.Class.{is_blank, class_of};

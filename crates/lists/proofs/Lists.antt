@@ -70,7 +70,7 @@ module _ {A B : Type 0} where
       (x, ap (λ l. x ∷ l) ((map-eq-nil_iff f).0 (tail-eq_of_cons-eq e)), sym (head-eq_of_cons-eq e))
 
   -- functions that are equal over a list are equal at each of its elements
-  pub map_same : (f g : A → B) {xs : List A} {x : A} → In x xs → map f xs ≡ map g xs → f x ≡ g x
+  pub map_same : (f g : A → B) {x : A} {xs : List A} → In x xs → map f xs ≡ map g xs → f x ≡ g x
   map_same f g here e = head-eq_of_cons-eq e
   map_same f g (next i) e = map_same f g i (tail-eq_of_cons-eq e)
 

@@ -57,7 +57,7 @@ module _ {A : Type 0} where
       ⊎_elim (λ q. inl (at_head q)) (λ j. ⊎_elim (λ k. inl (next k)) (λ k. inr k) (in_either xs ys j)) (uncons i)
 
   -- an element has a place, and a place an element
-  pub place : (d : A) {xs : List A} {x : A} → In x xs → (i : ℕ) × (i < length xs) × (get_or xs i d ≡ x)
+  pub place : (d : A) {x : A} {xs : List A} → In x xs → (i : ℕ) × (i < length xs) × (get_or xs i d ≡ x)
   place d (here {xs}) = (zero, omega arith, refl)
   place d (next {x} {xs} i) = let r = place d i in (suc r.0, omega (arith, r.1), r.2)
 
@@ -78,7 +78,7 @@ module _ {A B : Type 0} (f : A → B) where
 -- ---- some, every
 
 module _ {A : Type 0} where
-  pub any_intro : (p : A → Bool) {xs : List A} {x : A} → In x xs → p x ≡ true → any p xs ≡ true
+  pub any_intro : (p : A → Bool) {x : A} {xs : List A} → In x xs → p x ≡ true → any p xs ≡ true
   any_intro p {x} (here {xs}) h = or_inl (p x) (any p xs) h
   any_intro p (next {x} {xs} i) h = or_inr (p x) (any p xs) (any_intro p i h)
 
@@ -88,7 +88,7 @@ module _ {A : Type 0} where
       ⊎_elim (λ k. (y, here, k)) (λ k. let r = any_elim p ys k in (r.0, next r.1, r.2)) (or_cases _ _ h)
 
   -- no element passes
-  pub none_elim : (p : A → Bool) {xs : List A} {x : A} → any p xs ≡ false → In x xs → p x ≡ false
+  pub none_elim : (p : A → Bool) {x : A} {xs : List A} → any p xs ≡ false → In x xs → p x ≡ false
   none_elim p {x} h i = eq-false_of_not-eq-true (λ k. clash (any_intro p i k) h)
 
   pub none_intro : (p : A → Bool) (xs : List A) → ((x : A) → In x xs → p x ≡ true → ⊥) → any p xs ≡ false
@@ -98,7 +98,7 @@ module _ {A : Type 0} where
   all_intro p [] h = refl
   all_intro p (y ∷ ys) h = and_intro (h y here) (all_intro p ys (λ x i. h x (next i)))
 
-  pub all_elim : (p : A → Bool) {xs : List A} {x : A} → In x xs → all p xs ≡ true → p x ≡ true
+  pub all_elim : (p : A → Bool) {x : A} {xs : List A} → In x xs → all p xs ≡ true → p x ≡ true
   all_elim p {x} (here {xs}) h = ((and-eq-true_iff (p x) (all p xs)).0 h).0
   all_elim p (next {x} {xs} i) h = all_elim p i ((and-eq-true_iff (p x) (all p xs)).0 h).1
 
@@ -193,7 +193,7 @@ first_map f p (x ∷ xs) = pick (p (f x)) (first_map f p xs)
 -- ---- those that pass, one list or the other, the lists that a function gives
 
 module _ {A : Type 0} where
-  pub keep_intro : (p : A → Bool) {xs : List A} {x : A} → In x xs → p x ≡ true → In x (keep p xs)
+  pub keep_intro : (p : A → Bool) {x : A} {xs : List A} → In x xs → p x ≡ true → In x (keep p xs)
   keep_intro p {x} (here {xs}) h = rw h here
   keep_intro p {x} (next {x = y} {xs} i) h = cases (p y) (λ e. rw e (next (keep_intro p i h))) (λ e. rw e (keep_intro p i h))
 
@@ -291,7 +291,7 @@ module _ {A : Type 0} where
   or_else_length (x ∷ xs) ys m h k = omega arith
 
 module _ {A B : Type 0} where
-  pub collect_intro : (f : A → List B) {xs : List A} {x : A} {y : B} → In x xs → In y (f x) → In y (collect f xs)
+  pub collect_intro : (f : A → List B) {x : A} {xs : List A} {y : B} → In x xs → In y (f x) → In y (collect f xs)
   collect_intro f (here {xs}) j = in_left (collect f xs) j
   collect_intro f (next {x} {xs} i) j = in_right (f x) (collect_intro f i j)
 

@@ -4,6 +4,8 @@
 // crates, and requires what they have: the rule that was read from the text, and names that `no_names`
 // or `gather` gave back. What is computed is in specs/Gather.antt, what is proved of it in
 // proofs/Claims.antt.
+#![tactic(auto)]
+
 ghost use Rattle.std.specs.Prelude.{◌≡◌, ◌≤◌, ◌<◌, [], length, take};
 ghost use Rattle.evalset.specs.Most.{most};
 ghost use Rattle.names.specs.Gather.{arrays_of, kept_name, known_of, Gathers, gathered};

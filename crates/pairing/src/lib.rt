@@ -3,6 +3,8 @@
 // word too: the row passes the check exactly if its word is the union of the words of pairs that lie within it, one at least. The
 // different words are listed once a search, from one evaluation of each class of those that lie in the same terms; a table has the
 // unions for all rows of a block by sums over subsets, for rows of some of the atoms too. A requires asks only that indices are in range: our own crates alone call these functions. Assumes nothing.
+#![tactic(auto)]
+
 ghost use Rattle.std.specs.Prelude.{◌≡◌, ◌&&◌, cond, ℕ, ◌+◌, ◌*◌, ◌/◌, ◌-◌, ◌^◌, ◌≤◌, ◌<◌, min, length, take, [], ◌∷◌};
 ghost use Rattle.lists.specs.Search.{elem};
 ghost use Rattle.evalset.specs.Bit.{word_bits, bit};

@@ -4,6 +4,8 @@
 // apart, lent too. These two functions ask only that the words lent are a square, and no other public function has a requires: words, counts,
 // rows and sets may be any, and each answer says what it is then.
 // What a plan is and which words it has is in specs/Words.antt, what is answered in specs/Arrays.antt. Assumes nothing.
+#![tactic(auto)]
+
 ghost use Rattle.std.specs.Prelude.{◌≡◌, ◌&&◌, ◌||◌, List, [], map, ℕ, min, ◌+◌, ◌*◌, ◌<◌, ◌≤◌, ◌^◌, eqb, length, take};
 ghost use Rattle.lists.specs.Padded.{pad};
 ghost use Rattle.lists.specs.Search.{keep, below};

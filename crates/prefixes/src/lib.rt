@@ -2,6 +2,8 @@
 // the tables of crate `pairing`. The row of no atoms has place 1, and the rows with one atom more than that at place h have the places
 // 2 * h, where it is true, and 2 * h + 1 (specs/Heap.antt). A requires asks only that indices are in range and that the lent memory is
 // clear: our own crates alone call these functions. Assumes nothing.
+#![tactic(auto)]
+
 ghost use Rattle.std.specs.Prelude.{◌≡◌, false, ℕ, ◌+◌, ◌-◌, ◌*◌, ◌/◌, ◌^◌, ◌≤◌, ◌<◌, length};
 ghost use Rattle.search.specs.Compiled.{limit};
 ghost use Rattle.pairing.specs.Words.{lone, row_test};

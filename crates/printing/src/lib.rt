@@ -2,6 +2,8 @@
 // specs/Tokens.antt and specs/Text.antt, what is proved of it in proofs/Claims.antt. No tree is built: the rule's postfix order is walked
 // from where the formula ends, and the text is made from its last byte to its first. Only our own crates call `print` and `print_atom`,
 // with what they have: the rule that was read from the text. Assumes nothing.
+#![tactic(auto)]
+
 ghost use Rattle.std.specs.Prelude.{◌≡◌, ◌+◌, ◌≤◌, ◌<◌, length, replicate};
 ghost use Rattle.std.proofs.lemmas.List.Edits.{sets};
 ghost use Rattle.formula.specs.Atoms.{atoms_of};

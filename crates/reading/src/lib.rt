@@ -1,5 +1,7 @@
 // Reading one sheet or one log from standard input, for each program that takes one. No contract can say which bytes come; what is counted is
 // within the sheet. Assumes nothing.
+#![tactic(auto)]
+
 ghost use Rattle.std.specs.Prelude.{◌≤◌, ◌<◌, ◌≡◌, length, replicate};
 ghost use Rattle.reading.specs.Reading.{Within};
 

@@ -2,6 +2,8 @@
 // under the place, and one sentence in plain words, with what was expected where that is known. What is meant is in specs/Remark.antt: a function
 // from the sheet's bytes and load's answer to the text's bytes. Here the text is put into a buffer part by part, as report does; there is room
 // for every remark. Assumes nothing.
+#![tactic(auto)]
+
 ghost use Rattle.std.specs.Prelude.{◌≡◌, [], ◌++◌, map, ◌+◌, ◌-◌, ◌≤◌, min, length, get_or, take, drop, replicate};
 ghost use Rattle.lists.specs.Putting.{Puts};
 ghost use Rattle.report.specs.Putting.{Reports};

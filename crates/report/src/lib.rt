@@ -3,6 +3,8 @@
 // sheet's bytes to the text's. Here the text is put into a buffer part by part: each private function puts one at a place, and answers the
 // place after it. The buffer has room for every text but those of a building and of a tree, which are given in pieces (specs/Pieces.antt): their
 // words are lent, and a piece has the lines of some of them, from any word on. Assumes nothing.
+#![tactic(auto)]
+
 ghost use Rattle.std.specs.Prelude.{◌≡◌, [], ◌∷◌, ◌+◌, ◌-◌, ◌*◌, ◌≤◌, ◌<◌, length, get_or, replicate, take, drop};
 ghost use Rattle.contact.specs.Question.{plain, building};
 ghost use Rattle.contact.specs.Numbering.{names_of};

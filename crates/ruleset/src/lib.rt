@@ -4,6 +4,8 @@
 // points of a row and what it separates, the judgement of a plan, the verdict on a tree, the tree of a writer, and where an atom is written first.
 // Only our own crates compile texts, and only rules: the requires say so. What is compiled so meets the other requires
 // (proofs/Claims.antt).
+#![tactic(auto)]
+
 ghost use Rattle.std.specs.Prelude.{◌≡◌, ◌≤◌, ◌<◌, length, take};
 ghost use Rattle.search.specs.Asked.{question_of};
 ghost use Rattle.search.specs.Compiled.{limit};

@@ -2,6 +2,8 @@
 // A row is a number: of k atoms, atom i is true where bit k - 1 - i is clear. Its state is what the row allows, and a square (crate
 // squares) of what it separates from each evaluation, in words that are lent. Contracts speak of every list of atoms that the chart is compiled from (specs/Compiled.antt). A requires asks
 // only that indices are in range: our own crates alone call these functions, with at most 16 atoms. Assumes nothing.
+#![tactic(auto)]
+
 ghost use Rattle.std.specs.Prelude.{◌≡◌, false, ℕ, ◌≤◌, ◌<◌, length, get_or};
 ghost use Rattle.lists.specs.Search.{first, below, elem};
 ghost use Rattle.evalset.specs.Sets.{room, mem};

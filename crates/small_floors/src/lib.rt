@@ -1,6 +1,8 @@
 // Floors of at most eight points on distinct evaluations, what a sheet's form means on them, and the words of their plans: what
 // test_small_floors and test_small_plans hold the table's answers to. Nothing here shares code with the table, and no contract states what a
 // function answers: what these functions say is held to the stored outputs of the two programs. No function has a requires. Assumes nothing.
+#![tactic(auto)]
+
 use small_sheets::{
     ALL, AND, COMMON, CONTACT, EITHER, EMPTY, FALSE, IF, NAME, NOT, NOTHING, Numbers, OR, PART,
     REST, RULE, SECOND, SPACED_EMPTY, THIRD, TRUE, is_atom, operands,

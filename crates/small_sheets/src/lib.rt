@@ -4,6 +4,8 @@
 // are compared here sign by sign and numbered, those that are the same alike, as document 02, T-03, says. Nothing here shares code with the
 // table. What a contract states are the bounds that callers use; what a sheet holds is held to the stored outputs of the four programs, whose
 // counts of names, signs and atoms a separate program gave. No public function has a requires. Assumes nothing.
+#![tactic(auto)]
+
 ghost use Rattle.std.specs.Prelude.{◌≡◌, true, ◌<◌, ◌≤◌};
 ghost use Rattle.small_sheets.specs.Bounds.{Bounded, Few};
 

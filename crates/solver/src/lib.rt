@@ -6,6 +6,8 @@
 // Rules come as postfix codes one after another: rule i is code[ends[i - 1]..ends[i]], the first from 0 on. Contracts speak of
 // all atoms and rules that chart and code come from (specs/Tree.antt). A requires asks only that the code can be run and that
 // indices are in range. Assumes nothing.
+#![tactic(auto)]
+
 ghost use Rattle.std.specs.Prelude.{◌≡◌, false, not, ℕ, ◌+◌, ◌*◌, ◌≤◌, ◌<◌, ◌^◌, min, length, get_or};
 ghost use Rattle.lists.specs.Search.{first, below};
 ghost use Rattle.evalset.specs.Bit.{word_levels, bit};

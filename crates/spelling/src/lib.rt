@@ -2,6 +2,8 @@
 // terms as read, and for C also with its terms exchanged". Terms are the same exactly if their symbols in postfix order are, with numbers
 // for names. A symbol takes half a byte, so that the terms of sixteen atoms, of rules of 256 bytes, take 2,048. Only our own crates
 // keep atoms: the requires say what they have.
+#![tactic(auto)]
+
 ghost use Rattle.std.specs.Prelude.{◌≡◌, ◌+◌, ◌-◌, ◌≤◌, ◌<◌, length};
 ghost use Rattle.spelling.specs.Kept.{symbol_at, Compares, Numbers, Storing, Stores};
 ghost use Rattle.spelling.specs.Comparing.{wanted_before, Starts, Agree, Matches, Tells, symbol_in};

@@ -1,5 +1,7 @@
 // A square of bits in words that are lent, a row for each evaluation or each point: sheets of up to six names take 64 words and clear no
 // more. A requires asks only that the row is in the square: our own crates alone call these functions. Assumes nothing.
+#![tactic(auto)]
+
 ghost use Rattle.std.specs.Prelude.{◌≡◌, ◌+◌, ◌*◌, ◌≤◌, ◌<◌, length, get_or, set};
 ghost use Rattle.std.specs.Int.Bits.{bit_or};
 ghost use Rattle.evalset.specs.Sets.{mem};

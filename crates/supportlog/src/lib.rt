@@ -1,6 +1,8 @@
 // A customer's support log, run on the rule table (document 02, T-13). A line is answered by a call on the table, which goes in and comes
 // back; the tally is lent with every line (`line`). The text is given in pieces, one for each answer (`next_piece`). What is meant is in
 // specs/Lines.antt and Answers.antt, what is computed in specs/Run.antt and Steps.antt. Assumes nothing.
+#![tactic(auto)]
+
 ghost use Rattle.std.specs.Prelude.{◌≡◌, [], ◌∷◌, ◌+◌, ◌-◌, ◌*◌, min, ◌≤◌, ◌<◌, length, take, drop};
 ghost use Rattle.table.specs.Calls.{FromUs};
 ghost use Rattle.supportlog.specs.Run.{with_digit, number_from, number_form, form_of, line_says, RunsAs, Runs, kind_of, tallied};

@@ -2,6 +2,8 @@
 // tokens of a text are read by recursive descent into the formula's postfix order; what cannot be read
 // is refused at the first token such that the tokens up to it begin no formula. No public function has
 // a requires.
+#![tactic(auto)]
+
 ghost use Rattle.std.specs.Prelude.{◌≡◌, true, List, ℕ, ◌+◌, ◌≤◌, ◌<◌, length};
 ghost use Rattle.lexer.specs.Token.{Token};
 ghost use Rattle.lexer.specs.Arrays.{tokens_of};

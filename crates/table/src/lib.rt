@@ -4,6 +4,8 @@
 // `Table::empty` or from a call. What each call gives is in specs/Calls.antt, Asking.antt, Printing.antt, Explaining.antt,
 // Still.antt and Clashing.antt, what its answers mean in specs/Rows.antt, the documents' numbers are in specs/Numbers.antt, and what is proved
 // of lists of calls is in proofs/Claims.antt.
+#![tactic(auto)]
+
 ghost use Rattle.std.specs.Prelude.{◌≡◌, [], ◌∷◌, ◌++◌, ℕ, ◌+◌, ◌-◌, ◌*◌, ◌≤◌, ◌<◌, length, take, drop, replicate};
 ghost use Rattle.contact.specs.Question.{plain, building};
 ghost use Rattle.names.specs.Gather.{arrays_of};

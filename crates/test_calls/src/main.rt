@@ -16,6 +16,8 @@
 // while they are withdrawn one by one. `kept`: the words lent to a question have their old values, those past the plan or the tree or,
 // for another answer, all. A plan that is given is judged at once, and a tree is checked. `unmet rule 0` is judge's answer 0, a point in no
 // name (document 02, T-07). The file `stdout` has the lines that documents 01 and 02 ask for.
+#![tactic(auto)]
+
 ghost use Rattle.std.specs.Prelude.{◌≡◌, ◌≤◌, ◌<◌, length};
 ghost use Rattle.table.specs.Calls.{FromUs};
 

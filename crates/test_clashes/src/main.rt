@@ -19,6 +19,8 @@
 // and the rules that are true in each, and of these the set by the definition's words. Its plans, no plans and refusals are those of
 // test_small_floors. By its count 75 of the sets are others if names are counted in the rules that are left, and 876 if the rules are gone
 // through from the first to the last.
+#![tactic(auto)]
+
 ghost use Rattle.std.specs.Prelude.{◌≡◌, ◌≤◌};
 ghost use Rattle.small_sheets.specs.Bounds.{Bounded};
 ghost use Rattle.table.specs.Calls.{FromUs};

@@ -2,6 +2,8 @@
 // a sheet can get, and for the longest sheets; then some sheets as they were read, some for one building, and why some have no plan; then the
 // sheets and the log of the course, the folder examples/course. The file `stdout` has the texts that document 01 asks for, and T-02, T-03,
 // T-04, T-06, T-07 and T-13 of document 02, worked out by hand.
+#![tactic(auto)]
+
 ghost use Rattle.std.specs.Prelude.{◌≡◌, length};
 
 use names::Names;

@@ -1,6 +1,8 @@
 // What the test programs share: writing to standard output, comparing words, and putting bytes and words into buffers. No contract
 // can say which bytes a call writes, so the functions that write have none; the digits that they write are made by functions that
 // have. No public function has a requires. Assumes nothing.
+#![tactic(auto)]
+
 ghost use Rattle.std.specs.Prelude.{◌≡◌, true, [], ◌∷◌, ◌+◌, ◌^◌, ◌<◌, length, replicate};
 ghost use Rattle.lists.specs.Search.{from};
 ghost use Rattle.test_kit.specs.Digits.{word_digits};

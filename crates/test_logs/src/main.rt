@@ -1,6 +1,8 @@
 // The test program of support logs (document 02, T-13). Standard input is a list of logs with byte 0 between two of them, so that a log here has
 // every other byte. For each, its number, its text as logrun writes it, and the five counts of its tally: rules added, rules withdrawn, plans,
 // no plans, refusals. The file `stdout` has what documents 01 and 02 ask for, worked out by a separate program.
+#![tactic(auto)]
+
 ghost use Rattle.std.specs.Prelude.{◌≤◌, length};
 
 use tally::Tally;

@@ -1,6 +1,8 @@
 // The test program of plan words: for each list of words one line with the words, `=> `, and either the
 // plan that they are, written again and compared, or refusal 13 and its index; then plans written into
 // short and long buffers, and the largest plan. The file `stdout` has the lines that document 01 asks for.
+#![tactic(auto)]
+
 ghost use Rattle.std.specs.Prelude.{◌≡◌, length};
 
 use evalset::{EvalSet, ROOM};

@@ -3,6 +3,8 @@
 // `stdin` are the texts of test_rule_text that are read, and others for the pairs that T-02 names and for 256 bytes. The lines of `stdout`
 // were worked out by a separate method: from the text's tree, found by a reader of its own, each operand was put in a pair of parentheses,
 // and then each pair was taken away without which that reader finds the same tree.
+#![tactic(auto)]
+
 ghost use Rattle.printing.specs.Prints.{WasRead};
 
 use printing::Printed;

@@ -2,6 +2,8 @@
 // each, its number and the remark on it; then the remarks for some answers that no load of their sheet gives, and those on the lines of some logs.
 // The file `stdout` has what was worked out by hand from the sentences of the issue: of each refusal the line, the place, the number and the
 // sentence, and from these the two lines by a separate small program, which knows no rule and no candidate.
+#![tactic(auto)]
+
 ghost use Rattle.std.specs.Prelude.{◌≤◌, length};
 
 use table::{AddAnswer, LoadAnswer};

@@ -2,6 +2,8 @@
 // its place or the tokens of the formula in postfix order, parted by one blank. The file `stdout` has the
 // lines that document 01 asks for. A byte outside 32..126, or a backslash, is written as a backslash
 // and two hexadecimal digits.
+#![tactic(auto)]
+
 use lexer::{NAME, Tokens};
 use syntax::{Rule, RuleAnswer};
 use test_kit::{no_text, put_times, word_digits, write_bytes, write_refusal};

@@ -5,6 +5,8 @@
 // kind 8, and the evaluations. A line more is an atom more, so a sheet of sixteen different atoms is refused with 8. What the shorter sheets
 // are answered test_small_floors holds to a search of its own. The file `stdout` has the counts of a separate program in Python, which reads
 // the longer sheets by a reader of its own and takes the first row and its plan by the documents' words.
+#![tactic(auto)]
+
 ghost use Rattle.std.specs.Prelude.{◌<◌};
 ghost use Rattle.small_sheets.specs.Bounds.{Bounded};
 ghost use Rattle.table.specs.Calls.{FromUs};

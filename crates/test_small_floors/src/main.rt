@@ -12,6 +12,8 @@
 // computations gave, those of a program in Python: it makes each sheet's text again, reads it by a reader of its own, and takes the first row
 // by the documents' words, with floors sought on all evaluations that a branch leaves; for up to two names it tries all floors on distinct
 // evaluations as well.
+#![tactic(auto)]
+
 ghost use Rattle.small_sheets.specs.Bounds.{Bounded};
 ghost use Rattle.table.specs.Calls.{FromUs};
 

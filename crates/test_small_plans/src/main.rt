@@ -5,6 +5,8 @@
 // must say what ask says. So it must of each word of ask's plan with one of five bits changed: these words are a plan exactly if they are
 // those of the floor that they have. That ask is right is test_small_floors' part. A sheet that disagrees is written, and why. The file
 // `stdout` has the counts of test_small_floors, which separate computations gave, and five changes for each of its 4,610 plan words.
+#![tactic(auto)]
+
 ghost use Rattle.small_sheets.specs.Bounds.{Bounded};
 ghost use Rattle.table.specs.Calls.{FromUs};
 

@@ -5,6 +5,8 @@
 // A sheet that disagrees is written, and why. The file `stdout` has the counts that separate computations gave. Those of trees, and the
 // number that all trees' words give, are of a program in Python: it makes each sheet's text again, reads it by a reader of its own, and
 // writes the tree by the documents' words, with floors sought on all evaluations that a branch leaves.
+#![tactic(auto)]
+
 ghost use Rattle.table.specs.Calls.{FromUs};
 
 use small_sheets::{Numbers, numbers_of, sheet_at};

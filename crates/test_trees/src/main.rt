@@ -11,6 +11,8 @@
 // is found by going through the floors on the four evaluations, with all contacts; alike points can be merged, so these are all floors.
 // Where a sheet has a name, those with a point in none do not count (document 02, T-07).
 // What disagrees is written. The file `stdout` has the counts that a separate computation gave.
+#![tactic(auto)]
+
 ghost use Rattle.std.specs.Prelude.{◌≡◌, ◌≤◌, length};
 ghost use Rattle.table.specs.Calls.{FromUs};
 

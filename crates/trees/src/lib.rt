@@ -3,6 +3,8 @@
 // A branch has a bit for each atom that it has decided, and for each of these that is true, as a row's number has (crate pairing). Rules come
 // as postfix codes and atoms as a compiled chart (crate solver). Contracts speak of all atoms and rules that these come from. A requires asks
 // only that the code can be run and that indices are in range: our own crates alone call these functions. Assumes nothing.
+#![tactic(auto)]
+
 ghost use Rattle.std.specs.Prelude.{◌≡◌, cond, ℕ, ◌≤◌, ◌<◌, length};
 ghost use Rattle.std.specs.Int.Bits.{bit_or};
 ghost use Rattle.evalset.specs.Bit.{bit};

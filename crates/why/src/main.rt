@@ -4,6 +4,8 @@
 // sheet `stdin`, in more than one piece, which a separate program wrote: the parity of eight contacts of six regions, and its negation. Any of
 // these contacts can be there or not, whatever the others, and a parity is unknown until all are decided, so that every one is split on;
 // then the one rule is false or the other. The folder examples has shorter ones.
+#![tactic(auto)]
+
 use reading::Got;
 use report::{Piece, TextAnswer};
 use table::AtomText;

@@ -1,4 +1,5 @@
 -- `clashes::put_clash` meets its contract: the places have the set, whose lines are put, or a plan exists (Answers.antt). Assumes nothing.
+use borrow.Enum.Refused.{opened}
 use mathlib.Core.Path.{◌≡◌, refl}
 use native.Mathlib.Omega.{arith}
 use lib.ListN.{length}
@@ -17,7 +18,7 @@ put_text-requires c = omega (arith, c.requires.2)
 
 pub returns-in_default : goal.returns-in_default
 returns-in_default c =
-    puts_text (exists_text _ c.requires.0 c.requires.1 _ refl _ _ c.clash-given.ensures _ (told_no_clash _ c.in_default.in_default-own.keys2)) c.put_text.ensures
+    puts_text (exists_text _ c.requires.0 c.requires.1 _ refl _ _ c.clash-given.ensures _ (told_no_clash _ (opened c.in_default.in_default-own.keys2))) c.put_text.ensures
 
 pub put_set-requires : goal.put_set-requires
 put_set-requires c =

@@ -1,4 +1,5 @@
 -- `clashes::put_sheet` meets its contract: the sheet is loaded or refused, and each has its text. Assumes nothing.
+use borrow.Enum.Refused.{opened}
 use mathlib.Core.Path.{◌≡◌, sym, ap, ◌∙◌}
 use mathlib.Core.List.{List}
 use Prim.Native.Nat.{ℕ}
@@ -19,7 +20,7 @@ use Rattle.clashes.proofs.put_sheet.Goals as goal
 pub returns-in_default : goal.returns-in_default
 returns-in_default c =
     let file = c.args.file.now in
-    puts_text (refused_text _ _ _ c.load-loaded.ensures (rules_clash (numbers_from 1 (lines_of file))) (told_not_loaded _ c.in_default.in_default-own.keys2)) c.put_refusal.ensures
+    puts_text (refused_text _ _ _ c.load-loaded.ensures (rules_clash (numbers_from 1 (lines_of file))) (told_not_loaded _ (opened c.in_default.in_default-own.keys2))) c.put_refusal.ensures
 
 pub put_clash-requires : goal.put_clash-requires
 put_clash-requires c =

@@ -33,9 +33,9 @@ module _ (c : goal.After-is_term) where
 
 pub loop-i-init : goal.loop-i-init
 loop-i-init c =
-    let contacts : length c.args.chart.contact ≡ 16 = simp length-map at c.well_formed.1.1.0.1.1.1.1.0.1.0.1 in
-    let firsts : length c.args.chart.xs ≡ 16 = simp length-map at c.well_formed.1.1.0.1.1.1.1.1.0.1.0.1 in
-    let seconds : length c.args.chart.ys ≡ 16 = simp length-map at c.well_formed.1.1.0.1.1.1.1.1.1.0.1.0.1 in
+    let contacts : length c.args.chart.contact ≡ 16 = c.well_formed.1.1.0.1.1.1.1.0.1.0.1 in
+    let firsts : length c.args.chart.xs ≡ 16 = c.well_formed.1.1.0.1.1.1.1.1.0.1.0.1 in
+    let seconds : length c.args.chart.ys ≡ 16 = c.well_formed.1.1.0.1.1.1.1.1.1.0.1.0.1 in
     let lengths : length c.args.lens ≡ 16 = c.well_formed.1.1.1.0.1.0.1 in (
       rw (c.no_terms-at.ensures.0, c.no_terms-at.ensures.1, c.no_terms-at.ensures.2) (begins _ _ _ _ _ _ _ c.requires.1 (ap length c.zeros-row.ensures) refl),
       record { contacts = contacts; firsts = firsts; seconds = seconds; lengths = lengths },

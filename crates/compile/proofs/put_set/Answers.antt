@@ -1,5 +1,5 @@
 -- `compile::put_set` meets its contract: the four words are those of the set (Stack.antt). Assumes nothing.
-use mathlib.Core.List.{◌∷◌}
+use mathlib.Core.List.{[], ◌∷◌}
 use native.Mathlib.Omega.{arith}
 use lib.ListN.{length-set}
 use Rattle.evalset.specs.Sets.{mem}

@@ -1,4 +1,5 @@
 -- `drawing::draw_rules` meets its contract: what ask wrote are the words of the plan that is given, or there is none. Assumes nothing.
+use borrow.Enum.Refused.{opened}
 use mathlib.Core.Path.{◌≡◌, sym, ap, subst, ◌∙◌}
 use mathlib.Core.List.{List}
 use Prim.Native.Nat.{ℕ, ◌≤◌, ◌<◌}
@@ -25,7 +26,7 @@ sizes : (c : goal.In-Plan-2) → (length (wrote c).plan.points ≤ 255) × (0 < 
 sizes c = plan_sizes _ (asking c.before.before).from_us (wrote c).plan (wrote c).only
 
 pub returns-in_default : goal.returns-in_default
-returns-in_default c = rules_none _ _ (no_plans (asking c.before.before) (told_other _ c.in_default.in_default-own.keys2))
+returns-in_default c = rules_none _ _ (no_plans (asking c.before.before) (told_other _ (opened c.in_default.in_default-own.keys2)))
 
 pub slice_bounds-words-end : goal.slice_bounds-words-end
 slice_bounds-words-end c = prefix_within _ _ _ _ (wrote c.before).size (wrote c.before).words

@@ -1,4 +1,5 @@
 -- `drawing::refused` meets its contract: the number of a refusal on a line, and 0 for another outcome. Assumes nothing.
+use borrow.Enum.Refused.{opened}
 use mathlib.Core.Path.{sym, ap, ◌∙◌}
 use native.Mathlib.Omega.{arith}
 use Rattle.drawing.specs.Drawing.{outcome_number, Fits}
@@ -6,7 +7,7 @@ use Rattle.drawing.proofs.Drawing.{no_number}
 use Rattle.drawing.proofs.refused.Goals as goal
 
 pub returns-in_default : goal.returns-in_default
-returns-in_default c = no_number c.load_outcome-said.result c.in_default.in_default-own.keys2 ∙ ap outcome_number c.load_outcome-said.ensures
+returns-in_default c = no_number c.load_outcome-said.result (opened c.in_default.in_default-own.keys2) ∙ ap outcome_number c.load_outcome-said.ensures
 
 pub refusal-requires : goal.refusal-requires
 unfolding Fits

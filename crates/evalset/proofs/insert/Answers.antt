@@ -11,7 +11,7 @@ use Rattle.evalset.proofs.insert.Goals as goal
 pub returns-then-e-lt-ROOM : goal.returns-then-e-lt-ROOM
 unfolding room
 returns-then-e-lt-ROOM c =
-    changed ◌||◌ or-false _ (simp length-map at c.well_formed.0.1.1.0.1.0.1) _ c.if-e-lt-ROOM.true _ c.word_with.ensures
+    changed ◌||◌ or-false _ (c.well_formed.0.1.1.0.1.0.1) _ c.if-e-lt-ROOM.true _ c.word_with.ensures
     ∙ sym (fun_ext (add_in (mem c.args.s) _ c.if-e-lt-ROOM.true))
 
 pub returns-else-e-lt-ROOM : goal.returns-else-e-lt-ROOM

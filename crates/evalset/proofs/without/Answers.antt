@@ -12,7 +12,7 @@ use Rattle.evalset.proofs.without.Goals as goal
 pub returns-then-e-lt-ROOM : goal.returns-then-e-lt-ROOM
 unfolding room
 returns-then-e-lt-ROOM c =
-    changed (λ (a b : Bool). a && not b) and-true _ (simp length-map at c.well_formed.0.1.1.0.1.0.1) _ c.if-e-lt-ROOM.true _ (congr_fun c.word_without.ensures)
+    changed (λ (a b : Bool). a && not b) and-true _ (c.well_formed.0.1.1.0.1.0.1) _ c.if-e-lt-ROOM.true _ (congr_fun c.word_without.ensures)
 
 pub returns-else-e-lt-ROOM : goal.returns-else-e-lt-ROOM
 unfolding room

@@ -1,6 +1,6 @@
 -- `evalset::word_mask` meets its contract: the table of masks passes its test, which antt computes; from 6 up no number of a bit has the bit.
 -- Assumes nothing.
-use mathlib.Core.List.{List, ◌∷◌}
+use mathlib.Core.List.{[], List, ◌∷◌}
 use Prim.Native.Nat.{ℕ}
 use mathlib.Core.Path.{refl, sym, ◌∙◌, fun_ext}
 use Rattle.evalset.specs.Bit.{word_bits, word_levels, bit}

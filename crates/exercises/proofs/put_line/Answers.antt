@@ -1,5 +1,5 @@
 -- `exercises::put_line` meets its contract: the tokens, then byte 10. Assumes nothing.
-use mathlib.Core.List.{◌∷◌}
+use mathlib.Core.List.{[], ◌∷◌}
 use native.Mathlib.Omega.{arith}
 use lib.ListN.{take, length-append}
 use Rattle.exercises.specs.Lines.{parted}

@@ -1,6 +1,6 @@
 -- `judging::rule_value` meets its contract: a run whose atoms are all decided gives the rule's value. Assumes nothing.
 use mathlib.Core.Path.{sym, ap, ◌∙◌}
-use mathlib.Core.List.{List}
+use mathlib.Core.List.{[], List}
 use Prim.Native.Nat.{ℕ}
 use native.Mathlib.Omega.{arith}
 use Rattle.evalset.proofs.Bits.{bit_zero}

@@ -12,14 +12,13 @@ use Rattle.lexer.proofs.Advance.{none_made, at_end, at_blank, at_foreign, at_lon
 use Rattle.lexer.proofs.cut.Goals as goal
 
 pub loop-at-init : goal.loop-at-init
-loop-at-init c =
- (
-      omega arith,
-      c.requires,
-      omega arith,
-      c.class_table-table.ensures,
-      ap (λ (t : Tokens). resume t (cutting c.args.text.now)) (none_made _ _ _ c.zeros-kinds.ensures c.zeros-starts.ensures c.zeros-lens.ensures),
-    )
+loop-at-init c = (
+  omega arith,
+  c.requires,
+  omega arith,
+  c.class_table-table.ensures,
+  ap (λ (t : Tokens). resume t (cutting c.args.text.now)) (none_made _ _ _ c.zeros-kinds.ensures c.zeros-starts.ensures c.zeros-lens.ensures),
+)
 
 pub piece_at-p-requires : goal.piece_at-p-requires
 piece_at-p-requires c = (c.loop-at-test.true, c.loop-at.invariant.3)

@@ -1,5 +1,6 @@
 -- `lexer::cut` meets its contract: the tokens that are in the arrays and the cutting of the rest of the text give the answer for the
 -- whole text (the invariant); what is left of the text falls. Assumes nothing.
+use mathlib.Core.List.{[]}
 use mathlib.Core.Path.{◌≡◌}
 use Prim.Native.Nat.{◌-◌, ◌≤◌}
 use lib.ListN.{length, drop}

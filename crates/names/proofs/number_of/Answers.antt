@@ -10,7 +10,7 @@ use Rattle.names.proofs.number_of.Goals as goal
 
 pub loop-i-init : goal.loop-i-init
 loop-i-init c =
-    let long : length c.args.names.list ≡ most = simp length-map at c.well_formed.0.1.1.0.1.0.1 in
+    let long : length c.args.names.list ≡ most = c.well_formed.0.1.1.0.1.0.1 in
     (omega arith, omega arith, long, omega arith)
 
 pub same-requires : goal.same-requires

@@ -18,7 +18,7 @@ returns-then-n-w c = lengths_differ _ _ (λ e. omega (arith, c.wide-n.ensures))
 
 pub loop-i-init : goal.loop-i-init
 loop-i-init c =
-    (omega arith, simp length-map at c.well_formed.0.1.1.0.1.0.1, c.requires, refl)
+    (omega arith, c.well_formed.0.1.1.0.1.0.1, c.requires, refl)
 
 pub returns-then-bytes-i : goal.returns-then-bytes-i
 returns-then-bytes-i c =

@@ -1,4 +1,5 @@
 -- `plan::contact` meets its contract: each test that fails is the machine's, and what passes them all is taken. Assumes nothing.
+use borrow.Enum.Refused.{opened}
 use mathlib.Core.Path.{sym, ap, ◌∙◌}
 use native.Mathlib.Omega.{arith}
 use Rattle.plan.specs.declared.Linking.TheVariants.{Over}
@@ -39,4 +40,4 @@ returns-in-Last c =
 pub returns-in_default : goal.returns-in_default
 returns-in_default c =
     let a = c.args in
-    not_link a.count a.low a.at a.len a.word c.in_default.in_default-own.keys3
+    not_link a.count a.low a.at a.len a.word (opened c.in_default.in_default-own.keys3)

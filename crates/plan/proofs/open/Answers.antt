@@ -1,4 +1,5 @@
 -- `plan::open` meets its contract: each test that fails is the machine's, and what passes them all is its state. Assumes nothing.
+use borrow.Enum.Refused.{opened}
 use native.Mathlib.Omega.{arith}
 use lib.Pow.{pow_mono}
 use Prim.Native.Nat.{◌≤◌}
@@ -7,7 +8,7 @@ use Rattle.evalset.specs.Most.{most}
 use Rattle.plan.proofs.open.Goals as goal
 
 pub returns-in_default : goal.returns-in_default
-returns-in_default c = record { to = not_first c.args.word c.in_default.in_default-own.keys2 }
+returns-in_default c = record { to = not_first c.args.word (opened c.in_default.in_default-own.keys2) }
 
 pub returns-then-evaluations-count : goal.returns-then-evaluations-count
 returns-then-evaluations-count c =

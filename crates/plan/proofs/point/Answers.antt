@@ -1,4 +1,5 @@
 -- `plan::point` meets its contract: each test that fails is the machine's, and what passes them all is taken. Assumes nothing.
+use borrow.Enum.Refused.{opened}
 use native.Mathlib.Omega.{arith}
 use Rattle.plan.proofs.ReadLoop.{not_point, point_low, point_room, point_taken}
 use Rattle.plan.proofs.point.Goals as goal
@@ -6,7 +7,7 @@ use Rattle.plan.proofs.point.Goals as goal
 pub returns-in_default : goal.returns-in_default
 returns-in_default c =
     let a = c.args in
-    not_point a.low a.left a.top a.word c.in_default.in_default-own.keys2
+    not_point a.low a.left a.top a.word (opened c.in_default.in_default-own.keys2)
 
 pub returns-then-e-low : goal.returns-then-e-low
 returns-then-e-low c =

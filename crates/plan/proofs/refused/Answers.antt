@@ -1,4 +1,5 @@
 -- `plan::refused` meets its contract: nothing is stored, and no row has a position. Assumes nothing.
+use mathlib.Core.List.{[]}
 use mathlib.Core.Path.{refl, ◌∙◌}
 use Rattle.plan.proofs.Squares.{self_square}
 use Rattle.plan.proofs.refused.Goals as goal

@@ -10,7 +10,7 @@ use Rattle.printing.proofs.fill.Goals as goal
 
 pub loop-height-init : goal.loop-height-init
 loop-height-init c =
-    let full : length c.args.rule.order ≡ 256 = simp length-map at c.well_formed.1.0.1.1.1.1.0.1.0.1 in
+    let full : length c.args.rule.order ≡ 256 = c.well_formed.1.0.1.1.1.1.0.1.0.1 in
     goes_first c.args.text.now c.args.rule c.requires.0 c.args.place c.requires.1 c.args.made.now c.requires.3 c.args.stack.now c.requires.2 full
 
 pub bounds-stack-height : goal.bounds-stack-height

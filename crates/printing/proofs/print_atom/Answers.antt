@@ -9,8 +9,8 @@ use Rattle.printing.proofs.print_atom.Goals as goal
 
 pub atom_end-place-requires : goal.atom_end-place-requires
 atom_end-place-requires c =
-    let full : length c.args.rule.order ≡ 256 = simp length-map at c.well_formed.1.0.1.1.1.1.0.1.0.1 in
-    let wide : length c.args.rule.tokens.kinds ≡ 256 = simp length-map at c.well_formed.1.0.1.1.1.0.1.1.0.1.0.1 in
+    let full : length c.args.rule.order ≡ 256 = c.well_formed.1.0.1.1.1.1.0.1.0.1 in
+    let wide : length c.args.rule.tokens.kinds ≡ 256 = c.well_formed.1.0.1.1.1.0.1.1.0.1.0.1 in
     can_seek c.args.text.now c.args.rule c.requires.0 c.args.which c.requires.1 full wide
 
 pub print_to-requires : goal.print_to-requires

@@ -1,6 +1,6 @@
 -- `remarks::line_length` meets its contract: the first line is what was passed, and the first line of what is left. Assumes nothing.
 use mathlib.Core.Path.{◌≡◌}
-use mathlib.Core.List.{◌++◌}
+use mathlib.Core.List.{[], ◌++◌}
 use Prim.Native.Nat.{◌-◌, ◌≤◌}
 use lib.ListN.{length, get_or, take, drop}
 use Rattle.table.specs.Sheet.{lines_of}

@@ -1,5 +1,6 @@
 -- `remarks::line_start` meets its contract: of what is left, the line that is looked for is the one behind those that are still to be passed.
 -- Assumes nothing.
+use mathlib.Core.List.{[]}
 use mathlib.Core.Path.{◌≡◌}
 use Prim.Native.Nat.{◌-◌, ◌≤◌}
 use lib.ListN.{length, get_or, drop}

@@ -6,7 +6,7 @@ use Rattle.report.proofs.Kept.{known_count}
 use Rattle.report.proofs.count_of.Goals as goal
 
 long : (s : goal.Start) → length s.args.names.list ≡ 8
-long s = simp length-map at s.well_formed.0.1.1.0.1.0.1
+long s = s.well_formed.0.1.1.0.1.0.1
 
 pub returns-then-count-lt8 : goal.returns-then-count-lt8
 returns-then-count-lt8 c = let s = c.before in (omega (arith, known_count s.args.names, long s, c.if-count-lt8.true), omega (arith, c.if-count-lt8.true))

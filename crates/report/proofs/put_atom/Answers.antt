@@ -1,4 +1,5 @@
 -- `report::put_atom` meets its contract: the text with this number, or that of no atom. Assumes nothing.
+use mathlib.Core.List.{[]}
 use mathlib.Core.Path.{◌≡◌, sym, ap}
 use native.Mathlib.Omega.{arith}
 use Rattle.lists.proofs.Lists.{default_unread}

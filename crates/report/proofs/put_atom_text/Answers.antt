@@ -9,7 +9,7 @@ use Rattle.report.proofs.put_atom_text.Goals as goal
 
 -- there are 256 bytes
 long : (c : goal.Start) → length c.args.text.bytes ≡ 256
-long c = simp length-map at c.well_formed.0.1.1.0.1.0.1
+long c = c.well_formed.0.1.1.0.1.0.1
 
 pub slice_bounds-bytes-end : goal.slice_bounds-bytes-end
 slice_bounds-bytes-end c = omega (arith, c.if-len-lt256.true, long c.before.before.before)

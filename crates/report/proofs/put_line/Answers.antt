@@ -1,4 +1,5 @@
 -- `report::put_line` meets its contract: what print wrote is the rule's text, or there is no rule at this place (AsRead.antt). Assumes nothing.
+use borrow.Enum.Refused.{opened}
 use borrow.Rule.Slice.PartMut.{put_mid}
 use Prim.Native.Nat.{◌-◌}
 use native.Mathlib.Omega.{arith}
@@ -15,7 +16,7 @@ wrote : (c : goal.In-Text-2) → let a = c.args in Wrote (rules_of a.table) a.i 
 wrote c = line_written (printing c.before.before.before) _ c.in-Text.is
 
 pub returns-in_default : goal.returns-in_default
-returns-in_default c = no_line (printing c.before.before.before) (told_no_text _ c.in_default.in_default-own.keys2)
+returns-in_default c = no_line (printing c.before.before.before) (told_no_text _ (opened c.in_default.in_default-own.keys2))
 
 pub overflow_add-at : goal.overflow_add-at
 overflow_add-at c = let w = wrote c.before.before in omega (arith, w.few, w.puts.place)

@@ -8,7 +8,7 @@ use Rattle.report.proofs.put_name.Goals as goal
 
 -- there are 16 bytes
 long : (s : goal.Start) → length s.args.name.bytes ≡ 16
-long s = simp length-map at s.well_formed.0.1.1.0.1.0.1
+long s = s.well_formed.0.1.1.0.1.0.1
 
 pub slice_bounds-bytes-end : goal.slice_bounds-bytes-end
 slice_bounds-bytes-end c = omega (arith, c.if-len-lt16.true, long c.before.before.before.before.before.before.before.before.before)

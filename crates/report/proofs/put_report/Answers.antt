@@ -1,4 +1,5 @@
 -- `report::put_report` meets its contract: the sheet is loaded or refused, and each has its text (Reporting.antt). Assumes nothing.
+use borrow.Enum.Refused.{opened}
 use mathlib.Core.Path.{refl, sym, ap, ◌∙◌}
 use Rattle.contact.specs.Numbering.{names_of}
 use Rattle.names.specs.Gather.{arrays_of}
@@ -15,7 +16,7 @@ pub returns-in_default : goal.returns-in_default
 returns-in_default c =
     let load = c.load-loaded.ensures in
     let q = question_of c.args.asked in
-    let other = told_not_loaded _ c.in_default.in_default-own.keys2 in
+    let other = told_not_loaded _ (opened c.in_default.in_default-own.keys2) in
     tells_short refl (refused_none _ _ _ load (plans_of q) other) (c.no_names-names.ensures ∙ ap arrays_of (sym (refused_none _ _ _ load names_of other))) refl
     (puts_over _ _ _ _ (puts_text (refused_text _ _ _ load (rules_text q) other) c.put_refusal-len.ensures))
 

@@ -1,5 +1,6 @@
 -- `report::put_rules` meets its contract: the lines of what was written for the question are the text, or there is no plan (Reporting.antt).
 -- Assumes nothing.
+use borrow.Enum.Refused.{opened}
 use mathlib.Core.Path.{refl}
 use Rattle.lists.proofs.Putting.{puts_text}
 use Rattle.table.specs.Calls.{names_in}
@@ -17,7 +18,7 @@ pub returns-in_default : goal.returns-in_default
 unfolding names_in
 returns-in_default c =
     let a = c.before.before.before.before.before.before.before.before in
-    let other = told_other _ c.in_default.in_default-own.keys2 in
+    let other = told_other _ (opened c.in_default.in_default-own.keys2) in
     tells_short refl (no_plans (asking a) other) a.names-names.ensures (words_kept (asking a) other) (puts_over _ _ _ _ (puts_text (no_text (asking a) other) c.put_text-len.ensures))
 
 pub returns : goal.returns

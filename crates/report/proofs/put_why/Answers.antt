@@ -1,4 +1,5 @@
 -- `report::put_why` meets its contract: the lines of what was written are the text, or a plan exists (Told.antt). Assumes nothing.
+use borrow.Enum.Refused.{opened}
 use mathlib.Core.Path.{refl}
 use native.Mathlib.Omega.{arith}
 use Rattle.lists.proofs.Putting.{puts_text}
@@ -17,7 +18,7 @@ tree c = tree_told (explaining c.before.before.before.before) _ c.in-Tree.is
 pub returns-in_default : goal.returns-in_default
 returns-in_default c =
     let a = c.before.before.before.before.before.before.before.before.before in
-    let other = told_no_tree _ c.in_default.in_default-own.keys2 in
+    let other = told_no_tree _ (opened c.in_default.in_default-own.keys2) in
     let none = no_trees (explaining a) other in
     whys_short refl none.0 c.atoms-atoms.ensures none.1 (puts_over _ _ _ _ (puts_text (no_tree_text (explaining a) other) c.put_text-len.ensures))
 

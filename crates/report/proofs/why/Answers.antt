@@ -1,4 +1,5 @@
 -- `report::why` meets its contract: the sheet is loaded or refused, and each has its text (Reporting.antt). Assumes nothing.
+use borrow.Enum.Refused.{opened}
 use mathlib.Core.Path.{refl, ◌∙◌, fun_ext}
 use Rattle.lists.proofs.Putting.{puts_text}
 use Rattle.table.specs.AtomText.{atom_text_of}
@@ -14,7 +15,7 @@ use Rattle.report.proofs.why.Goals as goal
 pub returns-in_default : goal.returns-in_default
 returns-in_default c =
     let load = c.load-loaded.ensures in
-    let other = told_not_loaded _ c.in_default.in_default-own.keys2 in
+    let other = told_not_loaded _ (opened c.in_default.in_default-own.keys2) in
     whys_short refl (refused_none _ _ _ load trees_of other) (c.no_texts-atoms.ensures ∙ kept_none _ (λ which. refused_none _ _ _ load (λ fs. atom_text_of fs which) other)) refl
     (puts_over _ _ _ _ (puts_text (refused_text _ _ _ load reasons_text other) c.put_refusal-len.ensures))
 

@@ -11,7 +11,7 @@ use Rattle.ruleset.proofs.explained.Goals as goal
 
 -- the ends of the rules have their places
 long : (c : goal.Start) → length c.args.c.ends ≡ 16
-long c = simp length-map at c.well_formed.0.1.1.1.0.1.0.1
+long c = c.well_formed.0.1.1.1.0.1.0.1
 
 places : (c : goal.Start) → c.args.c.known.count ≤ length c.args.c.ends
 places c = ends_fit _ _ _ _ c.requires.rules_compiled (long c)

@@ -10,7 +10,7 @@ use Rattle.ruleset.proofs.row_of.Goals as goal
 
 -- the ends of the rules have their places
 places : (c : goal.Start) → c.args.c.known.count ≤ length c.args.c.ends
-places c = ends_fit _ _ _ _ c.requires.rules_compiled (simp length-map at c.well_formed.0.1.1.1.0.1.0.1)
+places c = ends_fit _ _ _ _ c.requires.rules_compiled (c.well_formed.0.1.1.1.0.1.0.1)
 
 pub slice_bounds-ends-end : goal.slice_bounds-ends-end
 slice_bounds-ends-end c = places c.before.before.before

@@ -12,7 +12,7 @@ use Rattle.ruleset.proofs.with_rule.Goals as goal
 
 -- the arrays are as long as their types say
 order_long : (c : goal.Start) → length c.args.rule.order ≡ 256
-order_long c = simp length-map at c.well_formed.1.0.1.1.1.1.0.1.0.1
+order_long c = c.well_formed.1.0.1.1.1.1.0.1.0.1
 
 numbers_long : (c : goal.After-gather-gathered) → length c.gather-gathered.result.numbers ≡ 256
 numbers_long c = simp length-map at c.gather-gathered.type-inv.1.1.1.0.1.0.1

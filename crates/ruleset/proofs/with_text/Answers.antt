@@ -11,7 +11,7 @@ use Rattle.ruleset.proofs.with_text.Goals as goal
 
 -- the arrays are as long as their types say
 ends_long : (c : goal.Start) → length c.args.c.ends ≡ 16
-ends_long c = simp length-map at c.well_formed.1.0.1.1.1.0.1.0.1
+ends_long c = c.well_formed.1.0.1.1.1.0.1.0.1
 
 order_long : (c : goal.After-read_rule-rule) → length c.read_rule-rule.result.order ≡ 256
 order_long c = simp length-map at c.read_rule-rule.type-inv.1.1.1.1.0.1.0.1

@@ -1,4 +1,5 @@
 -- `supportlog::put_refusal` meets its contract: nothing is put where the line is not refused. Assumes nothing.
+use borrow.Enum.Refused.{opened}
 use native.Mathlib.Omega.{arith}
 use mathlib.Core.Logic.{⊎_elim, inl, inr}
 use Rattle.lists.proofs.Putting.{puts_none, puts_text}
@@ -6,7 +7,7 @@ use Rattle.supportlog.proofs.Remarks.{no_remark, without_sign, refused_remark}
 use Rattle.supportlog.proofs.put_refusal.Goals as goal
 
 pub returns-in_default : goal.returns-in_default
-returns-in_default c = let a = c.args in puts_text (no_remark a.number a.line.now _ a.answer c.in_default.in_default-own.keys2) (puts_none 0 a.out.now (omega arith))
+returns-in_default c = let a = c.args in puts_text (no_remark a.number a.line.now _ a.answer (opened c.in_default.in_default-own.keys2)) (puts_none 0 a.out.now (omega arith))
 
 pub slice_bounds-put_remark-count : goal.slice_bounds-put_remark-count
 slice_bounds-put_remark-count c = ⊎_elim (λ w. omega (arith, w.1)) (λ w. omega (arith, w.1, w.0.left)) c.if-text-le0.branch

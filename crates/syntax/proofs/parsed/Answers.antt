@@ -8,7 +8,7 @@ use Rattle.syntax.proofs.parsed.Goals as goal
 
 -- the array is as long as its type says
 kinds_long : (c : goal.Start) → length c.args.t.kinds ≡ 256
-kinds_long c = simp length-map at c.well_formed.0.1.1.0.1.0.1
+kinds_long c = c.well_formed.0.1.1.0.1.0.1
 
 pub slice_bounds-kinds-end : goal.slice_bounds-kinds-end
 slice_bounds-kinds-end c = omega (arith, kinds_long c.before.before)

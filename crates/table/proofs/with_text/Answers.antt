@@ -1,5 +1,6 @@
 -- `table::with_text` meets its contract: the reader decides first, then whether a line is free, and then what is known of the rules before
 -- (Counting.antt). Assumes nothing.
+use borrow.Enum.Refused.{opened}
 use mathlib.Core.Path.{◌≡◌, ap, ◌∙◌}
 use native.Mathlib.Omega.{arith}
 use lib.ListN.{length}
@@ -13,7 +14,7 @@ zeros_long c = ap length c.zeros-code.ensures
 
 pub returns-in_default : goal.returns-in_default
 returns-in_default c =
-    tries_refused _ _ _ _ _ (text_judged _ _ _ c.read_rule-rule.ensures c.read_answer-read.ensures) (told_refused _ c.in_default.in_default-own.keys2)
+    tries_refused _ _ _ _ _ (text_judged _ _ _ c.read_rule-rule.ensures c.read_answer-read.ensures) (told_refused _ (opened c.in_default.in_default-own.keys2))
 
 pub returns-then-known-ge-RULES : goal.returns-then-known-ge-RULES
 returns-then-known-ge-RULES c =

@@ -1,4 +1,5 @@
 -- `table::Table::answered` meets its contract: the rules are compiled, the search finds the first row or none, and its plan is written. Assumes nothing.
+use mathlib.Core.List.{[]}
 use mathlib.Core.Path.{◌≡◌, refl, sym, ap, ◌∙◌}
 use Rattle.ruleset.specs.Texts.{CompiledRules}
 use Rattle.ruleset.proofs.Claims.{may_plan, none_given, plan_given}

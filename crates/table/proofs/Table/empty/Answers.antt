@@ -1,4 +1,5 @@
 -- `table::Table::empty` meets its contract: its lines are all empty, and the list of no rule can stand. Assumes nothing.
+use mathlib.Core.List.{[]}
 use mathlib.Core.Path.{◌≡◌, sym, ap, subst}
 use lib.ListN.{replicate}
 use Rattle.table.specs.declared.Line.{Line}

@@ -1,4 +1,5 @@
 -- `table::Table::load` meets its contract: so far each line is judged and those that are not blank are held, the last one put in its place; a refused line ends the load, and the old table comes back. Assumes nothing.
+use borrow.Enum.Refused.{opened}
 use borrow.Author.Rules.{rules}
 use Prim.Native.Nat.{ℕ, ◌+◌, ◌-◌, ◌<◌}
 use mathlib.Core.List.{List}
@@ -44,7 +45,7 @@ returns-in_default c =
     let filled = sym c.blank_line.ensures ∙ not-true _ c.if-not-blank_line.true in
     subst (Loads c.args.self c.args.file.now) (sym c.kept-in_default.ensures)
     (loaded_by c.args.self _ _ _ c.requires
-    (line_refused _ _ _ _ _ _ _ at.invariant c.loop-from-test.true cut.0 cut.1 cut.2 _ filled _ c.with_text-tried.ensures (told_refused _ c.in_default.in_default-own.keys2))
+    (line_refused _ _ _ _ _ _ _ at.invariant c.loop-from-test.true cut.0 cut.1 cut.2 _ filled _ c.with_text-tried.ensures (told_refused _ (opened c.in_default.in_default-own.keys2)))
     c.requires.same)
 
 pub line_of-last-requires : goal.line_of-last-requires

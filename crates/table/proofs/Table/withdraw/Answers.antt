@@ -1,7 +1,7 @@
 -- `table::Table::withdraw` meets its contract: the freed line is cleared first, and so far the lines from k up to i have moved down by one place. Assumes nothing.
 use Prim.Native.Nat.{ℕ, ◌-◌, ◌≤◌}
 use mathlib.Core.Path.{◌≡◌, refl, ap, ◌∙◌}
-use mathlib.Core.List.{List}
+use mathlib.Core.List.{[], List}
 use lib.ListN.{length, get_or, set}
 use Rattle.table.specs.declared.Line.{Line}
 use Rattle.table.specs.Store.{rules_of, kept_line}

@@ -1,4 +1,5 @@
 -- `table::Table::withdraw` meets its contract: the freed line is cleared first, and so far the lines from k up to i have moved down by one place. Assumes nothing.
+use mathlib.Core.List.{[]}
 use Prim.Native.Nat.{◌-◌, ◌≤◌}
 use mathlib.Core.Path.{◌≡◌}
 use lib.ListN.{set}
