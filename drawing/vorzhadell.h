@@ -1,6 +1,6 @@
 /* The entry of the drawing program: a plan of at most 8 points for a sheet of rules (document 02, T-11). C89 with <stdint.h>, and C++.
  *
- * `rt staticlib drawing`, in the root of a clone, proves the entry and writes target/staticlib/libdrawing.a, for x86-64. It needs no other
+ * `tools/build drawing`, in the root of a clone, proves the entry and writes target/staticlib/libdrawing.a, for x86-64. It needs no other
  * archive and no flag; one line links it:
  *     cc -I drawing plug_in.c target/staticlib/libdrawing.a -o plug_in
  * drawing/example.c is a whole program.
