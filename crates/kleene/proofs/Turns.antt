@@ -6,11 +6,10 @@ use mathlib.Core.List.{List, [], ◌∷◌}
 use Prim.Native.Nat.{ℕ, zero, suc, ◌+◌, ◌-◌, ◌≤◌, ◌<◌}
 use native.Mathlib.Omega.{arith}
 use native.Mathlib.Numerals.{add-one}
-use lib.ListN.{length, get_or, set, drop, drop_of_length-le}
-use lib.Seq.{get_or-set_same, get_or-set_other}
+use lib.ListN.{length, get_or, drop, drop_of_length-le}
 use Rattle.lists.proofs.Lists.{rest}
 use Rattle.kleene.specs.Code.{Class, turns, joins, pushes, class_of, after, Takes, Safe}
-use Rattle.kleene.specs.Rails.{Duo, duo, not_d, table_of, push_of, turned, joined, step_by, step, exec}
+use Rattle.kleene.specs.Rails.{Duo, not_d, table_of, push_of, turned, joined, step_by, step, exec}
 
 -- ---- classes
 

@@ -7,29 +7,6 @@ use lib.ListN.{get_or}
 use Rattle.kleene.proofs.Railed.{two_there, room_there, rails_turn, rails_join, rails_push, rails_begin, rails_end, and_rails, or_rails, implies_rails, iff_rails, push_rails}
 use Rattle.kleene.proofs.run_rails.Goals as goal
 
--- a sign that joins finds two values
-both : (c : goal.In-1) → (2 ≤ c.loop-i.height) × (c.loop-i.height ≤ 128)
-both c = two_there c.loop-i.invariant (omega arith) 1 c.in-1.is refl
-
-both_2 : (c : goal.In-2) → (2 ≤ c.loop-i.height) × (c.loop-i.height ≤ 128)
-both_2 c = two_there c.loop-i.invariant (omega arith) 2 c.in-2.is refl
-
-both_3 : (c : goal.In-3) → (2 ≤ c.loop-i.height) × (c.loop-i.height ≤ 128)
-both_3 c = two_there c.loop-i.invariant (omega arith) 3 c.in-3.is refl
-
-both_4 : (c : goal.In-4) → (2 ≤ c.loop-i.height) × (c.loop-i.height ≤ 128)
-both_4 c = two_there c.loop-i.invariant (omega arith) 4 c.in-4.is refl
-
--- any other sign pushes, and finds room
-leaf : (c : goal.In_default)
-    → 5 ≤ get_or c.args.code.now c.loop-i.i 0
-leaf c = omega (arith, c.in_default.in_default-own.rest)
-
-space : (c : goal.In_default)
-    → (c.loop-i.height < 128)
-    × (get_or c.args.code.now c.loop-i.i 0 < 23)
-space c = room_there c.loop-i.invariant (omega arith) (leaf c)
-
 pub loop-i-init : goal.loop-i-init
 loop-i-init c = rails_begin _ _ _ _ _ _ _ c.requires.0 c.requires.1 c.requires.2
 
@@ -38,19 +15,29 @@ loop-i-preserved-in-0 c =
     rails_turn c.loop-i.invariant (omega arith) c.in-0.is
 
 pub overflow_sub-height : goal.overflow_sub-height
-overflow_sub-height c = omega (arith, both c)
+overflow_sub-height c =
+    let both : (2 ≤ c.loop-i.height) × (c.loop-i.height ≤ 128) = two_there c.loop-i.invariant (omega arith) 1 c.in-1.is refl in
+    omega arith
 
 pub offset_bounds-ys-height : goal.offset_bounds-ys-height
-offset_bounds-ys-height c = omega (arith, both c)
+offset_bounds-ys-height c =
+    let both : (2 ≤ c.loop-i.height) × (c.loop-i.height ≤ 128) = two_there c.loop-i.invariant (omega arith) 1 c.in-1.is refl in
+    omega arith
 
 pub bounds-ys-height : goal.bounds-ys-height
-bounds-ys-height c = omega (arith, both c)
+bounds-ys-height c =
+    let both : (2 ≤ c.loop-i.height) × (c.loop-i.height ≤ 128) = two_there c.loop-i.invariant (omega arith) 1 c.in-1.is refl in
+    omega arith
 
 pub offset_bounds-ns-height : goal.offset_bounds-ns-height
-offset_bounds-ns-height c = omega (arith, both c.before)
+offset_bounds-ns-height c =
+    let both : (2 ≤ c.loop-i.height) × (c.loop-i.height ≤ 128) = two_there c.loop-i.invariant (omega arith) 1 c.in-1.is refl in
+    omega arith
 
 pub bounds-ns-height : goal.bounds-ns-height
-bounds-ns-height c = omega (arith, both c.before)
+bounds-ns-height c =
+    let both : (2 ≤ c.loop-i.height) × (c.loop-i.height ≤ 128) = two_there c.loop-i.invariant (omega arith) 1 c.in-1.is refl in
+    omega arith
 
 pub loop-i-preserved-in-1 : goal.loop-i-preserved-in-1
 loop-i-preserved-in-1 c =
@@ -59,19 +46,29 @@ loop-i-preserved-in-1 c =
     (λ e. and_rails (get_or k.ys (k.height - 1) 0) (get_or k.ns (k.height - 1) 0) k.y k.n e)
 
 pub overflow_sub-height-in-2 : goal.overflow_sub-height-in-2
-overflow_sub-height-in-2 c = omega (arith, both_2 c)
+overflow_sub-height-in-2 c =
+    let both_2 : (2 ≤ c.loop-i.height) × (c.loop-i.height ≤ 128) = two_there c.loop-i.invariant (omega arith) 2 c.in-2.is refl in
+    omega arith
 
 pub offset_bounds-ys-height-in-2 : goal.offset_bounds-ys-height-in-2
-offset_bounds-ys-height-in-2 c = omega (arith, both_2 c)
+offset_bounds-ys-height-in-2 c =
+    let both_2 : (2 ≤ c.loop-i.height) × (c.loop-i.height ≤ 128) = two_there c.loop-i.invariant (omega arith) 2 c.in-2.is refl in
+    omega arith
 
 pub bounds-ys-height-in-2 : goal.bounds-ys-height-in-2
-bounds-ys-height-in-2 c = omega (arith, both_2 c)
+bounds-ys-height-in-2 c =
+    let both_2 : (2 ≤ c.loop-i.height) × (c.loop-i.height ≤ 128) = two_there c.loop-i.invariant (omega arith) 2 c.in-2.is refl in
+    omega arith
 
 pub offset_bounds-ns-height-in-2 : goal.offset_bounds-ns-height-in-2
-offset_bounds-ns-height-in-2 c = omega (arith, both_2 c.before)
+offset_bounds-ns-height-in-2 c =
+    let both_2 : (2 ≤ c.loop-i.height) × (c.loop-i.height ≤ 128) = two_there c.loop-i.invariant (omega arith) 2 c.in-2.is refl in
+    omega arith
 
 pub bounds-ns-height-in-2 : goal.bounds-ns-height-in-2
-bounds-ns-height-in-2 c = omega (arith, both_2 c.before)
+bounds-ns-height-in-2 c =
+    let both_2 : (2 ≤ c.loop-i.height) × (c.loop-i.height ≤ 128) = two_there c.loop-i.invariant (omega arith) 2 c.in-2.is refl in
+    omega arith
 
 pub loop-i-preserved-in-2 : goal.loop-i-preserved-in-2
 loop-i-preserved-in-2 c =
@@ -80,19 +77,29 @@ loop-i-preserved-in-2 c =
     (λ e. or_rails (get_or k.ys (k.height - 1) 0) (get_or k.ns (k.height - 1) 0) k.y k.n e)
 
 pub overflow_sub-height-in-3 : goal.overflow_sub-height-in-3
-overflow_sub-height-in-3 c = omega (arith, both_3 c)
+overflow_sub-height-in-3 c =
+    let both_3 : (2 ≤ c.loop-i.height) × (c.loop-i.height ≤ 128) = two_there c.loop-i.invariant (omega arith) 3 c.in-3.is refl in
+    omega arith
 
 pub offset_bounds-ns-height-in-3 : goal.offset_bounds-ns-height-in-3
-offset_bounds-ns-height-in-3 c = omega (arith, both_3 c)
+offset_bounds-ns-height-in-3 c =
+    let both_3 : (2 ≤ c.loop-i.height) × (c.loop-i.height ≤ 128) = two_there c.loop-i.invariant (omega arith) 3 c.in-3.is refl in
+    omega arith
 
 pub bounds-ns-height-in-3 : goal.bounds-ns-height-in-3
-bounds-ns-height-in-3 c = omega (arith, both_3 c)
+bounds-ns-height-in-3 c =
+    let both_3 : (2 ≤ c.loop-i.height) × (c.loop-i.height ≤ 128) = two_there c.loop-i.invariant (omega arith) 3 c.in-3.is refl in
+    omega arith
 
 pub offset_bounds-ys-height-in-3 : goal.offset_bounds-ys-height-in-3
-offset_bounds-ys-height-in-3 c = omega (arith, both_3 c.before)
+offset_bounds-ys-height-in-3 c =
+    let both_3 : (2 ≤ c.loop-i.height) × (c.loop-i.height ≤ 128) = two_there c.loop-i.invariant (omega arith) 3 c.in-3.is refl in
+    omega arith
 
 pub bounds-ys-height-in-3 : goal.bounds-ys-height-in-3
-bounds-ys-height-in-3 c = omega (arith, both_3 c.before)
+bounds-ys-height-in-3 c =
+    let both_3 : (2 ≤ c.loop-i.height) × (c.loop-i.height ≤ 128) = two_there c.loop-i.invariant (omega arith) 3 c.in-3.is refl in
+    omega arith
 
 pub loop-i-preserved-in-3 : goal.loop-i-preserved-in-3
 loop-i-preserved-in-3 c =
@@ -101,31 +108,49 @@ loop-i-preserved-in-3 c =
     (λ e. implies_rails (get_or k.ys (k.height - 1) 0) (get_or k.ns (k.height - 1) 0) k.y k.n e)
 
 pub overflow_sub-height-in-4 : goal.overflow_sub-height-in-4
-overflow_sub-height-in-4 c = omega (arith, both_4 c)
+overflow_sub-height-in-4 c =
+    let both_4 : (2 ≤ c.loop-i.height) × (c.loop-i.height ≤ 128) = two_there c.loop-i.invariant (omega arith) 4 c.in-4.is refl in
+    omega arith
 
 pub offset_bounds-ys-height-in-4 : goal.offset_bounds-ys-height-in-4
-offset_bounds-ys-height-in-4 c = omega (arith, both_4 c)
+offset_bounds-ys-height-in-4 c =
+    let both_4 : (2 ≤ c.loop-i.height) × (c.loop-i.height ≤ 128) = two_there c.loop-i.invariant (omega arith) 4 c.in-4.is refl in
+    omega arith
 
 pub bounds-ys-height-in-4 : goal.bounds-ys-height-in-4
-bounds-ys-height-in-4 c = omega (arith, both_4 c)
+bounds-ys-height-in-4 c =
+    let both_4 : (2 ≤ c.loop-i.height) × (c.loop-i.height ≤ 128) = two_there c.loop-i.invariant (omega arith) 4 c.in-4.is refl in
+    omega arith
 
 pub offset_bounds-ns-height-in-4 : goal.offset_bounds-ns-height-in-4
-offset_bounds-ns-height-in-4 c = omega (arith, both_4 c.before)
+offset_bounds-ns-height-in-4 c =
+    let both_4 : (2 ≤ c.loop-i.height) × (c.loop-i.height ≤ 128) = two_there c.loop-i.invariant (omega arith) 4 c.in-4.is refl in
+    omega arith
 
 pub bounds-ns-height-in-4 : goal.bounds-ns-height-in-4
-bounds-ns-height-in-4 c = omega (arith, both_4 c.before)
+bounds-ns-height-in-4 c =
+    let both_4 : (2 ≤ c.loop-i.height) × (c.loop-i.height ≤ 128) = two_there c.loop-i.invariant (omega arith) 4 c.in-4.is refl in
+    omega arith
 
 pub offset_bounds-ys-height-in-4-2 : goal.offset_bounds-ys-height-in-4-2
-offset_bounds-ys-height-in-4-2 c = omega (arith, both_4 c.before.before)
+offset_bounds-ys-height-in-4-2 c =
+    let both_4 : (2 ≤ c.loop-i.height) × (c.loop-i.height ≤ 128) = two_there c.loop-i.invariant (omega arith) 4 c.in-4.is refl in
+    omega arith
 
 pub bounds-ys-height-in-4-2 : goal.bounds-ys-height-in-4-2
-bounds-ys-height-in-4-2 c = omega (arith, both_4 c.before.before)
+bounds-ys-height-in-4-2 c =
+    let both_4 : (2 ≤ c.loop-i.height) × (c.loop-i.height ≤ 128) = two_there c.loop-i.invariant (omega arith) 4 c.in-4.is refl in
+    omega arith
 
 pub offset_bounds-ns-height-in-4-2 : goal.offset_bounds-ns-height-in-4-2
-offset_bounds-ns-height-in-4-2 c = omega (arith, both_4 c.before.before.before)
+offset_bounds-ns-height-in-4-2 c =
+    let both_4 : (2 ≤ c.loop-i.height) × (c.loop-i.height ≤ 128) = two_there c.loop-i.invariant (omega arith) 4 c.in-4.is refl in
+    omega arith
 
 pub bounds-ns-height-in-4-2 : goal.bounds-ns-height-in-4-2
-bounds-ns-height-in-4-2 c = omega (arith, both_4 c.before.before.before)
+bounds-ns-height-in-4-2 c =
+    let both_4 : (2 ≤ c.loop-i.height) × (c.loop-i.height ≤ 128) = two_there c.loop-i.invariant (omega arith) 4 c.in-4.is refl in
+    omega arith
 
 pub loop-i-preserved-in-4 : goal.loop-i-preserved-in-4
 loop-i-preserved-in-4 c =
@@ -134,31 +159,53 @@ loop-i-preserved-in-4 c =
     (λ e. iff_rails (get_or k.ys (k.height - 1) 0) (get_or k.ns (k.height - 1) 0) k.y k.n e)
 
 pub offset_bounds-ys-height-in_default : goal.offset_bounds-ys-height-in_default
-offset_bounds-ys-height-in_default c = omega (arith, space c)
+offset_bounds-ys-height-in_default c =
+    let leaf : 5 ≤ get_or c.args.code.now c.loop-i.i 0 = omega arith in
+    let space : (c.loop-i.height < 128) × (get_or c.args.code.now c.loop-i.i 0 < 23) = room_there c.loop-i.invariant (omega arith) leaf in
+    omega arith
 
 pub bounds-ys-height-in_default : goal.bounds-ys-height-in_default
-bounds-ys-height-in_default c = (space c).0
+bounds-ys-height-in_default c =
+    let leaf : 5 ≤ get_or c.args.code.now c.loop-i.i 0 = omega arith in
+    let space : (c.loop-i.height < 128) × (get_or c.args.code.now c.loop-i.i 0 < 23) = room_there c.loop-i.invariant (omega arith) leaf in
+    space.0
 
 pub offset_bounds-ns-height-in_default : goal.offset_bounds-ns-height-in_default
-offset_bounds-ns-height-in_default c = omega (arith, space c)
+offset_bounds-ns-height-in_default c =
+    let leaf : 5 ≤ get_or c.args.code.now c.loop-i.i 0 = omega arith in
+    let space : (c.loop-i.height < 128) × (get_or c.args.code.now c.loop-i.i 0 < 23) = room_there c.loop-i.invariant (omega arith) leaf in
+    omega arith
 
 pub bounds-ns-height-in_default : goal.bounds-ns-height-in_default
-bounds-ns-height-in_default c = (space c).0
+bounds-ns-height-in_default c =
+    let leaf : 5 ≤ get_or c.args.code.now c.loop-i.i 0 = omega arith in
+    let space : (c.loop-i.height < 128) × (get_or c.args.code.now c.loop-i.i 0 < 23) = room_there c.loop-i.invariant (omega arith) leaf in
+    space.0
 
 pub overflow_add-height : goal.overflow_add-height
-overflow_add-height c = omega (arith, space c)
+overflow_add-height c =
+    let leaf : 5 ≤ get_or c.args.code.now c.loop-i.i 0 = omega arith in
+    let space : (c.loop-i.height < 128) × (get_or c.args.code.now c.loop-i.i 0 < 23) = room_there c.loop-i.invariant (omega arith) leaf in
+    omega arith
 
 pub pushed-y-requires : goal.pushed-y-requires
-pushed-y-requires c = (leaf c, (space c).1)
+pushed-y-requires c =
+    let leaf : 5 ≤ get_or c.args.code.now c.loop-i.i 0 = omega arith in
+    let space : (c.loop-i.height < 128) × (get_or c.args.code.now c.loop-i.i 0 < 23) = room_there c.loop-i.invariant (omega arith) leaf in
+    (leaf, space.1)
 
 pub pushed_no-n-requires : goal.pushed_no-n-requires
-pushed_no-n-requires c = (leaf c.before, (space c.before).1)
+pushed_no-n-requires c =
+    let leaf : 5 ≤ get_or c.args.code.now c.loop-i.i 0 = omega arith in
+    let space : (c.loop-i.height < 128) × (get_or c.args.code.now c.loop-i.i 0 < 23) = room_there c.loop-i.invariant (omega arith) leaf in
+    (leaf, space.1)
 
 pub loop-i-preserved : goal.loop-i-preserved
 loop-i-preserved c =
+    let leaf : 5 ≤ get_or c.args.code.now c.loop-i.i 0 = omega arith in
     let k = c.loop-i in
     let a = c.args in
-    rails_push k.invariant (omega arith) _ _ (leaf c.before.before)
+    rails_push k.invariant (omega arith) _ _ leaf
     (λ e b. push_rails a.yes.now a.no.now e (get_or a.code.now k.i 0) _ _ (c.pushed-y.ensures e b) (c.pushed_no-n.ensures a.yes.now e b))
 
 pub returns : goal.returns
