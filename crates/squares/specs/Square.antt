@@ -1,6 +1,6 @@
 -- What is computed: a square of bits in words that are lent, a row for each evaluation or each point. With 64 words a row is one word, and
 -- there are 64 of them; with 1,024 it is four words, and there are 256. Assumes nothing.
-use Rattle.std.specs.Prelude.{Bool, false, ◌&&◌, ◌||◌, cond, ◌≡◌, List, ◌⊎◌, ℕ, ◌+◌, ◌*◌, ◌/◌, ◌%◌, ◌≤◌, ◌<◌, ltb, eqb, length, get_or}
+use Rattle.std.specs.Prelude.{Bool, false, ◌&&◌, ◌||◌, cond, ◌≡◌, List, ◌⊎◌, ℕ, ◌+◌, ◌*◌, ◌/◌, ◌%◌, ◌<◌, ltb, eqb, length, get_or}
 use Rattle.evalset.specs.Bit.{word_bits, bit}
 
 -- the words of a row

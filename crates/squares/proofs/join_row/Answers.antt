@@ -11,65 +11,75 @@ use Rattle.evalset.proofs.Words.{four}
 use Rattle.squares.proofs.Rows.{narrow_is, wide_is, within, short, joined_none, joined_step, joined_row}
 use Rattle.squares.proofs.join_row.Goals as goal
 
--- the row is in the square
-narrow_in : (c : goal.Then-ws-eq64) → c.args.p < length c.args.ws.now
-narrow_in c = omega (arith, within c.args.ws.now c.args.p 1 (narrow_is _ c.if-ws-eq64.true) c.requires.1)
-
-wide_in : (c : goal.Else-ws-eq64) → 4 * c.args.p + 4 ≤ length c.args.ws.now
-wide_in c = within c.args.ws.now c.args.p 4 (wide_is _ c.if-ws-eq64.false) c.requires.1
-
 pub join_word-requires : goal.join_word-requires
-join_word-requires c = narrow_in c.before.before
+join_word-requires c =
+    let narrow_in : c.args.p < length c.args.ws.now = omega (arith, within c.args.ws.now c.args.p 1 (narrow_is _ c.if-ws-eq64.true) c.requires.1) in
+    narrow_in
 
 pub returns-then-ws-eq64 : goal.returns-then-ws-eq64
 returns-then-ws-eq64 c =
+    let narrow_in : c.args.p < length c.args.ws.now = omega (arith, within c.args.ws.now c.args.p 1 (narrow_is _ c.if-ws-eq64.true) c.requires.1) in
     let a = c.args in
     let z = narrow_is a.ws.now c.if-ws-eq64.true in
     let x = c.word_of in
     joined_row 1 a.p (λ j. x.result) a.ws.now (mem a.s) _ z (omega arith)
     (λ k e l m. x.ensures e m ∙ ap (λ (i : ℕ). mem a.s (word_bits * i + e)) {x = 0} {y = k} (omega arith))
-    (joined_step 1 a.p (λ j. x.result) a.ws.now 0 a.p x.result a.ws.now _ (omega arith) refl (omega (arith, narrow_in c.before.before.before.before.before))
+    (joined_step 1 a.p (λ j. x.result) a.ws.now 0 a.p x.result a.ws.now _ (omega arith) refl (omega (arith, narrow_in))
     (joined_none 1 a.p (λ j. x.result) a.ws.now) c.join_word.ensures)
 
 pub overflow_mul-at : goal.overflow_mul-at
-overflow_mul-at c = omega (arith, wide_in c, short c.args.ws.now c.requires.0)
+overflow_mul-at c =
+    let wide_in : 4 * c.args.p + 4 ≤ length c.args.ws.now = within c.args.ws.now c.args.p 4 (wide_is _ c.if-ws-eq64.false) c.requires.1 in
+    omega (arith, wide_in, short c.args.ws.now c.requires.0)
 
 pub join_word-requires-2 : goal.join_word-requires-2
-join_word-requires-2 c = omega (arith, wide_in c.before.before)
+join_word-requires-2 c =
+    let wide_in : 4 * c.args.p + 4 ≤ length c.args.ws.now = within c.args.ws.now c.args.p 4 (wide_is _ c.if-ws-eq64.false) c.requires.1 in
+    omega (arith, wide_in)
 
 pub overflow_add-at : goal.overflow_add-at
-overflow_add-at c = omega (arith, wide_in c.before.before.before.before.before.before, short c.args.ws.now c.requires.0)
+overflow_add-at c =
+    let wide_in : 4 * c.args.p + 4 ≤ length c.args.ws.now = within c.args.ws.now c.args.p 4 (wide_is _ c.if-ws-eq64.false) c.requires.1 in
+    omega (arith, wide_in, short c.args.ws.now c.requires.0)
 
 pub join_word-requires-3 : goal.join_word-requires-3
 join_word-requires-3 c =
-    let one : length c.join_word-2.new.0 ≡ length c.args.ws.now = ap length c.join_word-2.ensures ∙ length-set c.args.ws.now _ _ in
-    omega (arith, wide_in c.before.before.before.before.before.before.before, one)
+    let wide_in : 4 * c.args.p + 4 ≤ length c.args.ws.now = within c.args.ws.now c.args.p 4 (wide_is _ c.if-ws-eq64.false) c.requires.1 in
+    let one : length c.join_word-2.new.ws ≡ length c.args.ws.now = ap length c.join_word-2.ensures ∙ length-set c.args.ws.now _ _ in
+    omega (arith, wide_in, one)
 
 pub overflow_add-at-2 : goal.overflow_add-at-2
-overflow_add-at-2 c = omega (arith, wide_in c.before.before.before.before.before.before.before.before.before.before.before, short c.args.ws.now c.requires.0)
+overflow_add-at-2 c =
+    let wide_in : 4 * c.args.p + 4 ≤ length c.args.ws.now = within c.args.ws.now c.args.p 4 (wide_is _ c.if-ws-eq64.false) c.requires.1 in
+    omega (arith, wide_in, short c.args.ws.now c.requires.0)
 
 pub join_word-requires-4 : goal.join_word-requires-4
 join_word-requires-4 c =
-    let one : length c.join_word-2.new.0 ≡ length c.args.ws.now = ap length c.join_word-2.ensures ∙ length-set c.args.ws.now _ _ in
-    let two : length c.join_word-3.new.0 ≡ length c.join_word-2.new.0 = ap length c.join_word-3.ensures ∙ length-set c.join_word-2.new.0 _ _ in
-    omega (arith, wide_in c.before.before.before.before.before.before.before.before.before.before.before.before, one, two)
+    let wide_in : 4 * c.args.p + 4 ≤ length c.args.ws.now = within c.args.ws.now c.args.p 4 (wide_is _ c.if-ws-eq64.false) c.requires.1 in
+    let one : length c.join_word-2.new.ws ≡ length c.args.ws.now = ap length c.join_word-2.ensures ∙ length-set c.args.ws.now _ _ in
+    let two : length c.join_word-3.new.ws ≡ length c.join_word-2.new.ws = ap length c.join_word-3.ensures ∙ length-set c.join_word-2.new.ws _ _ in
+    omega (arith, wide_in, one, two)
 
 pub overflow_add-at-3 : goal.overflow_add-at-3
-overflow_add-at-3 c = omega (arith, wide_in c.before.before.before.before.before.before.before.before.before.before.before.before.before.before.before.before, short c.args.ws.now c.requires.0)
+overflow_add-at-3 c =
+    let wide_in : 4 * c.args.p + 4 ≤ length c.args.ws.now = within c.args.ws.now c.args.p 4 (wide_is _ c.if-ws-eq64.false) c.requires.1 in
+    omega (arith, wide_in, short c.args.ws.now c.requires.0)
 
 pub join_word-requires-5 : goal.join_word-requires-5
 join_word-requires-5 c =
-    let one : length c.join_word-2.new.0 ≡ length c.args.ws.now = ap length c.join_word-2.ensures ∙ length-set c.args.ws.now _ _ in
-    let two : length c.join_word-3.new.0 ≡ length c.join_word-2.new.0 = ap length c.join_word-3.ensures ∙ length-set c.join_word-2.new.0 _ _ in
-    let three : length c.join_word-4.new.0 ≡ length c.join_word-3.new.0 = ap length c.join_word-4.ensures ∙ length-set c.join_word-3.new.0 _ _ in
-    omega (arith, wide_in c.before.before.before.before.before.before.before.before.before.before.before.before.before.before.before.before.before, one, two, three)
+    let wide_in : 4 * c.args.p + 4 ≤ length c.args.ws.now = within c.args.ws.now c.args.p 4 (wide_is _ c.if-ws-eq64.false) c.requires.1 in
+    let one : length c.join_word-2.new.ws ≡ length c.args.ws.now = ap length c.join_word-2.ensures ∙ length-set c.args.ws.now _ _ in
+    let two : length c.join_word-3.new.ws ≡ length c.join_word-2.new.ws = ap length c.join_word-3.ensures ∙ length-set c.join_word-2.new.ws _ _ in
+    let three : length c.join_word-4.new.ws ≡ length c.join_word-3.new.ws = ap length c.join_word-4.ensures ∙ length-set c.join_word-3.new.ws _ _ in
+    omega (arith, wide_in, one, two, three)
 
 pub returns : goal.returns
 returns c =
+    let wide_in : 4 * c.args.p + 4 ≤ length c.args.ws.now = within c.args.ws.now c.args.p 4 (wide_is _ c.if-ws-eq64.false) c.requires.1 in
     let a = c.args in
     let ws = a.ws.now in
     let p = a.p in
-    let l = wide_in c.before.before.before.before.before.before.before.before.before.before.before.before.before.before.before.before.before.before.before.before in
+    let l = wide_in in
     let x0 = c.word_of-2 in
     let x1 = c.word_of-3 in
     let x2 = c.word_of-4 in

@@ -9,18 +9,15 @@ use Rattle.evalset.specs.Sets.{mem}
 use Rattle.squares.proofs.Rows.{narrow_is, wide_is, narrow_row, wide_row, within, short}
 use Rattle.squares.proofs.row_of.Goals as goal
 
--- the row is in the square
-narrow_in : (c : goal.Then-ws-eq64) → c.args.p < length c.args.ws.now
-narrow_in c = omega (arith, within c.args.ws.now c.args.p 1 (narrow_is _ c.if-ws-eq64.true) c.requires.1)
-
-wide_in : (c : goal.Else-ws-eq64) → 4 * c.args.p + 4 ≤ length c.args.ws.now
-wide_in c = within c.args.ws.now c.args.p 4 (wide_is _ c.if-ws-eq64.false) c.requires.1
-
 pub offset_bounds-ws-p : goal.offset_bounds-ws-p
-offset_bounds-ws-p c = omega (arith, narrow_in c, c.if-ws-eq64.true)
+offset_bounds-ws-p c =
+    let narrow_in : c.args.p < length c.args.ws.now = omega (arith, within c.args.ws.now c.args.p 1 (narrow_is _ c.if-ws-eq64.true) c.requires.1) in
+    omega (arith, narrow_in, c.if-ws-eq64.true)
 
 pub bounds-ws-p : goal.bounds-ws-p
-bounds-ws-p c = narrow_in c.before
+bounds-ws-p c =
+    let narrow_in : c.args.p < length c.args.ws.now = omega (arith, within c.args.ws.now c.args.p 1 (narrow_is _ c.if-ws-eq64.true) c.requires.1) in
+    narrow_in
 
 pub returns-then-ws-eq64 : goal.returns-then-ws-eq64
 returns-then-ws-eq64 c =
@@ -30,40 +27,64 @@ returns-then-ws-eq64 c =
     ap (λ (i : ℕ). mem (record { words = get_or ws i 0 ∷ 0 ∷ 0 ∷ 0 ∷ [] })) z ∙ narrow_row ws p (narrow_is ws c.if-ws-eq64.true)
 
 pub overflow_mul-at : goal.overflow_mul-at
-overflow_mul-at c = omega (arith, wide_in c)
+overflow_mul-at c =
+    let wide_in : 4 * c.args.p + 4 ≤ length c.args.ws.now = within c.args.ws.now c.args.p 4 (wide_is _ c.if-ws-eq64.false) c.requires.1 in
+    omega (arith, wide_in)
 
 pub offset_bounds-ws-at : goal.offset_bounds-ws-at
-offset_bounds-ws-at c = omega (arith, wide_in c, short c.args.ws.now c.requires.0)
+offset_bounds-ws-at c =
+    let wide_in : 4 * c.args.p + 4 ≤ length c.args.ws.now = within c.args.ws.now c.args.p 4 (wide_is _ c.if-ws-eq64.false) c.requires.1 in
+    omega (arith, wide_in, short c.args.ws.now c.requires.0)
 
 pub bounds-ws-at : goal.bounds-ws-at
-bounds-ws-at c = omega (arith, wide_in c.before)
+bounds-ws-at c =
+    let wide_in : 4 * c.args.p + 4 ≤ length c.args.ws.now = within c.args.ws.now c.args.p 4 (wide_is _ c.if-ws-eq64.false) c.requires.1 in
+    omega (arith, wide_in)
 
 pub overflow_add-result : goal.overflow_add-result
-overflow_add-result c = omega (arith, wide_in c.before, short c.args.ws.now c.requires.0)
+overflow_add-result c =
+    let wide_in : 4 * c.args.p + 4 ≤ length c.args.ws.now = within c.args.ws.now c.args.p 4 (wide_is _ c.if-ws-eq64.false) c.requires.1 in
+    omega (arith, wide_in, short c.args.ws.now c.requires.0)
 
 pub offset_bounds-ws-at-2 : goal.offset_bounds-ws-at-2
-offset_bounds-ws-at-2 c = omega (arith, wide_in c.before, short c.args.ws.now c.requires.0)
+offset_bounds-ws-at-2 c =
+    let wide_in : 4 * c.args.p + 4 ≤ length c.args.ws.now = within c.args.ws.now c.args.p 4 (wide_is _ c.if-ws-eq64.false) c.requires.1 in
+    omega (arith, wide_in, short c.args.ws.now c.requires.0)
 
 pub bounds-ws-at-2 : goal.bounds-ws-at-2
-bounds-ws-at-2 c = omega (arith, wide_in c.before.before)
+bounds-ws-at-2 c =
+    let wide_in : 4 * c.args.p + 4 ≤ length c.args.ws.now = within c.args.ws.now c.args.p 4 (wide_is _ c.if-ws-eq64.false) c.requires.1 in
+    omega (arith, wide_in)
 
 pub overflow_add-result-2 : goal.overflow_add-result-2
-overflow_add-result-2 c = omega (arith, wide_in c.before.before, short c.args.ws.now c.requires.0)
+overflow_add-result-2 c =
+    let wide_in : 4 * c.args.p + 4 ≤ length c.args.ws.now = within c.args.ws.now c.args.p 4 (wide_is _ c.if-ws-eq64.false) c.requires.1 in
+    omega (arith, wide_in, short c.args.ws.now c.requires.0)
 
 pub offset_bounds-ws-at-3 : goal.offset_bounds-ws-at-3
-offset_bounds-ws-at-3 c = omega (arith, wide_in c.before.before, short c.args.ws.now c.requires.0)
+offset_bounds-ws-at-3 c =
+    let wide_in : 4 * c.args.p + 4 ≤ length c.args.ws.now = within c.args.ws.now c.args.p 4 (wide_is _ c.if-ws-eq64.false) c.requires.1 in
+    omega (arith, wide_in, short c.args.ws.now c.requires.0)
 
 pub bounds-ws-at-3 : goal.bounds-ws-at-3
-bounds-ws-at-3 c = omega (arith, wide_in c.before.before.before)
+bounds-ws-at-3 c =
+    let wide_in : 4 * c.args.p + 4 ≤ length c.args.ws.now = within c.args.ws.now c.args.p 4 (wide_is _ c.if-ws-eq64.false) c.requires.1 in
+    omega (arith, wide_in)
 
 pub overflow_add-result-3 : goal.overflow_add-result-3
-overflow_add-result-3 c = omega (arith, wide_in c.before.before.before, short c.args.ws.now c.requires.0)
+overflow_add-result-3 c =
+    let wide_in : 4 * c.args.p + 4 ≤ length c.args.ws.now = within c.args.ws.now c.args.p 4 (wide_is _ c.if-ws-eq64.false) c.requires.1 in
+    omega (arith, wide_in, short c.args.ws.now c.requires.0)
 
 pub offset_bounds-ws-at-4 : goal.offset_bounds-ws-at-4
-offset_bounds-ws-at-4 c = omega (arith, wide_in c.before.before.before, short c.args.ws.now c.requires.0)
+offset_bounds-ws-at-4 c =
+    let wide_in : 4 * c.args.p + 4 ≤ length c.args.ws.now = within c.args.ws.now c.args.p 4 (wide_is _ c.if-ws-eq64.false) c.requires.1 in
+    omega (arith, wide_in, short c.args.ws.now c.requires.0)
 
 pub bounds-ws-at-4 : goal.bounds-ws-at-4
-bounds-ws-at-4 c = omega (arith, wide_in c.before.before.before.before)
+bounds-ws-at-4 c =
+    let wide_in : 4 * c.args.p + 4 ≤ length c.args.ws.now = within c.args.ws.now c.args.p 4 (wide_is _ c.if-ws-eq64.false) c.requires.1 in
+    omega (arith, wide_in)
 
 pub returns : goal.returns
 returns c =
