@@ -13,9 +13,9 @@ use borrow.Author.Tests.{not-true, lt-ltb, ltb-true, eqb-false, ne_eqb}
 use Rattle.lists.proofs.Truth.{side, regroup, guarded}
 use Rattle.formula.specs.Formula.{Term, Atom}
 use Rattle.lists.specs.Search.{any, below}
-use Rattle.evalset.specs.Sets.{room, mem, mem_at, below_of, meet_of, minus_of, drop_of}
+use Rattle.evalset.specs.Sets.{room, mem, below_of, meet_of, minus_of, drop_of}
 use Rattle.evalset.specs.Most.{most}
-use Rattle.evalset.proofs.Members.{names_room, below_few, any_names}
+use Rattle.evalset.proofs.Members.{below_few, any_names}
 use Rattle.contact.specs.Meaning.{part_term}
 use Rattle.squares.specs.Square.{square_at, reach}
 use Rattle.contact.specs.Plan.{at, Means, Mark, zero_mark, mark, parts, separated, empties, may, allowed, fills, partners, leads}

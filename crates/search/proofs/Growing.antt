@@ -14,7 +14,7 @@ use borrow.Author.Tests.{not-true, eqb-true, eq-eqb}
 use Rattle.lists.specs.Search.{keep, below, elem}
 use Rattle.lists.proofs.Search.{keep_less, below_intro}
 use Rattle.lists.proofs.Truth.{clash, cases, or_cases}
-use Rattle.evalset.specs.Sets.{room, mem, mem_at, none_of, join_of, minus_of, add_of}
+use Rattle.evalset.specs.Sets.{room, mem, none_of, join_of, minus_of, add_of}
 use Rattle.evalset.specs.Most.{most}
 use Rattle.evalset.proofs.Members.{names_room, add_in}
 use Rattle.squares.specs.Square.{square_at}

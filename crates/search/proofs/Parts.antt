@@ -1,6 +1,6 @@
 -- The first atoms of a row: they have the chart's atoms and the row's marks, fewer of them; so where no piece meets these, none meets all.
 -- Assumes nothing.
-use mathlib.Core.Bool.{Bool, true, false, not}
+use mathlib.Core.Bool.{false, not}
 use mathlib.Core.Path.{◌≡◌, refl, sym, ap, ap₂, ◌∙◌, subst}
 use mathlib.Core.List.{List, [], ◌∷◌}
 use mathlib.Mathlib.Data.Bool.Basic.{eq-false_of_not-eq-true}
@@ -48,6 +48,9 @@ fewer_atoms chart atoms k l h =
 -- ---- the marks of the first atoms are among those of all
 
 pub marks_among : (k : ℕ) (atoms : List (Atom ℕ)) (row : Row) (m : Mark) → In m (row_marks (take k atoms) (take k row)) → In m (row_marks atoms row)
+marks_among zero atoms row m x = elim x [ ]
+marks_among (suc k) [] row m x = elim x [ ]
+marks_among (suc k) (a ∷ atoms) [] m x = elim x [ ]
 marks_among (suc k) (a ∷ atoms) (b ∷ row) m here = here
 marks_among (suc k) (a ∷ atoms) (b ∷ row) m (next i) = next (marks_among k atoms row m i)
 

@@ -1,7 +1,6 @@
 -- For proofs: what the code asks, as a question: which floors count. Contracts within our own crates name it. Assumes nothing.
 use Rattle.contact.specs.Question.{Question, plain, building}
 use Rattle.search.specs.declared.Asked.{Asked}
-use Rattle.search.specs.declared.Asked.TheVariants as Asked
 
 abbrev pub question_of : Asked → Question
 question_of Asked.Plain = plain

@@ -9,14 +9,14 @@ use Rattle.search.proofs.building_in.Goals as goal
 
 pub first_piece-first-requires : goal.first_piece-first-requires
 first_piece-first-requires c =
-    let s = c.before.before.before.before.before.before in
+    let s = c in
     let st = c.state_of-allowed in
-    (s.requires.0, same_square st.new.1.1.0 s.args.rows.now st.ensures.0 s.requires.1)
+    (s.requires.0, same_square st.new.rows s.args.rows.now st.ensures.0 s.requires.1)
 
 pub returns : goal.returns
 unfolding BuildingIn FoundSays StateSays
 returns c = λ atoms h wide.
     let a = c.args in
     let st = c.state_of-allowed in
-    let same : reach st.new.1.1.0 ≡ reach a.rows.now = same_reach st.new.1.1.0 a.rows.now st.ensures.0 in
+    let same : reach st.new.rows ≡ reach a.rows.now = same_reach st.new.rows a.rows.now st.ensures.0 in
     (c.first_piece-first.ensures atoms h (st.ensures.1 atoms h (omega (arith, same, wide)))).checked

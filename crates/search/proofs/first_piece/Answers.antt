@@ -18,25 +18,6 @@ use Rattle.search.specs.Building.{MetSays, FoundSays}
 use Rattle.search.proofs.Finding.{left_over, left_less, Sought, sought_start, sought_on, sought_found, sought_none}
 use Rattle.search.proofs.first_piece.Goals as goal
 
--- the evaluation whose piece is tried: the least that is left
-taken : (c : goal.In-At) → Least room c.in-At.e (mem c.loop-e.left)
-taken c = found_least _ room _ (sym c.least.ensures ∙ c.in-At.is)
-
--- its piece, and whether that meets the row
-tried : (c : goal.After-met_by)
-    → let a = c.args in
-    let e = c.in-At.e in
-    (atoms : List (Atom ℕ)) → Compiled a.chart atoms → Fit a.chart.names (state a.allowed a.rows.now) (marks_in a.chart atoms a.row)
-    → let whole = whole_piece a.chart.names (marks_in a.chart atoms a.row) e in
-    ((f : ℕ) → mem c.piece-piece.result f ≡ elem f whole)
-    × (c.met_by.result ≡ all (met (marks_in a.chart atoms a.row) whole) (marks_in a.chart atoms a.row))
-unfolding MetSays
-tried c = λ atoms h f.
-    let loop = c.loop-e in
-    let ok = (loop.invariant atoms h f).within _ (taken c.before.before).passes in
-    let same = c.piece-piece.ensures.whole _ h.few _ f ok in
-    (same, c.met_by.ensures atoms h _ f.rows_are _ same (piece_allowed _ _ _ ok))
-
 pub loop-e-init : goal.loop-e-init
 loop-e-init c = λ atoms h f. sought_start _ _ _ f.allowed_is
 
@@ -49,26 +30,42 @@ returns-in_default c = λ atoms h f.
     (congr_fun c.empty.ensures)
 
 pub returns-then-met_by : goal.returns-then-met_by
-unfolding FoundSays
-returns-then-met_by c = λ atoms h f.
+unfolding FoundSays MetSays
+returns-then-met_by c =
+    let taken : Least room c.in-At.e (mem c.loop-e.left) = found_least _ room _ (sym c.least.ensures ∙ c.in-At.is) in
+    let tried : let a = c.args in let e = c.in-At.e in (atoms : List (Atom ℕ)) → Compiled a.chart atoms → Fit a.chart.names (state a.allowed a.rows.now) (marks_in a.chart atoms a.row) → let whole = whole_piece a.chart.names (marks_in a.chart atoms a.row) e in ((f : ℕ) → mem c.piece-piece.result f ≡ elem f whole) × (c.met_by.result ≡ all (met (marks_in a.chart atoms a.row) whole) (marks_in a.chart atoms a.row)) = λ atoms h f.
+        let loop = c.loop-e in
+        let ok = (loop.invariant atoms h f).within _ taken.passes in
+        let same = c.piece-piece.ensures.whole _ h.few _ f ok in
+        (same, c.met_by.ensures atoms h _ f.rows_are _ same (piece_allowed _ _ _ ok)) in
+    λ atoms h f.
     let loop = c.loop-e in
-    let t = taken c.before.before.before in
-    let whole = tried c.before atoms h f in
+    let t = taken in
+    let whole = tried atoms h f in
     sought_found _ _ _ (loop.invariant atoms h f) _ _ t refl whole.0 (sym whole.1 ∙ c.if-met_by.true)
 
 pub loop-e-smaller : goal.loop-e-smaller
 loop-e-smaller c =
+    let taken : Least room c.in-At.e (mem c.loop-e.left) = found_least _ room _ (sym c.least.ensures ∙ c.in-At.is) in
     let loop = c.loop-e in
-    let t = taken c.before.before.before.before in
+    let t = taken in
     subst (λ (set : ℕ → Bool). left_over set < left_over (mem loop.left)) (sym c.minus-left.ensures)
     (left_less (mem loop.left) (mem c.piece-piece.result) _ t.within t.passes
     (c.piece-piece.ensures.own t.within))
 
 pub loop-e-preserved : goal.loop-e-preserved
-loop-e-preserved c = λ atoms h f.
+unfolding MetSays
+loop-e-preserved c =
+    let taken : Least room c.in-At.e (mem c.loop-e.left) = found_least _ room _ (sym c.least.ensures ∙ c.in-At.is) in
+    let tried : let a = c.args in let e = c.in-At.e in (atoms : List (Atom ℕ)) → Compiled a.chart atoms → Fit a.chart.names (state a.allowed a.rows.now) (marks_in a.chart atoms a.row) → let whole = whole_piece a.chart.names (marks_in a.chart atoms a.row) e in ((f : ℕ) → mem c.piece-piece.result f ≡ elem f whole) × (c.met_by.result ≡ all (met (marks_in a.chart atoms a.row) whole) (marks_in a.chart atoms a.row)) = λ atoms h f.
+        let loop = c.loop-e in
+        let ok = (loop.invariant atoms h f).within _ taken.passes in
+        let same = c.piece-piece.ensures.whole _ h.few _ f ok in
+        (same, c.met_by.ensures atoms h _ f.rows_are _ same (piece_allowed _ _ _ ok)) in
+    λ atoms h f.
     let loop = c.loop-e in
-    let t = taken c.before.before.before.before in
-    let whole = tried c.before.before atoms h f in
+    let t = taken in
+    let whole = tried atoms h f in
     subst (Sought _ _) (sym c.minus-left.ensures)
     (sought_on _ _ _ (loop.invariant atoms h f) _ _ ((loop.invariant atoms h f).within _ t.passes) whole.0
     (sym whole.1 ∙ c.if-met_by.false))

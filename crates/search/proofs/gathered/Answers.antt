@@ -3,7 +3,7 @@ use mathlib.Core.Bool.{Bool, ◌||◌}
 use mathlib.Core.Path.{refl, sym, ap, ap₂, ◌∙◌}
 use mathlib.Core.List.{List}
 use mathlib.Mathlib.Logic.Function.Defs.{congr_fun}
-use Prim.Native.Nat.{◌-◌, ◌<◌}
+use Prim.Native.Nat.{◌<◌}
 use native.Mathlib.Omega.{arith}
 use lib.ListN.{length, take}
 use Rattle.lists.specs.Search.{collect, elem}
@@ -32,8 +32,8 @@ unfolding mem_at
 loop-i-preserved c =
     let a = c.args in
     let loop = c.loop-i in
-    let row = row_bits a.t1.atoms a.row in
-    let long = row_length a.t1.atoms a.row in (
+    let row = row_bits a.chart.atoms a.row in
+    let long = row_length a.chart.atoms a.row in (
       omega arith,
       refl,
       λ atoms h ms f e.
@@ -42,10 +42,10 @@ loop-i-preserved c =
           ∙ ap₂ ◌||◌ (loop.invariant.2 atoms h ms f e)
           (c.gives.ensures e
           ∙ ap (elem e) (gives_is _ h.few _ ms f _ _ _ _ (atom_at atoms loop.i) (h.atom_is loop.i within)
-          ∙ ap (λ (v : Bool). gives a.t1.names ms (mark (atom_at atoms loop.i) v)) c.value_in.ensures))
-          ∙ sym (ap (λ (marks : List Mark). elem e (collect (gives a.t1.names ms) marks))
+          ∙ ap (λ (v : Bool). gives a.chart.names ms (mark (atom_at atoms loop.i) v)) c.value_in.ensures))
+          ∙ sym (ap (λ (marks : List Mark). elem e (collect (gives a.chart.names ms) marks))
           (marks_take atoms row loop.i (omega (arith, long)) (omega (arith, long, h.counted)))
-          ∙ elem_collect_last (gives a.t1.names ms) (row_marks atoms (take loop.i row)) _ e),
+          ∙ elem_collect_last (gives a.chart.names ms) (row_marks atoms (take loop.i row)) _ e),
     )
 
 pub returns : goal.returns
@@ -54,4 +54,4 @@ returns c = λ atoms h ms f e.
     let a = c.args in
     let loop = c.loop-i in
     loop.invariant.2 atoms h ms f e
-    ∙ ap (λ (marks : List Mark). elem e (collect (gives a.t1.names ms) marks)) (marks_whole atoms a.t1.atoms a.row loop.i (omega arith))
+    ∙ ap (λ (marks : List Mark). elem e (collect (gives a.chart.names ms) marks)) (marks_whole atoms a.chart.atoms a.row loop.i (omega arith))

@@ -3,10 +3,9 @@ use mathlib.Core.Bool.{Bool, true, false, ◌&&◌}
 use mathlib.Core.Path.{◌≡◌, refl, sym, ap, ap₂, ◌∙◌}
 use mathlib.Core.List.{List}
 use mathlib.Mathlib.Data.Bool.Basic.{eq-false_of_not-eq-true}
-use Prim.Native.Nat.{ℕ, ◌-◌, ◌<◌}
+use Prim.Native.Nat.{ℕ, ◌<◌}
 use native.Mathlib.Omega.{arith}
 use lib.ListN.{length, get_or, take}
-use borrow.Author.Tests.{not-true, not-false}
 use Rattle.formula.specs.Formula.{Atom}
 use Rattle.lists.specs.Search.{In, all, elem}
 use Rattle.lists.proofs.Search.{all_elim, all_last}
@@ -21,22 +20,6 @@ use Rattle.search.proofs.Rows.{row_length, marks_take, marks_whole, mark_in}
 use Rattle.search.proofs.Meeting.{met_is}
 use Rattle.search.proofs.met_by.Goals as goal
 
--- whether the mark of the atom at hand is met
-here : (c : goal.After-met)
-    → let a = c.args in
-    let i = c.loop-i.i in
-    (atoms : List (Atom ℕ)) → Compiled a.t1 atoms → (ms : List Mark) → RowsAre a.t1.names a.rows.now ms
-    → (set : List ℕ) → ((f : ℕ) → mem a.piece f ≡ elem f set) → ((f : ℕ) → In f set → allowed a.t1.names ms f ≡ true)
-    → c.met.result ≡ met ms set (mark (atom_at atoms i) (get_or (row_bits a.t1.atoms a.row) i false))
-unfolding mem_at
-here c = λ atoms h ms are set same ok.
-    let a = c.args in
-    let i = c.loop-i.i in
-    let within : i < length atoms = omega (arith, h.counted) in
-    c.met.ensures
-    ∙ met_is a.t1.names h.few a.rows.now ms are _ set same ok _ _ _ _ (atom_at atoms i) (h.atom_is i within)
-    ∙ ap (λ (v : Bool). met ms set (mark (atom_at atoms i) v)) c.value_in.ensures
-
 pub loop-i-init : goal.loop-i-init
 loop-i-init c = (
   omega arith,
@@ -46,29 +29,45 @@ loop-i-init c = (
 )
 
 pub returns-then-not-met : goal.returns-then-not-met
-unfolding MetSays
-returns-then-not-met c = λ atoms h ms are set same ok.
+unfolding MetSays mem_at
+returns-then-not-met c =
+    let here : let a = c.args in let i = c.loop-i.i in (atoms : List (Atom ℕ)) → Compiled a.chart atoms → (ms : List Mark) → RowsAre a.chart.names a.rows.now ms → (set : List ℕ) → ((f : ℕ) → mem a.piece f ≡ elem f set) → ((f : ℕ) → In f set → allowed a.chart.names ms f ≡ true) → c.met.result ≡ met ms set (mark (atom_at atoms i) (get_or (row_bits a.chart.atoms a.row) i false)) = λ atoms h ms are set same ok.
+        let a = c.args in
+        let i = c.loop-i.i in
+        let within : i < length atoms = omega (arith, h.counted) in
+        c.met.ensures
+        ∙ met_is a.chart.names h.few a.rows.now ms are _ set same ok _ _ _ _ (atom_at atoms i) (h.atom_is i within)
+        ∙ ap (λ (v : Bool). met ms set (mark (atom_at atoms i) v)) c.value_in.ensures in
+    λ atoms h ms are set same ok.
     let a = c.args in
     let i = c.loop-i.i in
-    let long = row_length a.t1.atoms a.row in
-    let unmet = sym (here c.before atoms h ms are set same ok) ∙ not-true _ c.if-not-met.true in
+    let long = row_length a.chart.atoms a.row in
+    let unmet = sym (here atoms h ms are set same ok) ∙ c.if-not-met.true in
     sym (eq-false_of_not-eq-true
     (λ t. clash
-    (all_elim (met ms set) (mark_in atoms (row_bits a.t1.atoms a.row) i (omega (arith, long)) (omega (arith, long, h.counted))) t) unmet))
+    (all_elim (met ms set) (mark_in atoms (row_bits a.chart.atoms a.row) i (omega (arith, long)) (omega (arith, long, h.counted))) t) unmet))
 
 pub loop-i-preserved : goal.loop-i-preserved
+unfolding mem_at
 loop-i-preserved c =
+    let here : let a = c.args in let i = c.loop-i.i in (atoms : List (Atom ℕ)) → Compiled a.chart atoms → (ms : List Mark) → RowsAre a.chart.names a.rows.now ms → (set : List ℕ) → ((f : ℕ) → mem a.piece f ≡ elem f set) → ((f : ℕ) → In f set → allowed a.chart.names ms f ≡ true) → c.met.result ≡ met ms set (mark (atom_at atoms i) (get_or (row_bits a.chart.atoms a.row) i false)) = λ atoms h ms are set same ok.
+        let a = c.args in
+        let i = c.loop-i.i in
+        let within : i < length atoms = omega (arith, h.counted) in
+        c.met.ensures
+        ∙ met_is a.chart.names h.few a.rows.now ms are _ set same ok _ _ _ _ (atom_at atoms i) (h.atom_is i within)
+        ∙ ap (λ (v : Bool). met ms set (mark (atom_at atoms i) v)) c.value_in.ensures in
     let a = c.args in
     let loop = c.loop-i in
-    let row = row_bits a.t1.atoms a.row in
-    let long = row_length a.t1.atoms a.row in (
+    let row = row_bits a.chart.atoms a.row in
+    let long = row_length a.chart.atoms a.row in (
       omega arith,
       refl,
       λ atoms h ms are set same ok.
           ap (all (met ms set)) (marks_take atoms row loop.i (omega (arith, long)) (omega (arith, long, h.counted)))
           ∙ all_last (met ms set) (row_marks atoms (take loop.i row)) _
           ∙ ap₂ ◌&&◌ (loop.invariant.2 atoms h ms are set same ok)
-          (sym (here c.before atoms h ms are set same ok) ∙ not-false _ c.if-not-met.false),
+          (sym (here atoms h ms are set same ok) ∙ c.if-not-met.false),
     )
 
 pub returns : goal.returns
@@ -76,4 +75,4 @@ unfolding MetSays
 returns c = λ atoms h ms are set same ok.
     let a = c.args in
     let loop = c.loop-i in
-    sym (ap (all (met ms set)) (sym (marks_whole atoms a.t1.atoms a.row loop.i (omega arith))) ∙ loop.invariant.2 atoms h ms are set same ok)
+    sym (ap (all (met ms set)) (sym (marks_whole atoms a.chart.atoms a.row loop.i (omega arith))) ∙ loop.invariant.2 atoms h ms are set same ok)

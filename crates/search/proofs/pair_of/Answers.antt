@@ -3,7 +3,7 @@
 use mathlib.Core.Bool.{Bool}
 use mathlib.Core.Path.{◌≡◌, sym, ap, ◌∙◌}
 use mathlib.Mathlib.Logic.Function.Defs.{congr_fun}
-use Prim.Native.Nat.{ℕ, ◌-◌}
+use Prim.Native.Nat.{ℕ}
 use native.Mathlib.Omega.{arith}
 use borrow.Author.Count.{below_none}
 use Rattle.lists.proofs.Below.{any_at, any_none}
@@ -13,23 +13,6 @@ use Rattle.evalset.proofs.Walk.{from_zero, Step, step, stop, found_least, found_
 use Rattle.squares.specs.Square.{square_at}
 use Rattle.search.proofs.Walks.{starts_alone, starts_yes, walk_on, walk_found, walk_ends, pair_found, pair_none}
 use Rattle.search.proofs.pair_of.Goals as goal
-
--- the evaluation that was taken
-taken : (c : goal.In-At)
-    → Step room c.loop-from.from c.in-At.p
-    (mem c.args.first) (mem c.loop-from.rest)
-taken c =
-    step room _ _ _ c.loop-from.invariant.1 _
-    (sym c.least.ensures ∙ c.in-At.is)
-
--- the least of its partners
-partner : (c : goal.After-least-in-loop-from)
-    → let a = c.args in
-    c.least-in-loop-from.result ≡ found_of (first (minus_of (mem a.second) (square_at a.rows.now c.in-At.p)) (below room))
-partner c =
-    let a = c.args in
-    c.least-in-loop-from.ensures
-    ∙ ap (λ (p : ℕ → Bool). found_of (first p (below room))) (c.minus.ensures ∙ ap (minus_of (mem a.second)) c.row_at-r.ensures)
 
 pub loop-from-init : goal.loop-from-init
 unfolding room
@@ -43,12 +26,18 @@ returns-in_default c = λ e.
     (stop room loop.from _ _ loop.invariant.1 (sym c.least.ensures ∙ c.in_default.is))) e
 
 pub returns-in-At-least : goal.returns-in-At-least
-returns-in-At-least c = λ e.
-    let x = c.before.before.before.before.before.before in
-    let t = taken x in
+returns-in-At-least c =
+    let taken : Step room c.loop-from.from c.in-At.p (mem c.args.first) (mem c.loop-from.rest) = step room _ _ _ c.loop-from.invariant.1 _
+        (sym c.least.ensures ∙ c.in-At.is) in
+    let partner : let a = c.args in c.least-in-loop-from.result ≡ found_of (first (minus_of (mem a.second) (square_at a.rows.now c.in-At.p)) (below room)) = let a = c.args in
+        c.least-in-loop-from.ensures
+        ∙ ap (λ (p : ℕ → Bool). found_of (first p (below room))) (c.minus.ensures ∙ ap (minus_of (mem a.second)) c.row_at-r.ensures) in
+    λ e.
+    let x = c in
+    let t = taken in
     let p = x.in-At.p in
     let q = c.in-At-least.q in
-    let least = found_least _ room q (sym (partner c.before.before.before) ∙ c.in-At-least.is) in
+    let least = found_least _ room q (sym partner ∙ c.in-At-least.is) in
     congr_fun (c.insert-in-At-least.ensures
     ∙ ap (λ (s : ℕ → Bool). add_of s p)
     (c.insert.ensures ∙ ap (λ (s : ℕ → Bool). add_of s q) x.empty-none.ensures)) e
@@ -58,20 +47,31 @@ returns-in-At-least c = λ e.
 
 pub overflow_add-from : goal.overflow_add-from
 unfolding room
-overflow_add-from c = omega (arith, (taken c.before.before.before.before.before).within)
+overflow_add-from c =
+    let taken : Step room c.loop-from.from c.in-At.p (mem c.args.first) (mem c.loop-from.rest) = step room _ _ _ c.loop-from.invariant.1 _
+        (sym c.least.ensures ∙ c.in-At.is) in
+    omega (arith, taken.within)
 
 pub loop-from-smaller : goal.loop-from-smaller
 unfolding room
-loop-from-smaller c = omega (arith, (taken c.before.before.before.before.before).within, (taken c.before.before.before.before.before).low)
+loop-from-smaller c =
+    let taken : Step room c.loop-from.from c.in-At.p (mem c.args.first) (mem c.loop-from.rest) = step room _ _ _ c.loop-from.invariant.1 _
+        (sym c.least.ensures ∙ c.in-At.is) in
+    omega (arith, taken.within, taken.low)
 
 pub loop-from-preserved : goal.loop-from-preserved
 loop-from-preserved c =
-    let t = taken c.before.before.before.before.before in (
+    let taken : Step room c.loop-from.from c.in-At.p (mem c.args.first) (mem c.loop-from.rest) = step room _ _ _ c.loop-from.invariant.1 _
+        (sym c.least.ensures ∙ c.in-At.is) in
+    let partner : let a = c.args in c.least-in-loop-from.result ≡ found_of (first (minus_of (mem a.second) (square_at a.rows.now c.in-At.p)) (below room)) = let a = c.args in
+        c.least-in-loop-from.ensures
+        ∙ ap (λ (p : ℕ → Bool). found_of (first p (below room))) (c.minus.ensures ∙ ap (minus_of (mem a.second)) c.row_at-r.ensures) in
+    let t = taken in (
       omega (arith, t.within),
       c.without-rest.ensures ∙ t.rest,
       walk_on _ _ _ _ _ _ t c.loop-from.invariant.2
           (starts_alone _ _ _ _
-          (any_none _ room (found_nothing _ room (sym (partner c.before.before) ∙ c.in_default-least.is)))),
+          (any_none _ room (found_nothing _ room (sym partner ∙ c.in_default-least.is)))),
     )
 
 pub returns : goal.returns

@@ -16,7 +16,7 @@ met_all x all m h p t = congr_fun h p ∙ ap (λ (b : Bool). x p && b) t ∙ and
 
 pub separate-requires-2 : goal.separate-requires-2
 separate-requires-2 c =
-    same_square c.separate.new.0 c.args.rows.now c.separate.ensures.0 c.requires
+    same_square c.separate.new.rows c.args.rows.now c.separate.ensures.0 c.requires
 
 pub returns : goal.returns
 unfolding crossed
@@ -24,7 +24,7 @@ returns c =
     let a = c.args in
     let one = c.separate in
     let two = c.separate-2 in
-    let wide : reach one.new.0 ≡ reach a.rows.now = same_reach one.new.0 a.rows.now one.ensures.0 in (
+    let wide : reach one.new.rows ≡ reach a.rows.now = same_reach one.new.rows a.rows.now one.ensures.0 in (
       two.ensures.0 ∙ one.ensures.0,
       λ p q t l m.
           two.ensures.1 p q (omega (arith, wide, l)) (omega (arith, wide, m))

@@ -16,15 +16,6 @@ use Rattle.search.proofs.Fitting.{allowed_low}
 use Rattle.search.proofs.Growing.{Growing, unseen, unseen_less, add_own, join_own, fresh, grow_start, grow_on, grow_ends}
 use Rattle.search.proofs.piece.Goals as goal
 
--- the evaluation that is looked at: the least that was not
-taken : (c : goal.In-At)
-    → let loop = c.loop-p in
-    Least room c.in-At.p (minus_of (mem loop.piece) (mem loop.looked))
-taken c =
-    found_least _ room _
-    (ap (λ (p : ℕ → Bool). found_of (first p (below room))) (sym c.minus.ensures)
-    ∙ sym c.least.ensures ∙ c.in-At.is)
-
 -- what grows, by the sets' members
 growing : {names e : ℕ} {ms : List Mark} {piece looked more seen : ℕ → Bool} → piece ≡ more → looked ≡ seen → Growing names ms e piece looked
     → Growing names ms e more seen
@@ -53,15 +44,21 @@ returns-in_default c =
 
 pub loop-p-smaller : goal.loop-p-smaller
 loop-p-smaller c =
-    let t = taken c.before.before.before.before in
+    let taken : let loop = c.loop-p in Least room c.in-At.p (minus_of (mem loop.piece) (mem loop.looked)) = found_least _ room _
+        (ap (λ (p : ℕ → Bool). found_of (first p (below room))) (sym c.minus.ensures)
+        ∙ sym c.least.ensures ∙ c.in-At.is) in
+    let t = taken in
     let loop = c.loop-p in
     subst (λ (set : ℕ → Bool). unseen set < unseen (mem loop.looked)) (sym c.insert-looked.ensures)
     (unseen_less (mem loop.looked) _ t.within (fresh (mem loop.piece) (mem loop.looked) _ t.passes).1)
 
 pub loop-p-preserved : goal.loop-p-preserved
 loop-p-preserved c =
+    let taken : let loop = c.loop-p in Least room c.in-At.p (minus_of (mem loop.piece) (mem loop.looked)) = found_least _ room _
+        (ap (λ (p : ℕ → Bool). found_of (first p (below room))) (sym c.minus.ensures)
+        ∙ sym c.least.ensures ∙ c.in-At.is) in
     let a = c.args in
-    let t = taken c.before.before.before.before in
+    let t = taken in
     let loop = c.loop-p in
     let near : ℕ → Bool = minus_of (mem a.allowed) (square_at a.rows.now c.in-At.p) in
     let piece : mem c.join-piece.result ≡ join_of (mem loop.piece) near =

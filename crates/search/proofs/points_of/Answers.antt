@@ -9,17 +9,17 @@ use Rattle.search.proofs.points_of.Goals as goal
 
 pub points-requires : goal.points-requires
 points-requires c =
-    let s = c.before.before.before.before.before.before in
+    let s = c in
     let st = c.state_of-allowed in
-    (s.requires.0, same_square st.new.1.1.0 s.args.rows.now st.ensures.0 s.requires.1.square)
+    (s.requires.0, same_square st.new.rows s.args.rows.now st.ensures.0 s.requires.1.square)
 
 pub returns : goal.returns
 unfolding PlanSays PointsSay StateSays
 returns c =
-    let s = c.before.before.before.before.before.before.before in
+    let s = c in
     let st = c.state_of-allowed in
-    let same : reach st.new.1.1.0 ≡ reach s.args.rows.now = same_reach st.new.1.1.0 s.args.rows.now st.ensures.0 in (
-      same_square st.new.1.1.0 s.args.rows.now st.ensures.0 s.requires.1.square,
+    let same : reach st.new.rows ≡ reach s.args.rows.now = same_reach st.new.rows s.args.rows.now st.ensures.0 in (
+      same_square st.new.rows s.args.rows.now st.ensures.0 s.requires.1.square,
       λ atoms h.
           let f = st.ensures.1 atoms h (omega (arith, same, s.requires.1.wide)) in
           record { listed = points_are _ _ h.few _ c.points.result (c.points.ensures atoms h f); apart = f.rows_are },

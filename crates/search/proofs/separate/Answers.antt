@@ -1,7 +1,6 @@
 -- `search::separate` meets its contract: each evaluation of the first set is met once, least first, and its row takes in the second
 -- set. Assumes nothing.
 use mathlib.Core.Path.{◌≡◌, refl, sym, ◌∙◌}
-use Prim.Native.Nat.{◌-◌}
 use native.Mathlib.Omega.{arith}
 use Rattle.evalset.specs.Sets.{room, mem}
 use Rattle.evalset.proofs.Walk.{from_zero, Step, step, stop}
@@ -9,14 +8,6 @@ use Rattle.squares.specs.Square.{square_at, reach}
 use Rattle.squares.proofs.Rows.{same_reach, same_square, reach_room}
 use Rattle.search.proofs.Walks.{separate_none, separate_on, separate_ends}
 use Rattle.search.proofs.separate.Goals as goal
-
--- the evaluation that was taken
-taken : (c : goal.In-At)
-    → Step room c.loop-from.from c.in-At.p
-    (mem c.args.first) (mem c.loop-from.rest)
-taken c =
-    step room _ _ _ c.loop-from.invariant.2 _
-    (sym c.least.ensures ∙ c.in-At.is)
 
 pub loop-from-init : goal.loop-from-init
 loop-from-init c = (omega arith, refl, from_zero _, separate_none _ _ _ _)
@@ -38,18 +29,26 @@ join_at-requires c =
 
 pub overflow_add-from : goal.overflow_add-from
 unfolding room
-overflow_add-from c = omega (arith, (taken c.before.before.before.before.before).within)
+overflow_add-from c =
+    let taken : Step room c.loop-from.from c.in-At.p (mem c.args.first) (mem c.loop-from.rest) = step room _ _ _ c.loop-from.invariant.2 _
+        (sym c.least.ensures ∙ c.in-At.is) in
+    omega (arith, taken.within)
 
 pub loop-from-smaller : goal.loop-from-smaller
 unfolding room
-loop-from-smaller c = let t = taken c.before.before.before.before.before in omega (arith, t.within, t.low)
+loop-from-smaller c =
+    let taken : Step room c.loop-from.from c.in-At.p (mem c.args.first) (mem c.loop-from.rest) = step room _ _ _ c.loop-from.invariant.2 _
+        (sym c.least.ensures ∙ c.in-At.is) in
+    let t = taken in omega (arith, t.within, t.low)
 
 pub loop-from-preserved : goal.loop-from-preserved
 unfolding room
 loop-from-preserved c =
+    let taken : Step room c.loop-from.from c.in-At.p (mem c.args.first) (mem c.loop-from.rest) = step room _ _ _ c.loop-from.invariant.2 _
+        (sym c.least.ensures ∙ c.in-At.is) in
     let a = c.args in
     let loop = c.loop-from in
-    let t = taken c.before.before.before.before.before in
+    let t = taken in
     let p = c.in-At.p in
     let joined = c.join_at.ensures in
     let wide : reach loop.rows ≡ reach a.rows.now = same_reach loop.rows a.rows.now loop.invariant.1 in (
