@@ -1,25 +1,18 @@
 -- `syntax::zeroed` meets its contract: the sort of the value and the kind after it decide, and a token that stands there leaves room for
 -- a number. Assumes nothing.
-use Prim.Native.Nat.{◌≤◌}
 use native.Mathlib.Omega.{arith}
 use mathlib.Core.Path.{sym, ◌∙◌}
-use lib.ListN.{length}
 use Rattle.syntax.proofs.Returns.{inside_value, kind_inside, zeroed_yes, zeroed_no, zeroed_formula, zeroed_refused}
 use Rattle.syntax.proofs.zeroed.Goals as goal
 
--- the value ends within the tokens, and its order is no longer than what it has read
-value_inside : (c : goal.In-Value-2)
-    → let after = c.in-Value.p in (after ≤ length c.args.kinds.now) × (c.in-Value.n ≤ after)
-value_inside c = inside_value _ _ _ _ _ c.in-Value.is c.requires.1
-
 pub bounds-order-n : goal.bounds-order-n
-bounds-order-n c = omega (arith, kind_inside c.args.kinds.now c.in-Value.p (omega (arith, c.kind_at.ensures)), value_inside c.before.before.before.before)
+bounds-order-n c = omega (arith, kind_inside c.args.kinds.now c.in-Value.p (omega (arith, c.kind_at.ensures)), inside_value _ _ _ _ _ c.in-Value.is c.requires.1)
 
 pub overflow_add-result : goal.overflow_add-result
-overflow_add-result c = omega (arith, value_inside c.before.before.before.before)
+overflow_add-result c = omega (arith, inside_value _ _ _ _ _ c.in-Value.is c.requires.1)
 
 pub overflow_add-result-then-kind_at-eq-IS_ZERO : goal.overflow_add-result-then-kind_at-eq-IS_ZERO
-overflow_add-result-then-kind_at-eq-IS_ZERO c = omega (arith, value_inside c.before.before.before.before)
+overflow_add-result-then-kind_at-eq-IS_ZERO c = omega (arith, inside_value _ _ _ _ _ c.in-Value.is c.requires.1)
 
 pub returns-then-kind_at-eq-IS_ZERO : goal.returns-then-kind_at-eq-IS_ZERO
 returns-then-kind_at-eq-IS_ZERO c = zeroed_yes _ _ _ _ _ _ c.in-Value.is c.if-t.true (sym c.kind_at.ensures ∙ c.if-kind_at-eq-IS_ZERO.true)

@@ -1,0 +1,21 @@
+-- What is left to read decreases with each call of the readers that call each other. Assumes nothing.
+use Rattle.syntax.proofs.Readers.{left, left_at, left_after}
+use Rattle.syntax.proofs.+formula_prefix_level_more_parenthesis_relation_term_prefix.Given as goal
+
+abbrev pub decreases-formula_prefix : goal.decreases-formula_prefix
+decreases-formula_prefix l = left l.kinds.now l.at 7
+
+abbrev pub decreases-level : goal.decreases-level
+decreases-level l = left_at l.kinds.now l.at l.k
+
+abbrev pub decreases-more : goal.decreases-more
+decreases-more l = left_after l.kinds.now l.r
+
+abbrev pub decreases-parenthesis : goal.decreases-parenthesis
+decreases-parenthesis l = left l.kinds.now l.at 15
+
+abbrev pub decreases-relation : goal.decreases-relation
+decreases-relation l = left l.kinds.now l.at 0
+
+abbrev pub decreases-term_prefix : goal.decreases-term_prefix
+decreases-term_prefix l = left l.kinds.now l.at 1
