@@ -29,6 +29,7 @@ use Rattle.lists.proofs.Truth.{or_cases, side}
 
 -- ---- rising lists
 pub in_rises : (k low n : ℕ) (ks : List ℕ) → Rises low n ks → In k ks → (low ≤ k) × (k / 256 < k % 256) × (k % 256 < n)
+in_rises k low n [] r x'' = elim x'' [ ]
 in_rises k low n (x ∷ xs) r here = (r.0, r.1, r.2)
 in_rises k low n (x ∷ xs) r (next i) = let w = in_rises k (suc x) n xs r.3 i in (omega (arith, w.0, r.0), w.1, w.2)
 

@@ -10,26 +10,26 @@ use Rattle.plan.proofs.contact.Goals as goal
 pub returns-then-j-i : goal.returns-then-j-i
 returns-then-j-i c =
     let a = c.args in
-    let given = c.word-1.given in
-    link_equal a.count a.low a.at a.len a.word given.0.0 given.0.1.0 given.1 (omega arith)
+    let w = c.in-Contact in
+    link_equal a.count a.low a.at a.len a.word w.smaller w.larger w.is (omega arith)
 
 pub returns-then-count-j : goal.returns-then-count-j
 returns-then-count-j c =
     let a = c.args in
-    let given = c.word-1.given in
-    link_far a.count a.low a.at a.len a.word given.0.0 given.0.1.0 given.1 (omega arith)
+    let w = c.in-Contact in
+    link_far a.count a.low a.at a.len a.word w.smaller w.larger w.is (omega arith)
 
 pub returns-then-key-low : goal.returns-then-key-low
 returns-then-key-low c =
     let a = c.args in
-    let given = c.word-1.given in
-    link_late a.count a.low a.at a.len a.word given.0.0 given.0.1.0 given.1 (omega arith)
+    let w = c.in-Contact in
+    link_late a.count a.low a.at a.len a.word w.smaller w.larger w.is (omega arith)
 
 pub returns-else-key-low : goal.returns-else-key-low
 returns-else-key-low c =
     let a = c.args in
-    let given = c.word-1.given in
-    link_taken a.count a.low a.at a.len a.word given.0.0 given.0.1.0 given.1
+    let w = c.in-Contact in
+    link_taken a.count a.low a.at a.len a.word w.smaller w.larger w.is
     (omega arith) (omega arith) (omega arith)
 
 pub returns-in-Last : goal.returns-in-Last

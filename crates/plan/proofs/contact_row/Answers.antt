@@ -12,4 +12,4 @@ unfolding rows_by
 returns c =
     let a = c.args in
     c.places.ensures
-    ∙ ap (λ (x : ℕ → Bool). positions_of a.n a.t1 x) (c.minus.ensures ∙ ap (λ (x : ℕ → Bool). minus_of (mem a.given) x) c.row_at-row.ensures)
+    ∙ ap (λ (x : ℕ → Bool). positions_of a.n a.points x) (c.minus.ensures ∙ ap (λ (x : ℕ → Bool). minus_of (mem a.given) x) c.row_at-row.ensures)

@@ -17,8 +17,8 @@ overflow_add-j c =
     let word = c.word_of-word in
     let least = c.word_least-found in
     let small : word.result < 2 ^ word_bits = omega arith in
-    let given = c.found-1.given in
-    let x = next_within (mem a.row) a.from a.n loop.j word.result loop.invariant.0 (omega arith) loop.invariant.1 word.ensures small given.0.0 (sym least.ensures ∙ given.1) in
+    let given = c.in-At in
+    let x = next_within (mem a.row) a.from a.n loop.j word.result loop.invariant.0 (omega arith) loop.invariant.1 word.ensures small given.x (sym least.ensures ∙ given.is) in
     omega (arith, x)
 
 pub returns-in-At : goal.returns-in-At
@@ -28,8 +28,8 @@ returns-in-At c =
     let word = c.word_of-word in
     let least = c.word_least-found in
     let small : word.result < 2 ^ word_bits = omega arith in
-    let given = c.found-1.given in
-    next_found (mem a.row) a.from a.n loop.j word.result loop.invariant.0 (omega arith) loop.invariant.1 word.ensures small given.0.0 (sym least.ensures ∙ given.1)
+    let given = c.in-At in
+    next_found (mem a.row) a.from a.n loop.j word.result loop.invariant.0 (omega arith) loop.invariant.1 word.ensures small given.x (sym least.ensures ∙ given.is)
     c.least_of.result c.least_of.ensures
 
 pub loop-j-preserved : goal.loop-j-preserved

@@ -12,42 +12,42 @@ returns-in_default c = record { to = not_first c.args.word (opened c.in_default.
 
 pub returns-then-evaluations-count : goal.returns-then-evaluations-count
 returns-then-evaluations-count c =
-    let given = c.word-1.given in
+    let given = c.in-First in
     record {
-      to = open_over c.args.word given.0.0 given.0.1.0
-          given.1 (omega arith) (omega arith) (omega arith);
+      to = open_over c.args.word given.names given.points
+          given.is (omega arith) (omega arith) (omega arith);
     }
 
 pub returns-else-evaluations-count : goal.returns-else-evaluations-count
 returns-else-evaluations-count c =
-    let given = c.word-1.given in
+    let given = c.in-First in
     record {
-      to = open_good c.args.word given.0.0 given.0.1.0
-          given.1 (omega arith) (omega arith) (omega arith);
+      to = open_good c.args.word given.names given.points
+          given.is (omega arith) (omega arith) (omega arith);
     }
 
 -- no point
 pub returns-in_default-points : goal.returns-in_default-points
 returns-in_default-points c =
-    let given = c.word-1.given in
+    let given = c.in-First in
     record {
-      to = open_none c.args.word given.0.0 given.0.1.0 given.1
+      to = open_none c.args.word given.names given.points given.is
           (omega arith) (omega arith);
     }
 
 -- more than 256 points, and so more than 2^names
 pub returns-in_default-points-2 : goal.returns-in_default-points-2
 returns-in_default-points-2 c =
-    let given = c.word-1.given in
-    let few : given.0.0 ≤ most = omega arith in
+    let given = c.in-First in
+    let few : given.names ≤ most = omega arith in
     record {
-      to = open_over c.args.word given.0.0 given.0.1.0 given.1
+      to = open_over c.args.word given.names given.points given.is
           few (omega arith) (omega (arith, pow_mono few));
     }
 
 pub returns-in_default-names : goal.returns-in_default-names
 returns-in_default-names c =
-    let given = c.word-1.given in
+    let given = c.in-First in
     record {
-      to = open_many c.args.word given.0.0 given.0.1.0 given.1 (omega arith);
+      to = open_many c.args.word given.names given.points given.is (omega arith);
     }

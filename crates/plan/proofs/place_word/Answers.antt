@@ -17,7 +17,7 @@ loop-j-init c =
     let a = c.args in (
       omega arith,
       omega arith,
-      λ e. bit_none e ∙ sym (ap (λ (b : Bool). b && mem a.x (get_or a.t1 (64 * a.k + e) 0)) (le-ltb (64 * a.k + e) (64 * a.k) (omega arith))),
+      λ e. bit_none e ∙ sym (ap (λ (b : Bool). b && mem a.x (get_or a.points (64 * a.k + e) 0)) (le-ltb (64 * a.k + e) (64 * a.k) (omega arith))),
     )
 
 pub returns-then-start-j : goal.returns-then-start-j
@@ -25,7 +25,7 @@ unfolding positions_of
 returns-then-start-j c =
     let a = c.args in
     let at = c.loop-j in
-    λ e l. held_all (64 * a.k) at.j a.n (λ i. mem a.x (get_or a.t1 i 0)) at.word e at.invariant.2 at.invariant.1 (inr (omega arith))
+    λ e l. held_all (64 * a.k) at.j a.n (λ i. mem a.x (get_or a.points i 0)) at.word e at.invariant.2 at.invariant.1 (inr (omega arith))
 
 pub loop-j-preserved : goal.loop-j-preserved
 loop-j-preserved c =
@@ -33,7 +33,7 @@ loop-j-preserved c =
     let at = c.loop-j in (
       omega arith,
       omega arith,
-      held_more (64 * a.k) at.j (λ i. mem a.x (get_or a.t1 i 0)) at.word _ _ at.invariant.0 at.invariant.2 c.contains.ensures c.with_place-word.ensures,
+      held_more (64 * a.k) at.j (λ i. mem a.x (get_or a.points i 0)) at.word _ _ at.invariant.0 at.invariant.2 c.contains.ensures c.with_place-word.ensures,
     )
 
 pub returns : goal.returns
@@ -41,4 +41,4 @@ unfolding positions_of
 returns c =
     let a = c.args in
     let at = c.loop-j in
-    λ e l. held_all (64 * a.k) at.j a.n (λ i. mem a.x (get_or a.t1 i 0)) at.word e at.invariant.2 at.invariant.1 (inl (omega arith))
+    λ e l. held_all (64 * a.k) at.j a.n (λ i. mem a.x (get_or a.points i 0)) at.word e at.invariant.2 at.invariant.1 (inl (omega arith))

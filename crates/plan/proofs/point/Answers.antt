@@ -12,24 +12,24 @@ returns-in_default c =
 pub returns-then-e-low : goal.returns-then-e-low
 returns-then-e-low c =
     let a = c.args in
-    let given = c.word-1.given in
-    point_low a.low a.left a.top a.word given.0.0 given.1 (omega arith)
+    let given = c.in-Point in
+    point_low a.low a.left a.top a.word given.bits given.is (omega arith)
 
 pub returns-then-top-e : goal.returns-then-top-e
 returns-then-top-e c =
     let a = c.args in
-    let given = c.word-1.given in
-    point_room a.low a.left a.top a.word given.0.0 given.1 (omega arith)
+    let given = c.in-Point in
+    point_room a.low a.left a.top a.word given.bits given.is (omega arith)
 
 pub returns-else-top-e : goal.returns-else-top-e
 returns-else-top-e c =
     let a = c.args in
-    let given = c.word-1.given in
-    point_taken a.low a.left a.top a.word given.0.0 given.1 (omega arith) (omega arith)
+    let given = c.in-Point in
+    point_taken a.low a.left a.top a.word given.bits given.is (omega arith) (omega arith)
 
 -- from 256 on an evaluation leaves no room
 pub returns-in_default-bits : goal.returns-in_default-bits
 returns-in_default-bits c =
     let a = c.args in
-    let given = c.word-1.given in
-    point_room a.low a.left a.top a.word given.0.0 given.1 (omega arith)
+    let given = c.in-Point in
+    point_room a.low a.left a.top a.word given.bits given.is (omega arith)

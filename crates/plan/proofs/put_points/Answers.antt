@@ -19,12 +19,12 @@ pub loop-i-preserved : goal.loop-i-preserved
 loop-i-preserved c =
     let k = c.loop-i in
     let a = c.args in
-    let size : length a.t1 ≡ most_points = search rules in
+    let size : length a.points ≡ most_points = search rules in
     let fits : 1 + a.n ≤ length a.buffer.now = c.requires.1 in (
       omega arith,
       simp length-set k.invariant.1,
       ap₂ (λ (l : List ℕ) (w : ℕ). set l (1 + k.i) w) k.invariant.2 c.point_word.ensures
-          ∙ points_more a.t1 a.buffer.now k.i (omega arith) (omega arith),
+          ∙ points_more a.points a.buffer.now k.i (omega arith) (omega arith),
     )
 
 pub shape_of-buffer : goal.shape_of-buffer
@@ -36,4 +36,4 @@ returns c =
     let a = c.args in
     let loop = c.loop-i in
     let e : loop.i ≡ a.n = omega arith in
-    loop.invariant.2 ∙ ap (λ (x : ℕ). written 1 (map point_word (take x a.t1)) a.buffer.now) e
+    loop.invariant.2 ∙ ap (λ (x : ℕ). written 1 (map point_word (take x a.points)) a.buffer.now) e

@@ -6,19 +6,6 @@ use lib.ListN.{length}
 use Rattle.plan.proofs.ReadLoop.{pair_within, links_start, links_next, links_over, links_short}
 use Rattle.plan.proofs.read_contacts.Goals as goal
 
--- the points of a contact are two of so many
-link_in : (c : goal.After-link-arg-1) → (c.in-Pair.smaller < c.args.count) × (c.in-Pair.larger < c.args.count)
-link_in c =
-    let a = c.args in
-    let loop = c.loop-at in
-    let given = c.said-1.given in
-    let contact = c.contact-said in
-    pair_within a.count loop.low loop.at (length a.words.now) given.0.0 given.0.1.0
-    c.kind_of.result contact.result given.1 contact.ensures a.count (omega arith)
-
-few : (c : goal.After-link-arg-1) → c.args.count ≤ 256
-few c = omega arith
-
 pub loop-at-init : goal.loop-at-init
 loop-at-init c =
     let a = c.args in
@@ -29,24 +16,48 @@ contact-said-requires c = (omega arith, omega arith)
 
 pub link-requires : goal.link-requires
 link-requires c =
+    let a = c.args in
     let loop = c.loop-at in
-    let l = link_in c in
+    let w = c.in-Pair in
+    let contact = c.contact-said in
+    let l = pair_within a.count loop.low loop.at (length a.words.now) w.smaller w.larger c.kind_of.result contact.result w.is contact.ensures a.count (omega arith) in
     (loop.invariant.1 ∙ c.requires.0, omega (arith, c.requires.1, l.0), omega (arith, c.requires.1, l.1))
 
 pub overflow_mul-low : goal.overflow_mul-low
-overflow_mul-low c = let l = link_in c.before.before.before in omega (arith, l.0, l.1, few c.before.before.before)
+overflow_mul-low c =
+    let a = c.args in
+    let loop = c.loop-at in
+    let w = c.in-Pair in
+    let contact = c.contact-said in
+    let l = pair_within a.count loop.low loop.at (length a.words.now) w.smaller w.larger c.kind_of.result contact.result w.is contact.ensures a.count (omega arith) in
+    let few : a.count ≤ 256 = omega arith in
+    omega (arith, l.0, l.1, few)
 
 pub overflow_add-low : goal.overflow_add-low
-overflow_add-low c = let l = link_in c.before.before.before in omega (arith, l.0, l.1, few c.before.before.before)
+overflow_add-low c =
+    let a = c.args in
+    let loop = c.loop-at in
+    let w = c.in-Pair in
+    let contact = c.contact-said in
+    let l = pair_within a.count loop.low loop.at (length a.words.now) w.smaller w.larger c.kind_of.result contact.result w.is contact.ensures a.count (omega arith) in
+    let few : a.count ≤ 256 = omega arith in
+    omega (arith, l.0, l.1, few)
 
 pub overflow_add-low-in-Pair : goal.overflow_add-low-in-Pair
-overflow_add-low-in-Pair c = let l = link_in c.before.before.before in omega (arith, l.0, l.1, few c.before.before.before)
+overflow_add-low-in-Pair c =
+    let a = c.args in
+    let loop = c.loop-at in
+    let w = c.in-Pair in
+    let contact = c.contact-said in
+    let l = pair_within a.count loop.low loop.at (length a.words.now) w.smaller w.larger c.kind_of.result contact.result w.is contact.ensures a.count (omega arith) in
+    let few : a.count ≤ 256 = omega arith in
+    omega (arith, l.0, l.1, few)
 
 pub loop-at-preserved : goal.loop-at-preserved
 loop-at-preserved c =
     let a = c.args in
     let loop = c.loop-at in
-    let given = c.said-1.given in
+    let given = c.in-Pair in
     let contact = c.contact-said in
     let kind = c.kind_of in
     let grown = c.link.ensures in (
@@ -54,7 +65,7 @@ loop-at-preserved c =
       grown.long ∙ loop.invariant.1,
       λ n pts h. links_next a.words.now a.count n pts h.size loop.at loop.low loop.square (loop.invariant.2 n pts h)
           (omega arith) kind.result kind.ensures contact.result contact.ensures
-          given.0.0 given.0.1.0 given.1 (few c.before.before.before) _ grown.rows,
+          given.smaller given.larger given.is (omega arith) _ grown.rows,
     )
 
 pub shape_of-square-in-Over : goal.shape_of-square-in-Over
@@ -64,11 +75,11 @@ pub returns-in-Over : goal.returns-in-Over
 returns-in-Over c =
     let a = c.args in
     let loop = c.loop-at in
-    let given = c.said-in-Over-1.given in
+    let given = c.in-Over in
     let contact = c.contact-said in
     let kind = c.kind_of in (
       λ n pts h. links_over a.words.now a.count n pts h.size loop.at loop.low loop.square (loop.invariant.2 n pts h)
-          (omega arith) kind.result kind.ensures contact.result contact.ensures given.0.0 given.1,
+          (omega arith) kind.result kind.ensures contact.result contact.ensures given.answer given.is,
       loop.invariant.1,
     )
 

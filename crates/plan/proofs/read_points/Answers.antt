@@ -42,11 +42,11 @@ overflow_cast-low c =
     let a = c.args in
     let loop = c.loop-i in
     let point = c.point-said in
-    let given = c.said-1.given in
+    let given = c.in-Evaluation in
     let evaluations = c.evaluations-top in
     let few = c.requires.few in
-    let room = taken_room loop.low (a.count - (1 + loop.i)) evaluations.result given.0.0 c.kind_of.result
-    (sym given.1 ∙ point.ensures) in
+    let room = taken_room loop.low (a.count - (1 + loop.i)) evaluations.result given.e c.kind_of.result
+    (sym given.is ∙ point.ensures) in
     omega (arith, room, pow_mono few)
 
 pub overflow_add-low : goal.overflow_add-low
@@ -54,11 +54,11 @@ overflow_add-low c =
     let a = c.args in
     let loop = c.loop-i in
     let point = c.point-said in
-    let given = c.said-1.given in
+    let given = c.in-Evaluation in
     let evaluations = c.evaluations-top in
     let few = c.requires.few in
-    let room = taken_room loop.low (a.count - (1 + loop.i)) evaluations.result given.0.0 c.kind_of.result
-    (sym given.1 ∙ point.ensures) in
+    let room = taken_room loop.low (a.count - (1 + loop.i)) evaluations.result given.e c.kind_of.result
+    (sym given.is ∙ point.ensures) in
     omega (arith, room, pow_mono few)
 
 pub loop-i-preserved : goal.loop-i-preserved
@@ -66,12 +66,12 @@ loop-i-preserved c =
     let a = c.args in
     let loop = c.loop-i in
     let point = c.point-said in
-    let given = c.said-1.given in
+    let given = c.in-Evaluation in
     let evaluations = c.evaluations-top in
     let few = c.requires.few in
     points_next a.words.now a.names a.count loop.i loop.low loop.points loop.invariant (omega arith) (omega arith)
     evaluations.result evaluations.ensures
-    c.kind_of.result c.kind_of.ensures point.result point.ensures given.0.0 given.1
+    c.kind_of.result c.kind_of.ensures point.result point.ensures given.e given.is
     few (omega (arith, pow_mono few))
 
 pub returns : goal.returns
