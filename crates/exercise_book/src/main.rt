@@ -4,15 +4,14 @@
 
 use exercises::BookAnswer;
 
-fn main() {
+fn main(rt: HostRuntime) {
     let mut text = exercises::no_text();
     let answer = exercises::book(&mut text);
     let BookAnswer::Text(len) = answer else {
-        os::fail(b"exercise_book: the book has no room");
+        let _ = rt.eprintln("exercise_book: the book has no room");
         return;
     };
-    let written = io::write_all(libc::STDOUT_FILENO, &text[..len]);
-    if !written {
-        os::fail(b"exercise_book: the book cannot be written");
+    if let Err(error) = rt.write_all(&text[..len]) {
+        let _ = rt.eprintln(format_args!("exercise_book: the book cannot be written: {error}"));
     }
 }

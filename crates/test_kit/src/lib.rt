@@ -12,25 +12,25 @@ ghost use Rattle.test_kit.specs.Every.{every_plan};
 // ---- writing
 
 // Bytes as they are.
-pub fn write_bytes(bytes: &[u8]) {
-    io::write_all(libc::STDOUT_FILENO, bytes);
+pub fn write_bytes(rt: &impl Print, bytes: &[u8]) {
+    let _ = rt.write_all(bytes);
 }
 
 // A number in decimal.
-pub fn write_number(n: usize) {
-    io::print_decimal(libc::STDOUT_FILENO, n as u64);
+pub fn write_number(rt: &impl Print, n: usize) {
+    let _ = rt.print(n);
 }
 
 // A text and a number behind it.
-pub fn write_labelled(label: &[u8], n: usize) {
-    write_bytes(label);
-    write_number(n);
+pub fn write_labelled(rt: &impl Print, label: &[u8], n: usize) {
+    write_bytes(rt, label);
+    write_number(rt, n);
 }
 
 // A refusal: its number and what it carries.
-pub fn write_refusal(number: usize, carried: usize) {
-    write_labelled(b"refused ", number);
-    write_labelled(b" at ", carried);
+pub fn write_refusal(rt: &impl Print, number: usize, carried: usize) {
+    write_labelled(rt, b"refused ", number);
+    write_labelled(rt, b" at ", carried);
 }
 
 // The eight hexadecimal digits of a word, in capitals.
@@ -50,38 +50,38 @@ pub fn word_digits(w: u32) -> [u8; 8]
     ]
 }
 
-fn write_word(before: &[u8], w: u32, after: &[u8]) {
-    write_bytes(before);
+fn write_word(rt: &impl Print, before: &[u8], w: u32, after: &[u8]) {
+    write_bytes(rt, before);
     let digits = word_digits(w);
-    write_bytes(&digits);
-    write_bytes(after);
+    write_bytes(rt, &digits);
+    write_bytes(rt, after);
 }
 
 // Words, each in its digits between two texts.
-pub fn write_words(before: &[u8], words: &[u32], after: &[u8]) {
+pub fn write_words(rt: &impl Print, before: &[u8], words: &[u32], after: &[u8]) {
     let mut i: usize = 0;
     while i < words.len() {
-        write_word(before, words[i], after);
+        write_word(rt, before, words[i], after);
         i += 1;
     }
 }
 
 // The label with this number, of labels of 14 bytes each.
-fn write_label(labels: &[u8], i: usize) {
+fn write_label(rt: &impl Print, labels: &[u8], i: usize) {
     if i < labels.len() / 14 {
         let start = i * 14;
         let end = start + 14;
-        write_bytes(&labels[start..end]);
+        write_bytes(rt, &labels[start..end]);
     }
 }
 
 // Counts, each behind its label, one a line.
-pub fn write_counts(labels: &[u8], counts: &[usize]) {
+pub fn write_counts(rt: &impl Print, labels: &[u8], counts: &[usize]) {
     let mut i: usize = 0;
     while i < counts.len() {
-        write_label(labels, i);
-        write_number(counts[i]);
-        write_bytes(b"\n");
+        write_label(rt, labels, i);
+        write_number(rt, counts[i]);
+        write_bytes(rt, b"\n");
         i += 1;
     }
 }
