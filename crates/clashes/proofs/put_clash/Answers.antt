@@ -7,9 +7,6 @@ use Rattle.lists.proofs.Putting.{puts_text}
 use Rattle.clashes.proofs.Answers.{told_no_clash, exists_text, clash_count, set_text}
 use Rattle.clashes.proofs.put_clash.Goals as goal
 
-numbers_long : (c : goal.Start) → length c.args.numbers ≡ 16
-numbers_long c = c.well_formed.1.0.1.0.1
-
 pub clash-given-requires : goal.clash-given-requires
 clash-given-requires c = c.requires.0
 
@@ -26,5 +23,5 @@ put_set-requires c =
 
 pub returns : goal.returns
 returns c =
-    let s = c.before.before.before.before.before.before.before.before.before in
-    puts_text (set_text _ s.requires.0 s.requires.1 _ refl _ _ c.clash-given.ensures _ c.in-Clash.is _ (numbers_long s)) c.put_set.ensures
+    let numbers_long : length c.args.numbers ≡ 16 = c.well_formed.1.0.1.0.1 in
+    puts_text (set_text _ c.requires.0 c.requires.1 _ refl _ _ c.clash-given.ensures _ c.in-Clash.is _ numbers_long) c.put_set.ensures

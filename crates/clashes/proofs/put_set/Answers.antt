@@ -11,16 +11,6 @@ use Rattle.table.specs.Calls.{formulas_of}
 use Rattle.clashes.proofs.Lines.{put_none, put_pass, put_more, put_all, rule_line}
 use Rattle.clashes.proofs.put_set.Goals as goal
 
--- the arrays have sixteen places, and there are no more rules
-set_long : (c : goal.Start) → length c.args.set ≡ 16
-set_long c = c.well_formed.1.1.0.1.0.1
-
-numbers_long : (c : goal.Start) → length c.args.numbers ≡ 16
-numbers_long c = c.well_formed.1.1.1.0.1.0.1
-
-few : (c : goal.Start) → c.args.count ≤ 16
-few c = omega (arith, c.requires.1, c.requires.0.standing.few)
-
 rules_there : (c : goal.Start) (i : ℕ) → i < c.args.count → i < length (formulas_of (rules_of c.args.table))
 rules_there c i l = omega (arith, c.requires.1, length-map (rules_of c.args.table) meaning_of)
 
@@ -28,37 +18,49 @@ pub loop-i-init : goal.loop-i-init
 loop-i-init c = (omega arith, put_none _ _ _ _)
 
 pub bounds-set-here : goal.bounds-set-here
-bounds-set-here c = omega (arith, few c.before.before.before)
+bounds-set-here c =
+    let few : c.args.count ≤ 16 = omega (arith, c.requires.1, c.requires.0.standing.few) in
+    omega (arith, few)
 
 pub offset_bounds-numbers-here : goal.offset_bounds-numbers-here
-offset_bounds-numbers-here c = omega (arith, few c.before.before.before)
+offset_bounds-numbers-here c =
+    let few : c.args.count ≤ 16 = omega (arith, c.requires.1, c.requires.0.standing.few) in
+    omega (arith, few)
 
 pub bounds-numbers-here : goal.bounds-numbers-here
-bounds-numbers-here c = omega (arith, few c.before.before.before)
+bounds-numbers-here c =
+    let few : c.args.count ≤ 16 = omega (arith, c.requires.1, c.requires.0.standing.few) in
+    omega (arith, few)
 
 pub overflow_add-i : goal.overflow_add-i
-overflow_add-i c = omega (arith, few c.before.before.before)
+overflow_add-i c =
+    let few : c.args.count ≤ 16 = omega (arith, c.requires.1, c.requires.0.standing.few) in
+    omega (arith, few)
 
 pub loop-i-preserved-then-not-needed : goal.loop-i-preserved-then-not-needed
 loop-i-preserved-then-not-needed c =
-    let s = c.before.before.before.before in
+    let set_long : length c.args.set ≡ 16 = c.well_formed.1.1.0.1.0.1 in
+    let numbers_long : length c.args.numbers ≡ 16 = c.well_formed.1.1.1.0.1.0.1 in
+    let few : c.args.count ≤ 16 = omega (arith, c.requires.1, c.requires.0.standing.few) in
     let k = c.loop-i in
-    (omega arith, put_pass _ _ _ _ _ _ _ k.invariant.1 (omega (arith, few s, numbers_long s)) (rules_there s k.i (omega arith)) (omega (arith, few s, set_long s)) (not-true _ c.if-not-needed.true))
+    (omega arith, put_pass _ _ _ _ _ _ _ k.invariant.1 (omega (arith, few, numbers_long)) (rules_there s k.i (omega arith)) (omega (arith, few, set_long)) (not-true _ c.if-not-needed.true))
 
 pub put_rule-end-requires : goal.put_rule-end-requires
 put_rule-end-requires c =
-    let s = c.before.before.before.before.before in
+    let few : c.args.count ≤ 16 = omega (arith, c.requires.1, c.requires.0.standing.few) in
     let k = c.loop-i in
-    (s.requires.0, omega (arith, few s), omega (arith, s.requires.2, few s, k.invariant.1.few, puts_length k.invariant.1.puts))
+    (c.requires.0, omega (arith, few), omega (arith, c.requires.2, few, k.invariant.1.few, puts_length k.invariant.1.puts))
 
 pub loop-i-preserved : goal.loop-i-preserved
 loop-i-preserved c =
-    let s = c.before.before.before.before.before.before.before.before in
+    let set_long : length c.args.set ≡ 16 = c.well_formed.1.1.0.1.0.1 in
+    let numbers_long : length c.args.numbers ≡ 16 = c.well_formed.1.1.1.0.1.0.1 in
+    let few : c.args.count ≤ 16 = omega (arith, c.requires.1, c.requires.0.standing.few) in
     let k = c.loop-i in
     let e = c.put_rule-end.ensures in (
       omega arith,
-      put_more _ _ _ _ _ _ _ k.invariant.1 (omega (arith, few s, numbers_long s)) (rules_there s k.i (omega arith)) (omega (arith, few s, set_long s)) (not-false _ c.if-not-needed.false) _ _ _
-          (rule_line (rules_of s.args.table) k.i (omega (arith, s.requires.1)) _) e.0 e.1,
+      put_more _ _ _ _ _ _ _ k.invariant.1 (omega (arith, few, numbers_long)) (rules_there s k.i (omega arith)) (omega (arith, few, set_long)) (not-false _ c.if-not-needed.false) _ _ _
+          (rule_line (rules_of c.args.table) k.i (omega (arith, c.requires.1)) _) e.0 e.1,
     )
 
 pub shape_of-out : goal.shape_of-out

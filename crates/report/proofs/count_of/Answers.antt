@@ -5,11 +5,12 @@ use lib.ListN.{length, length-map}
 use Rattle.report.proofs.Kept.{known_count}
 use Rattle.report.proofs.count_of.Goals as goal
 
-long : (s : goal.Start) → length s.args.names.list ≡ 8
-long s = s.well_formed.0.1.1.0.1.0.1
-
 pub returns-then-count-lt8 : goal.returns-then-count-lt8
-returns-then-count-lt8 c = let s = c.before in (omega (arith, known_count s.args.names, long s, c.if-count-lt8.true), omega (arith, c.if-count-lt8.true))
+returns-then-count-lt8 c =
+    let long : length c.args.names.list ≡ 8 = c.well_formed.0.1.1.0.1.0.1 in
+    (omega (arith, known_count c.args.names, long, c.if-count-lt8.true), omega (arith, c.if-count-lt8.true))
 
 pub returns-else-count-lt8 : goal.returns-else-count-lt8
-returns-else-count-lt8 c = let s = c.before in (omega (arith, known_count s.args.names, long s, c.if-count-lt8.false), omega arith)
+returns-else-count-lt8 c =
+    let long : length c.args.names.list ≡ 8 = c.well_formed.0.1.1.0.1.0.1 in
+    (omega (arith, known_count c.args.names, long, c.if-count-lt8.false), omega arith)

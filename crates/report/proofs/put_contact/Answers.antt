@@ -10,18 +10,20 @@ use Rattle.report.specs.Lines.{labelled, ended}
 use Rattle.report.proofs.Parts.{contact_text}
 use Rattle.report.proofs.put_contact.Goals as goal
 
--- the line's parts fit where the line does
-fits : (s : goal.Start) → s.args.at + length (ended (labelled (bytes "contact ") s.args.i ++ labelled (bytes " ") s.args.j)) ≤ length s.args.out.now
-fits s = omega (arith, s.requires.1, ap length (contact_text s.args.i s.args.j s.requires.0))
-
 pub put_labelled-end-requires : goal.put_labelled-end-requires
-put_labelled-end-requires c = simp length-append (omega (arith, simp length-append at (fits c.before.before.before)))
+put_labelled-end-requires c =
+    let fits : c.args.at + length (ended (labelled (bytes "contact ") c.args.i ++ labelled (bytes " ") c.args.j)) ≤ length c.args.out.now = omega (arith, c.requires.1, ap length (contact_text c.args.i c.args.j c.requires.0)) in
+    simp length-append (omega (arith, simp length-append at fits))
 
 pub put_labelled-end-requires-2 : goal.put_labelled-end-requires-2
-put_labelled-end-requires-2 c = fits_next c.put_labelled-end.ensures _ (simp length-append (omega (arith, simp length-append at (fits c.before.before.before.before.before.before.before.before))))
+put_labelled-end-requires-2 c =
+    let fits : c.args.at + length (ended (labelled (bytes "contact ") c.args.i ++ labelled (bytes " ") c.args.j)) ≤ length c.args.out.now = omega (arith, c.requires.1, ap length (contact_text c.args.i c.args.j c.requires.0)) in
+    fits_next c.put_labelled-end.ensures _ (simp length-append (omega (arith, simp length-append at fits)))
 
 pub put_byte-requires : goal.put_byte-requires
-put_byte-requires c = fits_next (puts_more c.put_labelled-end.ensures c.put_labelled-end-2.ensures) _ (simp length-append (omega (arith, simp length-append at (fits c.before.before.before.before.before.before.before.before.before.before.before.before))))
+put_byte-requires c =
+    let fits : c.args.at + length (ended (labelled (bytes "contact ") c.args.i ++ labelled (bytes " ") c.args.j)) ≤ length c.args.out.now = omega (arith, c.requires.1, ap length (contact_text c.args.i c.args.j c.requires.0)) in
+    fits_next (puts_more c.put_labelled-end.ensures c.put_labelled-end-2.ensures) _ (simp length-append (omega (arith, simp length-append at fits)))
 
 pub returns : goal.returns
 returns c =

@@ -8,31 +8,30 @@ use Rattle.report.proofs.Digits.{decimal_few}
 use borrow.Author.Rules.{rules}
 use Rattle.report.proofs.put_point.Goals as goal
 
-few : (s : goal.Start) → length (decimal s.args.i) ≤ 20
-few s =
-    let h : s.args.i < 2 ^ 64 = search rules in
-    decimal_few 19 s.args.i (omega arith)
-
 pub put_labelled-end-requires : goal.put_labelled-end-requires
-put_labelled-end-requires c = let s = c.before.before.before in omega (arith, s.requires, few s)
+put_labelled-end-requires c =
+    let few : length (decimal c.args.i) ≤ 20 = let h : c.args.i < 2 ^ 64 = search rules in decimal_few 19 c.args.i (omega arith) in
+    omega (arith, c.requires, few)
 
 pub put_text-end-requires : goal.put_text-end-requires
-put_text-end-requires c = let s = c.before.before.before.before.before.before.before.before in let first = c.put_labelled-end.ensures in omega (arith, s.requires, few s, first.place, puts_length first)
+put_text-end-requires c =
+    let few : length (decimal c.args.i) ≤ 20 = let h : c.args.i < 2 ^ 64 = search rules in decimal_few 19 c.args.i (omega arith) in
+    let first = c.put_labelled-end.ensures in omega (arith, c.requires, few, first.place, puts_length first)
 
 pub put_point_names-end-requires : goal.put_point_names-end-requires
 put_point_names-end-requires c =
-    let s = c.before.before.before.before.before.before.before.before.before.before.before.before in
+    let few : length (decimal c.args.i) ≤ 20 = let h : c.args.i < 2 ^ 64 = search rules in decimal_few 19 c.args.i (omega arith) in
     let first = c.put_labelled-end.ensures in
     let second = c.put_text-end.ensures in
-    omega (arith, s.requires, few s, first.place, puts_length first, second.place, puts_length second)
+    omega (arith, c.requires, few, first.place, puts_length first, second.place, puts_length second)
 
 pub put_text-requires : goal.put_text-requires
 put_text-requires c =
-    let s = c.before.before.before.before.before.before.before.before.before.before.before.before.before.before.before.before.before in
+    let few : length (decimal c.args.i) ≤ 20 = let h : c.args.i < 2 ^ 64 = search rules in decimal_few 19 c.args.i (omega arith) in
     let first = c.put_labelled-end.ensures in
     let second = c.put_text-end.ensures in
     let third = c.put_point_names-end.ensures in
-    omega (arith, s.requires, few s, first.place, puts_length first, second.place, puts_length second, third.1, puts_length third.0)
+    omega (arith, c.requires, few, first.place, puts_length first, second.place, puts_length second, third.1, puts_length third.0)
 
 pub returns : goal.returns
 unfolding point_line

@@ -11,20 +11,18 @@ use Rattle.report.proofs.Lent.{tells_short}
 use Rattle.report.proofs.Reporting.{told_other, Asking, no_plans, words_kept, no_text, plan_lent, plan_told, plan_room}
 use Rattle.report.proofs.put_rules.Goals as goal
 
-asking : (c : goal.After-ask-given) → Asking (question_of c.args.asked) c.args.table c.args.words.now c.ask-given.result c.ask-given.new.1.1.0
-asking c = let pre = c.requires in record { from_us = pre.0; some = pre.1; room = pre.2; asks = c.ask-given.ensures }
-
 pub returns-in_default : goal.returns-in_default
 unfolding names_in
 returns-in_default c =
-    let a = c.before.before.before.before.before.before.before.before in
+    let a = c in
     let other = told_other _ (opened c.in_default.in_default-own.keys2) in
     tells_short refl (no_plans (asking a) other) a.names-names.ensures (words_kept (asking a) other) (puts_over _ _ _ _ (puts_text (no_text (asking a) other) c.put_text-len.ensures))
 
 pub returns : goal.returns
 unfolding names_in
 returns c =
+    let asking : Asking (question_of c.args.asked) c.args.table c.args.words.now c.ask-given.result c.ask-given.new.1.1.0 = let pre = c.requires in record { from_us = pre.0; some = pre.1; room = pre.2; asks = c.ask-given.ensures } in
     let e = c.in-Plan.is in
-    let a = asking c.before.before.before in
+    let a = asking in
     let names = c.names-names.ensures in
     record { lends = plan_lent a _ e; names_are = names; answers = Answers.lines (plan_told a _ e _ names) refl; room = λ n f. plan_room a _ e }

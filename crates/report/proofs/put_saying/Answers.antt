@@ -10,18 +10,17 @@ use Rattle.report.proofs.Digits.{decimal_few}
 use Rattle.report.proofs.Reasons.{says_split, says_rule, says_floorless}
 use Rattle.report.proofs.put_saying.Goals as goal
 
--- a rule's number has few digits
-few_digits : (s : goal.Start) → length (decimal (s.args.word % 0x10000000)) ≤ 9
-few_digits s = decimal_few 8 (s.args.word % 0x10000000) (omega arith)
-
-few : (s : goal.Start) → s.args.at + length (labelled (bytes "rule ") (s.args.word % 0x10000000)) + 14 ≤ length s.args.out.now
-few s = omega (arith, s.requires, few_digits s)
-
 pub put_labelled-end-requires : goal.put_labelled-end-requires
-put_labelled-end-requires c = omega (arith, few c.before.before.before.before)
+put_labelled-end-requires c =
+    let few_digits : length (decimal (c.args.word % 0x10000000)) ≤ 9 = decimal_few 8 (c.args.word % 0x10000000) (omega arith) in
+    let few : c.args.at + length (labelled (bytes "rule ") (c.args.word % 0x10000000)) + 14 ≤ length c.args.out.now = omega (arith, c.requires, few_digits) in
+    omega (arith, few)
 
 pub put_text-requires : goal.put_text-requires
-put_text-requires c = fits_next c.put_labelled-end.ensures 14 (few c.before.before.before.before.before.before.before.before.before)
+put_text-requires c =
+    let few_digits : length (decimal (c.args.word % 0x10000000)) ≤ 9 = decimal_few 8 (c.args.word % 0x10000000) (omega arith) in
+    let few : c.args.at + length (labelled (bytes "rule ") (c.args.word % 0x10000000)) + 14 ≤ length c.args.out.now = omega (arith, c.requires, few_digits) in
+    fits_next c.put_labelled-end.ensures 14 few
 
 pub returns-in-5 : goal.returns-in-5
 unfolding saying
@@ -29,7 +28,9 @@ returns-in-5 c = (puts_text (says_split (held_at c.args.atoms) (c.args.word / 0x
 
 pub returns-in-6 : goal.returns-in-6
 unfolding saying
-returns-in-6 c = (puts_text (says_rule (held_at c.args.atoms) (c.args.word / 0x10000000) (c.args.word % 0x10000000) c.in-6.is) (puts_more c.put_labelled-end.ensures c.put_text.ensures), omega (arith, c.put_text.ensures.place, c.put_labelled-end.ensures.place, few_digits c.before.before.before.before.before.before.before.before.before.before.before.before))
+returns-in-6 c =
+    let few_digits : length (decimal (c.args.word % 0x10000000)) ≤ 9 = decimal_few 8 (c.args.word % 0x10000000) (omega arith) in
+    (puts_text (says_rule (held_at c.args.atoms) (c.args.word / 0x10000000) (c.args.word % 0x10000000) c.in-6.is) (puts_more c.put_labelled-end.ensures c.put_text.ensures), omega (arith, c.put_text.ensures.place, c.put_labelled-end.ensures.place, few_digits))
 
 pub returns-in_default : goal.returns-in_default
 unfolding saying

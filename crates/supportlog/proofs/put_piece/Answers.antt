@@ -14,7 +14,7 @@ pub returns-then-log-from : goal.returns-then-log-from
 returns-then-log-from c = gives_none c.requires.0 _ (omega arith) c.passed.ensures
 
 pub returns-then-log-gt-LOG : goal.returns-then-log-gt-LOG
-returns-then-log-gt-LOG c = gives_whole c.requires.0 (omega arith) _ (omega arith) c.before.before.before.Put-refused.ensures c.passed-then-log-gt-LOG.ensures
+returns-then-log-gt-LOG c = gives_whole c.requires.0 (omega arith) _ (omega arith) c.Put-refused.ensures c.passed-then-log-gt-LOG.ensures
 
 pub slice_bounds-line_by-end : goal.slice_bounds-line_by-end
 slice_bounds-line_by-end c = sym (length-take-le _ _ c.kept-n.ensures.0)
