@@ -3,4 +3,4 @@ use Rattle.table.proofs.Lines.{put_table}
 use Rattle.table.proofs.put_last.Goals as goal
 
 pub returns : goal.returns
-returns c = put_table c.args.table _ _ c.requires.0 c.Line-of.ensures c.requires.1
+returns c = put_table c.args.table _ _ c.requires.0 c.line_of-line.ensures c.requires.1

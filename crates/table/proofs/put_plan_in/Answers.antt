@@ -11,4 +11,4 @@ pub returns : goal.returns
 unfolding PlanPut RowPlanIs
 returns c = λ rules kept code h.
     let put = c.write_plan in
-    subst (λ (p : Plan). Writes p c.args.buffer.now put.result put.new.1.1.1.0) (c.points_of-points.ensures.1 rules kept code h) put.ensures
+    subst (λ (p : Plan). Writes p c.args.buffer.now put.result put.new.buffer) (c.points_of-points.ensures.1 rules kept code h) put.ensures

@@ -8,10 +8,6 @@ use Rattle.table.proofs.Refusals.{told_refused}
 use Rattle.table.proofs.Counting.{text_judged, tries_refused, tries_full, ready, tries_room}
 use Rattle.table.proofs.with_text.Goals as goal
 
--- the array is as long as its type says
-zeros_long : (c : goal.After-zeros-code) → length c.zeros-code.result ≡ 256
-zeros_long c = ap length c.zeros-code.ensures
-
 pub returns-in_default : goal.returns-in_default
 returns-in_default c =
     tries_refused _ _ _ _ _ (text_judged _ _ _ c.read_rule-rule.ensures c.read_answer-read.ensures) (told_refused _ (opened c.in_default.in_default-own.keys2))
@@ -23,10 +19,12 @@ returns-then-known-ge-RULES c =
 pub with_rule-grown-requires : goal.with_rule-grown-requires
 with_rule-grown-requires c =
     let read = c.read_rule-rule.ensures in
-    ready _ _ _ (text_judged _ _ _ read c.read_answer-read.ensures ∙ c.in-Added.is) c.if-known-ge-RULES.false _ read _ (omega (arith, zeros_long c.before.before)) c.requires
+    let long : length c.zeros-code.result ≡ 256 = ap length c.zeros-code.ensures in
+    ready _ _ _ (text_judged _ _ _ read c.read_answer-read.ensures ∙ c.in-Added.is) c.if-known-ge-RULES.false _ read _ (omega (arith, long)) c.requires
 
 pub returns : goal.returns
 returns c =
     let read = c.read_rule-rule.ensures in
-    tries_room _ _ _ (text_judged _ _ _ read c.read_answer-read.ensures ∙ c.in-Added.is) c.if-known-ge-RULES.false _ read _ (omega (arith, zeros_long c.before.before.before.before.before.before))
+    let long : length c.zeros-code.result ≡ 256 = ap length c.zeros-code.ensures in
+    tries_room _ _ _ (text_judged _ _ _ read c.read_answer-read.ensures ∙ c.in-Added.is) c.if-known-ge-RULES.false _ read _ (omega (arith, long))
     _ _ _ c.with_rule-grown.ensures _ c.room_answer-answer.ensures

@@ -4,8 +4,6 @@ use borrow.Author.Rules.{rules}
 use Prim.Native.Nat.{ℕ, ◌+◌, ◌-◌, ◌<◌}
 use mathlib.Core.List.{List}
 use mathlib.Core.Path.{◌≡◌, sym, subst, ◌∙◌}
-use mathlib.Core.Logic.{⊎_elim}
-use borrow.Author.Tests.{not-true, not-false}
 use lib.ListN.{set}
 use Rattle.table.specs.declared.Table.{Table}
 use Rattle.ruleset.specs.declared.Known.{Known}
@@ -18,6 +16,7 @@ use Rattle.table.proofs.Results.{may_put, loaded_by}
 use Rattle.table.proofs.Loading.{Progress, start, after_blank, after_added, line_refused, nothing_kept, something_kept, kept_table, too_long}
 use native.Mathlib.Omega.{arith}
 use Rattle.table.proofs.Table.load.Goals as goal
+use Rattle.table.proofs.Table.load.Goals.{then-not-blank_line, else-not-blank_line}
 
 pub returns-then-file-gt-FILE : goal.returns-then-file-gt-FILE
 returns-then-file-gt-FILE c =
@@ -42,7 +41,7 @@ pub returns-in_default : goal.returns-in_default
 returns-in_default c =
     let at = c.loop-from in
     let cut = c.line_end-end.ensures in
-    let filled = sym c.blank_line.ensures ∙ not-true _ c.if-not-blank_line.true in
+    let filled = sym c.blank_line.ensures ∙ c.if-not-blank_line.true in
     subst (Loads c.args.self c.args.file.now) (sym c.kept-in_default.ensures)
     (loaded_by c.args.self _ _ _ c.requires
     (line_refused _ _ _ _ _ _ _ at.invariant c.loop-from-test.true cut.0 cut.1 cut.2 _ filled _ c.with_text-tried.ensures (told_refused _ (opened c.in_default.in_default-own.keys2)))
@@ -53,19 +52,23 @@ line_of-last-requires c =
     let inv = c.loop-from.invariant in
     (may_put _ _ _ _ _ _ inv.from_us inv.known c.with_text-tried.ensures c.in-Added.is).2
 
-few : (c : goal.After-line_of-last) → c.loop-from.table.count < 16
-few c =
-    let inv = c.loop-from.invariant in
-    (may_put _ _ _ _ _ _ inv.from_us inv.known c.with_text-tried.ensures c.in-Added.is).1
-
 pub offset_bounds-table-count : goal.offset_bounds-table-count
-offset_bounds-table-count c = omega (arith, few c)
+offset_bounds-table-count c =
+    let inv = c.loop-from.invariant in
+    let few = (may_put _ _ _ _ _ _ inv.from_us inv.known c.with_text-tried.ensures c.in-Added.is).1 in
+    omega (arith, few)
 
 pub bounds-table-count : goal.bounds-table-count
-bounds-table-count c = few c
+bounds-table-count c =
+    let inv = c.loop-from.invariant in
+    let few = (may_put _ _ _ _ _ _ inv.from_us inv.known c.with_text-tried.ensures c.in-Added.is).1 in
+    few
 
 pub overflow_add-table : goal.overflow_add-table
-overflow_add-table c = omega (arith, few c)
+overflow_add-table c =
+    let inv = c.loop-from.invariant in
+    let few = (may_put _ _ _ _ _ _ inv.from_us inv.known c.with_text-tried.ensures c.in-Added.is).1 in
+    omega (arith, few)
 
 pub overflow_add-from : goal.overflow_add-from
 overflow_add-from c = omega (arith, c.line_end-end.ensures.1, c.loop-from.invariant.short)
@@ -81,19 +84,21 @@ loop-from-preserved c =
     let from = c.line_end-end.result + 1 in
     let cut = c.line_end-end.ensures in
     let h = c.loop-from-test.true in
-    ⊎_elim
-    (λ w. let more = table_with (set at.table.lines at.table.count w.6.result) (at.table.count + 1) in
-    let room = (may_put _ _ _ _ _ _ at.invariant.from_us at.invariant.known w.2.ensures w.4.given.1).1 in
-    subst (λ (t : Table). Progress file t c.if-not-blank_line.known c.if-not-blank_line.symbols line from) (sym w.7)
-    (subst (λ (x : Known). Progress file more x c.if-not-blank_line.symbols line from) (sym w.8)
-    (subst (λ (x : List ℕ). Progress file more w.2.result.known x line from) (sym w.9)
-    (after_added _ _ _ _ _ _ _ at.invariant h cut.0 cut.1 cut.2 _ (sym c.blank_line.ensures ∙ not-true _ w.0.taken) _ w.2.ensures w.4.given.1 _
-    (put_table at.table _ _ at.invariant.from_us w.6.ensures room)))))
-    (λ w. subst (λ (t : Table). Progress file t c.if-not-blank_line.known c.if-not-blank_line.symbols line from) (sym w.1)
-    (subst (λ (x : Known). Progress file at.table x c.if-not-blank_line.symbols line from) (sym w.2)
-    (subst (λ (x : List ℕ). Progress file at.table at.known x line from) (sym w.3)
-    (after_blank _ _ _ _ _ _ _ at.invariant h cut.0 cut.1 cut.2 (sym c.blank_line.ensures ∙ not-false _ w.0.left)))))
-    c.if-not-blank_line.branch
+    elim c.if-not-blank_line.branch [
+      then-not-blank_line w ↦
+        let more = table_with (set at.table.lines at.table.count w.line_of-last.result) (at.table.count + 1) in
+        let room = (may_put _ _ _ _ _ _ at.invariant.from_us at.invariant.known w.with_text-tried.ensures w.in-Added.is).1 in
+        subst (λ (t : Table). Progress file t c.if-not-blank_line.known c.if-not-blank_line.symbols line from) (sym w.table-is)
+        (subst (λ (x : Known). Progress file more x c.if-not-blank_line.symbols line from) (sym w.known-is)
+        (subst (λ (x : List ℕ). Progress file more w.with_text-tried.result.known x line from) (sym w.symbols-is)
+        (after_added _ _ _ _ _ _ _ at.invariant h cut.0 cut.1 cut.2 _ (sym c.blank_line.ensures ∙ w.if-not-blank_line.true) _ w.with_text-tried.ensures w.in-Added.is _
+        (put_table at.table _ _ at.invariant.from_us w.line_of-last.ensures room))))
+    | else-not-blank_line w ↦
+        subst (λ (t : Table). Progress file t c.if-not-blank_line.known c.if-not-blank_line.symbols line from) (sym w.table-is)
+        (subst (λ (x : Known). Progress file at.table x c.if-not-blank_line.symbols line from) (sym w.known-is)
+        (subst (λ (x : List ℕ). Progress file at.table at.known x line from) (sym w.symbols-is)
+        (after_blank _ _ _ _ _ _ _ at.invariant h cut.0 cut.1 cut.2 (sym c.blank_line.ensures ∙ w.if-not-blank_line.false))))
+    ]
 
 pub returns-then-table-le0 : goal.returns-then-table-le0
 returns-then-table-le0 c =

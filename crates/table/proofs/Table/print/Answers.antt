@@ -17,38 +17,40 @@ returns-then-self-k c =
     let t = c.args.self in
     prints_none t c.requires _ _ (withdraw_high (rules_of t) _ c.if-k-le0.false (omega (arith, count_is t c.requires)))
 
--- the k-th line is that of a rule
-low : (c : goal.Else-self-k) → c.args.k - 1 < c.args.self.count
-low c = omega arith
-
-within : (c : goal.Else-self-k) → (0 < c.args.k) × (c.args.k ≤ c.args.self.count)
-within c = (omega arith, omega arith)
-
 pub offset_bounds-self-k : goal.offset_bounds-self-k
-offset_bounds-self-k c = omega (arith, low c, count_few _ c.requires)
+offset_bounds-self-k c =
+    let low : c.args.k - 1 < c.args.self.count = omega arith in
+    omega (arith, low, count_few _ c.requires)
 
 pub bounds-self-k : goal.bounds-self-k
-bounds-self-k c = omega (arith, low c, count_few _ c.requires)
+bounds-self-k c =
+    let low : c.args.k - 1 < c.args.self.count = omega arith in
+    omega (arith, low, count_few _ c.requires)
 
 pub slice_bounds-bytes-end : goal.slice_bounds-bytes-end
-slice_bounds-bytes-end c = text_within c.requires (low c.before.before)
+slice_bounds-bytes-end c =
+    let low : c.args.k - 1 < c.args.self.count = omega arith in
+    text_within c.requires low
 
 pub slice_bounds-text-end : goal.slice_bounds-text-end
-slice_bounds-text-end c = text_length c.requires (low c.before.before.before)
+slice_bounds-text-end c =
+    let low : c.args.k - 1 < c.args.self.count = omega arith in
+    text_length c.requires low
 
 pub print-printed-requires : goal.print-printed-requires
 print-printed-requires c =
+    let low : c.args.k - 1 < c.args.self.count = omega arith in
     let e = c.read_rule-rule.ensures in
-    record { read = e; formula = ap (λ r. r.answer) e ∙ text_read c.requires (low c.before.before.before.before.before) }
+    record { read = e; formula = ap (λ r. r.answer) e ∙ text_read c.requires low }
 
 pub returns-in-Text : goal.returns-in-Text
 returns-in-Text c =
     let v = c.requires in
-    let e = c.before.before.before.before.before.before.before.before.before in
-    prints_text _ v _ _ (within e).0 (within e).1 _ (text_is v (low e)) _ _ c.print-printed.ensures _ (ap printed_answer c.in-Text.is)
+    let low : c.args.k - 1 < c.args.self.count = omega arith in
+    prints_text _ v _ _ (omega arith) (omega arith) _ (text_is v low) _ _ c.print-printed.ensures _ (ap printed_answer c.in-Text.is)
 
 pub returns-in-Needs : goal.returns-in-Needs
 returns-in-Needs c =
     let v = c.requires in
-    let e = c.before.before.before.before.before.before.before.before.before in
-    prints_text _ v _ _ (within e).0 (within e).1 _ (text_is v (low e)) _ _ c.print-printed.ensures _ (ap printed_answer c.in-Needs.is)
+    let low : c.args.k - 1 < c.args.self.count = omega arith in
+    prints_text _ v _ _ (omega arith) (omega arith) _ (text_is v low) _ _ c.print-printed.ensures _ (ap printed_answer c.in-Needs.is)

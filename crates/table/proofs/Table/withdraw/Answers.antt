@@ -11,9 +11,6 @@ use Rattle.table.proofs.Shift.{moved, moved_none, moved_cleared, left_table, lin
 use native.Mathlib.Omega.{arith}
 use Rattle.table.proofs.Table.withdraw.Goals as goal
 
-few : (c : goal.Else-count-k) → c.args.self.count ≤ 16
-few c = count_few c.args.self c.requires
-
 pub returns-then-k-le0 : goal.returns-then-k-le0
 returns-then-k-le0 c = withdrawn_by c.args.self _ _ _ c.requires (withdraw_zero _ _ c.if-k-le0.true) c.requires.same
 
@@ -23,10 +20,10 @@ returns-then-count-k c =
     withdrawn_by t _ _ _ c.requires (withdraw_high (rules_of t) _ c.if-k-le0.false (omega (arith, count_is t c.requires))) c.requires.same
 
 pub offset_bounds-freed-count : goal.offset_bounds-freed-count
-offset_bounds-freed-count c = omega (arith, few c.before)
+offset_bounds-freed-count c = omega (arith, count_few c.args.self c.requires)
 
 pub bounds-freed-count : goal.bounds-freed-count
-bounds-freed-count c = omega (arith, few c.before)
+bounds-freed-count c = omega (arith, count_few c.args.self c.requires)
 
 pub loop-i-init : goal.loop-i-init
 loop-i-init c =
@@ -38,26 +35,26 @@ loop-i-init c =
     )
 
 pub offset_bounds-self-i : goal.offset_bounds-self-i
-offset_bounds-self-i c = omega (arith, few c.before.before.before)
+offset_bounds-self-i c = omega (arith, count_few c.args.self c.requires)
 
 pub bounds-self-i : goal.bounds-self-i
-bounds-self-i c = omega (arith, few c.before.before.before)
+bounds-self-i c = omega (arith, count_few c.args.self c.requires)
 
 pub offset_bounds-table-i : goal.offset_bounds-table-i
-offset_bounds-table-i c = omega (arith, few c.before.before.before.before)
+offset_bounds-table-i c = omega (arith, count_few c.args.self c.requires)
 
 pub bounds-table-i : goal.bounds-table-i
-bounds-table-i c = omega (arith, few c.before.before.before.before)
+bounds-table-i c = omega (arith, count_few c.args.self c.requires)
 
 pub overflow_add-i : goal.overflow_add-i
-overflow_add-i c = omega (arith, few c.before.before.before.before)
+overflow_add-i c = omega (arith, count_few c.args.self c.requires)
 
 pub loop-i-preserved : goal.loop-i-preserved
 loop-i-preserved c =
     let t = c.args.self in
     let i = c.loop-i.i in
     let inv = c.loop-i.invariant in
-    let h : t.count ≤ length t.lines = omega (arith, lines_length t c.requires, few c.before.before.before.before) in (
+    let h : t.count ≤ length t.lines = omega (arith, lines_length t c.requires, count_few c.args.self c.requires) in (
       omega arith,
       omega arith,
       ap (λ (ls : List Line). set ls (i - 1) (get_or t.lines i none)) inv.2
