@@ -12,10 +12,10 @@ pub rule_value-requires : goal.rule_value-requires
 rule_value-requires c = part_safe c.loop-i.invariant (omega arith)
 
 pub returns-then-not-rule_value : goal.returns-then-not-rule_value
-returns-then-not-rule_value c = stops c.loop-i.invariant (omega arith) c.before.Rule-value.ensures (not-true _ c.if-not-rule_value.true)
+returns-then-not-rule_value c = stops c.loop-i.invariant (omega arith) c.rule_value.ensures (not-true _ c.if-not-rule_value.true)
 
 pub loop-i-preserved : goal.loop-i-preserved
-loop-i-preserved c = goes_on c.loop-i.invariant (omega arith) c.before.Rule-value.ensures (not-false _ c.if-not-rule_value.false)
+loop-i-preserved c = goes_on c.loop-i.invariant (omega arith) c.rule_value.ensures (not-false _ c.if-not-rule_value.false)
 
 pub returns : goal.returns
 returns c = all_met c.loop-i.invariant (omega arith)

@@ -23,7 +23,7 @@ loop-i-preserved-then-chart-i c =
       length-set loop.out loop.i _ ∙ loop.invariant.1,
       sure_more loop.out loop.i _ _ (omega arith) loop.invariant.2
           (c.settled.ensures 0 (omega arith) ∙ c.touches.ensures
-          ∙ sym (ap (λ (b : Bool). atom_of a.plan (square_at a.square.now) b (mem_at a.t3.xs loop.i) (mem_at a.t3.ys loop.i)) c.if-chart-i.true)),
+          ∙ sym (ap (λ (b : Bool). atom_of a.plan (square_at a.square.now) b (mem_at a.chart.xs loop.i) (mem_at a.chart.ys loop.i)) c.if-chart-i.true)),
     )
 
 pub loop-i-preserved : goal.loop-i-preserved
@@ -35,7 +35,7 @@ loop-i-preserved c =
       length-set loop.out loop.i _ ∙ loop.invariant.1,
       sure_more loop.out loop.i _ _ (omega arith) loop.invariant.2
           (c.settled-in-loop-i.ensures 0 (omega arith) ∙ c.is_vacant.ensures
-          ∙ sym (ap (λ (b : Bool). atom_of a.plan (square_at a.square.now) b (mem_at a.t3.xs loop.i) (mem_at a.t3.ys loop.i)) c.if-chart-i.false)),
+          ∙ sym (ap (λ (b : Bool). atom_of a.plan (square_at a.square.now) b (mem_at a.chart.xs loop.i) (mem_at a.chart.ys loop.i)) c.if-chart-i.false)),
     )
 
 pub returns : goal.returns
@@ -43,5 +43,5 @@ unfolding LeavesSay
 returns c =
     let loop = c.loop-i in
     let a = c.args in
-    let z : loop.i ≡ a.t3.atoms = omega arith in
-    subst (λ (n : ℕ). Sure loop.out n (value_of a.plan (square_at a.square.now) a.t3)) z loop.invariant.2
+    let z : loop.i ≡ a.chart.atoms = omega arith in
+    subst (λ (n : ℕ). Sure loop.out n (value_of a.plan (square_at a.square.now) a.chart)) z loop.invariant.2

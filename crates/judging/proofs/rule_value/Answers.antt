@@ -15,5 +15,5 @@ returns c = λ rule q w values.
     let a = c.args in
     let r = c.run_whole-value.result in
     sym (bit_zero r)
-    ∙ whole_value rule a.t4 0 r w
-    (ap (λ (code : List ℕ). exec (whole_at a.t4 0) code []) (sym q) ∙ c.run_whole-value.ensures.1 0 (omega arith)) values
+    ∙ whole_value rule a.atoms 0 r w
+    (ap (λ (code : List ℕ). exec (whole_at a.atoms 0) code []) (sym q) ∙ c.run_whole-value.ensures.1 0 (omega arith)) values
