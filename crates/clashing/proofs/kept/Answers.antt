@@ -7,24 +7,27 @@ use Rattle.clashing.specs.Steps.{SomeFloorSays, KeptIs}
 use Rattle.clashing.proofs.Trying.{tried_to, tried_none, tried_all, tried_step}
 use Rattle.clashing.proofs.kept.Goals as goal
 
--- there are at most sixteen rules
-few : (c : goal.Start) → c.args.c.known.count ≤ 16
-few c = let h = c.requires.0.rules_compiled in omega (arith, h.known.counted, h.known.fits.rules_fit)
-
 pub loop-i-init : goal.loop-i-init
 loop-i-init c =
-    let start = c.before.before in
-    (omega arith, refl, λ rules kept h. tried_none rules start.args.c.known.count h.known.counted (few start))
+    let h = c.requires.0.rules_compiled in
+    let few : c.args.c.known.count ≤ 16 = omega (arith, h.known.counted, h.known.fits.rules_fit) in
+    (omega arith, refl, λ rules kept h. tried_none rules c.args.c.known.count h.known.counted few)
 
 pub bounds-set-i : goal.bounds-set-i
-bounds-set-i c = omega (arith, few c.before.before.before.before, c.loop-i.invariant.0)
+bounds-set-i c =
+    let h = c.requires.0.rules_compiled in
+    let few : c.args.c.known.count ≤ 16 = omega (arith, h.known.counted, h.known.fits.rules_fit) in
+    omega (arith, few, c.loop-i.invariant.0)
 
 pub some_floor-needed-requires : goal.some_floor-needed-requires
 some_floor-needed-requires c =
     (c.requires.0, omega (arith, c.requires.1, c.loop-i.invariant.1))
 
 pub bounds-set-i-in-loop-i : goal.bounds-set-i-in-loop-i
-bounds-set-i-in-loop-i c = omega (arith, few c.before.before.before.before.before.before.before.before, c.loop-i.invariant.0)
+bounds-set-i-in-loop-i c =
+    let h = c.requires.0.rules_compiled in
+    let few : c.args.c.known.count ≤ 16 = omega (arith, h.known.counted, h.known.fits.rules_fit) in
+    omega (arith, few, c.loop-i.invariant.0)
 
 pub loop-i-preserved : goal.loop-i-preserved
 unfolding SomeFloorSays

@@ -11,23 +11,22 @@ use Rattle.clashing.specs.Steps.{SomeFloorSays}
 use Rattle.clashing.proofs.Trying.{chosen_run, chosen_found, none_chosen}
 use Rattle.clashing.proofs.some_floor.Goals as goal
 
--- the ends of the rules have their places
-long : (c : goal.Start) → length c.args.c.ends ≡ 16
-long c = c.well_formed.0.1.1.1.0.1.0.1
-
-places : (c : goal.Start) → c.args.c.known.count ≤ length c.args.c.ends
-places c = ends_fit _ _ _ _ c.requires.0.rules_compiled (long c)
-
 pub slice_bounds-all-end : goal.slice_bounds-all-end
-slice_bounds-all-end c = places c.before.before.before
+slice_bounds-all-end c =
+    let long : length c.args.c.ends ≡ 16 = search rules in
+    let places = ends_fit _ _ _ _ c.requires.0.rules_compiled long in
+    places
 
 pub slice_bounds-put_chosen-end : goal.slice_bounds-put_chosen-end
-slice_bounds-put_chosen-end c = sym (length-take-le _ _ (places c.before.before.before.before))
+slice_bounds-put_chosen-end c =
+    let long : length c.args.c.ends ≡ 16 = search rules in
+    let places = ends_fit _ _ _ _ c.requires.0.rules_compiled long in
+    sym (length-take-le _ _ places)
 
 pub put_chosen-chosen-requires : goal.put_chosen-chosen-requires
 put_chosen-chosen-requires c =
-    let s = c.before.before.before.before.before in
-    ((may_run _ _ _ _ s.requires.0.rules_compiled).safe, few_ends _ _ _ _ s.requires.0.rules_compiled (long s), s.requires.1)
+    let long : length c.args.c.ends ≡ 16 = search rules in
+    ((may_run _ _ _ _ c.requires.0.rules_compiled).safe, few_ends _ _ _ _ c.requires.0.rules_compiled long, c.requires.1)
 
 pub returns-then-count-le0 : goal.returns-then-count-le0
 unfolding SomeFloorSays

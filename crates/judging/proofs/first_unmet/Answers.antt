@@ -1,7 +1,6 @@
 -- `judging::first_unmet` meets its contract: the rules passed are met, and the judgement is that of the rules left. Assumes nothing.
 use Prim.Native.Nat.{◌-◌}
 use native.Mathlib.Omega.{arith}
-use borrow.Author.Tests.{not-true, not-false}
 use Rattle.judging.proofs.Rules.{begins, part_safe, goes_on, stops, all_met}
 use Rattle.judging.proofs.first_unmet.Goals as goal
 
@@ -12,10 +11,10 @@ pub rule_value-requires : goal.rule_value-requires
 rule_value-requires c = part_safe c.loop-i.invariant (omega arith)
 
 pub returns-then-not-rule_value : goal.returns-then-not-rule_value
-returns-then-not-rule_value c = stops c.loop-i.invariant (omega arith) c.rule_value.ensures (not-true _ c.if-not-rule_value.true)
+returns-then-not-rule_value c = stops c.loop-i.invariant (omega arith) c.rule_value.ensures (c.if-not-rule_value.true)
 
 pub loop-i-preserved : goal.loop-i-preserved
-loop-i-preserved c = goes_on c.loop-i.invariant (omega arith) c.rule_value.ensures (not-false _ c.if-not-rule_value.false)
+loop-i-preserved c = goes_on c.loop-i.invariant (omega arith) c.rule_value.ensures (c.if-not-rule_value.false)
 
 pub returns : goal.returns
 returns c = all_met c.loop-i.invariant (omega arith)
