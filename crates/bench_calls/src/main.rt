@@ -174,7 +174,7 @@ fn make_calls(rt: &impl Print, calls: &[u8], table: Table, words: &mut [u32])
     }
 }
 
-fn main(rt: HostRuntime, rt: HostRuntime) -> io::Result<()> {
+fn main(rt: HostRuntime) -> io::Result<()> {
     let mut sheet = reading::no_bytes();
     let got = reading::read_sheet(&mut rt.stdin(), &mut sheet);
     let Got::Bytes(n) = got else {
@@ -190,7 +190,7 @@ fn main(rt: HostRuntime, rt: HostRuntime) -> io::Result<()> {
     };
     let table = loaded.table;
     if let Some(calls) = calls {
-        make_calls(&rt, &rt, calls.as_bytes(), table, &mut words);
+        make_calls(&rt, calls.as_bytes(), table, &mut words);
     }
     Ok(())
 }

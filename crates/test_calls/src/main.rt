@@ -822,6 +822,9 @@ fn main(rt: HostRuntime) {
     write_bytes(&rt, b"\n# P5 by calls in the code\n");
     let t = fourth_withdrawn();
     run_line(&rt, t, b"ask 530");
-    write_bytes(&rt, b"\n# One building of 255 points, by calls in the code\n");
+    write_bytes(
+        &rt,
+        b"\n# One building of 255 points, by calls in the code\n",
+    );
     write_largest(&rt);
 }

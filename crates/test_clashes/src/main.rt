@@ -720,7 +720,14 @@ fn disagree(rt: &impl Print, counts: &mut [usize; 21], why: &[u8], file: &[u8]) 
 // ---- the sheets
 
 // Where no floor meets all rules.
-fn test_no_plan(rt: &impl Print, counts: &mut [usize; 21], table: Table, file: &[u8], met: [bool; 256], rules: usize)
+fn test_no_plan(
+    rt: &impl Print,
+    counts: &mut [usize; 21],
+    table: Table,
+    file: &[u8],
+    met: [bool; 256],
+    rules: usize,
+)
     requires { FromUs table }
 {
     let answer = answer_of(table, 16);
@@ -756,7 +763,14 @@ fn test_plan(rt: &impl Print, counts: &mut [usize; 21], table: Table, file: &[u8
     }
 }
 
-fn test_table(rt: &impl Print, counts: &mut [usize; 21], table: Table, file: &[u8], code: &[u8], names: usize)
+fn test_table(
+    rt: &impl Print,
+    counts: &mut [usize; 21],
+    table: Table,
+    file: &[u8],
+    code: &[u8],
+    names: usize,
+)
     requires { FromUs table }
 {
     let rules = rules_in(code);
@@ -799,7 +813,14 @@ fn test_made(rt: &impl Print, counts: &mut [usize; 21], sheet: Sheet)
         return;
     };
     let table = without(r.table, sheet.withdrawn);
-    test_table(rt, counts, table, &text[0..end], &form[0..last], sheet.names);
+    test_table(
+        rt,
+        counts,
+        table,
+        &text[0..end],
+        &form[0..last],
+        sheet.names,
+    );
 }
 
 fn test_number(rt: &impl Print, counts: &mut [usize; 21], k: u64) {

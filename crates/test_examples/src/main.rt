@@ -179,7 +179,11 @@ fn long_sheets(rt: &impl Print) {
 
 // Sheets as they were read: one with no plan, and refused ones.
 fn read_back(rt: &impl Print) {
-    show_read(rt, b"no plan, as read", b"~C(raw, cooked)\n\n~(1 = 0)\n((1))=0");
+    show_read(
+        rt,
+        b"no plan, as read",
+        b"~C(raw, cooked)\n\n~(1 = 0)\n((1))=0",
+    );
     show_read(rt, b"empty, as read", b"");
     show_read(rt, b"unfinished, as read", b"C(raw,cooked)\nC(raw,\n");
 }

@@ -141,17 +141,17 @@ fn apart_in(p: PlanArrays) -> [u64; 1024]
 }
 
 // Writes a plan that was read into a buffer.
-fn put_again(rt: &impl Print, p: PlanArrays, buffer: &mut [u32]) -> Written {
+fn put_again(p: PlanArrays, buffer: &mut [u32]) -> Written {
     let points = p.points;
     let given = others(points, p.count, evalset::empty());
     let apart = apart_in(p);
-    plan::write_plan(rt, p.names, given, &apart, buffer)
+    plan::write_plan(p.names, given, &apart, buffer)
 }
 
 // Writes a plan's words again and whether they are the same.
 fn write_again(rt: &impl Print, words: &[u32], p: PlanArrays) {
     let mut buffer = [0u32; 32898];
-    let w = put_again(rt, p, &mut buffer);
+    let w = put_again(p, &mut buffer);
     match w {
         Written::Words(n) => {
             if same(words, &buffer, n) {
@@ -210,7 +210,7 @@ fn write_written(rt: &impl Print, w: Written) {
 fn into_buffer(rt: &impl Print, buffer: &mut [u32]) {
     let r = plan::read_plan(&[0x1000_0202, 0x2000_0001, 0x2000_0002, 0x4000_0003]);
     let p = r.plan;
-    let w = put_again(rt, p, buffer);
+    let w = put_again(p, buffer);
     write_written(rt, w);
     write_words(rt, b"", buffer, b" ");
     write_bytes(rt, b"\n");
@@ -299,13 +299,16 @@ fn all_of_eight(rt: &impl Print) {
 // The plans of document 01: P1, P2, P3 and P9.
 fn document_plans(rt: &impl Print) {
     show(rt, &[0x1000_0001, 0x2000_0000, 0x4000_0002]);
-    show(rt, &[
-        0x1000_0202,
-        0x2000_0001,
-        0x2000_0002,
-        0x3000_0001,
-        0x4000_0004,
-    ]);
+    show(
+        rt,
+        &[
+            0x1000_0202,
+            0x2000_0001,
+            0x2000_0002,
+            0x3000_0001,
+            0x4000_0004,
+        ],
+    );
     show(rt, &[0x1000_0202, 0x2000_0001, 0x2000_0002, 0x4000_0003]);
     show(rt, &[0x1000_0101, 0x2000_0000, 0x4000_0002]);
 }
@@ -314,73 +317,91 @@ fn document_plans(rt: &impl Print) {
 fn few_names(rt: &impl Print) {
     show(rt, &[0x1000_0101, 0x2000_0001, 0x4000_0002]);
     show(rt, &[0x1000_0102, 0x2000_0000, 0x2000_0001, 0x4000_0003]);
-    show(rt, &[
-        0x1000_0102,
-        0x2000_0000,
-        0x2000_0001,
-        0x3000_0001,
-        0x4000_0004,
-    ]);
-    show(rt, &[
-        0x1000_0203,
-        0x2000_0000,
-        0x2000_0001,
-        0x2000_0003,
-        0x3000_0002,
-        0x3000_0102,
-        0x4000_0006,
-    ]);
+    show(
+        rt,
+        &[
+            0x1000_0102,
+            0x2000_0000,
+            0x2000_0001,
+            0x3000_0001,
+            0x4000_0004,
+        ],
+    );
+    show(
+        rt,
+        &[
+            0x1000_0203,
+            0x2000_0000,
+            0x2000_0001,
+            0x2000_0003,
+            0x3000_0002,
+            0x3000_0102,
+            0x4000_0006,
+        ],
+    );
 }
 
 // Every two of four points in contact.
 fn every_contact(rt: &impl Print) {
-    show(rt, &[
-        0x1000_0204,
-        0x2000_0000,
-        0x2000_0001,
-        0x2000_0002,
-        0x2000_0003,
-        0x3000_0001,
-        0x3000_0002,
-        0x3000_0003,
-        0x3000_0102,
-        0x3000_0103,
-        0x3000_0203,
-        0x4000_000B,
-    ]);
+    show(
+        rt,
+        &[
+            0x1000_0204,
+            0x2000_0000,
+            0x2000_0001,
+            0x2000_0002,
+            0x2000_0003,
+            0x3000_0001,
+            0x3000_0002,
+            0x3000_0003,
+            0x3000_0102,
+            0x3000_0103,
+            0x3000_0203,
+            0x4000_000B,
+        ],
+    );
 }
 
 // Plans of three to six names.
 fn many_names(rt: &impl Print) {
     show(rt, &[0x1000_0301, 0x2000_0007, 0x4000_0002]);
-    show(rt, &[
-        0x1000_0402,
-        0x2000_0000,
-        0x2000_000F,
-        0x3000_0001,
-        0x4000_0004,
-    ]);
+    show(
+        rt,
+        &[
+            0x1000_0402,
+            0x2000_0000,
+            0x2000_000F,
+            0x3000_0001,
+            0x4000_0004,
+        ],
+    );
     show(rt, &[0x1000_0501, 0x2000_001F, 0x4000_0002]);
     show(rt, &[0x1000_0601, 0x2000_003F, 0x4000_0002]);
-    show(rt, &[
-        0x1000_0604,
-        0x2000_0000,
-        0x2000_0001,
-        0x2000_003E,
-        0x2000_003F,
-        0x3000_0003,
-        0x3000_0102,
-        0x4000_0007,
-    ]);
-    show(rt, &[
-        0x1000_0604,
-        0x2000_003C,
-        0x2000_003D,
-        0x2000_003E,
-        0x2000_003F,
-        0x3000_0203,
-        0x4000_0006,
-    ]);
+    show(
+        rt,
+        &[
+            0x1000_0604,
+            0x2000_0000,
+            0x2000_0001,
+            0x2000_003E,
+            0x2000_003F,
+            0x3000_0003,
+            0x3000_0102,
+            0x4000_0007,
+        ],
+    );
+    show(
+        rt,
+        &[
+            0x1000_0604,
+            0x2000_003C,
+            0x2000_003D,
+            0x2000_003E,
+            0x2000_003F,
+            0x3000_0203,
+            0x4000_0006,
+        ],
+    );
 }
 
 // The first word: another kind, names 7, points 0, points above 2^names, an unnamed bit.
@@ -418,13 +439,16 @@ fn points_to_come(rt: &impl Print) {
     show(rt, &[0x1000_0201, 0x2000_0004]);
     show(rt, &[0x1000_0204, 0x2000_0001]);
     show(rt, &[0x1000_0204, 0x2000_0000, 0x2000_0002]);
-    show(rt, &[
-        0x1000_0204,
-        0x2000_0000,
-        0x2000_0001,
-        0x2000_0002,
-        0x2000_0003,
-    ]);
+    show(
+        rt,
+        &[
+            0x1000_0204,
+            0x2000_0000,
+            0x2000_0001,
+            0x2000_0002,
+            0x2000_0003,
+        ],
+    );
     show(rt, &[0x1000_0202, 0x2000_0101]);
     show(rt, &[0x1000_0202, 0x2100_0000]);
     show(rt, &[0x1000_0202, 0x1000_0202]);
@@ -454,41 +478,53 @@ fn contacts(rt: &impl Print) {
 
 // Contacts: twice, not rising.
 fn contact_order(rt: &impl Print) {
-    show(rt, &[
-        0x1000_0202,
-        0x2000_0001,
-        0x2000_0002,
-        0x3000_0001,
-        0x3000_0001,
-    ]);
-    show(rt, &[
-        0x1000_0203,
-        0x2000_0000,
-        0x2000_0001,
-        0x2000_0002,
-        0x3000_0002,
-        0x3000_0001,
-    ]);
-    show(rt, &[
-        0x1000_0203,
-        0x2000_0000,
-        0x2000_0001,
-        0x2000_0002,
-        0x3000_0102,
-        0x3000_0002,
-    ]);
+    show(
+        rt,
+        &[
+            0x1000_0202,
+            0x2000_0001,
+            0x2000_0002,
+            0x3000_0001,
+            0x3000_0001,
+        ],
+    );
+    show(
+        rt,
+        &[
+            0x1000_0203,
+            0x2000_0000,
+            0x2000_0001,
+            0x2000_0002,
+            0x3000_0002,
+            0x3000_0001,
+        ],
+    );
+    show(
+        rt,
+        &[
+            0x1000_0203,
+            0x2000_0000,
+            0x2000_0001,
+            0x2000_0002,
+            0x3000_0102,
+            0x3000_0002,
+        ],
+    );
 }
 
 // Contacts in their order, and no word after them.
 fn rising_contacts(rt: &impl Print) {
-    show(rt, &[
-        0x1000_0203,
-        0x2000_0000,
-        0x2000_0001,
-        0x2000_0002,
-        0x3000_0001,
-        0x3000_0102,
-    ]);
+    show(
+        rt,
+        &[
+            0x1000_0203,
+            0x2000_0000,
+            0x2000_0001,
+            0x2000_0002,
+            0x3000_0001,
+            0x3000_0102,
+        ],
+    );
 }
 
 // Contacts: an unnamed bit, another kind.
@@ -506,43 +542,55 @@ fn last_words(rt: &impl Print) {
     show(rt, &[0x1000_0001, 0x2000_0000, 0x4000_0003]);
     show(rt, &[0x1000_0001, 0x2000_0000, 0x4000_0000]);
     show(rt, &[0x1000_0001, 0x2000_0000, 0x4FFF_FFFF]);
-    show(rt, &[
-        0x1000_0202,
-        0x2000_0001,
-        0x2000_0002,
-        0x3000_0001,
-        0x4000_0003,
-    ]);
-    show(rt, &[
-        0x1000_0202,
-        0x2000_0001,
-        0x2000_0002,
-        0x3000_0001,
-        0x4000_0005,
-    ]);
+    show(
+        rt,
+        &[
+            0x1000_0202,
+            0x2000_0001,
+            0x2000_0002,
+            0x3000_0001,
+            0x4000_0003,
+        ],
+    );
+    show(
+        rt,
+        &[
+            0x1000_0202,
+            0x2000_0001,
+            0x2000_0002,
+            0x3000_0001,
+            0x4000_0005,
+        ],
+    );
     show(rt, &[0x1000_0001, 0x2000_0000, 0x4000_0002, 0x4000_0003]);
     show(rt, &[0x1000_0001, 0x2000_0000, 0x4000_0002, 0x0000_0000]);
     show(rt, &[0x1000_0001, 0x2000_0000, 0x4000_0002, 0x1000_0001]);
-    show(rt, &[
-        0x1000_0202,
-        0x2000_0001,
-        0x2000_0002,
-        0x4000_0003,
-        0x3000_0001,
-    ]);
+    show(
+        rt,
+        &[
+            0x1000_0202,
+            0x2000_0001,
+            0x2000_0002,
+            0x4000_0003,
+            0x3000_0001,
+        ],
+    );
 }
 
 // Seven and eight names: the first word is of kind 8.
 fn kind_eight(rt: &impl Print) {
     show(rt, &[0x8007_0001, 0x2000_0040, 0x4000_0002]);
     show(rt, &[0x8008_0001, 0x2000_00FF, 0x4000_0002]);
-    show(rt, &[
-        0x8008_0002,
-        0x2000_0000,
-        0x2000_00FF,
-        0x3000_0001,
-        0x4000_0004,
-    ]);
+    show(
+        rt,
+        &[
+            0x8008_0002,
+            0x2000_0000,
+            0x2000_00FF,
+            0x3000_0001,
+            0x4000_0004,
+        ],
+    );
     show(rt, &[0x8007_0001, 0x2000_0080]);
     show(rt, &[0x8007_0002, 0x2000_007F]);
     show(rt, &[0x8008_0100, 0x2000_0001]);

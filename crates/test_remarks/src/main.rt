@@ -99,13 +99,21 @@ fn show_long(rt: &impl Print, number: usize, first: &[u8], more: &[u8], times: u
 
 // A log with each of its own refusals; the refusals of an add, with a byte 13 and with none; a full table; a long line; a log of too many bytes.
 fn logs(rt: &impl Print) {
-    show_log(rt, 1, b"+T\n?\n-2\nT\n\n-01\n?\r\n-1\r\n-1\r\n?\r\n?? \r\n\t+T");
+    show_log(
+        rt,
+        1,
+        b"+T\n?\n-2\nT\n\n-01\n?\r\n-1\r\n-1\r\n?\r\n?? \r\n\t+T",
+    );
     show_log(
         rt,
         2,
         b"+\n+ \r\n+a$=0\n+abcdefghijklmnopq=0\n+a<=m b\n+C(raw,\n+C(raw,\r\n+\t\ta & b=0\r\n++T\n+C(raw,\r\r\n",
     );
-    show_log(rt, 3, b"+a=0&b=0&c=0&d=0&e=0&f=0&g=0&h=0\n+T|x1=0\n-1\n+x1=0\n");
+    show_log(
+        rt,
+        3,
+        b"+a=0&b=0&c=0&d=0&e=0&f=0&g=0&h=0\n+T|x1=0\n-1\n+x1=0\n",
+    );
     show_long(rt, 4, b"", b"+T\n", 17);
     show_long(rt, 5, b"?\n+", b"~", 300);
     show_long(rt, 6, b"", b"+T\n", 2731);

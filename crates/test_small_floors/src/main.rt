@@ -617,7 +617,13 @@ fn is_late(names: usize, row: u32, first: u32) -> bool {
 }
 
 // Whether the words are those that the documents give for the atoms in their row.
-fn check_words(rt: &impl Print, atoms: Atoms, building: bool, n: usize, words: &[u32; 530]) -> Finding {
+fn check_words(
+    rt: &impl Print,
+    atoms: Atoms,
+    building: bool,
+    n: usize,
+    words: &[u32; 530],
+) -> Finding {
     let expected = words_of(atoms, building);
     if expected.count == n {
         if same_words(words, expected) {
@@ -859,10 +865,11 @@ fn test(
     let found = search(code, numbers, names);
     let plain = found.plain;
     let building = found.building;
-    test_question(rt, counts, k, table, refused, file, code, numbers, names, plain);
     test_question(
-        rt,
-        counts, k, table, refused, file, code, numbers, names, building,
+        rt, counts, k, table, refused, file, code, numbers, names, plain,
+    );
+    test_question(
+        rt, counts, k, table, refused, file, code, numbers, names, building,
     );
 }
 

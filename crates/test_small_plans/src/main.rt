@@ -308,7 +308,14 @@ fn test_plan(
     }
 }
 
-fn test_table(rt: &impl Print, counts: &mut [usize; 6], table: Table, file: &[u8], code: &[u8], names: usize)
+fn test_table(
+    rt: &impl Print,
+    counts: &mut [usize; 6],
+    table: Table,
+    file: &[u8],
+    code: &[u8],
+    names: usize,
+)
     requires { FromUs table }
 {
     let numbers = numbers_of(code);
@@ -357,7 +364,14 @@ fn test_made(rt: &impl Print, counts: &mut [usize; 6], sheet: Sheet)
         return;
     };
     let table = without(r.table, sheet.withdrawn);
-    test_table(rt, counts, table, &text[0..end], &form[0..last], sheet.names);
+    test_table(
+        rt,
+        counts,
+        table,
+        &text[0..end],
+        &form[0..last],
+        sheet.names,
+    );
 }
 
 fn test_sheet(rt: &impl Print, counts: &mut [usize; 6], k: u64) {

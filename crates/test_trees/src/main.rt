@@ -312,7 +312,14 @@ fn answer_of(a: CheckAnswer) -> usize {
 }
 
 // The table's answer to the first n words of a buffer, held to the definitions.
-fn compared(rt: &impl Print, c: Counts, t: Table, form: &[u8], buffer: [u32; 64], n: usize) -> Counts
+fn compared(
+    rt: &impl Print,
+    c: Counts,
+    t: Table,
+    form: &[u8],
+    buffer: [u32; 64],
+    n: usize,
+) -> Counts
     requires { FromUs t }
 {
     let words = &buffer[0..n % 64];
@@ -337,7 +344,14 @@ fn compared(rt: &impl Print, c: Counts, t: Table, form: &[u8], buffer: [u32; 64]
 
 // Each of the words in turn replaced by each of 50: of kinds 4 to 8, with a bit that is not named and without, and with 0 to 4 as the
 // number of an atom or a rule.
-fn with_changes(rt: &impl Print, c: Counts, t: Table, form: &[u8], tree: [u32; 64], n: usize) -> Counts
+fn with_changes(
+    rt: &impl Print,
+    c: Counts,
+    t: Table,
+    form: &[u8],
+    tree: [u32; 64],
+    n: usize,
+) -> Counts
     requires { FromUs t }
 {
     let mut next = c;
@@ -353,7 +367,14 @@ fn with_changes(rt: &impl Print, c: Counts, t: Table, form: &[u8], tree: [u32; 6
 }
 
 // A tree; one of up to 7 words is checked with a word behind it, without its last word, and with its changes too.
-fn with_tree(rt: &impl Print, c: Counts, t: Table, form: &[u8], words: [u32; 64], n: usize) -> Counts
+fn with_tree(
+    rt: &impl Print,
+    c: Counts,
+    t: Table,
+    form: &[u8],
+    words: [u32; 64],
+    n: usize,
+) -> Counts
     requires { FromUs t }
 {
     let mut next = compared(rt, c, t, form, words, n);
