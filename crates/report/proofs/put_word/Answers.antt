@@ -45,6 +45,5 @@ returns-in-8 c =
 pub returns-in_default : goal.returns-in_default
 unfolding plan_line
 returns-in_default c =
-    let n = c.in_default in
-    puts_text (no_line (known_of c.args.names) c.args.i (c.args.word / 0x10000000) (c.args.word % 0x10000000) n.not-1 n.not-8 n.not-2 n.not-3)
+    puts_text (no_line (known_of c.args.names) c.args.i (c.args.word / 0x10000000) (c.args.word % 0x10000000) (λ e. omega (arith, e)) (λ e. omega (arith, e)) (λ e. omega (arith, e)) (λ e. omega (arith, e)))
     (puts_none c.args.at c.args.out.now (omega (arith, c.requires)))
