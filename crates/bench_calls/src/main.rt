@@ -11,6 +11,7 @@
 ghost use Rattle.table.specs.Calls.{FromUs};
 
 use reading::Got;
+use std::{env, io};
 use table::{
     AskAnswer, CheckAnswer, ExplainAnswer, JudgeAnswer, LoadAnswer, PrintAnswer, StillAnswer, Table,
 };
@@ -154,42 +155,42 @@ fn call(byte: u8, table: Table, words: &mut [u32]) -> usize
 }
 
 // A call's line.
-fn write_line(byte: u8, n: usize) {
+fn write_line(rt: &impl Print, byte: u8, n: usize) {
     let label = [byte, b' '];
-    test_kit::write_labelled(&label, n);
-    test_kit::write_bytes(b"\n");
+    test_kit::write_labelled(rt, &label, n);
+    test_kit::write_bytes(rt, b"\n");
 }
 
 // A line for each call.
-fn make_calls(calls: &[u8], table: Table, words: &mut [u32])
+fn make_calls(rt: &impl Print, calls: &[u8], table: Table, words: &mut [u32])
     requires { FromUs table }
 {
     let mut i: usize = 0;
     while i < calls.len() {
         let byte = calls[i];
         let n = call(byte, table, words);
-        write_line(byte, n);
+        write_line(rt, byte, n);
         i += 1;
     }
 }
 
-fn main() {
+fn main(rt: HostRuntime) -> io::Result<()> {
     let mut sheet = reading::no_bytes();
-    let got = reading::read_sheet(&mut sheet);
+    let got = reading::read_sheet(&mut rt.stdin(), &mut sheet);
     let Got::Bytes(n) = got else {
-        os::fail(b"bench_calls: the sheet cannot be read");
-        return;
+        return rt.eprintln("bench_calls: the sheet cannot be read");
     };
-    let mut calls = [0u8; 16];
-    let len = os::arg(1, &mut calls);
+    let calls = env::args(&rt)?.nth(1);
     let mut words = no_words();
     let empty = Table::empty();
     let loaded = empty.load(&sheet[..n]);
     let answer = loaded.answer;
     let LoadAnswer::Loaded = answer else {
-        test_kit::write_bytes(b"refused\n");
-        return;
+        return rt.write_all(b"refused\n");
     };
     let table = loaded.table;
-    make_calls(&calls[..len], table, &mut words);
+    if let Some(calls) = calls {
+        make_calls(&rt, calls.as_bytes(), table, &mut words);
+    }
+    Ok(())
 }

@@ -8,28 +8,26 @@
 use names::Names;
 use reading::Got;
 use report::TextAnswer;
+use std::io;
 
-// The lines of a plan of so many words: whether all of them are written.
-fn write_plan(words: &[u32; 32642], count: usize, names: Names) -> bool {
+// Writes the lines of a plan of so many words.
+fn write_plan(rt: &impl Print, words: &[u32; 32642], count: usize, names: Names) -> io::Result<()> {
     let mut text = report::no_text();
     let mut next: usize = 0;
     while next < count {
         let piece = report::building_piece(words, count, names, next, &mut text);
         let len = piece.len;
-        let written = io::write_all(libc::STDOUT_FILENO, &text[..len]);
-        if !written {
-            return false;
-        }
+        rt.write_all(&text[..len])?;
         next = piece.next;
     }
-    true
+    Ok(())
 }
 
-fn main() {
+fn main(rt: HostRuntime) {
     let mut sheet = reading::no_bytes();
-    let got = reading::read_sheet(&mut sheet);
+    let got = reading::read_sheet(&mut rt.stdin(), &mut sheet);
     let Got::Bytes(n) = got else {
-        os::fail(b"building: the sheet cannot be read");
+        let _ = rt.eprintln("building: the sheet cannot be read");
         return;
     };
     let mut words = report::no_building();
@@ -38,16 +36,16 @@ fn main() {
     let answer = told.answer;
     let names = told.names;
     let written = match answer {
-        TextAnswer::Text(len) => io::write_all(libc::STDOUT_FILENO, &text[..len]),
-        TextAnswer::Lines(count) => write_plan(&words, count, names),
+        TextAnswer::Text(len) => rt.write_all(&text[..len]),
+        TextAnswer::Lines(count) => write_plan(&rt, &words, count, names),
     };
-    if !written {
-        os::fail(b"building: the answer cannot be written");
+    if let Err(error) = written {
+        let _ = rt.eprintln(format_args!("building: the answer cannot be written: {error}"));
     }
     // Only the text of a refused sheet begins so; the remark on it goes to standard error.
     if text[0] == b'r' {
         let mut said = remarks::no_text();
         let size = remarks::remark_sheet(&sheet[..n], &mut said);
-        io::write_all(libc::STDERR_FILENO, &said[..size]);
+        let _ = rt.stderr().write_all(&said[..size]);
     }
 }

@@ -29,12 +29,12 @@ use Rattle.prefixes.proofs.Filling.{next_power}
 use Rattle.trees.specs.Trees.{Tree, split, split_word, words_of}
 use Rattle.trees.specs.Checker.{false_there, no_floor, closing, joined, write}
 use Rattle.trees.proofs.Rules.{coded_length}
-use Rattle.trees.proofs.Telling.{Writes, Writes.told, Writes.exists, writes}
+use Rattle.trees.proofs.Telling.{Writes, writes}
 use Rattle.explaining.specs.declared.Explanation.{Explanation}
 use Rattle.explaining.specs.declared.Explanation.TheVariants.{Tells, PlanExists, Short}
 use Rattle.explaining.specs.Nodes.{FalseUnder, FalsesSay, head_word, ClosingSays, Node, PutSays}
 use Rattle.explaining.specs.Explained.{Explained, WriteSays, TellSays, ExplainSays}
-use Rattle.explaining.proofs.Closings.{Leaf, Leaf.none, Leaf.one, leaf, stays}
+use Rattle.explaining.proofs.Closings.{Leaf, leaf, stays}
 
 -- ---- words after words
 

@@ -4,23 +4,22 @@
 
 use reading::Got;
 
-fn main() {
+fn main(rt: HostRuntime) {
     let mut sheet = reading::no_bytes();
-    let got = reading::read_sheet(&mut sheet);
+    let got = reading::read_sheet(&mut rt.stdin(), &mut sheet);
     let Got::Bytes(n) = got else {
-        os::fail(b"floorplan: the sheet cannot be read");
+        let _ = rt.eprintln("floorplan: the sheet cannot be read");
         return;
     };
     let mut text = report::no_text();
     let len = report::report(&sheet[..n], &mut text);
-    let written = io::write_all(libc::STDOUT_FILENO, &text[..len]);
-    if !written {
-        os::fail(b"floorplan: the answer cannot be written");
+    if let Err(error) = rt.write_all(&text[..len]) {
+        let _ = rt.eprintln(format_args!("floorplan: the answer cannot be written: {error}"));
     }
     // Only the text of a refused sheet begins so; the remark on it goes to standard error.
     if text[0] == b'r' {
         let mut said = remarks::no_text();
         let size = remarks::remark_sheet(&sheet[..n], &mut said);
-        io::write_all(libc::STDERR_FILENO, &said[..size]);
+        let _ = rt.stderr().write_all(&said[..size]);
     }
 }

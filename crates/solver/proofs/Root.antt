@@ -26,8 +26,8 @@ use Rattle.pairing.specs.Words.{Spelt, Contacts, Serving}
 use Rattle.pairing.specs.Listed.{pair_count, Listable, ListSays}
 use Rattle.solver.specs.declared.Cut.{Cut}
 use Rattle.solver.specs.declared.RowAnswer.{RowAnswer}
-use Rattle.solver.specs.Coded.{part}
-use Rattle.solver.specs.Tree.{answer_for, CutOf, Finds, evaluation_count, Unseen, Roomy, SearchSays}
+use Rattle.solver.specs.Coded.{part, Coded}
+use Rattle.solver.specs.Tree.{answer_for, CutOf, Given, Finds, evaluation_count, Unseen, Roomy, SearchSays}
 
 -- ---- the memory
 
@@ -88,12 +88,20 @@ contacts_compiled chart atoms contacts h s =
 
 pub root_first : (code ends : List ℕ) (chart : Chart) (asked : Asked) (contacts : ℕ) (list list' : List ℕ) (count : ℕ) (cut : Cut) (r : RowAnswer)
     → Spelt chart.atoms (contact_at chart) contacts → ListSays chart list list' count → CutOf (part list' 0 count) contacts chart.atoms asked cut
-    → (Serving chart.names g.atoms (part list' 0 count) → Finds g 0 0 (cut.k + (cut.w + cut.r)) r)
+    → ((g : Given code ends chart cut) → Serving chart.names g.atoms (part list' 0 count) → Finds g 0 0 (cut.k + (cut.w + cut.r)) r)
     → SearchSays (question_of asked) code ends chart r
 unfolding SearchSays row_bits
 root_first code ends chart asked contacts list list' count cut r spelt words cuts finds = λ atoms rules h.
     let same : chart.atoms ≡ length atoms = h.compiled.counted in
     let z : count ≡ count - 0 = omega arith in
     let all : cut.k + (cut.w + cut.r) ≡ length atoms = omega (arith, cuts.all) in
-    finds (subst (λ (x : ℕ). Serving chart.names atoms (take x list')) z (words.are atoms h.compiled))
+    let given : Given code ends chart cut = record {
+      atoms = atoms;
+      rules = rules;
+      compiled = h.compiled;
+      counted = sym same ∙ cuts.all;
+      coded = subst (λ (n : ℕ). Coded n code ends rules) same h.coded;
+      contacts_are = subst (Contacts atoms) (sym cuts.contacts_is) (contacts_compiled chart atoms contacts h.compiled spelt);
+    } in
+    finds given (subst (λ (x : ℕ). Serving chart.names atoms (take x list')) z (words.are atoms h.compiled))
     ∙ ap₂ (λ (x : Asked) (m : ℕ). answer_for (first (good (question_of x) chart.names atoms rules) (under [] m))) cuts.asked_is all

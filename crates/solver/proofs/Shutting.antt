@@ -2,19 +2,16 @@
 -- Assumes nothing.
 use mathlib.Core.Bool.{Bool, true, false}
 use mathlib.Core.Path.{◌≡◌, sym, ap, ◌∙◌, subst}
-use mathlib.Core.List.{List}
 use Prim.Native.Nat.{ℕ, ◌+◌, ◌-◌, ◌*◌, ◌/◌, ◌%◌, ◌^◌, ◌≤◌, ◌<◌}
 use native.Mathlib.Nat.{mod-eq_of_lt, div-mul-le_self, lt-div-mul-add, div-eq_of_lt-le}
 use native.Mathlib.Omega.{arith}
 use lib.ListN.{take}
 use lib.Pow.{pow_mono, pow_pos}
-use Rattle.formula.specs.Formula.{Atom}
 use Rattle.contact.specs.Question.{building}
 use Rattle.contact.specs.Plan.{row_marks}
 use Rattle.contact.specs.Pieces.{check_pieces}
 use Rattle.search.specs.declared.Chart.{Chart}
 use Rattle.search.specs.Rows.{row_bits}
-use Rattle.search.specs.Compiled.{Compiled}
 use Rattle.search.specs.Planned.{marks_in}
 use Rattle.search.specs.Building.{BuildingSays, PartSays}
 use Rattle.search.proofs.Parts.{part_fails}

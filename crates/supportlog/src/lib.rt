@@ -229,7 +229,7 @@ pub fn line(table: Table, text: &[u8], words: &mut [u32], tally: &mut Tally) -> 
     result
 }
 
-// The one place that lends a tally to `line`: its parameters are plain, so whoever calls it needs no walk by hand.
+// The one place that lends a tally to `line`: here the tally comes and goes by value.
 fn line_by(table: Table, text: &[u8], words: &mut [u32], tally: Tally) -> Lined
     requires { FromUs table }
     ensures { Runs table text.now words.old result.result words.new × (result.tally ≡ tallied tally result.result) }

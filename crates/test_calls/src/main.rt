@@ -21,6 +21,7 @@
 ghost use Rattle.std.specs.Prelude.{◌≡◌, ◌≤◌, ◌<◌, length};
 ghost use Rattle.table.specs.Calls.{FromUs};
 
+use reading::Got;
 use table::{AskAnswer, AskResult, ExplainAnswer, Outcome, PrintAnswer, Table, WithdrawAnswer};
 use test_kit::{
     no_text, no_words, put_byte, put_every, put_times, put_word, same_words, write_bytes,
@@ -47,36 +48,36 @@ enum Command {
 // ---- writing
 
 // Writes an answer by document 01's number and what it carries, or `done` where the call was done.
-fn write_outcome(done: &[u8], said: Outcome) {
+fn write_outcome(rt: &impl Print, done: &[u8], said: Outcome) {
     match said {
-        Outcome::Done => write_bytes(done),
+        Outcome::Done => write_bytes(rt, done),
         Outcome::Plan(n) => {
-            write_labelled(b"plan of ", n);
-            write_bytes(b" words");
+            write_labelled(rt, b"plan of ", n);
+            write_bytes(rt, b" words");
         }
-        Outcome::NoPlan => write_bytes(b"no plan"),
-        Outcome::Yes => write_bytes(b"yes"),
-        Outcome::Unmet(k) => write_labelled(b"unmet rule ", k),
+        Outcome::NoPlan => write_bytes(rt, b"no plan"),
+        Outcome::Yes => write_bytes(rt, b"yes"),
+        Outcome::Unmet(k) => write_labelled(rt, b"unmet rule ", k),
         Outcome::Text(n) => {
-            write_labelled(b"text of ", n);
-            write_bytes(b" bytes");
+            write_labelled(rt, b"text of ", n);
+            write_bytes(rt, b" bytes");
         }
         Outcome::Tree(n) => {
-            write_labelled(b"tree of ", n);
-            write_bytes(b" words");
+            write_labelled(rt, b"tree of ", n);
+            write_bytes(rt, b" words");
         }
-        Outcome::Closed => write_bytes(b"closed"),
-        Outcome::AsDrawn => write_bytes(b"yes, as drawn"),
-        Outcome::No => write_bytes(b"no"),
+        Outcome::Closed => write_bytes(rt, b"closed"),
+        Outcome::AsDrawn => write_bytes(rt, b"yes, as drawn"),
+        Outcome::No => write_bytes(rt, b"no"),
         Outcome::Clash(n) => {
-            write_labelled(b"clash of ", n);
-            write_bytes(b" places");
+            write_labelled(rt, b"clash of ", n);
+            write_bytes(rt, b" places");
         }
-        Outcome::Refused(number, carried) => write_refusal(number, carried),
+        Outcome::Refused(number, carried) => write_refusal(rt, number, carried),
         Outcome::RefusedLine(number, line, place) => {
-            write_labelled(b"refused ", number);
-            write_labelled(b" line ", line);
-            write_labelled(b" at ", place);
+            write_labelled(rt, b"refused ", number);
+            write_labelled(rt, b" line ", line);
+            write_labelled(rt, b" at ", place);
         }
     }
 }
@@ -317,11 +318,11 @@ fn kept_from(words: [u32; 2083], from: usize) -> bool {
 }
 
 // Writes whether the words from a place on are kept.
-fn write_kept(words: [u32; 2083], from: usize) {
+fn write_kept(rt: &impl Print, words: [u32; 2083], from: usize) {
     if kept_from(words, from) {
-        write_bytes(b"; kept");
+        write_bytes(rt, b"; kept");
     } else {
-        write_bytes(b"; not kept");
+        write_bytes(rt, b"; not kept");
     }
 }
 
@@ -425,30 +426,30 @@ fn same_table(before: Table, after: Table) -> bool
 }
 
 // Writes whether the table after a call is the one before it.
-fn write_same(before: Table, after: Table)
+fn write_same(rt: &impl Print, before: Table, after: Table)
     requires { FromUs before × FromUs after }
 {
     if same_table(before, after) {
-        write_bytes(b"; same");
+        write_bytes(rt, b"; same");
     } else {
-        write_bytes(b"; changed");
+        write_bytes(rt, b"; changed");
     }
 }
 
 // ---- the calls
 
 // Writes what a call answered that may change the table, and for a refusal whether the table is as it was.
-fn write_changed(done: &[u8], said: Outcome, before: Table, after: Table)
+fn write_changed(rt: &impl Print, done: &[u8], said: Outcome, before: Table, after: Table)
     requires { FromUs before × FromUs after }
 {
-    write_outcome(done, said);
+    write_outcome(rt, done, said);
     let Outcome::Done = said else {
-        write_same(before, after);
+        write_same(rt, before, after);
         return;
     };
 }
 
-fn add_rule(t: Table, rest: &[u8]) -> Table
+fn add_rule(rt: &impl Print, t: Table, rest: &[u8]) -> Table
     requires { FromUs t }
     ensures { FromUs result }
 {
@@ -457,22 +458,22 @@ fn add_rule(t: Table, rest: &[u8]) -> Table
     let r = t.add(&text[0..n]);
     let next = r.table;
     let answer = r.answer;
-    write_changed(b"added", table::add_outcome(answer), t, next);
+    write_changed(rt, b"added", table::add_outcome(answer), t, next);
     next
 }
 
-fn withdraw_rule(t: Table, rest: &[u8]) -> Table
+fn withdraw_rule(rt: &impl Print, t: Table, rest: &[u8]) -> Table
     requires { FromUs t }
     ensures { FromUs result }
 {
     let r = t.withdraw(number_of(rest));
     let next = r.table;
     let answer = r.answer;
-    write_changed(b"withdrawn", table::withdraw_outcome(answer), t, next);
+    write_changed(rt, b"withdrawn", table::withdraw_outcome(answer), t, next);
     next
 }
 
-fn load_sheet(t: Table, rest: &[u8]) -> Table
+fn load_sheet(rt: &impl Print, t: Table, rest: &[u8]) -> Table
     requires { FromUs t }
     ensures { FromUs result }
 {
@@ -481,58 +482,58 @@ fn load_sheet(t: Table, rest: &[u8]) -> Table
     let r = t.load(&text[0..n]);
     let next = r.table;
     let answer = r.answer;
-    write_changed(b"loaded", table::load_outcome(answer), t, next);
+    write_changed(rt, b"loaded", table::load_outcome(answer), t, next);
     next
 }
 
-fn judge(t: Table, words: &[u32]) -> Table
+fn judge(rt: &impl Print, t: Table, words: &[u32]) -> Table
     requires { FromUs t }
     ensures { FromUs result }
 {
     let r = t.judge(words);
     let next = r.table;
     let answer = r.answer;
-    write_outcome(b"", table::judge_outcome(answer));
-    write_same(t, next);
+    write_outcome(rt, b"", table::judge_outcome(answer));
+    write_same(rt, t, next);
     next
 }
 
-fn judge_words(t: Table, rest: &[u8]) -> Table
+fn judge_words(rt: &impl Print, t: Table, rest: &[u8]) -> Table
     requires { FromUs t }
     ensures { FromUs result }
 {
     let mut words = no_words();
     let n = put_words(&mut words, rest);
-    judge(t, &words[0..n])
+    judge(rt, t, &words[0..n])
 }
 
 // Judges the plan over some names, at most eight, that has every point and every contact.
-fn judge_every(t: Table, rest: &[u8]) -> Table
+fn judge_every(rt: &impl Print, t: Table, rest: &[u8]) -> Table
     requires { FromUs t }
     ensures { FromUs result }
 {
     let mut words = no_every();
     let names = at_most(number_of(rest), 8) as u8;
     let n = put_every(&mut words, first_over(names), last_over(names));
-    judge(t, &words[0..n])
+    judge(rt, t, &words[0..n])
 }
 
 // Writes what a question answered, with its words and whether the others are kept, and how its own plan is judged.
-fn write_asked(a: AskAnswer, t: Table, words: [u32; 2083])
+fn write_asked(rt: &impl Print, a: AskAnswer, t: Table, words: [u32; 2083])
     requires { FromUs t }
 {
-    write_outcome(b"", table::ask_outcome(a));
+    write_outcome(rt, b"", table::ask_outcome(a));
     let AskAnswer::Plan(n) = a else {
-        write_kept(words, 0);
+        write_kept(rt, words, 0);
         return;
     };
     if n <= 2083 {
-        write_words(b" ", &words[0..n], b"");
-        write_kept(words, n);
+        write_words(rt, b" ", &words[0..n], b"");
+        write_kept(rt, words, n);
         let r = t.judge(&words[0..n]);
         let answer = r.answer;
-        write_bytes(b"; judged ");
-        write_outcome(b"", table::judge_outcome(answer));
+        write_bytes(rt, b"; judged ");
+        write_outcome(rt, b"", table::judge_outcome(answer));
     }
 }
 
@@ -548,7 +549,7 @@ fn asked(t: Table, building: bool, words: &mut [u32]) -> AskResult
 }
 
 // Asks with the first n words of a buffer, at most 2083.
-fn ask_plan(t: Table, building: bool, rest: &[u8]) -> Table
+fn ask_plan(rt: &impl Print, t: Table, building: bool, rest: &[u8]) -> Table
     requires { FromUs t }
     ensures { FromUs result }
 {
@@ -557,32 +558,32 @@ fn ask_plan(t: Table, building: bool, rest: &[u8]) -> Table
     let r = asked(t, building, &mut words[0..n]);
     let next = r.table;
     let answer = r.answer;
-    write_asked(answer, next, words);
-    write_same(t, next);
+    write_asked(rt, answer, next, words);
+    write_same(rt, t, next);
     next
 }
 
 // Writes what explain answered, with its words and whether the others are kept, and how its own tree is checked.
-fn write_explained(a: ExplainAnswer, t: Table, words: [u32; 2083])
+fn write_explained(rt: &impl Print, a: ExplainAnswer, t: Table, words: [u32; 2083])
     requires { FromUs t }
 {
-    write_outcome(b"", table::explain_outcome(a));
+    write_outcome(rt, b"", table::explain_outcome(a));
     let ExplainAnswer::Tree(n) = a else {
-        write_kept(words, 0);
+        write_kept(rt, words, 0);
         return;
     };
     if n <= 2083 {
-        write_words(b" ", &words[0..n], b"");
-        write_kept(words, n);
+        write_words(rt, b" ", &words[0..n], b"");
+        write_kept(rt, words, n);
         let r = t.check_tree(&words[0..n]);
         let answer = r.answer;
-        write_bytes(b"; checked ");
-        write_outcome(b"", table::check_outcome(answer));
+        write_bytes(rt, b"; checked ");
+        write_outcome(rt, b"", table::check_outcome(answer));
     }
 }
 
 // Has the tree written over the first n words of a buffer, at most 2083.
-fn explain_rules(t: Table, rest: &[u8]) -> Table
+fn explain_rules(rt: &impl Print, t: Table, rest: &[u8]) -> Table
     requires { FromUs t }
     ensures { FromUs result }
 {
@@ -591,12 +592,12 @@ fn explain_rules(t: Table, rest: &[u8]) -> Table
     let r = t.explain(&mut words[0..n]);
     let next = r.table;
     let answer = r.answer;
-    write_explained(answer, next, words);
-    write_same(t, next);
+    write_explained(rt, answer, next, words);
+    write_same(rt, t, next);
     next
 }
 
-fn check_words(t: Table, rest: &[u8]) -> Table
+fn check_words(rt: &impl Print, t: Table, rest: &[u8]) -> Table
     requires { FromUs t }
     ensures { FromUs result }
 {
@@ -605,12 +606,12 @@ fn check_words(t: Table, rest: &[u8]) -> Table
     let r = t.check_tree(&words[0..n]);
     let next = r.table;
     let answer = r.answer;
-    write_outcome(b"", table::check_outcome(answer));
-    write_same(t, next);
+    write_outcome(rt, b"", table::check_outcome(answer));
+    write_same(rt, t, next);
     next
 }
 
-fn still_words(t: Table, rest: &[u8]) -> Table
+fn still_words(rt: &impl Print, t: Table, rest: &[u8]) -> Table
     requires { FromUs t }
     ensures { FromUs result }
 {
@@ -619,38 +620,38 @@ fn still_words(t: Table, rest: &[u8]) -> Table
     let r = t.still(&words[0..n]);
     let next = r.table;
     let answer = r.answer;
-    write_outcome(b"", table::still_outcome(answer));
-    write_same(t, next);
+    write_outcome(rt, b"", table::still_outcome(answer));
+    write_same(rt, t, next);
     next
 }
 
 // Writes whether bytes are those that were lent, none of which a text has.
-fn write_bytes_kept(bytes: &[u8]) {
+fn write_bytes_kept(rt: &impl Print, bytes: &[u8]) {
     let lent = [255u8; 300];
     let n = at_most(bytes.len(), 300);
     if check::same(bytes, &lent[0..n]) {
-        write_bytes(b"; kept");
+        write_bytes(rt, b"; kept");
     } else {
-        write_bytes(b"; not kept");
+        write_bytes(rt, b"; not kept");
     }
 }
 
 // Writes what print answered, with its text and whether the other bytes are kept.
-fn write_printed(a: PrintAnswer, bytes: [u8; 300]) {
-    write_outcome(b"", table::print_outcome(a));
+fn write_printed(rt: &impl Print, a: PrintAnswer, bytes: [u8; 300]) {
+    write_outcome(rt, b"", table::print_outcome(a));
     let PrintAnswer::Text(n) = a else {
-        write_bytes_kept(&bytes);
+        write_bytes_kept(rt, &bytes);
         return;
     };
     if n <= 300 {
-        write_bytes(b" ");
-        write_bytes(&bytes[0..n]);
-        write_bytes_kept(&bytes[n..300]);
+        write_bytes(rt, b" ");
+        write_bytes(rt, &bytes[0..n]);
+        write_bytes_kept(rt, &bytes[n..300]);
     }
 }
 
 // Prints a rule into the first n bytes of a buffer, at most 300.
-fn print_rule(t: Table, rest: &[u8]) -> Table
+fn print_rule(rt: &impl Print, t: Table, rest: &[u8]) -> Table
     requires { FromUs t }
     ensures { FromUs result }
 {
@@ -664,68 +665,68 @@ fn print_rule(t: Table, rest: &[u8]) -> Table
     let r = t.print(k, &mut bytes[0..n]);
     let next = r.table;
     let answer = r.answer;
-    write_printed(answer, bytes);
-    write_same(t, next);
+    write_printed(rt, answer, bytes);
+    write_same(rt, t, next);
     next
 }
 
-fn call(t: Table, c: Command, rest: &[u8]) -> Table
+fn call(rt: &impl Print, t: Table, c: Command, rest: &[u8]) -> Table
     requires { FromUs t }
     ensures { FromUs result }
 {
     match c {
         Command::Heading => Table::empty(),
-        Command::Add => add_rule(t, rest),
-        Command::Withdraw => withdraw_rule(t, rest),
-        Command::Load => load_sheet(t, rest),
-        Command::Ask => ask_plan(t, false, rest),
-        Command::Building => ask_plan(t, true, rest),
-        Command::Judge => judge_words(t, rest),
-        Command::Print => print_rule(t, rest),
-        Command::Every => judge_every(t, rest),
-        Command::Explain => explain_rules(t, rest),
-        Command::Check => check_words(t, rest),
-        Command::Still => still_words(t, rest),
+        Command::Add => add_rule(rt, t, rest),
+        Command::Withdraw => withdraw_rule(rt, t, rest),
+        Command::Load => load_sheet(rt, t, rest),
+        Command::Ask => ask_plan(rt, t, false, rest),
+        Command::Building => ask_plan(rt, t, true, rest),
+        Command::Judge => judge_words(rt, t, rest),
+        Command::Print => print_rule(rt, t, rest),
+        Command::Every => judge_every(rt, t, rest),
+        Command::Explain => explain_rules(rt, t, rest),
+        Command::Check => check_words(rt, t, rest),
+        Command::Still => still_words(rt, t, rest),
     }
 }
 
 // Writes what stands between a call and its answer.
-fn write_arrow(c: Command) {
+fn write_arrow(rt: &impl Print, c: Command) {
     match c {
         Command::Heading => {}
         _ => {
-            write_bytes(b" => ");
+            write_bytes(rt, b" => ");
         }
     }
 }
 
 // Writes a line of a script again and makes its call.
-fn run_line(t: Table, line: &[u8]) -> Table
+fn run_line(rt: &impl Print, t: Table, line: &[u8]) -> Table
     requires { FromUs t }
     ensures { FromUs result }
 {
-    write_bytes(line);
+    write_bytes(rt, line);
     if line.len() <= 0 {
-        write_bytes(b"\n");
+        write_bytes(rt, b"\n");
         return t;
     }
     let at = after(line, 0, b' ');
     let c = command_of(line);
-    write_arrow(c);
-    let next = call(t, c, &line[at..]);
-    write_bytes(b"\n");
+    write_arrow(rt, c);
+    let next = call(rt, t, c, &line[at..]);
+    write_bytes(rt, b"\n");
     next
 }
 
 // Runs the lines of a list of scripts, each on the table that the one before it gave back.
-fn run(scripts: &[u8]) {
+fn run(rt: &impl Print, scripts: &[u8]) {
     let mut t = Table::empty();
     let mut from: usize = 0;
     while from < scripts.len() {
         let next = after(scripts, from, b'\n');
         let line = &scripts[from..next];
         let n = without_last(line, b'\n');
-        t = run_line(t, &line[0..n]);
+        t = run_line(rt, t, &line[0..n]);
         from = next;
     }
 }
@@ -783,40 +784,47 @@ fn every_somewhere() -> [u32; 32643]
 }
 
 // Writes whether the words of a building are those of this plan, also past it, and how it is judged.
-fn write_held(t: Table, words: [u32; 32643])
+fn write_held(rt: &impl Print, t: Table, words: [u32; 32643])
     requires { FromUs t }
 {
     let every = every_somewhere();
     if same_words(&words, &every) {
-        write_bytes(b"; every point in a name and every contact; judged ");
+        write_bytes(rt, b"; every point in a name and every contact; judged ");
     } else {
-        write_bytes(b"; other words; judged ");
+        write_bytes(rt, b"; other words; judged ");
     }
     let r = t.judge(&words[0..32642]);
     let answer = r.answer;
-    write_outcome(b"", table::judge_outcome(answer));
-    write_bytes(b"\n");
+    write_outcome(rt, b"", table::judge_outcome(answer));
+    write_bytes(rt, b"\n");
 }
 
 // The largest building, with as many words lent as it has.
-fn write_largest() {
+fn write_largest(rt: &impl Print) {
     let t = Table::empty();
     let a = t.add(b"<=(a+b+c+d+e+f+g+h,1)");
     let t = a.table;
     let mut words = marked_largest();
     let r = t.ask_building(&mut words[0..32642]);
     let answer = r.answer;
-    write_outcome(b"", table::ask_outcome(answer));
-    write_held(t, words);
+    write_outcome(rt, b"", table::ask_outcome(answer));
+    write_held(rt, t, words);
 }
 
-fn main() {
-    let mut scripts = io::large_buffer();
-    let n = io::read_full(libc::STDIN_FILENO, &mut scripts);
-    run(&scripts[0..n]);
-    write_bytes(b"\n# P5 by calls in the code\n");
+fn main(rt: HostRuntime) {
+    let mut scripts = [0u8; 65536];
+    let got = reading::read_sheet(&mut rt.stdin(), &mut scripts);
+    let Got::Bytes(n) = got else {
+        let _ = rt.eprintln("test_calls: the scripts cannot be read");
+        return;
+    };
+    run(&rt, &scripts[0..n]);
+    write_bytes(&rt, b"\n# P5 by calls in the code\n");
     let t = fourth_withdrawn();
-    run_line(t, b"ask 530");
-    write_bytes(b"\n# One building of 255 points, by calls in the code\n");
-    write_largest();
+    run_line(&rt, t, b"ask 530");
+    write_bytes(
+        &rt,
+        b"\n# One building of 255 points, by calls in the code\n",
+    );
+    write_largest(&rt);
 }

@@ -167,49 +167,49 @@ fn same_answer(one: Answer, other: Answer) -> bool {
 
 // ---- sheets by hand: the calls
 
-fn write_outcome(outcome: Outcome) {
+fn write_outcome(rt: &impl Print, outcome: Outcome) {
     match outcome {
-        Outcome::Done => write_bytes(b"done"),
-        Outcome::NoPlan => write_bytes(b"no plan"),
-        Outcome::Refused(number, carried) => write_refusal(number, carried),
+        Outcome::Done => write_bytes(rt, b"done"),
+        Outcome::NoPlan => write_bytes(rt, b"no plan"),
+        Outcome::Refused(number, carried) => write_refusal(rt, number, carried),
         Outcome::RefusedLine(number, line, place) => {
-            write_labelled(b"refused ", number);
-            write_labelled(b" line ", line);
-            write_labelled(b" at ", place);
+            write_labelled(rt, b"refused ", number);
+            write_labelled(rt, b" line ", line);
+            write_labelled(rt, b" at ", place);
         }
-        _ => write_bytes(b"another answer"),
+        _ => write_bytes(rt, b"another answer"),
     }
-    write_bytes(b"\n");
+    write_bytes(rt, b"\n");
 }
 
 // Writes what becomes of the first n places.
-fn write_marks(places: [u8; 20], n: usize) {
+fn write_marks(rt: &impl Print, places: [u8; 20], n: usize) {
     let end = at_most(n, 20);
-    write_bytes(b" [");
-    write_bytes(&places[0..end]);
-    write_bytes(b"]\n");
+    write_bytes(rt, b" [");
+    write_bytes(rt, &places[0..end]);
+    write_bytes(rt, b"]\n");
 }
 
 // Writes what clash says of so many places of a table, behind what is asked.
-fn write_clash(asked: &[u8], table: Table, n: usize)
+fn write_clash(rt: &impl Print, asked: &[u8], table: Table, n: usize)
     requires { FromUs table }
 {
     let answer = answer_of(table, n);
     let said = answer.said;
     let places = answer.places;
-    write_bytes(asked);
-    write_labelled(b", ", n);
-    write_bytes(b" places => ");
+    write_bytes(rt, asked);
+    write_labelled(rt, b", ", n);
+    write_bytes(rt, b" places => ");
     if said.number == 0 {
-        write_labelled(b"clash of ", said.carried);
+        write_labelled(rt, b"clash of ", said.carried);
     } else {
-        write_refusal(said.number, said.carried);
+        write_refusal(rt, said.number, said.carried);
     }
-    write_marks(places, n);
+    write_marks(rt, places, n);
 }
 
 // A table with one rule more; a refusal is written.
-fn with_text(table: Table, text: &[u8]) -> Table
+fn with_text(rt: &impl Print, table: Table, text: &[u8]) -> Table
     requires { FromUs table }
     ensures { FromUs result }
 {
@@ -217,30 +217,30 @@ fn with_text(table: Table, text: &[u8]) -> Table
     let answer = r.answer;
     let outcome = table::add_outcome(answer);
     let Outcome::Done = outcome else {
-        write_bytes(b"add ");
-        write_bytes(text);
-        write_bytes(b" => ");
-        write_outcome(outcome);
+        write_bytes(rt, b"add ");
+        write_bytes(rt, text);
+        write_bytes(rt, b" => ");
+        write_outcome(rt, outcome);
         return r.table;
     };
     r.table
 }
 
 // A table with the rule in sheet[start..end].
-fn with_part(table: Table, sheet: &[u8], start: usize, end: usize) -> Table
+fn with_part(rt: &impl Print, table: Table, sheet: &[u8], start: usize, end: usize) -> Table
     requires { FromUs table }
     ensures { FromUs result }
 {
     if start <= end {
         if end <= sheet.len() {
-            return with_text(table, &sheet[start..end]);
+            return with_text(rt, table, &sheet[start..end]);
         }
     }
     table
 }
 
 // The table of a sheet's rules, each put to add.
-fn table_of(sheet: &[u8]) -> Table
+fn table_of(rt: &impl Print, sheet: &[u8]) -> Table
     ensures { FromUs result }
 {
     let mut table = Table::empty();
@@ -248,124 +248,126 @@ fn table_of(sheet: &[u8]) -> Table
     let mut i: usize = 0;
     while i < sheet.len() {
         if sheet[i] == b'/' {
-            table = with_part(table, sheet, start, i);
+            table = with_part(rt, table, sheet, start, i);
             start = i + 1;
         }
         i += 1;
     }
-    with_part(table, sheet, start, i)
+    with_part(rt, table, sheet, start, i)
 }
 
-fn test_sheet(sheet: &[u8], n: usize) {
-    write_clash(sheet, table_of(sheet), n);
+fn test_sheet(rt: &impl Print, sheet: &[u8], n: usize) {
+    write_clash(rt, sheet, table_of(rt, sheet), n);
 }
 
-fn withdraw(table: Table, k: usize) -> Table
+fn withdraw(rt: &impl Print, table: Table, k: usize) -> Table
     requires { FromUs table }
     ensures { FromUs result }
 {
     let r = table.withdraw(k);
     let answer = r.answer;
-    write_labelled(b"withdraw ", k);
-    write_bytes(b" => ");
-    write_outcome(table::withdraw_outcome(answer));
+    write_labelled(rt, b"withdraw ", k);
+    write_bytes(rt, b" => ");
+    write_outcome(rt, table::withdraw_outcome(answer));
     r.table
 }
 
-fn load(table: Table, text: &[u8]) -> Table
+fn load(rt: &impl Print, table: Table, text: &[u8]) -> Table
     requires { FromUs table }
     ensures { FromUs result }
 {
     let r = table.load(text);
     let answer = r.answer;
-    write_bytes(b"load => ");
-    write_outcome(table::load_outcome(answer));
+    write_bytes(rt, b"load => ");
+    write_outcome(rt, table::load_outcome(answer));
     r.table
 }
 
-fn ask(table: Table) -> Table
+fn ask(rt: &impl Print, table: Table) -> Table
     requires { FromUs table }
     ensures { FromUs result }
 {
     let mut words = [0u32; 8];
     let r = table.ask(&mut words);
     let answer = r.answer;
-    write_bytes(b"ask => ");
-    write_outcome(table::ask_outcome(answer));
+    write_bytes(rt, b"ask => ");
+    write_outcome(rt, table::ask_outcome(answer));
     r.table
 }
 
 // ---- sheets by hand: what is expected, and why
 
 // No set: the places are kept.
-fn test_refusals() {
+fn test_refusals(rt: &impl Print) {
     // No rule stands: none was added, or the only one is withdrawn.
-    write_clash(b"no rule", Table::empty(), 4);
-    write_clash(b"no rule", withdraw(table_of(b"F"), 1), 4);
+    write_clash(rt, b"no rule", Table::empty(), 4);
+    write_clash(rt, b"no rule", withdraw(rt, table_of(rt, b"F"), 1), 4);
     // P3: a plan exists, on the floor raw, cooked without contact; so it does not matter that there is no place.
-    test_sheet(b"~C(raw,cooked)/~raw=0/~cooked=0", 3);
-    test_sheet(b"~C(raw,cooked)/~raw=0/~cooked=0", 0);
+    test_sheet(rt, b"~C(raw,cooked)/~raw=0/~cooked=0", 3);
+    test_sheet(rt, b"~C(raw,cooked)/~raw=0/~cooked=0", 0);
 }
 
 // P4: `<=(raw,cooked)` is needed: raw, cooked without contact (P3). `~cooked=0` is not: a point in raw would lie in cooked and touch itself.
 // `~raw=0` is: cooked. `~C(raw,cooked)` is: rawcooked.
-fn test_worked() {
-    test_sheet(b"~C(raw,cooked)/~raw=0/~cooked=0/<=(raw,cooked)", 4);
-    test_sheet(b"~C(raw,cooked)/~raw=0/~cooked=0/<=(raw,cooked)", 16);
-    test_sheet(b"~C(raw,cooked)/~raw=0/~cooked=0/<=(raw,cooked)", 3);
-    test_sheet(b"~C(raw,cooked)/~raw=0/~cooked=0/<=(raw,cooked)", 0);
+fn test_worked(rt: &impl Print) {
+    test_sheet(rt, b"~C(raw,cooked)/~raw=0/~cooked=0/<=(raw,cooked)", 4);
+    test_sheet(rt, b"~C(raw,cooked)/~raw=0/~cooked=0/<=(raw,cooked)", 16);
+    test_sheet(rt, b"~C(raw,cooked)/~raw=0/~cooked=0/<=(raw,cooked)", 3);
+    test_sheet(rt, b"~C(raw,cooked)/~raw=0/~cooked=0/<=(raw,cooked)", 0);
     // P7: without its only rule any floor does.
-    test_sheet(b"1=0", 1);
+    test_sheet(rt, b"1=0", 1);
 }
 
 // Where there are several such sets.
-fn test_choice() {
+fn test_choice(rt: &impl Print) {
     // The last rule and `T` are not needed beside the first rule; with no other rule left that is.
-    test_sheet(b"F/T/F", 3);
+    test_sheet(rt, b"F/T/F", 3);
     // `C(d,c)` is not needed: the first and the third rule clash. `C(b,a)` is needed: a. `~C(c,d)` is not. `~C(a,b)` is: ab. From the first
     // rule to the last the second and the fourth would be kept.
-    test_sheet(b"~C(a,b)/~C(c,d)/C(b,a)/C(d,c)", 4);
+    test_sheet(rt, b"~C(a,b)/~C(c,d)/C(b,a)/C(d,c)", 4);
     // `C(a,c)` is not needed: the first three clash. No two of them do: `~<=(a,c)` is needed: abc. `<=(b,c)` is: ab. `<=(a,b)` is: a.
-    test_sheet(b"<=(a,b)/<=(b,c)/~<=(a,c)/C(a,c)", 4);
+    test_sheet(rt, b"<=(a,b)/<=(b,c)/~<=(a,c)/C(a,c)", 4);
 }
 
 // Where each point must lie in a name of the whole sheet.
-fn test_names() {
+fn test_names(rt: &impl Print) {
     // Without the rule no rule is left, and the floor a counts.
-    test_sheet(b"a=0", 1);
+    test_sheet(rt, b"a=0", 1);
     // `b=0` is needed: b, which counts though `a=0` alone does not use the name b. `a=0` is: a. If names were counted in `a=0` alone, no
     // floor would meet that, and the set would be 10.
-    test_sheet(b"a=0/b=0", 2);
+    test_sheet(rt, b"a=0/b=0", 2);
     // `a=0` is needed: ac. `C(a,c)` is: c, which counts though no other rule uses the name c. `b=0` is not: `C(a,c)` and `a=0` clash. If names
     // were counted in the rules that are left, no floor would meet `b=0` and `a=0`, and the set would be 001.
-    test_sheet(b"b=0/C(a,c)/a=0", 3);
+    test_sheet(rt, b"b=0/C(a,c)/a=0", 3);
     // Two names empty, then both not: `~b=0` and `~a=0` are not needed, since each point lies in a or b. `b=0` is: b. `a=0` is: a.
-    test_sheet(b"a=0/b=0/~a=0/~b=0", 4);
+    test_sheet(rt, b"a=0/b=0/~a=0/~b=0", 4);
 }
 
 // Eight names.
-fn test_eight_names() {
+fn test_eight_names(rt: &impl Print) {
     // Each is needed: the floor of a point in its name alone.
-    test_sheet(b"a=0/b=0/c=0/d=0/e=0/f=0/g=0/h=0", 8);
+    test_sheet(rt, b"a=0/b=0/c=0/d=0/e=0/f=0/g=0/h=0", 8);
     // `h=0` is needed: abcdefgh. `<=(g,h)` is: abcdefg, and so on to `<=(a,b)`: a. `~a=0` is not: by the others all names are empty, and a point
     // has to lie in one.
     test_sheet(
+        rt,
         b"~a=0/<=(a,b)/<=(b,c)/<=(c,d)/<=(d,e)/<=(e,f)/<=(f,g)/<=(g,h)/h=0",
         9,
     );
 }
 
 // Sixteen rules.
-fn test_sixteen_rules() {
+fn test_sixteen_rules(rt: &impl Print) {
     // Rules 3 and 14 clash, `C(a,b)` and `a=0`. Rules 16 and 15 are not needed beside both. Rule 14 is: abcd. Rules 13 to 4 stand beside
     // both. Rule 3 is needed: bc. Rules 2 and 1 stand beside both.
     let two =
         b"~b=0/C(b,c)/C(a,b)/T/<=(d,b)/~c=0/C(c,d)/~d=0/C(1,1)/T|F/F->T/~F/C(b,d)/a=0/C(b,b)/~(b+c)=0";
-    test_sheet(two, 16);
-    test_sheet(two, 20);
-    test_sheet(two, 15);
+    test_sheet(rt, two, 16);
+    test_sheet(rt, two, 20);
+    test_sheet(rt, two, 15);
     // Each is needed. The last: abcdefgh. Each other: a, b, c, d, e, f, g, h, all pairs in contact but that of the rule.
     test_sheet(
+        rt,
         b"C(a,b)/C(a,c)/C(a,d)/C(a,e)/C(a,f)/C(a,g)/C(a,h)/C(b,c)/C(b,d)/C(b,e)/C(b,f)/C(b,g)/C(b,h)/C(c,d)/C(c,e)/~(C(a,b)&C(a,c)&C(a,d)&C(a,e)&C(a,f)&C(a,g)&C(a,h)&C(b,c)&C(b,d)&C(b,e)&C(b,f)&C(b,g)&C(b,h)&C(c,d)&C(c,e))",
         16,
     );
@@ -393,21 +395,21 @@ fn answer_alike(table: Table, other: Table) -> bool
 
 // P4 again: the rules that stand after some calls, of which the refused ones, ask and clash change nothing, are those of P4, so the set is
 // that of P4.
-fn test_calls() {
+fn test_calls(rt: &impl Print) {
     let sheet = b"~C(raw,cooked)/~raw=0/~cooked=0/<=(raw,cooked)";
-    let t = load(Table::empty(), b"F\n~C(raw,cooked)\n\nT\n~raw=0\n");
-    write_clash(b"clash", t, 3);
-    let t = withdraw(withdraw(t, 1), 2);
-    let t = with_text(with_text(t, b"~cooked=0"), b"C(raw");
-    let t = with_text(t, b"<=(raw,cooked)");
-    let t = withdraw(withdraw(t, 5), 0);
-    let t = ask(load(t, b"T\n("));
-    write_clash(b"clash", t, 3);
-    write_clash(b"clash", t, 16);
-    if answer_alike(t, table_of(sheet)) {
-        write_bytes(b"as after the adds alone\n");
+    let t = load(rt, Table::empty(), b"F\n~C(raw,cooked)\n\nT\n~raw=0\n");
+    write_clash(rt, b"clash", t, 3);
+    let t = withdraw(rt, withdraw(rt, t, 1), 2);
+    let t = with_text(rt, with_text(rt, t, b"~cooked=0"), b"C(raw");
+    let t = with_text(rt, t, b"<=(raw,cooked)");
+    let t = withdraw(rt, withdraw(rt, t, 5), 0);
+    let t = ask(rt, load(rt, t, b"T\n("));
+    write_clash(rt, b"clash", t, 3);
+    write_clash(rt, b"clash", t, 16);
+    if answer_alike(t, table_of(rt, sheet)) {
+        write_bytes(rt, b"as after the adds alone\n");
     } else {
-        write_bytes(b"not as after the adds alone\n");
+        write_bytes(rt, b"not as after the adds alone\n");
     }
 }
 
@@ -668,8 +670,9 @@ fn raise(counts: &mut [usize; 21], i: usize) {
 }
 
 // What was counted.
-fn show_counts(counts: [usize; 21]) {
+fn show_counts(rt: &impl Print, counts: [usize; 21]) {
     write_counts(
+        rt,
         b"sheets        \
         plans         \
         no plans      \
@@ -707,17 +710,24 @@ fn count_set(counts: &mut [usize; 21], set: u8) {
     }
 }
 
-fn disagree(counts: &mut [usize; 21], why: &[u8], file: &[u8]) {
-    write_bytes(why);
-    write_bytes(b"\n");
-    write_bytes(file);
+fn disagree(rt: &impl Print, counts: &mut [usize; 21], why: &[u8], file: &[u8]) {
+    write_bytes(rt, why);
+    write_bytes(rt, b"\n");
+    write_bytes(rt, file);
     raise(counts, DISAGREEMENTS);
 }
 
 // ---- the sheets
 
 // Where no floor meets all rules.
-fn test_no_plan(counts: &mut [usize; 21], table: Table, file: &[u8], met: [bool; 256], rules: usize)
+fn test_no_plan(
+    rt: &impl Print,
+    counts: &mut [usize; 21],
+    table: Table,
+    file: &[u8],
+    met: [bool; 256],
+    rules: usize,
+)
     requires { FromUs table }
 {
     let answer = answer_of(table, 16);
@@ -725,48 +735,55 @@ fn test_no_plan(counts: &mut [usize; 21], table: Table, file: &[u8], met: [bool;
     raise(counts, NO_PLANS);
     count_set(counts, set);
     if !same_answer(answer, answered(0, rules, rules, set)) {
-        disagree(counts, b"the answer or a place is another", file);
+        disagree(rt, counts, b"the answer or a place is another", file);
     }
     if some_meets(met, set) {
-        disagree(counts, b"a floor meets the set", file);
+        disagree(rt, counts, b"a floor meets the set", file);
     }
     if !each_is_needed(met, set) {
-        disagree(counts, b"a rule is not needed", file);
+        disagree(rt, counts, b"a rule is not needed", file);
     }
     if set != kept_of(met, rules) {
-        disagree(counts, b"the set is another", file);
+        disagree(rt, counts, b"the set is another", file);
     }
     if 0 < rules {
         if !same_answer(answer_of(table, rules - 1), answered(12, rules, 0, 0)) {
-            disagree(counts, b"a place too few", file);
+            disagree(rt, counts, b"a place too few", file);
         }
     }
 }
 
 // Where a floor meets all rules.
-fn test_plan(counts: &mut [usize; 21], table: Table, file: &[u8])
+fn test_plan(rt: &impl Print, counts: &mut [usize; 21], table: Table, file: &[u8])
     requires { FromUs table }
 {
     raise(counts, PLANS);
     if !same_answer(answer_of(table, 16), answered(17, 0, 0, 0)) {
-        disagree(counts, b"a plan exists", file);
+        disagree(rt, counts, b"a plan exists", file);
     }
 }
 
-fn test_table(counts: &mut [usize; 21], table: Table, file: &[u8], code: &[u8], names: usize)
+fn test_table(
+    rt: &impl Print,
+    counts: &mut [usize; 21],
+    table: Table,
+    file: &[u8],
+    code: &[u8],
+    names: usize,
+)
     requires { FromUs table }
 {
     let rules = rules_in(code);
     let found = search(code, numbers_of(code), names);
     let met = found.met;
     if !found.whole || 8 < rules {
-        disagree(counts, b"the form is not evaluated", file);
+        disagree(rt, counts, b"the form is not evaluated", file);
     }
     if some_meets(met, first_rules(rules)) {
-        test_plan(counts, table, file);
+        test_plan(rt, counts, table, file);
         return;
     }
-    test_no_plan(counts, table, file, met, rules);
+    test_no_plan(rt, counts, table, file, met, rules);
 }
 
 // The table with its k-th rule withdrawn, where k is not 0.
@@ -782,7 +799,7 @@ fn without(table: Table, k: usize) -> Table
 }
 
 // A sheet is refused where it has more than 16 different atoms.
-fn test_made(counts: &mut [usize; 21], sheet: Sheet)
+fn test_made(rt: &impl Print, counts: &mut [usize; 21], sheet: Sheet)
     requires { Bounded sheet }
 {
     let text = sheet.text;
@@ -796,37 +813,44 @@ fn test_made(counts: &mut [usize; 21], sheet: Sheet)
         return;
     };
     let table = without(r.table, sheet.withdrawn);
-    test_table(counts, table, &text[0..end], &form[0..last], sheet.names);
+    test_table(
+        rt,
+        counts,
+        table,
+        &text[0..end],
+        &form[0..last],
+        sheet.names,
+    );
 }
 
-fn test_number(counts: &mut [usize; 21], k: u64) {
+fn test_number(rt: &impl Print, counts: &mut [usize; 21], k: u64) {
     let sheet = sheet_at(k);
     raise(counts, SHEETS);
     if sheet.whole {
-        test_made(counts, sheet);
+        test_made(rt, counts, sheet);
         return;
     }
-    disagree(counts, b"a sheet is not made", b"");
+    disagree(rt, counts, b"a sheet is not made", b"");
 }
 
 // All sheets of test_small_floors: document 01's own and 3,000 generated ones.
-fn test_sheets(counts: &mut [usize; 21]) {
+fn test_sheets(rt: &impl Print, counts: &mut [usize; 21]) {
     let mut k: u64 = 0;
     while k < 3012 {
-        test_number(counts, k);
+        test_number(rt, counts, k);
         k += 1;
     }
 }
 
-fn main() {
-    test_refusals();
-    test_worked();
-    test_choice();
-    test_names();
-    test_eight_names();
-    test_sixteen_rules();
-    test_calls();
+fn main(rt: HostRuntime) {
+    test_refusals(&rt);
+    test_worked(&rt);
+    test_choice(&rt);
+    test_names(&rt);
+    test_eight_names(&rt);
+    test_sixteen_rules(&rt);
+    test_calls(&rt);
     let mut counts = [0usize; 21];
-    test_sheets(&mut counts);
-    show_counts(counts);
+    test_sheets(&rt, &mut counts);
+    show_counts(&rt, counts);
 }

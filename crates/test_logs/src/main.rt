@@ -5,6 +5,7 @@
 
 ghost use Rattle.std.specs.Prelude.{◌≤◌, length};
 
+use reading::Got;
 use tally::Tally;
 use test_kit::{write_bytes, write_labelled};
 
@@ -23,45 +24,49 @@ fn log_end(logs: &[u8], from: usize) -> usize
     i
 }
 
-fn show_tally(tally: Tally) {
-    write_labelled(b"tally ", tally.added as usize);
-    write_labelled(b" ", tally.withdrawn as usize);
-    write_labelled(b" ", tally.plans as usize);
-    write_labelled(b" ", tally.no_plans as usize);
-    write_labelled(b" ", tally.refusals as usize);
-    write_bytes(b"\n");
+fn show_tally(rt: &impl Print, tally: Tally) {
+    write_labelled(rt, b"tally ", tally.added as usize);
+    write_labelled(rt, b" ", tally.withdrawn as usize);
+    write_labelled(rt, b" ", tally.plans as usize);
+    write_labelled(rt, b" ", tally.no_plans as usize);
+    write_labelled(rt, b" ", tally.refusals as usize);
+    write_bytes(rt, b"\n");
 }
 
 // The text of a log, and its tally.
-fn show(log: &[u8]) {
+fn show(rt: &impl Print, log: &[u8]) {
     let mut words = supportlog::no_words();
     let mut text = supportlog::no_text();
     let mut state = supportlog::start();
     while state.from < log.len() {
         state = supportlog::next_piece(log, state, &mut words, &mut text);
         let len = state.len;
-        write_bytes(&text[..len]);
+        write_bytes(rt, &text[..len]);
     }
     let tally = state.tally;
-    show_tally(tally);
+    show_tally(rt, tally);
 }
 
 // All logs.
-fn show_all(logs: &[u8]) {
+fn show_all(rt: &impl Print, logs: &[u8]) {
     let mut from: usize = 0;
     let mut count: usize = 0;
     while from < logs.len() {
         let end = log_end(logs, from);
         count += 1;
-        write_labelled(b"# ", count);
-        write_bytes(b"\n");
-        show(&logs[from..end]);
+        write_labelled(rt, b"# ", count);
+        write_bytes(rt, b"\n");
+        show(rt, &logs[from..end]);
         from = end + 1;
     }
 }
 
-fn main() {
-    let mut logs = io::large_buffer();
-    let n = io::read_full(libc::STDIN_FILENO, &mut logs);
-    show_all(&logs[..n]);
+fn main(rt: HostRuntime) {
+    let mut logs = [0u8; 65536];
+    let got = reading::read_sheet(&mut rt.stdin(), &mut logs);
+    let Got::Bytes(n) = got else {
+        let _ = rt.eprintln("test_logs: the logs cannot be read");
+        return;
+    };
+    show_all(&rt, &logs[..n]);
 }

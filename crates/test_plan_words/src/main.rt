@@ -19,7 +19,7 @@ fn wide(b: u8) -> usize {
 }
 
 // Writes the evaluations of a plan's points, a blank before each.
-fn write_points(p: PlanArrays) {
+fn write_points(rt: &impl Print, p: PlanArrays) {
     let points = p.points;
     let count = p.count;
     let mut i: usize = 0;
@@ -27,14 +27,14 @@ fn write_points(p: PlanArrays) {
         if count <= i {
             return;
         }
-        write_labelled(b" ", wide(points[i]));
+        write_labelled(rt, b" ", wide(points[i]));
         i += 1;
     }
 }
 
-fn write_contact(i: usize, j: usize) {
-    write_labelled(b" ", i);
-    write_labelled(b"-", j);
+fn write_contact(rt: &impl Print, i: usize, j: usize) {
+    write_labelled(rt, b" ", i);
+    write_labelled(rt, b"-", j);
 }
 
 // Whether position i, of this row, is in contact with a later position j.
@@ -48,12 +48,12 @@ fn later(row: EvalSet, i: usize, j: usize, count: usize) -> bool {
 }
 
 // Writes the contacts of position i with later ones, and answers whether there is one.
-fn write_row(row: EvalSet, i: usize, count: usize) -> bool {
+fn write_row(rt: &impl Print, row: EvalSet, i: usize, count: usize) -> bool {
     let mut some = false;
     let mut j: usize = 0;
     while j < 64 {
         if later(row, i, j, count) {
-            write_contact(i, j);
+            write_contact(rt, i, j);
             some = true;
         }
         j += 1;
@@ -66,19 +66,19 @@ fn either(a: bool, b: bool) -> bool {
 }
 
 // Writes the contacts of two points, or that there is none.
-fn write_contacts(p: PlanArrays) {
+fn write_contacts(rt: &impl Print, p: PlanArrays) {
     let rows = p.rows;
     let count = p.count;
     let mut some = false;
     let mut i: usize = 0;
     while i < 64 {
         if i < count {
-            some = either(write_row(squares::row_at(&rows, i), i, count), some);
+            some = either(write_row(rt, squares::row_at(&rows, i), i, count), some);
         }
         i += 1;
     }
     if !some {
-        write_bytes(b" none");
+        write_bytes(rt, b" none");
     }
 }
 
@@ -149,434 +149,482 @@ fn put_again(p: PlanArrays, buffer: &mut [u32]) -> Written {
 }
 
 // Writes a plan's words again and whether they are the same.
-fn write_again(words: &[u32], p: PlanArrays) {
+fn write_again(rt: &impl Print, words: &[u32], p: PlanArrays) {
     let mut buffer = [0u32; 32898];
     let w = put_again(p, &mut buffer);
     match w {
         Written::Words(n) => {
             if same(words, &buffer, n) {
-                write_bytes(b"written again, the same");
+                write_bytes(rt, b"written again, the same");
             } else {
-                write_bytes(b"written again, others");
+                write_bytes(rt, b"written again, others");
             }
         }
         Written::Needs(_) => {
-            write_bytes(b"not written again");
+            write_bytes(rt, b"not written again");
         }
     }
 }
 
-fn write_plan(words: &[u32], p: PlanArrays) {
-    write_labelled(b"plan of ", wide(p.names));
-    write_bytes(b" names; points");
-    write_points(p);
-    write_bytes(b"; contacts");
-    write_contacts(p);
-    write_bytes(b"; ");
-    write_again(words, p);
+fn write_plan(rt: &impl Print, words: &[u32], p: PlanArrays) {
+    write_labelled(rt, b"plan of ", wide(p.names));
+    write_bytes(rt, b" names; points");
+    write_points(rt, p);
+    write_bytes(rt, b"; contacts");
+    write_contacts(rt, p);
+    write_bytes(rt, b"; ");
+    write_again(rt, words, p);
 }
 
 // Shows what a list of words is.
-fn show(words: &[u32]) {
-    write_words(b"", words, b" ");
-    write_bytes(b"=> ");
+fn show(rt: &impl Print, words: &[u32]) {
+    write_words(rt, b"", words, b" ");
+    write_bytes(rt, b"=> ");
     let r = plan::read_plan(words);
     let a = r.answer;
     let p = r.plan;
     match a {
         PlanAnswer::Plan => {
-            write_plan(words, p);
+            write_plan(rt, words, p);
         }
         PlanAnswer::Refused(i) => {
-            write_refusal(13, i);
+            write_refusal(rt, 13, i);
         }
     }
-    write_bytes(b"\n");
+    write_bytes(rt, b"\n");
 }
 
-fn write_written(w: Written) {
+fn write_written(rt: &impl Print, w: Written) {
     match w {
         Written::Words(n) => {
-            write_labelled(b"words ", n);
+            write_labelled(rt, b"words ", n);
         }
         Written::Needs(n) => {
-            write_labelled(b"needs ", n);
+            write_labelled(rt, b"needs ", n);
         }
     }
-    write_bytes(b"; ");
+    write_bytes(rt, b"; ");
 }
 
 // Writes the plan of P3 into a buffer of nines and shows the buffer.
-fn into_buffer(buffer: &mut [u32]) {
+fn into_buffer(rt: &impl Print, buffer: &mut [u32]) {
     let r = plan::read_plan(&[0x1000_0202, 0x2000_0001, 0x2000_0002, 0x4000_0003]);
     let p = r.plan;
     let w = put_again(p, buffer);
-    write_written(w);
-    write_words(b"", buffer, b" ");
-    write_bytes(b"\n");
+    write_written(rt, w);
+    write_words(rt, b"", buffer, b" ");
+    write_bytes(rt, b"\n");
 }
 
 // Buffers of 0, 3, 4 and 6 words: too short is kept, what is past the plan is kept.
-fn buffers() {
+fn buffers(rt: &impl Print) {
     let mut one = [9u32; 1];
-    into_buffer(&mut one[..0]);
+    into_buffer(rt, &mut one[..0]);
     let mut three = [9u32; 3];
-    into_buffer(&mut three);
+    into_buffer(rt, &mut three);
     let mut four = [9u32; 4];
-    into_buffer(&mut four);
+    into_buffer(rt, &mut four);
     let mut six = [9u32; 6];
-    into_buffer(&mut six);
+    into_buffer(rt, &mut six);
 }
 
 // Shows what words are, without the words.
-fn show_long(words: &[u32]) {
-    write_number(words.len());
-    write_bytes(b" words => ");
+fn show_long(rt: &impl Print, words: &[u32]) {
+    write_number(rt, words.len());
+    write_bytes(rt, b" words => ");
     let r = plan::read_plan(words);
     let a = r.answer;
     let p = r.plan;
     match a {
         PlanAnswer::Plan => {
-            write_number(p.count);
-            write_bytes(b" points; ");
-            write_again(words, p);
+            write_number(rt, p.count);
+            write_bytes(rt, b" points; ");
+            write_again(rt, words, p);
         }
         PlanAnswer::Refused(i) => {
-            write_refusal(13, i);
+            write_refusal(rt, 13, i);
         }
     }
-    write_bytes(b"\n");
+    write_bytes(rt, b"\n");
 }
 
 // The largest plan: 64 points, every two in contact; without its last word, with one word more, and with
 // its last word one off.
-fn largest() {
+fn largest(rt: &impl Print) {
     let mut words = no_words();
     let n = put_every(&mut words, 0x1000_0640, 63);
-    show_long(&words[0..n]);
-    show_long(&words[0..2081]);
-    show_long(&words);
+    show_long(rt, &words[0..n]);
+    show_long(rt, &words[0..2081]);
+    show_long(rt, &words);
     let n = put_word(&mut words, 2081, 0x4000_0822);
-    show_long(&words[0..n]);
+    show_long(rt, &words[0..n]);
 }
 
 // Every two of 255 points in contact, with their number of names in a first word of kind 1; then in one of kind 8.
-fn largest_of_eight() {
+fn largest_of_eight(rt: &impl Print) {
     let mut words = [0u32; 32642];
     put_every(&mut words, 0x1000_08FF, 254);
-    show_long(&words);
+    show_long(rt, &words);
     put_word(&mut words, 0, 0x8008_00FF);
-    show_long(&words);
-    show_long(&words[0..32641]);
+    show_long(rt, &words);
+    show_long(rt, &words[0..32641]);
 }
 
 // Shows what the first n words are.
-fn show_first(words: &[u32], n: usize) {
+fn show_first(rt: &impl Print, words: &[u32], n: usize) {
     if n <= words.len() {
-        show_long(&words[0..n]);
+        show_long(rt, &words[0..n]);
     }
 }
 
 // All 256 points of eight names, every two in contact; cut short in the points, after them, in the contacts and before the last word; with
 // one word more; with the hundredth point one evaluation on, which every evaluation forbids; and with a contact that stands there twice.
-fn all_of_eight() {
+fn all_of_eight(rt: &impl Print) {
     let mut words = [0u32; 32899];
     put_every(&mut words, 0x8008_0100, 255);
-    show_first(&words, 32898);
-    show_first(&words, 200);
-    show_first(&words, 257);
-    show_first(&words, 20000);
-    show_first(&words, 32897);
-    show_long(&words);
+    show_first(rt, &words, 32898);
+    show_first(rt, &words, 200);
+    show_first(rt, &words, 257);
+    show_first(rt, &words, 20000);
+    show_first(rt, &words, 32897);
+    show_long(rt, &words);
     put_word(&mut words, 100, 0x2000_0064);
-    show_first(&words, 32898);
+    show_first(rt, &words, 32898);
     put_word(&mut words, 100, 0x2000_0063);
     let before = words[299];
     put_word(&mut words, 300, before);
-    show_first(&words, 32898);
+    show_first(rt, &words, 32898);
 }
 
 // The plans of document 01: P1, P2, P3 and P9.
-fn document_plans() {
-    show(&[0x1000_0001, 0x2000_0000, 0x4000_0002]);
-    show(&[
-        0x1000_0202,
-        0x2000_0001,
-        0x2000_0002,
-        0x3000_0001,
-        0x4000_0004,
-    ]);
-    show(&[0x1000_0202, 0x2000_0001, 0x2000_0002, 0x4000_0003]);
-    show(&[0x1000_0101, 0x2000_0000, 0x4000_0002]);
+fn document_plans(rt: &impl Print) {
+    show(rt, &[0x1000_0001, 0x2000_0000, 0x4000_0002]);
+    show(
+        rt,
+        &[
+            0x1000_0202,
+            0x2000_0001,
+            0x2000_0002,
+            0x3000_0001,
+            0x4000_0004,
+        ],
+    );
+    show(rt, &[0x1000_0202, 0x2000_0001, 0x2000_0002, 0x4000_0003]);
+    show(rt, &[0x1000_0101, 0x2000_0000, 0x4000_0002]);
 }
 
 // Plans of one and two names, and contacts in their order.
-fn few_names() {
-    show(&[0x1000_0101, 0x2000_0001, 0x4000_0002]);
-    show(&[0x1000_0102, 0x2000_0000, 0x2000_0001, 0x4000_0003]);
-    show(&[
-        0x1000_0102,
-        0x2000_0000,
-        0x2000_0001,
-        0x3000_0001,
-        0x4000_0004,
-    ]);
-    show(&[
-        0x1000_0203,
-        0x2000_0000,
-        0x2000_0001,
-        0x2000_0003,
-        0x3000_0002,
-        0x3000_0102,
-        0x4000_0006,
-    ]);
+fn few_names(rt: &impl Print) {
+    show(rt, &[0x1000_0101, 0x2000_0001, 0x4000_0002]);
+    show(rt, &[0x1000_0102, 0x2000_0000, 0x2000_0001, 0x4000_0003]);
+    show(
+        rt,
+        &[
+            0x1000_0102,
+            0x2000_0000,
+            0x2000_0001,
+            0x3000_0001,
+            0x4000_0004,
+        ],
+    );
+    show(
+        rt,
+        &[
+            0x1000_0203,
+            0x2000_0000,
+            0x2000_0001,
+            0x2000_0003,
+            0x3000_0002,
+            0x3000_0102,
+            0x4000_0006,
+        ],
+    );
 }
 
 // Every two of four points in contact.
-fn every_contact() {
-    show(&[
-        0x1000_0204,
-        0x2000_0000,
-        0x2000_0001,
-        0x2000_0002,
-        0x2000_0003,
-        0x3000_0001,
-        0x3000_0002,
-        0x3000_0003,
-        0x3000_0102,
-        0x3000_0103,
-        0x3000_0203,
-        0x4000_000B,
-    ]);
+fn every_contact(rt: &impl Print) {
+    show(
+        rt,
+        &[
+            0x1000_0204,
+            0x2000_0000,
+            0x2000_0001,
+            0x2000_0002,
+            0x2000_0003,
+            0x3000_0001,
+            0x3000_0002,
+            0x3000_0003,
+            0x3000_0102,
+            0x3000_0103,
+            0x3000_0203,
+            0x4000_000B,
+        ],
+    );
 }
 
 // Plans of three to six names.
-fn many_names() {
-    show(&[0x1000_0301, 0x2000_0007, 0x4000_0002]);
-    show(&[
-        0x1000_0402,
-        0x2000_0000,
-        0x2000_000F,
-        0x3000_0001,
-        0x4000_0004,
-    ]);
-    show(&[0x1000_0501, 0x2000_001F, 0x4000_0002]);
-    show(&[0x1000_0601, 0x2000_003F, 0x4000_0002]);
-    show(&[
-        0x1000_0604,
-        0x2000_0000,
-        0x2000_0001,
-        0x2000_003E,
-        0x2000_003F,
-        0x3000_0003,
-        0x3000_0102,
-        0x4000_0007,
-    ]);
-    show(&[
-        0x1000_0604,
-        0x2000_003C,
-        0x2000_003D,
-        0x2000_003E,
-        0x2000_003F,
-        0x3000_0203,
-        0x4000_0006,
-    ]);
+fn many_names(rt: &impl Print) {
+    show(rt, &[0x1000_0301, 0x2000_0007, 0x4000_0002]);
+    show(
+        rt,
+        &[
+            0x1000_0402,
+            0x2000_0000,
+            0x2000_000F,
+            0x3000_0001,
+            0x4000_0004,
+        ],
+    );
+    show(rt, &[0x1000_0501, 0x2000_001F, 0x4000_0002]);
+    show(rt, &[0x1000_0601, 0x2000_003F, 0x4000_0002]);
+    show(
+        rt,
+        &[
+            0x1000_0604,
+            0x2000_0000,
+            0x2000_0001,
+            0x2000_003E,
+            0x2000_003F,
+            0x3000_0003,
+            0x3000_0102,
+            0x4000_0007,
+        ],
+    );
+    show(
+        rt,
+        &[
+            0x1000_0604,
+            0x2000_003C,
+            0x2000_003D,
+            0x2000_003E,
+            0x2000_003F,
+            0x3000_0203,
+            0x4000_0006,
+        ],
+    );
 }
 
 // The first word: another kind, names 7, points 0, points above 2^names, an unnamed bit.
-fn first_words() {
-    show(&NONE[..0]);
-    show(&[0x0000_0000]);
-    show(&[0x2000_0000]);
-    show(&[0x3000_0001]);
-    show(&[0x4000_0000]);
-    show(&[0x5000_0000]);
-    show(&[0xF000_0000]);
-    show(&[0x1000_0701]);
-    show(&[0x1000_FF01]);
-    show(&[0x1000_0000]);
-    show(&[0x1000_0200]);
-    show(&[0x1000_0002]);
-    show(&[0x1000_0103]);
-    show(&[0x1000_0205]);
-    show(&[0x1000_0641]);
-    show(&[0x1000_06FF]);
-    show(&[0x1001_0001]);
-    show(&[0x1800_0101]);
-    show(&[0x1800_0001]);
-    show(&[0x0000_0001]);
+fn first_words(rt: &impl Print) {
+    show(rt, &NONE[..0]);
+    show(rt, &[0x0000_0000]);
+    show(rt, &[0x2000_0000]);
+    show(rt, &[0x3000_0001]);
+    show(rt, &[0x4000_0000]);
+    show(rt, &[0x5000_0000]);
+    show(rt, &[0xF000_0000]);
+    show(rt, &[0x1000_0701]);
+    show(rt, &[0x1000_FF01]);
+    show(rt, &[0x1000_0000]);
+    show(rt, &[0x1000_0200]);
+    show(rt, &[0x1000_0002]);
+    show(rt, &[0x1000_0103]);
+    show(rt, &[0x1000_0205]);
+    show(rt, &[0x1000_0641]);
+    show(rt, &[0x1000_06FF]);
+    show(rt, &[0x1001_0001]);
+    show(rt, &[0x1800_0101]);
+    show(rt, &[0x1800_0001]);
+    show(rt, &[0x0000_0001]);
 }
 
 // Points: too large for what must follow, not rising, an unnamed bit, another kind, words that end.
-fn points_to_come() {
-    show(&[0x1000_0202, 0x2000_0003]);
-    show(&[0x1000_0202, 0x2000_0002]);
-    show(&[0x1000_0202, 0x2000_0002, 0x2000_0003]);
-    show(&[0x1000_0202, 0x2000_0001, 0x2000_0001]);
-    show(&[0x1000_0202, 0x2000_0002, 0x2000_0001]);
-    show(&[0x1000_0202, 0x2000_0000, 0x2000_0004]);
-    show(&[0x1000_0201, 0x2000_0004]);
-    show(&[0x1000_0204, 0x2000_0001]);
-    show(&[0x1000_0204, 0x2000_0000, 0x2000_0002]);
-    show(&[
-        0x1000_0204,
-        0x2000_0000,
-        0x2000_0001,
-        0x2000_0002,
-        0x2000_0003,
-    ]);
-    show(&[0x1000_0202, 0x2000_0101]);
-    show(&[0x1000_0202, 0x2100_0000]);
-    show(&[0x1000_0202, 0x1000_0202]);
-    show(&[0x1000_0202, 0x3000_0001]);
-    show(&[0x1000_0202, 0x4000_0001]);
-    show(&[0x1000_0202]);
-    show(&[0x1000_0202, 0x2000_0001]);
-    show(&[0x1000_0640, 0x2000_0001]);
-    show(&[0x1000_0602, 0x2000_003F]);
-    show(&[0x1000_0602, 0x2000_003E, 0x2000_003F]);
-    show(&[0x1000_0001, 0x2000_0001]);
-    show(&[0x1000_0001, 0x2000_0000]);
+fn points_to_come(rt: &impl Print) {
+    show(rt, &[0x1000_0202, 0x2000_0003]);
+    show(rt, &[0x1000_0202, 0x2000_0002]);
+    show(rt, &[0x1000_0202, 0x2000_0002, 0x2000_0003]);
+    show(rt, &[0x1000_0202, 0x2000_0001, 0x2000_0001]);
+    show(rt, &[0x1000_0202, 0x2000_0002, 0x2000_0001]);
+    show(rt, &[0x1000_0202, 0x2000_0000, 0x2000_0004]);
+    show(rt, &[0x1000_0201, 0x2000_0004]);
+    show(rt, &[0x1000_0204, 0x2000_0001]);
+    show(rt, &[0x1000_0204, 0x2000_0000, 0x2000_0002]);
+    show(
+        rt,
+        &[
+            0x1000_0204,
+            0x2000_0000,
+            0x2000_0001,
+            0x2000_0002,
+            0x2000_0003,
+        ],
+    );
+    show(rt, &[0x1000_0202, 0x2000_0101]);
+    show(rt, &[0x1000_0202, 0x2100_0000]);
+    show(rt, &[0x1000_0202, 0x1000_0202]);
+    show(rt, &[0x1000_0202, 0x3000_0001]);
+    show(rt, &[0x1000_0202, 0x4000_0001]);
+    show(rt, &[0x1000_0202]);
+    show(rt, &[0x1000_0202, 0x2000_0001]);
+    show(rt, &[0x1000_0640, 0x2000_0001]);
+    show(rt, &[0x1000_0602, 0x2000_003F]);
+    show(rt, &[0x1000_0602, 0x2000_003E, 0x2000_003F]);
+    show(rt, &[0x1000_0001, 0x2000_0001]);
+    show(rt, &[0x1000_0001, 0x2000_0000]);
 }
 
 // Contacts: equal positions, the larger first, out of range, a first point alone, words that end.
-fn contacts() {
-    show(&[0x1000_0202, 0x2000_0001, 0x2000_0002, 0x3000_0000]);
-    show(&[0x1000_0202, 0x2000_0001, 0x2000_0002, 0x3000_0100]);
-    show(&[0x1000_0202, 0x2000_0001, 0x2000_0002, 0x3000_0101]);
-    show(&[0x1000_0202, 0x2000_0001, 0x2000_0002, 0x3000_0002]);
-    show(&[0x1000_0202, 0x2000_0001, 0x2000_0002, 0x3000_0102]);
-    show(&[0x1000_0201, 0x2000_0001, 0x3000_0000]);
-    show(&[0x1000_0201, 0x2000_0001, 0x3000_0001]);
-    show(&[0x1000_0202, 0x2000_0001, 0x2000_0002]);
-    show(&[0x1000_0202, 0x2000_0001, 0x2000_0002, 0x3000_0001]);
+fn contacts(rt: &impl Print) {
+    show(rt, &[0x1000_0202, 0x2000_0001, 0x2000_0002, 0x3000_0000]);
+    show(rt, &[0x1000_0202, 0x2000_0001, 0x2000_0002, 0x3000_0100]);
+    show(rt, &[0x1000_0202, 0x2000_0001, 0x2000_0002, 0x3000_0101]);
+    show(rt, &[0x1000_0202, 0x2000_0001, 0x2000_0002, 0x3000_0002]);
+    show(rt, &[0x1000_0202, 0x2000_0001, 0x2000_0002, 0x3000_0102]);
+    show(rt, &[0x1000_0201, 0x2000_0001, 0x3000_0000]);
+    show(rt, &[0x1000_0201, 0x2000_0001, 0x3000_0001]);
+    show(rt, &[0x1000_0202, 0x2000_0001, 0x2000_0002]);
+    show(rt, &[0x1000_0202, 0x2000_0001, 0x2000_0002, 0x3000_0001]);
 }
 
 // Contacts: twice, not rising.
-fn contact_order() {
-    show(&[
-        0x1000_0202,
-        0x2000_0001,
-        0x2000_0002,
-        0x3000_0001,
-        0x3000_0001,
-    ]);
-    show(&[
-        0x1000_0203,
-        0x2000_0000,
-        0x2000_0001,
-        0x2000_0002,
-        0x3000_0002,
-        0x3000_0001,
-    ]);
-    show(&[
-        0x1000_0203,
-        0x2000_0000,
-        0x2000_0001,
-        0x2000_0002,
-        0x3000_0102,
-        0x3000_0002,
-    ]);
+fn contact_order(rt: &impl Print) {
+    show(
+        rt,
+        &[
+            0x1000_0202,
+            0x2000_0001,
+            0x2000_0002,
+            0x3000_0001,
+            0x3000_0001,
+        ],
+    );
+    show(
+        rt,
+        &[
+            0x1000_0203,
+            0x2000_0000,
+            0x2000_0001,
+            0x2000_0002,
+            0x3000_0002,
+            0x3000_0001,
+        ],
+    );
+    show(
+        rt,
+        &[
+            0x1000_0203,
+            0x2000_0000,
+            0x2000_0001,
+            0x2000_0002,
+            0x3000_0102,
+            0x3000_0002,
+        ],
+    );
 }
 
 // Contacts in their order, and no word after them.
-fn rising_contacts() {
-    show(&[
-        0x1000_0203,
-        0x2000_0000,
-        0x2000_0001,
-        0x2000_0002,
-        0x3000_0001,
-        0x3000_0102,
-    ]);
+fn rising_contacts(rt: &impl Print) {
+    show(
+        rt,
+        &[
+            0x1000_0203,
+            0x2000_0000,
+            0x2000_0001,
+            0x2000_0002,
+            0x3000_0001,
+            0x3000_0102,
+        ],
+    );
 }
 
 // Contacts: an unnamed bit, another kind.
-fn contact_bits() {
-    show(&[0x1000_0202, 0x2000_0001, 0x2000_0002, 0x3001_0001]);
-    show(&[0x1000_0202, 0x2000_0001, 0x2000_0002, 0x3800_0001]);
-    show(&[0x1000_0202, 0x2000_0001, 0x2000_0002, 0x2000_0003]);
-    show(&[0x1000_0202, 0x2000_0001, 0x2000_0002, 0x1000_0202]);
-    show(&[0x1000_0202, 0x2000_0001, 0x2000_0002, 0x0000_0000]);
+fn contact_bits(rt: &impl Print) {
+    show(rt, &[0x1000_0202, 0x2000_0001, 0x2000_0002, 0x3001_0001]);
+    show(rt, &[0x1000_0202, 0x2000_0001, 0x2000_0002, 0x3800_0001]);
+    show(rt, &[0x1000_0202, 0x2000_0001, 0x2000_0002, 0x2000_0003]);
+    show(rt, &[0x1000_0202, 0x2000_0001, 0x2000_0002, 0x1000_0202]);
+    show(rt, &[0x1000_0202, 0x2000_0001, 0x2000_0002, 0x0000_0000]);
 }
 
 // The last word: a wrong count, words after it.
-fn last_words() {
-    show(&[0x1000_0001, 0x2000_0000, 0x4000_0001]);
-    show(&[0x1000_0001, 0x2000_0000, 0x4000_0003]);
-    show(&[0x1000_0001, 0x2000_0000, 0x4000_0000]);
-    show(&[0x1000_0001, 0x2000_0000, 0x4FFF_FFFF]);
-    show(&[
-        0x1000_0202,
-        0x2000_0001,
-        0x2000_0002,
-        0x3000_0001,
-        0x4000_0003,
-    ]);
-    show(&[
-        0x1000_0202,
-        0x2000_0001,
-        0x2000_0002,
-        0x3000_0001,
-        0x4000_0005,
-    ]);
-    show(&[0x1000_0001, 0x2000_0000, 0x4000_0002, 0x4000_0003]);
-    show(&[0x1000_0001, 0x2000_0000, 0x4000_0002, 0x0000_0000]);
-    show(&[0x1000_0001, 0x2000_0000, 0x4000_0002, 0x1000_0001]);
-    show(&[
-        0x1000_0202,
-        0x2000_0001,
-        0x2000_0002,
-        0x4000_0003,
-        0x3000_0001,
-    ]);
+fn last_words(rt: &impl Print) {
+    show(rt, &[0x1000_0001, 0x2000_0000, 0x4000_0001]);
+    show(rt, &[0x1000_0001, 0x2000_0000, 0x4000_0003]);
+    show(rt, &[0x1000_0001, 0x2000_0000, 0x4000_0000]);
+    show(rt, &[0x1000_0001, 0x2000_0000, 0x4FFF_FFFF]);
+    show(
+        rt,
+        &[
+            0x1000_0202,
+            0x2000_0001,
+            0x2000_0002,
+            0x3000_0001,
+            0x4000_0003,
+        ],
+    );
+    show(
+        rt,
+        &[
+            0x1000_0202,
+            0x2000_0001,
+            0x2000_0002,
+            0x3000_0001,
+            0x4000_0005,
+        ],
+    );
+    show(rt, &[0x1000_0001, 0x2000_0000, 0x4000_0002, 0x4000_0003]);
+    show(rt, &[0x1000_0001, 0x2000_0000, 0x4000_0002, 0x0000_0000]);
+    show(rt, &[0x1000_0001, 0x2000_0000, 0x4000_0002, 0x1000_0001]);
+    show(
+        rt,
+        &[
+            0x1000_0202,
+            0x2000_0001,
+            0x2000_0002,
+            0x4000_0003,
+            0x3000_0001,
+        ],
+    );
 }
 
 // Seven and eight names: the first word is of kind 8.
-fn kind_eight() {
-    show(&[0x8007_0001, 0x2000_0040, 0x4000_0002]);
-    show(&[0x8008_0001, 0x2000_00FF, 0x4000_0002]);
-    show(&[
-        0x8008_0002,
-        0x2000_0000,
-        0x2000_00FF,
-        0x3000_0001,
-        0x4000_0004,
-    ]);
-    show(&[0x8007_0001, 0x2000_0080]);
-    show(&[0x8007_0002, 0x2000_007F]);
-    show(&[0x8008_0100, 0x2000_0001]);
-    show(&[0x8008_0100, 0x2000_0000]);
+fn kind_eight(rt: &impl Print) {
+    show(rt, &[0x8007_0001, 0x2000_0040, 0x4000_0002]);
+    show(rt, &[0x8008_0001, 0x2000_00FF, 0x4000_0002]);
+    show(
+        rt,
+        &[
+            0x8008_0002,
+            0x2000_0000,
+            0x2000_00FF,
+            0x3000_0001,
+            0x4000_0004,
+        ],
+    );
+    show(rt, &[0x8007_0001, 0x2000_0080]);
+    show(rt, &[0x8007_0002, 0x2000_007F]);
+    show(rt, &[0x8008_0100, 0x2000_0001]);
+    show(rt, &[0x8008_0100, 0x2000_0000]);
 }
 
 // First words of kind 8: six names, none, nine, no point, more than 2^names points, an unnamed bit; of kind 1: eight names.
-fn kind_eight_wrong() {
-    show(&[0x8006_0001]);
-    show(&[0x8000_0001]);
-    show(&[0x8009_0001]);
-    show(&[0x8007_0000]);
-    show(&[0x8007_0081]);
-    show(&[0x8008_0101]);
-    show(&[0x8017_0001]);
-    show(&[0x1000_0801]);
+fn kind_eight_wrong(rt: &impl Print) {
+    show(rt, &[0x8006_0001]);
+    show(rt, &[0x8000_0001]);
+    show(rt, &[0x8009_0001]);
+    show(rt, &[0x8007_0000]);
+    show(rt, &[0x8007_0081]);
+    show(rt, &[0x8008_0101]);
+    show(rt, &[0x8017_0001]);
+    show(rt, &[0x1000_0801]);
 }
 
-fn main() {
-    document_plans();
-    few_names();
-    every_contact();
-    many_names();
-    first_words();
-    points_to_come();
-    contacts();
-    contact_order();
-    rising_contacts();
-    contact_bits();
-    last_words();
-    buffers();
-    largest();
-    kind_eight();
-    kind_eight_wrong();
-    largest_of_eight();
-    all_of_eight();
+fn main(rt: HostRuntime) {
+    document_plans(&rt);
+    few_names(&rt);
+    every_contact(&rt);
+    many_names(&rt);
+    first_words(&rt);
+    points_to_come(&rt);
+    contacts(&rt);
+    contact_order(&rt);
+    rising_contacts(&rt);
+    contact_bits(&rt);
+    last_words(&rt);
+    buffers(&rt);
+    largest(&rt);
+    kind_eight(&rt);
+    kind_eight_wrong(&rt);
+    largest_of_eight(&rt);
+    all_of_eight(&rt);
 }

@@ -8,11 +8,12 @@
 ghost use Rattle.printing.specs.Prints.{WasRead};
 
 use printing::Printed;
+use reading::Got;
 use syntax::{Rule, RuleAnswer};
 
 // Writes bytes as they are.
-fn write_bytes(bytes: &[u8]) {
-    io::write_all(libc::STDOUT_FILENO, bytes);
+fn write_bytes(rt: &impl Print, bytes: &[u8]) {
+    let _ = rt.write_all(bytes);
 }
 
 // A rule's text as it is printed: a buffer, and how many bytes of it are the text.
@@ -35,79 +36,83 @@ fn page_of(text: &[u8], rule: Rule) -> Page
 }
 
 // Says so where a text that is printed and the order of the rule are not found again.
-fn read_again(text: &[u8], rule: Rule, page: Page) {
+fn read_again(rt: &impl Print, text: &[u8], rule: Rule, page: Page) {
     let again = syntax::read_rule(text);
     let answer = again.answer;
     match answer {
-        RuleAnswer::Formula => compare(rule, again, page, page_of(text, again)),
-        _ => write_bytes(b" is refused"),
+        RuleAnswer::Formula => compare(rt, rule, again, page, page_of(text, again)),
+        _ => write_bytes(rt, b" is refused"),
     }
 }
 
 // Says so where two rules have different orders, or different texts.
-fn compare(rule: Rule, again: Rule, first: Page, second: Page) {
+fn compare(rt: &impl Print, rule: Rule, again: Rule, first: Page, second: Page) {
     let order = rule.order;
     let bytes = first.bytes;
     if rule.len != again.len {
-        write_bytes(b" has another order");
+        write_bytes(rt, b" has another order");
     }
     if !check::same(&order, &again.order) {
-        write_bytes(b" has another order");
+        write_bytes(rt, b" has another order");
     }
     if !check::same(&bytes, &second.bytes) {
-        write_bytes(b" is printed otherwise");
+        write_bytes(rt, b" is printed otherwise");
     }
 }
 
 // Writes the line of a text.
-fn show(text: &[u8]) {
+fn show(rt: &impl Print, text: &[u8]) {
     let rule = syntax::read_rule(text);
     let answer = rule.answer;
     match answer {
-        RuleAnswer::Formula => show_page(rule, page_of(text, rule)),
-        _ => write_bytes(b"refused"),
+        RuleAnswer::Formula => show_page(rt, rule, page_of(text, rule)),
+        _ => write_bytes(rt, b"refused"),
     }
-    write_bytes(b"\n");
+    write_bytes(rt, b"\n");
 }
 
 // Writes a text that is printed, and reads it again.
-fn show_page(rule: Rule, page: Page) {
+fn show_page(rt: &impl Print, rule: Rule, page: Page) {
     let bytes = page.bytes;
-    show_first(&bytes, page.n, rule, page);
+    show_first(rt, &bytes, page.n, rule, page);
 }
 
 // The same of the first n bytes of a buffer.
-fn show_first(bytes: &[u8], n: usize, rule: Rule, page: Page) {
+fn show_first(rt: &impl Print, bytes: &[u8], n: usize, rule: Rule, page: Page) {
     if n <= bytes.len() {
-        write_bytes(&bytes[0..n]);
-        read_again(&bytes[0..n], rule, page);
+        write_bytes(rt, &bytes[0..n]);
+        read_again(rt, &bytes[0..n], rule, page);
     }
 }
 
 // Shows a part of a list of texts.
-fn show_part(list: &[u8], start: usize, end: usize) {
+fn show_part(rt: &impl Print, list: &[u8], start: usize, end: usize) {
     if start <= end {
         if end <= list.len() {
-            show(&list[start..end]);
+            show(rt, &list[start..end]);
         }
     }
 }
 
 // Shows each text of a list, in which byte 10 ends each.
-fn show_each(list: &[u8]) {
+fn show_each(rt: &impl Print, list: &[u8]) {
     let mut start: usize = 0;
     let mut i: usize = 0;
     while i < list.len() {
         if list[i] == b'\n' {
-            show_part(list, start, i);
+            show_part(rt, list, start, i);
             start = i + 1;
         }
         i += 1;
     }
 }
 
-fn main() {
-    let mut list = io::large_buffer();
-    let n = io::read_full(libc::STDIN_FILENO, &mut list);
-    show_each(&list[0..n]);
+fn main(rt: HostRuntime) {
+    let mut list = [0u8; 65536];
+    let got = reading::read_sheet(&mut rt.stdin(), &mut list);
+    let Got::Bytes(n) = got else {
+        let _ = rt.eprintln("test_printing: the list cannot be read");
+        return;
+    };
+    show_each(&rt, &list[0..n]);
 }

@@ -9,54 +9,54 @@ use syntax::{Rule, RuleAnswer};
 use test_kit::{no_text, put_times, word_digits, write_bytes, write_refusal};
 
 // Writes one byte as it is.
-fn write_byte(b: u8) {
+fn write_byte(rt: &impl Print, b: u8) {
     let one = [b];
-    write_bytes(&one);
+    write_bytes(rt, &one);
 }
 
 // Writes a byte as a backslash and two hexadecimal digits.
-fn write_code(b: u8) {
+fn write_code(rt: &impl Print, b: u8) {
     let digits = word_digits(b as u32);
-    write_byte(b'\\');
-    write_bytes(&digits[6..]);
+    write_byte(rt, b'\\');
+    write_bytes(rt, &digits[6..]);
 }
 
 // Writes a byte so that a line of text shows it.
-fn write_shown(b: u8) {
+fn write_shown(rt: &impl Print, b: u8) {
     if b < 32 {
-        write_code(b);
+        write_code(rt, b);
     } else if 126 < b {
-        write_code(b);
+        write_code(rt, b);
     } else if b == b'\\' {
-        write_code(b);
+        write_code(rt, b);
     } else {
-        write_byte(b);
+        write_byte(rt, b);
     }
 }
 
 // Writes a text, each byte so that a line shows it.
-fn write_text(text: &[u8]) {
+fn write_text(rt: &impl Print, text: &[u8]) {
     let mut i: usize = 0;
     while i < text.len() {
-        write_shown(text[i]);
+        write_shown(rt, text[i]);
         i += 1;
     }
 }
 
 // Writes the bytes of a token, where they lie in the text.
-fn write_token(text: &[u8], start: usize, len: usize) {
+fn write_token(rt: &impl Print, text: &[u8], start: usize, len: usize) {
     if start <= text.len() {
         if len <= text.len() - start {
             let end = start + len;
-            write_text(&text[start..end]);
+            write_text(rt, &text[start..end]);
         }
     }
 }
 
 // Writes a blank before every token but the first.
-fn write_gap(i: usize) {
+fn write_gap(rt: &impl Print, i: usize) {
     if 0 < i {
-        write_byte(b' ');
+        write_byte(rt, b' ');
     }
 }
 
@@ -73,38 +73,38 @@ fn name_from(kinds: [u8; 256], from: usize) -> usize {
 }
 
 // Writes a sign or constant by its kind.
-fn write_sign(kind: u8) {
+fn write_sign(rt: &impl Print, kind: u8) {
     match kind {
-        0 => write_bytes(b"->"),
-        1 => write_bytes(b"<->"),
-        2 => write_byte(b'|'),
-        3 => write_byte(b'&'),
-        4 => write_byte(b'+'),
-        5 => write_byte(b'*'),
-        6 => write_byte(b'-'),
-        7 => write_byte(b'~'),
-        10 => write_bytes(b"=0"),
-        12 => write_byte(b'T'),
-        13 => write_byte(b'F'),
-        14 => write_byte(b'C'),
-        15 => write_bytes(b"<="),
-        16 => write_byte(b'0'),
-        17 => write_byte(b'1'),
-        _ => write_byte(b'?'),
+        0 => write_bytes(rt, b"->"),
+        1 => write_bytes(rt, b"<->"),
+        2 => write_byte(rt, b'|'),
+        3 => write_byte(rt, b'&'),
+        4 => write_byte(rt, b'+'),
+        5 => write_byte(rt, b'*'),
+        6 => write_byte(rt, b'-'),
+        7 => write_byte(rt, b'~'),
+        10 => write_bytes(rt, b"=0"),
+        12 => write_byte(rt, b'T'),
+        13 => write_byte(rt, b'F'),
+        14 => write_byte(rt, b'C'),
+        15 => write_bytes(rt, b"<="),
+        16 => write_byte(rt, b'0'),
+        17 => write_byte(rt, b'1'),
+        _ => write_byte(rt, b'?'),
     }
 }
 
 // Writes the name at token t of a rule.
-fn write_name(text: &[u8], tokens: Tokens, t: usize) {
+fn write_name(rt: &impl Print, text: &[u8], tokens: Tokens, t: usize) {
     let starts = tokens.starts;
     let lens = tokens.lens;
     if t < 256 {
-        write_token(text, lexer::wide(starts[t]), lexer::wide(lens[t]));
+        write_token(rt, text, lexer::wide(starts[t]), lexer::wide(lens[t]));
     }
 }
 
 // Writes a formula in its postfix order, whose names are those of the text in their order.
-fn write_formula(text: &[u8], rule: Rule) {
+fn write_formula(rt: &impl Print, text: &[u8], rule: Rule) {
     let order = rule.order;
     let tokens = rule.tokens;
     let kinds = tokens.kinds;
@@ -115,13 +115,13 @@ fn write_formula(text: &[u8], rule: Rule) {
         if n <= i {
             return;
         }
-        write_gap(i);
+        write_gap(rt, i);
         if order[i] == NAME {
             let at = name_from(kinds, t);
-            write_name(text, tokens, at);
+            write_name(rt, text, tokens, at);
             t = after(at);
         } else {
-            write_sign(order[i]);
+            write_sign(rt, order[i]);
         }
         i += 1;
     }
@@ -133,39 +133,39 @@ fn after(t: usize) -> usize {
 }
 
 // Writes the line of a text.
-fn show(text: &[u8]) {
-    write_text(text);
-    write_bytes(b" => ");
+fn show(rt: &impl Print, text: &[u8]) {
+    write_text(rt, text);
+    write_bytes(rt, b" => ");
     let rule = syntax::read_rule(text);
     let answer = rule.answer;
     match answer {
-        RuleAnswer::Formula => write_formula(text, rule),
-        RuleAnswer::TooLong => write_refusal(2, 256),
-        RuleAnswer::NoToken => write_refusal(1, 0),
-        RuleAnswer::ForeignByte(i) => write_refusal(3, i),
-        RuleAnswer::LongName(i) => write_refusal(4, i),
-        RuleAnswer::Measured(i) => write_refusal(5, i),
-        RuleAnswer::GrammarAt(i) => write_refusal(6, i),
+        RuleAnswer::Formula => write_formula(rt, text, rule),
+        RuleAnswer::TooLong => write_refusal(rt, 2, 256),
+        RuleAnswer::NoToken => write_refusal(rt, 1, 0),
+        RuleAnswer::ForeignByte(i) => write_refusal(rt, 3, i),
+        RuleAnswer::LongName(i) => write_refusal(rt, 4, i),
+        RuleAnswer::Measured(i) => write_refusal(rt, 5, i),
+        RuleAnswer::GrammarAt(i) => write_refusal(rt, 6, i),
     }
-    write_byte(b'\n');
+    write_byte(rt, b'\n');
 }
 
 // Shows a part of a list of texts.
-fn show_part(list: &[u8], start: usize, end: usize) {
+fn show_part(rt: &impl Print, list: &[u8], start: usize, end: usize) {
     if start <= end {
         if end <= list.len() {
-            show(&list[start..end]);
+            show(rt, &list[start..end]);
         }
     }
 }
 
 // Shows each text of a list, in which byte 10 ends each.
-fn show_each(list: &[u8]) {
+fn show_each(rt: &impl Print, list: &[u8]) {
     let mut start: usize = 0;
     let mut i: usize = 0;
     while i < list.len() {
         if list[i] == b'\n' {
-            show_part(list, start, i);
+            show_part(rt, list, start, i);
             start = i + 1;
         }
         i += 1;
@@ -173,39 +173,40 @@ fn show_each(list: &[u8]) {
 }
 
 // Shows the text of n times `unit`, then `last`, then m times a byte.
-fn chain(unit: &[u8], n: usize, last: &[u8], after: u8, m: usize) {
+fn chain(rt: &impl Print, unit: &[u8], n: usize, last: &[u8], after: u8, m: usize) {
     let mut text = no_text();
     let one = [after];
     let start = put_times(&mut text, 0, unit, n);
     let end = put_times(&mut text, start, last, 1);
     let all = put_times(&mut text, end, &one, m);
-    show(&text[0..all]);
+    show(rt, &text[0..all]);
 }
 
 // Shows the text of n times one byte.
-fn run(b: u8, n: usize) {
-    chain(b"", 0, b"", b, n);
+fn run(rt: &impl Print, b: u8, n: usize) {
+    chain(rt, b"", 0, b"", b, n);
 }
 
 // Shows each of the 256 byte values as a text by itself: every class of bytes.
-fn every_byte() {
+fn every_byte(rt: &impl Print) {
     let mut b: u8 = 0;
     while b < 255 {
-        show_byte(b);
+        show_byte(rt, b);
         b += 1;
     }
-    show_byte(b);
+    show_byte(rt, b);
 }
 
 // Shows the text of one byte.
-fn show_byte(b: u8) {
+fn show_byte(rt: &impl Print, b: u8) {
     let one = [b];
-    show(&one);
+    show(rt, &one);
 }
 
 // Document 01, 'Places'.
-fn document_places() {
+fn document_places(rt: &impl Print) {
     show_each(
+        rt,
         b"C(a\n\
         a\n\
         a & b=0\n\
@@ -216,8 +217,9 @@ fn document_places() {
 }
 
 // Document 01, 'Worked sheets': the rules of P1 to P12.
-fn document_sheets() {
+fn document_sheets(rt: &impl Print) {
     show_each(
+        rt,
         b"T\n\
         C(raw,cooked)\n\
         ~C(raw,cooked)\n\
@@ -236,8 +238,9 @@ fn document_sheets() {
 }
 
 // The longest match at '<': '<=m' and what only looks like it.
-fn measured_signs() {
+fn measured_signs(rt: &impl Print) {
     show_each(
+        rt,
         b"<=max(a,b)\n\
         <= m(a,b)\n\
         <= max(a,b)\n\
@@ -260,8 +263,9 @@ fn measured_signs() {
 }
 
 // '=0' and '= 0': what is cut, and the runs that follow them.
-fn zero_signs() {
+fn zero_signs(rt: &impl Print) {
     show_each(
+        rt,
         b"a=01\n\
         a=00\n\
         a=0b\n\
@@ -296,8 +300,9 @@ fn zero_signs() {
 }
 
 // Blanks around '=': free before it, one space after it.
-fn blanks_at_zero() {
+fn blanks_at_zero(rt: &impl Print) {
     show_each(
+        rt,
         b"a=\t0\n\
         a= \t0\n\
         a=\t 0\n\
@@ -325,8 +330,9 @@ fn blanks_at_zero() {
 }
 
 // '<', '>' and '-': the arrows, and the '<' and '>' that open no sign.
-fn arrows() {
+fn arrows(rt: &impl Print) {
     show_each(
+        rt,
         b"a>b\n\
         >\n\
         >T\n\
@@ -364,8 +370,9 @@ fn arrows() {
 }
 
 // Runs: constants stand alone, every other run is a name of up to 16 bytes.
-fn names() {
+fn names(rt: &impl Print) {
     show_each(
+        rt,
         b"abcdefghijklmnop=0\n\
         abcdefghijklmnopq=0\n\
         0000000000000000=0\n\
@@ -398,8 +405,9 @@ fn names() {
 }
 
 // Refusals 3, 4 and 5 compete by place, and all come before 6.
-fn first_place() {
+fn first_place(rt: &impl Print) {
     show_each(
+        rt,
         b"a & $\n\
         a a $\n\
         T T $\n\
@@ -424,8 +432,9 @@ fn first_place() {
 }
 
 // Bytes of the class foreign, beside those of other classes.
-fn foreign_bytes() {
+fn foreign_bytes(rt: &impl Print) {
     show_each(
+        rt,
         b"\x00\n\
         T\x00\n\
         \rT\n\
@@ -452,16 +461,17 @@ fn foreign_bytes() {
 }
 
 // Byte 10 is foreign in a rule text.
-fn line_ends() {
-    show(b"\nT");
-    show(b"T\n");
-    show(b"T\nF");
-    show(b"T\r\n");
+fn line_ends(rt: &impl Print) {
+    show(rt, b"\nT");
+    show(rt, b"T\n");
+    show(rt, b"T\nF");
+    show(rt, b"T\r\n");
 }
 
 // Byte 13 is a blank (document 02, T-01), and no space of "= 0".
-fn office_ends() {
+fn office_ends(rt: &impl Print) {
     show_each(
+        rt,
         b"a=\r0\n\
         a= \r0\n\
         a\r=\r0\n\
@@ -474,8 +484,9 @@ fn office_ends() {
 }
 
 // Printed marks of the class foreign.
-fn foreign_marks() {
+fn foreign_marks(rt: &impl Print) {
     show_each(
+        rt,
         b"C[a,b]\n\
         T^F\n\
         {T}\n\
@@ -501,8 +512,9 @@ fn foreign_marks() {
 }
 
 // Texts of blanks only, and blanks about a rule.
-fn blank_texts() {
+fn blank_texts(rt: &impl Print) {
     show_each(
+        rt,
         b"\n\
         \x20\n\
         \t\n\
@@ -520,8 +532,9 @@ fn blank_texts() {
 }
 
 // A parenthesis may open a term or a formula: both are read on until a token decides.
-fn either_sort() {
+fn either_sort(rt: &impl Print) {
     show_each(
+        rt,
         b"(a=0)*b\n\
         ((a)&\n\
         ((a)|T\n\
@@ -554,8 +567,9 @@ fn either_sort() {
 }
 
 // Parentheses that turn out to hold a term.
-fn terms_in_parentheses() {
+fn terms_in_parentheses(rt: &impl Print) {
     show_each(
+        rt,
         b"((a))=0\n\
         ((a))\n\
         (a)*b=0\n\
@@ -593,8 +607,9 @@ fn terms_in_parentheses() {
 }
 
 // Parentheses that hold a formula, and pairs that do not match.
-fn formulas_in_parentheses() {
+fn formulas_in_parentheses(rt: &impl Print) {
     show_each(
+        rt,
         b"(T)\n\
         ((T))\n\
         (T)&(F)\n\
@@ -633,8 +648,9 @@ fn formulas_in_parentheses() {
 }
 
 // A text that ends early is refused at its length, blanks included.
-fn early_ends() {
+fn early_ends(rt: &impl Print) {
     show_each(
+        rt,
         b"a  \n\
         T& \n\
         T&\n\
@@ -667,8 +683,9 @@ fn early_ends() {
 }
 
 // '=0' takes the whole term before it.
-fn zero_binding() {
+fn zero_binding(rt: &impl Print) {
     show_each(
+        rt,
         b"~a*b=0\n\
         -a*b=0\n\
         a+b=0&T\n\
@@ -704,8 +721,9 @@ fn zero_binding() {
 }
 
 // Two binary signs of formulas, each against each.
-fn level_pairs() {
+fn level_pairs(rt: &impl Print) {
     show_each(
+        rt,
         b"T->F->T\n\
         T->F<->T\n\
         T<->F->T\n\
@@ -741,8 +759,9 @@ fn level_pairs() {
 }
 
 // '+' and '*' against each other and against the signs of formulas.
-fn sign_pairs() {
+fn sign_pairs(rt: &impl Print) {
     show_each(
+        rt,
         b"a+b+c=0\n\
         a+b*c=0\n\
         a*b+c=0\n\
@@ -777,8 +796,9 @@ fn sign_pairs() {
 }
 
 // C and <= want a parenthesis and two terms.
-fn relations() {
+fn relations(rt: &impl Print) {
     show_each(
+        rt,
         b"a<=(b,c)\n\
         C a\n\
         C(a)\n\
@@ -812,8 +832,9 @@ fn relations() {
 }
 
 // Relations that are read, and what may stand before and after them.
-fn more_relations() {
+fn more_relations(rt: &impl Print) {
     show_each(
+        rt,
         b"C(a,b)\n\
         C (a,b)\n\
         C( a , b )\n\
@@ -846,8 +867,9 @@ fn more_relations() {
 }
 
 // Tokens that may not follow one another.
-fn side_by_side() {
+fn side_by_side(rt: &impl Print) {
     show_each(
+        rt,
         b"T T\n\
         T F\n\
         TF\n\
@@ -886,114 +908,114 @@ fn side_by_side() {
 }
 
 // 256 bytes are read, 257 give 2, also where all are one byte.
-fn limits_of_one_byte() {
-    run(b' ', 0);
-    run(b' ', 255);
-    run(b' ', 256);
-    run(b' ', 257);
-    run(b'\t', 300);
-    run(b'$', 256);
-    run(b'$', 257);
-    run(b'a', 256);
-    run(b'a', 257);
-    run(b'(', 255);
-    run(b'(', 256);
-    run(b'(', 257);
-    run(b')', 256);
-    run(b')', 257);
-    run(b'~', 256);
-    run(b'-', 256);
-    run(b'\x00', 256);
-    run(b'=', 257);
+fn limits_of_one_byte(rt: &impl Print) {
+    run(rt, b' ', 0);
+    run(rt, b' ', 255);
+    run(rt, b' ', 256);
+    run(rt, b' ', 257);
+    run(rt, b'\t', 300);
+    run(rt, b'$', 256);
+    run(rt, b'$', 257);
+    run(rt, b'a', 256);
+    run(rt, b'a', 257);
+    run(rt, b'(', 255);
+    run(rt, b'(', 256);
+    run(rt, b'(', 257);
+    run(rt, b')', 256);
+    run(rt, b')', 257);
+    run(rt, b'~', 256);
+    run(rt, b'-', 256);
+    run(rt, b'\x00', 256);
+    run(rt, b'=', 257);
 }
 
 // A rule of 256 bytes, blanks included, is read; one blank more gives 2.
-fn limits_of_blanks() {
-    chain(b"~", 255, b"T", b' ', 0);
-    chain(b"~", 255, b"T", b' ', 1);
-    chain(b"~", 254, b"T", b' ', 1);
-    chain(b" ", 255, b"T", b' ', 0);
-    chain(b" ", 256, b"T", b' ', 0);
-    chain(b" ", 0, b"T", b'\t', 255);
-    chain(b" ", 0, b"T", b'\t', 256);
-    chain(b"(", 255, b"", b' ', 1);
-    chain(b"~", 254, b"a", b' ', 1);
+fn limits_of_blanks(rt: &impl Print) {
+    chain(rt, b"~", 255, b"T", b' ', 0);
+    chain(rt, b"~", 255, b"T", b' ', 1);
+    chain(rt, b"~", 254, b"T", b' ', 1);
+    chain(rt, b" ", 255, b"T", b' ', 0);
+    chain(rt, b" ", 256, b"T", b' ', 0);
+    chain(rt, b" ", 0, b"T", b'\t', 255);
+    chain(rt, b" ", 0, b"T", b'\t', 256);
+    chain(rt, b"(", 255, b"", b' ', 1);
+    chain(rt, b"~", 254, b"a", b' ', 1);
 }
 
 // The deepest nesting, whole and broken.
-fn limits_of_nesting() {
-    chain(b"(", 127, b"T", b')', 127);
-    chain(b"(", 127, b"T", b')', 126);
-    chain(b"(", 127, b"T", b')', 128);
-    chain(b"(", 128, b"T", b')', 127);
-    chain(b"(", 126, b"a", b')', 126);
-    chain(b"(", 126, b"a=0", b')', 126);
-    chain(b"(", 126, b"a=0", b')', 127);
-    chain(b"(", 127, b"a", b')', 128);
-    chain(b"(", 63, b"a", b')', 63);
+fn limits_of_nesting(rt: &impl Print) {
+    chain(rt, b"(", 127, b"T", b')', 127);
+    chain(rt, b"(", 127, b"T", b')', 126);
+    chain(rt, b"(", 127, b"T", b')', 128);
+    chain(rt, b"(", 128, b"T", b')', 127);
+    chain(rt, b"(", 126, b"a", b')', 126);
+    chain(rt, b"(", 126, b"a=0", b')', 126);
+    chain(rt, b"(", 126, b"a=0", b')', 127);
+    chain(rt, b"(", 127, b"a", b')', 128);
+    chain(rt, b"(", 63, b"a", b')', 63);
 }
 
 // 255 prefix signs, and a refusal at the last byte.
-fn limits_of_prefixes() {
-    chain(b"-", 253, b"a=0", b' ', 0);
-    chain(b"~", 253, b"a=0", b' ', 0);
-    chain(b"~", 255, b"a", b' ', 0);
-    chain(b"~", 255, b")", b' ', 0);
-    chain(b"~", 255, b"$", b' ', 0);
-    chain(b"-", 255, b"T", b' ', 0);
+fn limits_of_prefixes(rt: &impl Print) {
+    chain(rt, b"-", 253, b"a=0", b' ', 0);
+    chain(rt, b"~", 253, b"a=0", b' ', 0);
+    chain(rt, b"~", 255, b"a", b' ', 0);
+    chain(rt, b"~", 255, b")", b' ', 0);
+    chain(rt, b"~", 255, b"$", b' ', 0);
+    chain(rt, b"-", 255, b"T", b' ', 0);
 }
 
 // Binary signs, relations and refused tokens up to the last byte.
-fn limits_of_chains() {
-    chain(b"T&", 127, b"T", b' ', 1);
-    chain(b"T&", 127, b"T", b' ', 2);
-    chain(b"T|", 128, b"", b' ', 0);
-    chain(b"a=0&", 63, b"a= 0", b' ', 0);
-    chain(b"C(raw,cooked)&", 18, b"a= 0", b' ', 0);
-    chain(b"C(raw,cooked)&", 18, b"a= 0", b' ', 1);
-    chain(b"a+", 127, b"=0", b' ', 0);
+fn limits_of_chains(rt: &impl Print) {
+    chain(rt, b"T&", 127, b"T", b' ', 1);
+    chain(rt, b"T&", 127, b"T", b' ', 2);
+    chain(rt, b"T|", 128, b"", b' ', 0);
+    chain(rt, b"a=0&", 63, b"a= 0", b' ', 0);
+    chain(rt, b"C(raw,cooked)&", 18, b"a= 0", b' ', 0);
+    chain(rt, b"C(raw,cooked)&", 18, b"a= 0", b' ', 1);
+    chain(rt, b"a+", 127, b"=0", b' ', 0);
 }
 
 // Chains of signs with an open parenthesis.
-fn limits_of_pairs() {
-    chain(b"~(", 85, b"T", b')', 85);
-    chain(b"-(", 84, b"a", b')', 84);
-    chain(b"T->(", 50, b"T", b')', 50);
-    chain(b"C(", 128, b"", b' ', 0);
-    chain(b"<=m", 85, b"", b' ', 1);
-    chain(b"<=m", 86, b"", b' ', 0);
+fn limits_of_pairs(rt: &impl Print) {
+    chain(rt, b"~(", 85, b"T", b')', 85);
+    chain(rt, b"-(", 84, b"a", b')', 84);
+    chain(rt, b"T->(", 50, b"T", b')', 50);
+    chain(rt, b"C(", 128, b"", b' ', 0);
+    chain(rt, b"<=m", 85, b"", b' ', 1);
+    chain(rt, b"<=m", 86, b"", b' ', 0);
 }
 
 // Every group of texts, then each byte value by itself.
-fn main() {
-    document_places();
-    document_sheets();
-    measured_signs();
-    zero_signs();
-    blanks_at_zero();
-    arrows();
-    names();
-    first_place();
-    foreign_bytes();
-    line_ends();
-    office_ends();
-    foreign_marks();
-    blank_texts();
-    either_sort();
-    terms_in_parentheses();
-    formulas_in_parentheses();
-    early_ends();
-    zero_binding();
-    level_pairs();
-    sign_pairs();
-    relations();
-    more_relations();
-    side_by_side();
-    limits_of_one_byte();
-    limits_of_blanks();
-    limits_of_nesting();
-    limits_of_prefixes();
-    limits_of_chains();
-    limits_of_pairs();
-    every_byte();
+fn main(rt: HostRuntime) {
+    document_places(&rt);
+    document_sheets(&rt);
+    measured_signs(&rt);
+    zero_signs(&rt);
+    blanks_at_zero(&rt);
+    arrows(&rt);
+    names(&rt);
+    first_place(&rt);
+    foreign_bytes(&rt);
+    line_ends(&rt);
+    office_ends(&rt);
+    foreign_marks(&rt);
+    blank_texts(&rt);
+    either_sort(&rt);
+    terms_in_parentheses(&rt);
+    formulas_in_parentheses(&rt);
+    early_ends(&rt);
+    zero_binding(&rt);
+    level_pairs(&rt);
+    sign_pairs(&rt);
+    relations(&rt);
+    more_relations(&rt);
+    side_by_side(&rt);
+    limits_of_one_byte(&rt);
+    limits_of_blanks(&rt);
+    limits_of_nesting(&rt);
+    limits_of_prefixes(&rt);
+    limits_of_chains(&rt);
+    limits_of_pairs(&rt);
+    every_byte(&rt);
 }

@@ -192,22 +192,22 @@ fn test_sheets(counts: &mut [usize; 9]) {
     }
 }
 
-fn write_count(label: &[u8], n: usize) {
-    write_bytes(label);
-    write_number(n);
-    write_bytes(b"\n");
+fn write_count(rt: &impl Print, label: &[u8], n: usize) {
+    write_bytes(rt, label);
+    write_number(rt, n);
+    write_bytes(rt, b"\n");
 }
 
-fn main() {
+fn main(rt: HostRuntime) {
     let mut counts = [0usize; 9];
     test_sheets(&mut counts);
-    write_count(b"sheets        ", counts[0]);
-    write_count(b"refused 8     ", counts[1]);
-    write_count(b"plans         ", counts[2]);
-    write_count(b"no plans      ", counts[3]);
-    write_count(b"plan words    ", counts[4]);
-    write_count(b"buildings     ", counts[5]);
-    write_count(b"no buildings  ", counts[6]);
-    write_count(b"their words   ", counts[7]);
-    write_count(b"disagreements ", counts[8]);
+    write_count(&rt, b"sheets        ", counts[0]);
+    write_count(&rt, b"refused 8     ", counts[1]);
+    write_count(&rt, b"plans         ", counts[2]);
+    write_count(&rt, b"no plans      ", counts[3]);
+    write_count(&rt, b"plan words    ", counts[4]);
+    write_count(&rt, b"buildings     ", counts[5]);
+    write_count(&rt, b"no buildings  ", counts[6]);
+    write_count(&rt, b"their words   ", counts[7]);
+    write_count(&rt, b"disagreements ", counts[8]);
 }

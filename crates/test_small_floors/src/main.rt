@@ -601,10 +601,10 @@ enum Finding {
 }
 
 // Writes why a sheet disagrees.
-fn disagree(why: &[u8]) -> Finding {
-    write_bytes(b"disagrees: ");
-    write_bytes(why);
-    write_bytes(b"\n");
+fn disagree(rt: &impl Print, why: &[u8]) -> Finding {
+    write_bytes(rt, b"disagrees: ");
+    write_bytes(rt, why);
+    write_bytes(rt, b"\n");
     Finding::Disagrees
 }
 
@@ -617,18 +617,25 @@ fn is_late(names: usize, row: u32, first: u32) -> bool {
 }
 
 // Whether the words are those that the documents give for the atoms in their row.
-fn check_words(atoms: Atoms, building: bool, n: usize, words: &[u32; 530]) -> Finding {
+fn check_words(
+    rt: &impl Print,
+    atoms: Atoms,
+    building: bool,
+    n: usize,
+    words: &[u32; 530],
+) -> Finding {
     let expected = words_of(atoms, building);
     if expected.count == n {
         if same_words(words, expected) {
             return Finding::Plan(n);
         }
     }
-    disagree(b"the words are not the documents'")
+    disagree(rt, b"the words are not the documents'")
 }
 
 // The floor of a plan's words, held to the rules: it must meet them, its row be the first, and the words the documents'.
 fn check_row(
+    rt: &impl Print,
     code: &[u8],
     numbers: Numbers,
     names: usize,
@@ -639,12 +646,13 @@ fn check_row(
 ) -> Finding {
     let m = on_floor(code, numbers, floor);
     if !m.met {
-        return disagree(b"the plan does not meet the rules");
+        return disagree(rt, b"the plan does not meet the rules");
     }
     if is_late(names, m.row, found.row) {
-        return disagree(b"the plan's row is not the first");
+        return disagree(rt, b"the plan's row is not the first");
     }
     check_words(
+        rt,
         atoms_of(code, numbers, names, m.row),
         found.building,
         n,
@@ -658,6 +666,7 @@ fn is_unfounded(names: usize, some: bool) -> bool {
 }
 
 fn check_plan(
+    rt: &impl Print,
     code: &[u8],
     numbers: Numbers,
     names: usize,
@@ -667,29 +676,30 @@ fn check_plan(
 ) -> Finding {
     let floor = floor_in(words, n);
     if is_unfounded(names, found.some) {
-        return disagree(b"a plan, but no floor is found");
+        return disagree(rt, b"a plan, but no floor is found");
     }
     if !stand_somewhere(floor.points, names) {
-        return disagree(b"a point of the plan is in no name");
+        return disagree(rt, b"a point of the plan is in no name");
     }
     if !is_asked_for(floor, found.building) {
-        return disagree(b"the plan does not hang together");
+        return disagree(rt, b"the plan does not hang together");
     }
-    check_row(code, numbers, names, found, floor, n, words)
+    check_row(rt, code, numbers, names, found, floor, n, words)
 }
 
-fn check_no_plan(found: Found, words: &[u32; 530]) -> Finding {
+fn check_no_plan(rt: &impl Print, found: Found, words: &[u32; 530]) -> Finding {
     if found.some {
-        return disagree(b"no plan, but a floor is found");
+        return disagree(rt, b"no plan, but a floor is found");
     }
     if same_words(words, no_words()) {
         return Finding::NoPlan;
     }
-    disagree(b"no plan, but words are written")
+    disagree(rt, b"no plan, but words are written")
 }
 
 // Holds the answer to the search.
 fn check_answer(
+    rt: &impl Print,
     code: &[u8],
     numbers: Numbers,
     names: usize,
@@ -698,25 +708,26 @@ fn check_answer(
     words: &[u32; 530],
 ) -> Finding {
     if !found.whole {
-        return disagree(b"the form is not evaluated");
+        return disagree(rt, b"the form is not evaluated");
     }
     match answer {
-        Answer::Plan(n) => check_plan(code, numbers, names, found, n, words),
-        Answer::NoPlan => check_no_plan(found, words),
-        Answer::TooManyAtoms => disagree(b"refused 8, but no more than 16 atoms differ"),
-        Answer::Refused => disagree(b"a rule or the question is refused"),
+        Answer::Plan(n) => check_plan(rt, code, numbers, names, found, n, words),
+        Answer::NoPlan => check_no_plan(rt, found, words),
+        Answer::TooManyAtoms => disagree(rt, b"refused 8, but no more than 16 atoms differ"),
+        Answer::Refused => disagree(rt, b"a rule or the question is refused"),
     }
 }
 
 // Whether a sheet of more than 16 different atoms is refused for them.
-fn check_refused(answer: Answer) -> Finding {
+fn check_refused(rt: &impl Print, answer: Answer) -> Finding {
     match answer {
         Answer::TooManyAtoms => Finding::TooManyAtoms,
-        _ => disagree(b"more than 16 atoms differ"),
+        _ => disagree(rt, b"more than 16 atoms differ"),
     }
 }
 
 fn check(
+    rt: &impl Print,
     code: &[u8],
     numbers: Numbers,
     names: usize,
@@ -725,9 +736,9 @@ fn check(
     words: &[u32; 530],
 ) -> Finding {
     if 16 < numbers.count {
-        return check_refused(answer);
+        return check_refused(rt, answer);
     }
-    check_answer(code, numbers, names, found, answer, words)
+    check_answer(rt, code, numbers, names, found, answer, words)
 }
 
 // ---- the checks: counts
@@ -741,8 +752,9 @@ const DISAGREEMENTS: usize = 5;
 const BUILDINGS: usize = 6;
 
 // What was counted.
-fn show_counts(counts: [usize; 10]) {
+fn show_counts(rt: &impl Print, counts: [usize; 10]) {
     write_counts(
+        rt,
         b"sheets        \
         plans         \
         no plans      \
@@ -764,7 +776,7 @@ fn raise(counts: &mut [usize; 10], i: usize, n: usize) {
 
 // The answers to a question are counted from a place on: plans, no plans, those refused, words. A sheet that disagrees is written with
 // its rules.
-fn count_finding(counts: &mut [usize; 10], from: usize, f: Finding, file: &[u8]) {
+fn count_finding(rt: &impl Print, counts: &mut [usize; 10], from: usize, f: Finding, file: &[u8]) {
     match f {
         Finding::Plan(n) => {
             raise(counts, from, 1);
@@ -777,7 +789,7 @@ fn count_finding(counts: &mut [usize; 10], from: usize, f: Finding, file: &[u8])
             raise(counts, from % 10 + 2, 1);
         }
         Finding::Disagrees => {
-            write_bytes(file);
+            write_bytes(rt, file);
             raise(counts, DISAGREEMENTS, 1);
         }
     }
@@ -786,31 +798,32 @@ fn count_finding(counts: &mut [usize; 10], from: usize, f: Finding, file: &[u8])
 // ---- the checks: the sheets
 
 // Writes the first n words, a blank before each.
-fn write_first(words: &[u32], n: usize) {
+fn write_first(rt: &impl Print, words: &[u32], n: usize) {
     if n <= words.len() {
-        write_words(b" ", &words[0..n], b"");
+        write_words(rt, b" ", &words[0..n], b"");
     }
 }
 
 // Writes what is found of one of document 01's sheets.
-fn write_finding(f: Finding, words: &[u32; 530]) {
+fn write_finding(rt: &impl Print, f: Finding, words: &[u32; 530]) {
     match f {
-        Finding::Plan(n) => write_first(words, n),
-        Finding::NoPlan => write_bytes(b" no plan"),
-        Finding::TooManyAtoms => write_bytes(b" refused 8"),
-        Finding::Disagrees => write_bytes(b" disagrees"),
+        Finding::Plan(n) => write_first(rt, words, n),
+        Finding::NoPlan => write_bytes(rt, b" no plan"),
+        Finding::TooManyAtoms => write_bytes(rt, b" refused 8"),
+        Finding::Disagrees => write_bytes(rt, b" disagrees"),
     }
 }
 
-fn write_answer(k: u64, f: Finding, words: &[u32; 530]) {
-    write_labelled(b"P", k as usize % 100 + 1);
-    write_bytes(b":");
-    write_finding(f, words);
-    write_bytes(b"\n");
+fn write_answer(rt: &impl Print, k: u64, f: Finding, words: &[u32; 530]) {
+    write_labelled(rt, b"P", k as usize % 100 + 1);
+    write_bytes(rt, b":");
+    write_finding(rt, f, words);
+    write_bytes(rt, b"\n");
 }
 
 // Puts one of the two questions to a table, and holds the answer to what is found for it.
 fn test_question(
+    rt: &impl Print,
     counts: &mut [usize; 10],
     k: u64,
     table: Table,
@@ -825,19 +838,20 @@ fn test_question(
 {
     let mut words = [UNWRITTEN; 530];
     let answer = asked(table, refused, found.building, &mut words);
-    let f = check(code, numbers, names, found, answer, &words);
+    let f = check(rt, code, numbers, names, found, answer, &words);
     if found.building {
-        count_finding(counts, BUILDINGS, f, file);
+        count_finding(rt, counts, BUILDINGS, f, file);
         return;
     }
     if k < WORKED {
-        write_answer(k, f, &words);
+        write_answer(rt, k, f, &words);
     }
-    count_finding(counts, PLANS, f, file);
+    count_finding(rt, counts, PLANS, f, file);
 }
 
 // Tests sheet k: its lines, the number of the one that is withdrawn or 0, its form without that one, and how many names.
 fn test(
+    rt: &impl Print,
     counts: &mut [usize; 10],
     k: u64,
     file: &[u8],
@@ -851,13 +865,15 @@ fn test(
     let found = search(code, numbers, names);
     let plain = found.plain;
     let building = found.building;
-    test_question(counts, k, table, refused, file, code, numbers, names, plain);
     test_question(
-        counts, k, table, refused, file, code, numbers, names, building,
+        rt, counts, k, table, refused, file, code, numbers, names, plain,
+    );
+    test_question(
+        rt, counts, k, table, refused, file, code, numbers, names, building,
     );
 }
 
-fn test_made(counts: &mut [usize; 10], k: u64, sheet: Sheet)
+fn test_made(rt: &impl Print, counts: &mut [usize; 10], k: u64, sheet: Sheet)
     requires { Bounded sheet }
 {
     let text = sheet.text;
@@ -865,6 +881,7 @@ fn test_made(counts: &mut [usize; 10], k: u64, sheet: Sheet)
     let form = sheet.form;
     let last = sheet.last;
     test(
+        rt,
         counts,
         k,
         &text[0..end],
@@ -874,29 +891,29 @@ fn test_made(counts: &mut [usize; 10], k: u64, sheet: Sheet)
     );
 }
 
-fn test_sheet(counts: &mut [usize; 10], k: u64) {
+fn test_sheet(rt: &impl Print, counts: &mut [usize; 10], k: u64) {
     let sheet = sheet_at(k);
     raise(counts, 0, 1);
     if sheet.whole {
-        test_made(counts, k, sheet);
+        test_made(rt, counts, k, sheet);
         return;
     }
-    count_finding(counts, PLANS, disagree(b"a sheet is not made"), b"");
+    count_finding(rt, counts, PLANS, disagree(rt, b"a sheet is not made"), b"");
 }
 
 // How many sheets are tested: document 01's own and 3,000 generated ones.
 const SHEETS: u64 = 3012;
 
-fn test_sheets(counts: &mut [usize; 10]) {
+fn test_sheets(rt: &impl Print, counts: &mut [usize; 10]) {
     let mut k: u64 = 0;
     while k < SHEETS {
-        test_sheet(counts, k);
+        test_sheet(rt, counts, k);
         k += 1;
     }
 }
 
-fn main() {
+fn main(rt: HostRuntime) {
     let mut counts = [0usize; 10];
-    test_sheets(&mut counts);
-    show_counts(counts);
+    test_sheets(&rt, &mut counts);
+    show_counts(&rt, counts);
 }

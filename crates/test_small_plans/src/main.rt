@@ -260,8 +260,9 @@ fn raise(counts: &mut [usize; 6], i: usize) {
 }
 
 // What was counted.
-fn show_counts(counts: [usize; 6]) {
+fn show_counts(rt: &impl Print, counts: [usize; 6]) {
     write_counts(
+        rt,
         b"sheets        \
         plans         \
         no plans      \
@@ -272,10 +273,10 @@ fn show_counts(counts: [usize; 6]) {
     );
 }
 
-fn disagree(counts: &mut [usize; 6], why: &[u8], file: &[u8]) {
-    write_bytes(why);
-    write_bytes(b"\n");
-    write_bytes(file);
+fn disagree(rt: &impl Print, counts: &mut [usize; 6], why: &[u8], file: &[u8]) {
+    write_bytes(rt, why);
+    write_bytes(rt, b"\n");
+    write_bytes(rt, file);
     raise(counts, DISAGREEMENTS);
 }
 
@@ -283,6 +284,7 @@ fn disagree(counts: &mut [usize; 6], why: &[u8], file: &[u8]) {
 
 // Where ask gives a plan of n words: it must do as drawn, and still must say what it must of each of its words changed.
 fn test_plan(
+    rt: &impl Print,
     counts: &mut [usize; 6],
     table: Table,
     file: &[u8],
@@ -296,17 +298,24 @@ fn test_plan(
 {
     raise(counts, PLANS);
     if still_says(table, words, n) != AS_DRAWN {
-        disagree(counts, b"ask's plan is not as drawn", file);
+        disagree(rt, counts, b"ask's plan is not as drawn", file);
     }
     if !changes_agree(counts, table, code, numbers, names, words, n) {
-        disagree(counts, b"a plan with a word changed", file);
+        disagree(rt, counts, b"a plan with a word changed", file);
     }
     if !floors_agree(table, code, numbers, names, YES) {
-        disagree(counts, b"a plan of one or two points", file);
+        disagree(rt, counts, b"a plan of one or two points", file);
     }
 }
 
-fn test_table(counts: &mut [usize; 6], table: Table, file: &[u8], code: &[u8], names: usize)
+fn test_table(
+    rt: &impl Print,
+    counts: &mut [usize; 6],
+    table: Table,
+    file: &[u8],
+    code: &[u8],
+    names: usize,
+)
     requires { FromUs table }
 {
     let numbers = numbers_of(code);
@@ -315,16 +324,16 @@ fn test_table(counts: &mut [usize; 6], table: Table, file: &[u8], code: &[u8], n
     let answer = r.answer;
     match answer {
         AskAnswer::Plan(n) => {
-            test_plan(counts, table, file, code, numbers, names, &words, n);
+            test_plan(rt, counts, table, file, code, numbers, names, &words, n);
         }
         AskAnswer::NoPlan => {
             raise(counts, NO_PLANS);
             if !floors_agree(table, code, numbers, names, NO) {
-                disagree(counts, b"a plan of one or two points", file);
+                disagree(rt, counts, b"a plan of one or two points", file);
             }
         }
-        AskAnswer::NoRule => disagree(counts, b"no rule", file),
-        AskAnswer::ShortBuffer(_) => disagree(counts, b"no room", file),
+        AskAnswer::NoRule => disagree(rt, counts, b"no rule", file),
+        AskAnswer::ShortBuffer(_) => disagree(rt, counts, b"no room", file),
     }
 }
 
@@ -341,7 +350,7 @@ fn without(table: Table, k: usize) -> Table
 }
 
 // A sheet is refused where it has more than 16 different atoms.
-fn test_made(counts: &mut [usize; 6], sheet: Sheet)
+fn test_made(rt: &impl Print, counts: &mut [usize; 6], sheet: Sheet)
     requires { Bounded sheet }
 {
     let text = sheet.text;
@@ -355,30 +364,37 @@ fn test_made(counts: &mut [usize; 6], sheet: Sheet)
         return;
     };
     let table = without(r.table, sheet.withdrawn);
-    test_table(counts, table, &text[0..end], &form[0..last], sheet.names);
+    test_table(
+        rt,
+        counts,
+        table,
+        &text[0..end],
+        &form[0..last],
+        sheet.names,
+    );
 }
 
-fn test_sheet(counts: &mut [usize; 6], k: u64) {
+fn test_sheet(rt: &impl Print, counts: &mut [usize; 6], k: u64) {
     let sheet = sheet_at(k);
     raise(counts, SHEETS);
     if sheet.whole {
-        test_made(counts, sheet);
+        test_made(rt, counts, sheet);
         return;
     }
-    disagree(counts, b"a sheet is not made", b"");
+    disagree(rt, counts, b"a sheet is not made", b"");
 }
 
 // All sheets of test_small_floors: document 01's own and 3,000 generated ones.
-fn test_sheets(counts: &mut [usize; 6]) {
+fn test_sheets(rt: &impl Print, counts: &mut [usize; 6]) {
     let mut k: u64 = 0;
     while k < 3012 {
-        test_sheet(counts, k);
+        test_sheet(rt, counts, k);
         k += 1;
     }
 }
 
-fn main() {
+fn main(rt: HostRuntime) {
     let mut counts = [0usize; 6];
-    test_sheets(&mut counts);
-    show_counts(counts);
+    test_sheets(&rt, &mut counts);
+    show_counts(&rt, counts);
 }

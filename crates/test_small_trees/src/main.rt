@@ -127,8 +127,9 @@ const EXPLAIN_REFUSED: usize = 32;
 const DISAGREEMENTS: usize = 33;
 
 // What was counted.
-fn show_counts(counts: [usize; 34]) {
+fn show_counts(rt: &impl Print, counts: [usize; 34]) {
     write_counts(
+        rt,
         b"no name       \
         one name      \
         two names     \
@@ -260,16 +261,16 @@ fn count_tree(counts: &mut [usize; 34], words: &[u32; 530], n: usize) {
 // ---- the sheets
 
 // Writes a sheet that disagrees, and why.
-fn disagree(counts: &mut [usize; 34], why: &[u8], file: &[u8]) {
-    write_bytes(b"disagrees: ");
-    write_bytes(why);
-    write_bytes(b"\n");
-    write_bytes(file);
+fn disagree(rt: &impl Print, counts: &mut [usize; 34], why: &[u8], file: &[u8]) {
+    write_bytes(rt, b"disagrees: ");
+    write_bytes(rt, why);
+    write_bytes(rt, b"\n");
+    write_bytes(rt, file);
     raise(counts, DISAGREEMENTS, 1);
 }
 
 // Whether a sheet without a plan has a tree, and one with a plan has none.
-fn test_table(counts: &mut [usize; 34], table: Table, file: &[u8])
+fn test_table(rt: &impl Print, counts: &mut [usize; 34], table: Table, file: &[u8])
     requires { FromUs table }
 {
     let mut words = [UNWRITTEN; 530];
@@ -290,7 +291,7 @@ fn test_table(counts: &mut [usize; 34], table: Table, file: &[u8])
         }
         Reasons::Wrong => {}
     }
-    disagree(counts, b"explain and check_tree", file);
+    disagree(rt, counts, b"explain and check_tree", file);
 }
 
 // The table with its k-th rule withdrawn, where k is not 0.
@@ -307,42 +308,42 @@ fn without(table: Table, k: usize) -> Table
 
 // A sheet's lines, and the number of the one that is withdrawn or 0. A sheet that is refused, of more than 16 different atoms, has nothing
 // to explain.
-fn test_lines(counts: &mut [usize; 34], file: &[u8], withdrawn: usize) {
+fn test_lines(rt: &impl Print, counts: &mut [usize; 34], file: &[u8], withdrawn: usize) {
     let r = Table::empty().load(file);
     let answer = r.answer;
     let LoadAnswer::Loaded = answer else {
         return;
     };
-    test_table(counts, without(r.table, withdrawn), file);
+    test_table(rt, counts, without(r.table, withdrawn), file);
 }
 
-fn test_sheet(counts: &mut [usize; 34], k: u64) {
+fn test_sheet(rt: &impl Print, counts: &mut [usize; 34], k: u64) {
     let sheet = sheet_at(k);
     let text = sheet.text;
     let end = sheet.end;
     let form = sheet.form;
     let last = sheet.last;
     if !sheet.whole {
-        disagree(counts, b"a sheet is not made", b"");
+        disagree(rt, counts, b"a sheet is not made", b"");
         return;
     }
     count_sheet(counts, &text[0..end], &form[0..last], sheet.names);
-    test_lines(counts, &text[0..end], sheet.withdrawn);
+    test_lines(rt, counts, &text[0..end], sheet.withdrawn);
 }
 
 // How many sheets are tested: document 01's own and 3,000 generated ones.
 const SHEETS: u64 = 3012;
 
-fn test_sheets(counts: &mut [usize; 34]) {
+fn test_sheets(rt: &impl Print, counts: &mut [usize; 34]) {
     let mut k: u64 = 0;
     while k < SHEETS {
-        test_sheet(counts, k);
+        test_sheet(rt, counts, k);
         k += 1;
     }
 }
 
-fn main() {
+fn main(rt: HostRuntime) {
     let mut counts = [0usize; 34];
-    test_sheets(&mut counts);
-    show_counts(counts);
+    test_sheets(&rt, &mut counts);
+    show_counts(&rt, counts);
 }

@@ -16,6 +16,7 @@
 ghost use Rattle.std.specs.Prelude.{◌≡◌, ◌≤◌, length};
 ghost use Rattle.table.specs.Calls.{FromUs};
 
+use reading::Got;
 use table::{CheckAnswer, ExplainAnswer, Table};
 use test_kit::{no_text, put_byte, write_bytes, write_labelled, write_words};
 
@@ -311,7 +312,14 @@ fn answer_of(a: CheckAnswer) -> usize {
 }
 
 // The table's answer to the first n words of a buffer, held to the definitions.
-fn compared(c: Counts, t: Table, form: &[u8], buffer: [u32; 64], n: usize) -> Counts
+fn compared(
+    rt: &impl Print,
+    c: Counts,
+    t: Table,
+    form: &[u8],
+    buffer: [u32; 64],
+    n: usize,
+) -> Counts
     requires { FromUs t }
 {
     let words = &buffer[0..n % 64];
@@ -320,11 +328,11 @@ fn compared(c: Counts, t: Table, form: &[u8], buffer: [u32; 64], n: usize) -> Co
     let told = answer_of(answer);
     let right = judged(form, words);
     if told != right {
-        write_bytes(form);
-        write_words(b" ", words, b"");
-        write_labelled(b" told ", told);
-        write_labelled(b" right ", right);
-        write_bytes(b"\n");
+        write_bytes(rt, form);
+        write_words(rt, b" ", words, b"");
+        write_labelled(rt, b" told ", told);
+        write_labelled(rt, b" right ", right);
+        write_bytes(rt, b"\n");
     }
     let mut next = c;
     next.lists = raised(c.lists, 1);
@@ -336,7 +344,14 @@ fn compared(c: Counts, t: Table, form: &[u8], buffer: [u32; 64], n: usize) -> Co
 
 // Each of the words in turn replaced by each of 50: of kinds 4 to 8, with a bit that is not named and without, and with 0 to 4 as the
 // number of an atom or a rule.
-fn with_changes(c: Counts, t: Table, form: &[u8], tree: [u32; 64], n: usize) -> Counts
+fn with_changes(
+    rt: &impl Print,
+    c: Counts,
+    t: Table,
+    form: &[u8],
+    tree: [u32; 64],
+    n: usize,
+) -> Counts
     requires { FromUs t }
 {
     let mut next = c;
@@ -345,26 +360,33 @@ fn with_changes(c: Counts, t: Table, form: &[u8], tree: [u32; 64], n: usize) -> 
         let k = (i % 50) as u32;
         let mut words = tree;
         words[i / 50 % 64] = 0x4000_0000 + k / 10 * 0x1000_0000 + k / 5 % 2 * 0x100 + k % 5;
-        next = compared(next, t, form, words, n);
+        next = compared(rt, next, t, form, words, n);
         i += 1;
     }
     next
 }
 
 // A tree; one of up to 7 words is checked with a word behind it, without its last word, and with its changes too.
-fn with_tree(c: Counts, t: Table, form: &[u8], words: [u32; 64], n: usize) -> Counts
+fn with_tree(
+    rt: &impl Print,
+    c: Counts,
+    t: Table,
+    form: &[u8],
+    words: [u32; 64],
+    n: usize,
+) -> Counts
     requires { FromUs t }
 {
-    let mut next = compared(c, t, form, words, n);
+    let mut next = compared(rt, c, t, form, words, n);
     next.words = raised(c.words, n);
     if 7 < n {
         return next;
     }
-    next = compared(next, t, form, words, n + 1);
+    next = compared(rt, next, t, form, words, n + 1);
     if 0 < n {
-        next = compared(next, t, form, words, n - 1);
+        next = compared(rt, next, t, form, words, n - 1);
     }
-    with_changes(next, t, form, words, n)
+    with_changes(rt, next, t, form, words, n)
 }
 
 // Puts a sheet's text, and answers where its form begins.
@@ -384,7 +406,7 @@ fn put_rules(text: &mut [u8], line: &[u8]) -> usize
 }
 
 // A sheet: its text is put to an empty table.
-fn with_sheet(c: Counts, line: &[u8]) -> Counts {
+fn with_sheet(rt: &impl Print, c: Counts, line: &[u8]) -> Counts {
     let mut text = no_text();
     let at = put_rules(&mut text, line);
     let loaded = Table::empty().load(&text[0..at % 8200]);
@@ -393,19 +415,19 @@ fn with_sheet(c: Counts, line: &[u8]) -> Counts {
     let r = t.explain(&mut words);
     let answer = r.answer;
     let ExplainAnswer::Tree(n) = answer else {
-        write_bytes(line);
+        write_bytes(rt, line);
         return c;
     };
-    with_tree(c, t, &line[at..], words, n)
+    with_tree(rt, c, t, &line[at..], words, n)
 }
 
-fn with_sheets(c: Counts, sheets: &[u8]) -> Counts {
+fn with_sheets(rt: &impl Print, c: Counts, sheets: &[u8]) -> Counts {
     let mut next = c;
     let mut from: usize = 0;
     let mut i: usize = 0;
     while i < sheets.len() {
         if sheets[i] == b'\n' && from <= i {
-            next = with_sheet(next, &sheets[from..i]);
+            next = with_sheet(rt, next, &sheets[from..i]);
             from = i + 1;
         }
         i += 1;
@@ -413,17 +435,21 @@ fn with_sheets(c: Counts, sheets: &[u8]) -> Counts {
     next
 }
 
-fn main() {
-    let mut sheets = io::large_buffer();
-    let n = io::read_full(libc::STDIN_FILENO, &mut sheets);
+fn main(rt: HostRuntime) {
+    let mut sheets = [0u8; 65536];
+    let got = reading::read_sheet(&mut rt.stdin(), &mut sheets);
+    let Got::Bytes(n) = got else {
+        let _ = rt.eprintln("test_trees: the sheets cannot be read");
+        return;
+    };
     let none = Counts {
         words: 0,
         lists: 0,
         closed: 0,
     };
-    let c = with_sheets(none, &sheets[0..n]);
-    write_labelled(b"words of trees ", c.words);
-    write_labelled(b"\nlists of words checked ", c.lists);
-    write_labelled(b"\nclosed trees among them ", c.closed);
-    write_bytes(b"\n");
+    let c = with_sheets(&rt, none, &sheets[0..n]);
+    write_labelled(&rt, b"words of trees ", c.words);
+    write_labelled(&rt, b"\nlists of words checked ", c.lists);
+    write_labelled(&rt, b"\nclosed trees among them ", c.closed);
+    write_bytes(&rt, b"\n");
 }

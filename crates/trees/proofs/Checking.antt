@@ -14,10 +14,10 @@ use Rattle.trees.specs.declared.Verdict.{Verdict}
 use Rattle.trees.specs.declared.Verdict.TheVariants.{Accepts, Refuses}
 use Rattle.trees.specs.Trees.{Tree, split, rule, floorless, missing, split_word, rule_word, words_of, Whole, InOrder}
 use Rattle.trees.specs.Closed.{decided, root, RuleFalse, Splits, Right, Closed}
-use Rattle.trees.specs.Refusal.{to_come, Stands, Stands.splits, Stands.refutes, Stands.excludes, Stops, Refused}
+use Rattle.trees.specs.Refusal.{to_come, Stands, Stands.splits, Stops, Refused}
 use Rattle.trees.specs.Checker.{Does, splits, closes, wrong, after, unless, does, run, checked}
 use Rattle.trees.proofs.Branches.{decided_length}
-use Rattle.trees.proofs.Spelling.{Tests, Closes, Closes.rule, Closes.floor, Says, says, does_split, does_rule, does_floor, stands_right}
+use Rattle.trees.proofs.Spelling.{Tests, Closes, Closes.rule, Says, says, does_split, does_rule, does_floor, stands_right}
 
 -- a whole tree is written in order and has no branch to come
 pub whole_order : (t : Tree) → Whole t → InOrder t

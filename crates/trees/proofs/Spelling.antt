@@ -16,7 +16,7 @@ use Rattle.contact.specs.Kleene.{kleene_value}
 use Rattle.contact.specs.Tableau.{refuted}
 use Rattle.trees.specs.Trees.{split_word, rule_word, floorless_word}
 use Rattle.trees.specs.Closed.{value_in, RuleFalse, Splits}
-use Rattle.trees.specs.Refusal.{Stands, Stands.splits, Stands.refutes, Stands.excludes}
+use Rattle.trees.specs.Refusal.{Stands, Stands.splits}
 use Rattle.trees.specs.Checker.{Does, splits, closes, wrong, is_unknown, false_there, by_kind, does}
 
 -- the test agrees with what is meant, for branches of at most so many atoms

@@ -8,34 +8,33 @@
 
 use reading::Got;
 use report::{Piece, TextAnswer};
+use std::io;
 use table::AtomText;
 
-// The lines of a tree of so many words: whether all of them are written.
+// Writes the lines of a tree of so many words.
 fn write_tree(
+    rt: &impl Print,
     words: &[u32; 131071],
     depths: &[u8; 131071],
     count: usize,
     atoms: [AtomText; 16],
-) -> bool {
+) -> io::Result<()> {
     let mut text = report::no_text();
     let mut next: usize = 0;
     while next < count {
         let piece = report::why_piece(words, depths, count, atoms, next, &mut text);
         let len = piece.len;
-        let written = io::write_all(libc::STDOUT_FILENO, &text[..len]);
-        if !written {
-            return false;
-        }
+        rt.write_all(&text[..len])?;
         next = piece.next;
     }
-    true
+    Ok(())
 }
 
-fn main() {
+fn main(rt: HostRuntime) {
     let mut sheet = reading::no_bytes();
-    let got = reading::read_sheet(&mut sheet);
+    let got = reading::read_sheet(&mut rt.stdin(), &mut sheet);
     let Got::Bytes(n) = got else {
-        os::fail(b"why: the sheet cannot be read");
+        let _ = rt.eprintln("why: the sheet cannot be read");
         return;
     };
     let mut words = report::no_tree();
@@ -45,16 +44,16 @@ fn main() {
     let answer = told.answer;
     let atoms = told.atoms;
     let written = match answer {
-        TextAnswer::Text(len) => io::write_all(libc::STDOUT_FILENO, &text[..len]),
-        TextAnswer::Lines(count) => write_tree(&words, &depths, count, atoms),
+        TextAnswer::Text(len) => rt.write_all(&text[..len]),
+        TextAnswer::Lines(count) => write_tree(&rt, &words, &depths, count, atoms),
     };
-    if !written {
-        os::fail(b"why: the answer cannot be written");
+    if let Err(error) = written {
+        let _ = rt.eprintln(format_args!("why: the answer cannot be written: {error}"));
     }
     // Only the text of a refused sheet begins so; the remark on it goes to standard error.
     if text[0] == b'r' {
         let mut said = remarks::no_text();
         let size = remarks::remark_sheet(&sheet[..n], &mut said);
-        io::write_all(libc::STDERR_FILENO, &said[..size]);
+        let _ = rt.stderr().write_all(&said[..size]);
     }
 }

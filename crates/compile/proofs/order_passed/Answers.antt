@@ -14,23 +14,6 @@ use Rattle.compile.proofs.Turns.{seventeenth, no_more, one_more}
 use Rattle.compile.proofs.Charts.{stored_sized, stored_grows}
 use Rattle.compile.proofs.order_passed.Goals as goal
 
--- what is known where a symbol has been read
-module _ (c : goal.After-is_term) where
-  abbrev kind : ℕ
-  kind = get_or c.args.order.now c.loop-i.i 0
-
-  -- the order is not at its end, and short
-  here : (c.loop-i.i < length c.args.order.now) × (length c.args.order.now ≤ 256)
-  here = (omega arith, c.requires.0.short)
-
-  -- the words of the set at the top, and of the one above it
-  words_fit : 4 * c.loop-i.at.height + 8 ≤ length c.loop-i.stack
-  words_fit = omega (arith, never_full c.requires.0 c.loop-i.invariant.0, sets_count c.loop-i.stack)
-
-  -- outside of terms none is left
-  all_taken : term_kind kind ≡ false → 0 ≡ c.loop-i.at.height - taken_by kind
-  all_taken = none_left c.requires.0 c.loop-i.invariant.0 (omega arith)
-
 pub loop-i-init : goal.loop-i-init
 loop-i-init c =
     let contacts : length c.args.chart.contact ≡ 16 = c.well_formed.1.1.0.1.1.1.1.0.1.0.1 in
@@ -44,11 +27,10 @@ loop-i-init c =
 
 pub term_passed-at-requires : goal.term_passed-at-requires
 term_passed-at-requires c =
-    let read = c.before.before.before in
-    let at = read.loop-i in
+    let at = c.loop-i in
     record {
       enough = enough c.requires.0 at.invariant.0 (omega arith);
-      room = words_fit read;
+      room = omega (arith, never_full c.requires.0 c.loop-i.invariant.0, sets_count c.loop-i.stack);
       short = omega (arith, at.invariant.0.behind, c.requires.0.short);
       few = omega (arith, few_names c.requires.0 at.invariant.0, c.requires.0.short);
       small = small_number c.requires.0 at.invariant.0 at.at.used;
@@ -64,17 +46,6 @@ loop-i-preserved-then-is_term c =
       passed.puts.long ∙ at.invariant.2,
     )
 
--- what is known where a sign has been found
-module _ (c : goal.After-signed-sign) where
-  outside : term_kind (kind c.before.before.before.before.before.before.before) ≡ false
-  outside = sym c.is_term.ensures ∙ c.if-is_term.false
-
-  code_fits : c.loop-i.end < length c.loop-i.code
-  code_fits = fits c.requires.0 c.loop-i.invariant.0 (omega arith)
-
-  atoms_few : c.loop-i.chart.atoms ≤ 16
-  atoms_few = few_atoms c.requires.0 c.loop-i.invariant.0
-
 pub signed-sign-requires : goal.signed-sign-requires
 signed-sign-requires c =
     signs_asked c.requires.0 c.loop-i.invariant.0 (omega arith) _ refl (sym c.is_term.ensures ∙ c.if-is_term.false)
@@ -87,96 +58,84 @@ shape_of-stack-then-sign-ge-SEVENTEENTH c = c.loop-i.invariant.2
 
 pub returns-then-sign-ge-SEVENTEENTH : goal.returns-then-sign-ge-SEVENTEENTH
 returns-then-sign-ge-SEVENTEENTH c =
-    let found = c.before.before in
-    let read = found.before.before.before.before.before.before.before in
-    let start = read.before.before.before.before.before.before.before.before.before.before in
-    let at = read.loop-i in (
-      subst (λ (r : CompiledRule). Compiles start.args.order.now start.args.numbers.now (atoms_with start.args.t3 start.args.t4) start.args.kept.now start.args.code.now start.args.end r found.signed-sign.new.0 at.code) (sym c.whole.ensures)
-          (refused start.requires.0 at.invariant.0 (omega arith) _ refl (outside found) (seventeenth at.chart at.lens found.signed-sign.ensures at.end at.code _ _ c.if-sign-ge-SEVENTEENTH.true) refl),
+    let at = c.loop-i in (
+      subst (λ (r : CompiledRule). Compiles c.args.order.now c.args.numbers.now (atoms_with c.args.chart c.args.lens) c.args.kept.now c.args.code.now c.args.end r c.signed-sign.new.kept at.code) (sym c.whole.ensures)
+          (refused c.requires.0 at.invariant.0 (omega arith) _ refl (sym c.is_term.ensures ∙ c.if-is_term.false) (seventeenth at.chart at.lens c.signed-sign.ensures at.end at.code _ _ c.if-sign-ge-SEVENTEENTH.true) refl),
       at.invariant.0.long,
     )
 
 pub bounds-code-end : goal.bounds-code-end
-bounds-code-end c = code_fits c.before
+bounds-code-end c = fits c.requires.0 c.loop-i.invariant.0 (omega arith)
 
 pub overflow_add-end : goal.overflow_add-end
-overflow_add-end c = omega (arith, code_fits c.before, c.loop-i.invariant.0.long, c.well_formed)
+overflow_add-end c = let inside = fits c.requires.0 c.loop-i.invariant.0 (omega arith) in omega (arith, inside, c.loop-i.invariant.0.long)
 
 pub overflow_cast-sign : goal.overflow_cast-sign
 overflow_cast-sign c = omega (arith, c.if-sign-ge-SEVENTEENTH.false)
 
 pub overflow_add-many : goal.overflow_add-many
-overflow_add-many c = omega (arith, atoms_few c.before.before)
+overflow_add-many c = omega (arith, few_atoms c.requires.0 c.loop-i.invariant.0)
 
 pub loop-i-preserved-then-sign-many : goal.loop-i-preserved-then-sign-many
 loop-i-preserved-then-sign-many c =
     let none = c.no_terms-at-in-loop-i.ensures in
-    let found = c.before.before.before in
-    let read = found.before.before.before.before.before.before.before in
-    let at = read.loop-i in
-    let says = found.signed-sign.ensures in (
+    let at = c.loop-i in
+    let outside : term_kind (get_or c.args.order.now at.i 0) ≡ false = sym c.is_term.ensures ∙ c.if-is_term.false in
+    let says = c.signed-sign.ensures in (
       rw (none.0, none.1, none.2)
-          (sign_again read.requires.0 at.invariant.0 (omega arith) 0 (all_taken read (outside found)) (outside found) (no_more at.chart at.lens says at.end at.code _ _ c.if-sign-many.true) refl),
+          (sign_again c.requires.0 at.invariant.0 (omega arith) 0 (none_left c.requires.0 at.invariant.0 (omega arith) outside) outside (no_more at.chart at.lens says at.end at.code _ _ c.if-sign-many.true) refl),
       record { contacts = at.invariant.1.contacts; firsts = at.invariant.1.firsts; seconds = at.invariant.1.seconds; lengths = ap length (says.same c.if-sign-many.true).1 ∙ at.invariant.1.lengths },
       at.invariant.2,
     )
 
--- the atoms have a place for one more, and the stack the words of two sets
-module _ (c : goal.Else-sign-many) where
-  room_more : c.loop-i.chart.atoms < 16
-  room_more = omega (arith, c.if-sign-ge-SEVENTEENTH.false, c.if-sign-many.false)
-
-  two_sets : 8 ≤ length c.loop-i.stack
-  two_sets = omega (arith, words_fit c.before.before.before.before.before.before.before.before.before.before)
+-- ---- the atoms have a place for one more, and the stack the words of two sets
 
 pub bounds-chart-many : goal.bounds-chart-many
-bounds-chart-many c = omega (arith, room_more c)
+bounds-chart-many c = omega (arith, c.if-sign-ge-SEVENTEENTH.false, c.if-sign-many.false)
 
 pub set_at-requires : goal.set_at-requires
-set_at-requires c = omega (arith, two_sets c.before)
+set_at-requires c = omega (arith, never_full c.requires.0 c.loop-i.invariant.0, sets_count c.loop-i.stack)
 
 pub set_at-requires-in-loop-i : goal.set_at-requires-in-loop-i
-set_at-requires-in-loop-i c = omega (arith, two_sets c.before.before.before)
+set_at-requires-in-loop-i c = omega (arith, never_full c.requires.0 c.loop-i.invariant.0, sets_count c.loop-i.stack)
 
 pub offset_bounds-chart-many : goal.offset_bounds-chart-many
-offset_bounds-chart-many c = omega (arith, room_more c.before.before.before.before.before)
+offset_bounds-chart-many c = omega (arith, c.if-sign-ge-SEVENTEENTH.false, c.if-sign-many.false)
 
 pub bounds-chart-many-in-loop-i : goal.bounds-chart-many-in-loop-i
-bounds-chart-many-in-loop-i c = omega (arith, room_more c.before.before.before.before.before)
+bounds-chart-many-in-loop-i c = omega (arith, c.if-sign-ge-SEVENTEENTH.false, c.if-sign-many.false)
 
 pub set_at-requires-in-loop-i-2 : goal.set_at-requires-in-loop-i-2
-set_at-requires-in-loop-i-2 c = omega (arith, two_sets c.before.before.before.before.before.before)
+set_at-requires-in-loop-i-2 c = omega (arith, never_full c.requires.0 c.loop-i.invariant.0, sets_count c.loop-i.stack)
 
 pub offset_bounds-chart-many-in-loop-i : goal.offset_bounds-chart-many-in-loop-i
-offset_bounds-chart-many-in-loop-i c = omega (arith, room_more c.before.before.before.before.before.before.before.before)
+offset_bounds-chart-many-in-loop-i c = omega (arith, c.if-sign-ge-SEVENTEENTH.false, c.if-sign-many.false)
 
 pub bounds-chart-many-in-loop-i-2 : goal.bounds-chart-many-in-loop-i-2
-bounds-chart-many-in-loop-i-2 c = omega (arith, room_more c.before.before.before.before.before.before.before.before)
+bounds-chart-many-in-loop-i-2 c = omega (arith, c.if-sign-ge-SEVENTEENTH.false, c.if-sign-many.false)
 
 pub overflow_add-chart : goal.overflow_add-chart
-overflow_add-chart c = omega (arith, room_more c.before.before.before.before.before.before.before.before)
+overflow_add-chart c = omega (arith, c.if-sign-ge-SEVENTEENTH.false, c.if-sign-many.false)
 
 pub overflow_step-i-in-loop-i : goal.overflow_step-i-in-loop-i
-overflow_step-i-in-loop-i c = omega (arith, here c.before.before.before.before.before.before.before.before.before.before.before.before.before.before.before.before.before.before)
+overflow_step-i-in-loop-i c = omega (arith, c.requires.0.short)
 
 pub loop-i-smaller : goal.loop-i-smaller
-loop-i-smaller c = omega (arith, here c.before.before.before.before.before.before.before.before.before.before.before.before.before.before.before.before.before.before)
+loop-i-smaller c = omega (arith, c.requires.0.short)
 
 pub loop-i-preserved : goal.loop-i-preserved
 loop-i-preserved c =
-    let new = c.before.before.before.before.before.before.before.before in
-    let none = new.no_terms-at-in-loop-i.ensures in
-    let found = new.before.before.before in
-    let read = found.before.before.before.before.before.before.before in
-    let at = read.loop-i in
+    let none = c.no_terms-at-in-loop-i.ensures in
+    let at = c.loop-i in
+    let outside : term_kind (get_or c.args.order.now at.i 0) ≡ false = sym c.is_term.ensures ∙ c.if-is_term.false in
     let x-is = c.set_at.ensures in
     let y-is = c.set_at-in-loop-i.ensures in
-    let says = found.signed-sign.ensures in
-    let l = room_more new in
-    let z = new.if-sign-many.false in (
+    let says = c.signed-sign.ensures in
+    let l : at.chart.atoms < 16 = omega (arith, c.if-sign-ge-SEVENTEENTH.false, c.if-sign-many.false) in
+    let z = c.if-sign-many.false in (
       rw (none.0, none.1, none.2)
-          (sign_again read.requires.0 at.invariant.0 (omega arith) 0 (all_taken read (outside found)) (outside found) (one_more at.chart at.lens says at.end at.code _ _ z (omega arith) at.invariant.1.lengths
-          (stored_grows at.invariant.1 l _ c.first_set.result c.second_set.result (c.first_set.ensures ∙ ap₂ (first_by (kind read)) x-is y-is) (c.second_set.ensures ∙ ap (second_by (kind read)) c.set_at-in-loop-i-2.ensures))) refl),
+          (sign_again c.requires.0 at.invariant.0 (omega arith) 0 (none_left c.requires.0 at.invariant.0 (omega arith) outside) outside (one_more at.chart at.lens says at.end at.code _ _ z (omega arith) at.invariant.1.lengths
+          (stored_grows at.invariant.1 l _ c.first_set.result c.second_set.result (c.first_set.ensures ∙ ap₂ (first_by (get_or c.args.order.now at.i 0)) x-is y-is) (c.second_set.ensures ∙ ap (second_by (get_or c.args.order.now at.i 0)) c.set_at-in-loop-i-2.ensures))) refl),
       stored_sized at.invariant.1 l _ _ _ (ap length (says.stored z l).2 ∙ length-set at.lens at.chart.atoms at.at.len),
       at.invariant.2,
     )
@@ -190,7 +149,7 @@ shape_of-stack c = c.loop-i.invariant.2
 pub returns : goal.returns
 returns c =
     let at = c.loop-i in (
-      subst (λ (r : CompiledRule). Compiles c.args.order.now c.args.numbers.now (atoms_with c.args.chart c.args.lens) c.args.kept.now c.args.code.now c.args.end r at.auto at.code) (sym c.whole-2.ensures)
+      subst (λ (r : CompiledRule). Compiles c.args.order.now c.args.numbers.now (atoms_with c.args.chart c.args.lens) c.args.kept.now c.args.code.now c.args.end r at.kept at.code) (sym c.whole-2.ensures)
           (finished at.invariant.0 (omega (arith, c.loop-i-test.false))),
       at.invariant.0.long,
     )

@@ -14,5 +14,5 @@ returns-then-n-eq0 c = awaits_first _ _ c.if-n-eq0.true
 pub returns : goal.returns
 returns c =
     let a = c.args in
-    let full : length a.t1 ≡ 6 = search rules in
-    ap (λ (x : ℕ). eqb x 1) c.awaits-a.ensures ∙ flag_one _ ∙ awaits_behind a.t1 a.n c.if-n-eq0.false (omega (arith, c.requires))
+    let full : length a.ks ≡ 6 = search rules in
+    ap (λ (x : ℕ). eqb x 1) c.awaits-a.ensures ∙ flag_one _ ∙ awaits_behind a.ks a.n c.if-n-eq0.false (omega (arith, c.requires))

@@ -26,28 +26,30 @@ pub loop-i-preserved : goal.loop-i-preserved
 loop-i-preserved c =
     let a = c.args in
     let k = c.loop-i in
-    let full : length a.t1 ≡ 6 = search rules in
-    (omega arith, kinds_more a.t1 k.i k.kinds c.kind.result k.invariant.1 c.kind.ensures full (omega arith))
+    let full : length a.ks ≡ 6 = search rules in
+    (omega arith, kinds_more a.ks k.i k.kinds c.kind.result k.invariant.1 c.kind.ensures full (omega arith))
 
 pub slice_bounds-kinds-end : goal.slice_bounds-kinds-end
 slice_bounds-kinds-end c =
     let a = c.args in
-    let full : length a.t1 ≡ 6 = search rules in
-    omega (arith, kinds_length a.t1 c.loop-i.i c.loop-i.kinds c.loop-i.invariant.1 full (omega arith))
+    let full : length a.ks ≡ 6 = search rules in
+    omega (arith, kinds_length a.ks c.loop-i.i c.loop-i.kinds c.loop-i.invariant.1 full (omega arith))
 
 pub slice_bounds-judge-end : goal.slice_bounds-judge-end
 slice_bounds-judge-end c =
     let a = c.args in
-    sym (length-take-le a.n c.loop-i.kinds (slice_bounds-kinds-end c.before))
+    let full : length a.ks ≡ 6 = search rules in
+    let long : a.n ≤ length c.loop-i.kinds = omega (arith, kinds_length a.ks c.loop-i.i c.loop-i.kinds c.loop-i.invariant.1 full (omega arith)) in
+    sym (length-take-le a.n c.loop-i.kinds long)
 
 pub returns : goal.returns
 returns c =
     let a = c.args in
     let k = c.loop-i in
-    let full : length a.t1 ≡ 6 = search rules in
+    let full : length a.ks ≡ 6 = search rules in
     let e : k.i ≡ a.n = omega arith in
-    let xs : List Sym = tokens_at (take a.n a.t1) in
+    let xs : List Sym = tokens_at (take a.n a.ks) in
     let few : length xs ≤ 256 = simp (length-map, length-take) (omega arith) in
     c.judge.ensures xs
-    (codes_of (take a.n a.t1) ∙ sym (kinds_taken a.t1 a.n k.kinds (subst (λ (i : ℕ). k.kinds ≡ pad 6 (kinds_of (take i a.t1))) e k.invariant.1) full (omega arith)))
+    (codes_of (take a.n a.ks) ∙ sym (kinds_taken a.ks a.n k.kinds (subst (λ (i : ℕ). k.kinds ≡ pad 6 (kinds_of (take i a.ks))) e k.invariant.1) full (omega arith)))
     ∙ judged_few xs few

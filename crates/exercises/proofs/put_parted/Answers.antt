@@ -19,17 +19,17 @@ pub put_next-end-requires : goal.put_next-end-requires
 put_next-end-requires c =
     let a = c.args in
     let k = c.loop-i in
-    let full : length a.t1 ≡ 6 = search rules in
-    let piece = gap k.i ++ spelling (get_or a.t1 k.i 0) in
+    let full : length a.ks ≡ 6 = search rules in
+    let piece = gap k.i ++ spelling (get_or a.ks k.i 0) in
     fits_next k.invariant.1 (length piece)
-    (omega (arith, c.requires.1, ap length (parted_next a.t1 k.i (omega arith)), length-append (parted (take k.i a.t1)) piece, parted_within a.t1 (k.i + 1) a.n (omega arith) (omega arith)))
+    (omega (arith, c.requires.1, ap length (parted_next a.ks k.i (omega arith)), length-append (parted (take k.i a.ks)) piece, parted_within a.ks (k.i + 1) a.n (omega arith) (omega arith)))
 
 pub loop-i-preserved : goal.loop-i-preserved
 loop-i-preserved c =
     let a = c.args in
     let k = c.loop-i in
-    let full : length a.t1 ≡ 6 = search rules in
-    (omega arith, puts_text (sym (parted_next a.t1 k.i (omega arith))) (puts_more k.invariant.1 c.put_next-end.ensures))
+    let full : length a.ks ≡ 6 = search rules in
+    (omega arith, puts_text (sym (parted_next a.ks k.i (omega arith))) (puts_more k.invariant.1 c.put_next-end.ensures))
 
 pub shape_of-out : goal.shape_of-out
 shape_of-out c = puts_length c.loop-i.invariant.1
@@ -39,4 +39,4 @@ returns c =
     let a = c.args in
     let k = c.loop-i in
     let e : k.i ≡ a.n = omega arith in
-    puts_text (ap (λ (i : ℕ). parted (take i a.t1)) e) k.invariant.1
+    puts_text (ap (λ (i : ℕ). parted (take i a.ks)) e) k.invariant.1

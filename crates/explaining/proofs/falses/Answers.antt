@@ -1,6 +1,6 @@
 -- `explaining::falses` meets its contract: so far the first i rules have been run. Assumes nothing.
 use mathlib.Core.Path.{◌≡◌, refl, sym, ap, ◌∙◌, subst}
-use Prim.Native.Nat.{ℕ, suc, ◌+◌, ◌-◌}
+use Prim.Native.Nat.{ℕ, suc, ◌+◌}
 use native.Mathlib.Omega.{arith}
 use lib.ListN.{length, get_or, length-set}
 use Rattle.solver.specs.Coded.{PartSafe}
@@ -9,16 +9,6 @@ use Rattle.trees.proofs.Rules.{safe_at}
 use Rattle.explaining.specs.Nodes.{FalsesSay}
 use Rattle.explaining.proofs.Values.{falses_none, falses_more}
 use Rattle.explaining.proofs.falses.Goals as goal
-
--- the part that is run next
-this_part : (c : goal.After-shared_slice_known-in-loop-i-1)
-    → let a = c.args in
-    let k = c.loop-i in
-    PartSafe a.code.now k.from (get_or a.ends.now k.i 0)
-this_part c =
-    let k = c.loop-i in
-    subst (λ (x : ℕ). PartSafe c.args.code.now x (get_or c.args.ends.now k.i 0)) (sym k.invariant.1)
-    (safe_at c.args.code.now 0 c.args.ends.now k.i c.requires.0 (omega arith))
 
 pub yes_leaves-yes-requires : goal.yes_leaves-yes-requires
 yes_leaves-yes-requires c = c.requires.2
@@ -30,12 +20,33 @@ pub loop-i-init : goal.loop-i-init
 loop-i-init c = (omega arith, refl, refl, refl, refl, falses_none _ _ _ _ _)
 
 pub slice_bounds-run_rails-count : goal.slice_bounds-run_rails-count
-slice_bounds-run_rails-count c = (this_part c).ordered
+slice_bounds-run_rails-count c =
+    let this_part : let a = c.args in let k = c.loop-i in PartSafe a.code.now k.from (get_or a.ends.now k.i 0) = let k = c.loop-i in
+        subst (λ (x : ℕ). PartSafe c.args.code.now x (get_or c.args.ends.now k.i 0)) (sym k.invariant.1)
+        (safe_at c.args.code.now 0 c.args.ends.now k.i c.requires.0 (omega arith)) in
+    this_part.ordered
+
+pub slice_bounds-run_rails-start : goal.slice_bounds-run_rails-start
+slice_bounds-run_rails-start c =
+    let this_part : let a = c.args in let k = c.loop-i in PartSafe a.code.now k.from (get_or a.ends.now k.i 0) = let k = c.loop-i in
+        subst (λ (x : ℕ). PartSafe c.args.code.now x (get_or c.args.ends.now k.i 0)) (sym k.invariant.1)
+        (safe_at c.args.code.now 0 c.args.ends.now k.i c.requires.0 (omega arith)) in
+    omega (arith, this_part.ordered, this_part.within)
+
+pub slice_bounds-run_rails-end : goal.slice_bounds-run_rails-end
+slice_bounds-run_rails-end c =
+    let this_part : let a = c.args in let k = c.loop-i in PartSafe a.code.now k.from (get_or a.ends.now k.i 0) = let k = c.loop-i in
+        subst (λ (x : ℕ). PartSafe c.args.code.now x (get_or c.args.ends.now k.i 0)) (sym k.invariant.1)
+        (safe_at c.args.code.now 0 c.args.ends.now k.i c.requires.0 (omega arith)) in
+    omega (arith, this_part.ordered, this_part.within)
 
 pub run_rails-found-requires : goal.run_rails-found-requires
 run_rails-found-requires c =
+    let this_part : let a = c.args in let k = c.loop-i in PartSafe a.code.now k.from (get_or a.ends.now k.i 0) = let k = c.loop-i in
+        subst (λ (x : ℕ). PartSafe c.args.code.now x (get_or c.args.ends.now k.i 0)) (sym k.invariant.1)
+        (safe_at c.args.code.now 0 c.args.ends.now k.i c.requires.0 (omega arith)) in
     let k = c.loop-i in
-    ((this_part c.before.before.before.before.before).safe, k.invariant.2, k.invariant.3)
+    (this_part.safe, k.invariant.2, k.invariant.3)
 
 pub offset_bounds-out-i : goal.offset_bounds-out-i
 offset_bounds-out-i c = omega (arith, c.requires.1)

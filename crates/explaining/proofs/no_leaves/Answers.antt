@@ -1,6 +1,6 @@
 -- `explaining::no_leaves` meets its contract: so far the first i atoms have their leaves. Assumes nothing.
 use mathlib.Core.Path.{◌≡◌, subst}
-use Prim.Native.Nat.{ℕ, ◌-◌}
+use Prim.Native.Nat.{ℕ}
 use native.Mathlib.Omega.{arith}
 use Rattle.kleene.specs.Rails.{no_of}
 use Rattle.explaining.specs.Nodes.{LeavesSay}

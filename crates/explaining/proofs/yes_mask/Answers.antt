@@ -28,4 +28,4 @@ unfolding all_under_lem right bit place_under
 returns-in-4 c = mask_says yes_of _ 4 _ c.in-4.is refl
 
 pub returns-in_default : goal.returns-in_default
-returns-in_default c = mask_none yes_of _ refl (omega (arith, c.in_default.in_default-own.rest))
+returns-in_default c = mask_none yes_of _ refl (omega arith)

@@ -9,30 +9,6 @@ use lib.ListN.{length, get_or, take, drop, length-take}
 use Rattle.names.proofs.Gathering.{going_first, few_tokens, few_names, number_few, going_end, token_inside, token_short, going_other, going_ninth, going_name}
 use Rattle.names.proofs.gather.Goals as goal
 
-module _ (c : goal.After-wide) where
-  -- the token lies in the text
-  name_within : c.wide-start.result + c.wide.result ≤ length c.args.text.now
-  name_within =
-      omega (
-        arith,
-        token_inside c.loop-i.invariant c.loop-i-test.true,
-        c.wide-start.ensures,
-        c.wide.ensures,
-      )
-
-  -- what is lent of the text is the token's bytes, at most 16
-  abbrev lent : ℕ → List ℕ
-  lent n = take n (drop c.wide-start.result c.args.text.now)
-
-  abbrev size : ℕ
-  size = c.wide-start.result + c.wide.result - c.wide-start.result
-
-  size_is : size ≡ get_or c.args.rule.tokens.lens c.loop-i.i 0
-  size_is = omega (arith, c.wide.ensures)
-
-  lent_short : length (lent size) ≤ 16
-  lent_short = simp length-take (omega (arith, c.wide.ensures, token_short c.loop-i.invariant c.loop-i-test.true))
-
 -- the numbers have room for one more
 number_room : (c : goal.After-with_name-known) → c.loop-i.m < 256
 number_room c = omega (arith, few_tokens c.loop-i.invariant, c.loop-i.invariant.fewer)
@@ -57,19 +33,35 @@ pub bounds-lens-i : goal.bounds-lens-i
 bounds-lens-i c = omega (arith, few_tokens c.loop-i.invariant)
 
 pub overflow_add-end : goal.overflow_add-end
-overflow_add-end c = omega (arith, name_within c)
+overflow_add-end c =
+    let within : c.wide-start.result + c.wide.result ≤ length c.args.text.now = omega (arith, token_inside c.loop-i.invariant c.loop-i-test.true, c.wide-start.ensures, c.wide.ensures) in
+    omega arith
+
+-- the token lies in the text
+pub slice_bounds-number_of-end : goal.slice_bounds-number_of-end
+slice_bounds-number_of-end c =
+    let within : c.wide-start.result + c.wide.result ≤ length c.args.text.now = omega (arith, token_inside c.loop-i.invariant c.loop-i-test.true, c.wide-start.ensures, c.wide.ensures) in
+    within
+
+pub slice_bounds-with_name-end : goal.slice_bounds-with_name-end
+slice_bounds-with_name-end c =
+    let within : c.wide-start.result + c.wide.result ≤ length c.args.text.now = omega (arith, token_inside c.loop-i.invariant c.loop-i-test.true, c.wide-start.ensures, c.wide.ensures) in
+    within
+
+-- what is lent of the text is the token's bytes, at most 16
 
 pub number_of-number-requires : goal.number_of-number-requires
-number_of-number-requires c = (few_names c.loop-i.invariant, lent_short c.before)
+number_of-number-requires c = (few_names c.loop-i.invariant, simp length-take (omega (arith, c.wide.ensures, token_short c.loop-i.invariant c.loop-i-test.true)))
 
 pub returns-then-number-eq-NAMES : goal.returns-then-number-eq-NAMES
 returns-then-number-eq-NAMES c =
-    let cut = c.before.before.before in
-    going_ninth cut.loop-i.invariant cut.loop-i-test.true _ _ _ cut.if-kinds-i-ne-NAME.false cut.wide-start.ensures (ap (lent cut) (size_is cut)) c.number_of-number.ensures c.if-number-eq-NAMES.true
+    let lent = λ (n : ℕ). take n (drop c.wide-start.result c.args.text.now) in
+    let size : c.wide-start.result + c.wide.result - c.wide-start.result ≡ get_or c.args.rule.tokens.lens c.loop-i.i 0 = omega (arith, c.wide.ensures) in
+    going_ninth c.loop-i.invariant c.loop-i-test.true _ _ _ c.if-kinds-i-ne-NAME.false c.wide-start.ensures (ap lent size) c.number_of-number.ensures c.if-number-eq-NAMES.true
 
 pub with_name-known-requires : goal.with_name-known-requires
 with_name-known-requires c =
-    (lt_of_le-ne (number_few c.loop-i.invariant _ _ c.number_of-number.ensures) c.if-number-eq-NAMES.false, lent_short c.before.before.before.before)
+    (lt_of_le-ne (number_few c.loop-i.invariant _ _ c.number_of-number.ensures) c.if-number-eq-NAMES.false, simp length-take (omega (arith, c.wide.ensures, token_short c.loop-i.invariant c.loop-i-test.true)))
 
 pub overflow_cast-numbers : goal.overflow_cast-numbers
 overflow_cast-numbers c = omega (arith, number_few c.loop-i.invariant _ _ c.number_of-number.ensures)
@@ -85,8 +77,9 @@ overflow_add-i-in-loop-i c = omega (arith, few_tokens c.loop-i.invariant)
 
 pub loop-i-preserved : goal.loop-i-preserved
 loop-i-preserved c =
-    let cut = c.before.before.before.before.before in
-    going_name cut.loop-i.invariant cut.loop-i-test.true _ _ _ cut.if-kinds-i-ne-NAME.false cut.wide-start.ensures (ap (lent cut) (size_is cut)) c.number_of-number.ensures c.if-number-eq-NAMES.false _ c.with_name-known.ensures
+    let lent = λ (n : ℕ). take n (drop c.wide-start.result c.args.text.now) in
+    let size : c.wide-start.result + c.wide.result - c.wide-start.result ≡ get_or c.args.rule.tokens.lens c.loop-i.i 0 = omega (arith, c.wide.ensures) in
+    going_name c.loop-i.invariant c.loop-i-test.true _ _ _ c.if-kinds-i-ne-NAME.false c.wide-start.ensures (ap lent size) c.number_of-number.ensures c.if-number-eq-NAMES.false _ c.with_name-known.ensures
 
 pub returns : goal.returns
 returns c = going_end c.loop-i.invariant c.loop-i-test.false

@@ -3,15 +3,9 @@
 use Prim.Native.Nat.{◌-◌}
 use mathlib.Core.Path.{◌≡◌, refl, sym, ◌∙◌}
 use native.Mathlib.Omega.{arith}
-use lib.ListN.{length, take, length-map}
-use Rattle.contact.specs.Numbering.{same_name}
-use Rattle.names.specs.Steps.{same_kept}
+use lib.ListN.{length}
 use Rattle.names.proofs.Scans.{lengths_differ, lengths_agree, byte_same, byte_differs, bytes_end}
 use Rattle.names.proofs.same.Goals as goal
-
--- where the lengths agree the bytes decide
-bytes_decide : (c : goal.Else-n-w) → let a = c.args in same_name (take (length a.w.now) a.k.bytes) a.w.now ≡ same_kept a.k a.w.now
-bytes_decide c = lengths_agree c.args.k c.args.w.now (omega (arith, c.wide-n.ensures, c.if-n-w.false))
 
 pub returns-then-n-w : goal.returns-then-n-w
 returns-then-n-w c = lengths_differ _ _ (λ e. omega (arith, c.wide-n.ensures))
@@ -24,7 +18,7 @@ pub returns-then-bytes-i : goal.returns-then-bytes-i
 returns-then-bytes-i c =
     let a = c.args in
     let known = c.loop-i.invariant in
-    sym (byte_differs a.k.bytes a.w.now _ known.1 known.2 c.loop-i-test.true c.if-bytes-i.true) ∙ known.3 ∙ bytes_decide c.before.before.before.before.before
+    sym (byte_differs a.k.bytes a.w.now _ known.1 known.2 c.loop-i-test.true c.if-bytes-i.true) ∙ known.3 ∙ lengths_agree a.k a.w.now (omega (arith, c.wide-n.ensures, c.if-n-w.false))
 
 pub loop-i-preserved : goal.loop-i-preserved
 loop-i-preserved c =
@@ -36,4 +30,4 @@ pub returns : goal.returns
 returns c =
     let a = c.args in
     let known = c.loop-i.invariant in
-    sym (bytes_end a.k.bytes a.w.now _ known.1 known.2 c.loop-i-test.false) ∙ known.3 ∙ bytes_decide c.before.before.before
+    sym (bytes_end a.k.bytes a.w.now _ known.1 known.2 c.loop-i-test.false) ∙ known.3 ∙ lengths_agree a.k a.w.now (omega (arith, c.wide-n.ensures, c.if-n-w.false))

@@ -1,6 +1,6 @@
 -- `pairing::contacts_of` meets its contract: so far the word is spelt from the first i atoms. Assumes nothing.
 use mathlib.Core.Path.{◌≡◌, refl, sym, subst}
-use Prim.Native.Nat.{ℕ, ◌+◌, ◌-◌}
+use Prim.Native.Nat.{ℕ, ◌+◌}
 use native.Mathlib.Omega.{arith}
 use Rattle.search.specs.Compiled.{contact_at}
 use Rattle.pairing.specs.Words.{Spelt}

@@ -1,6 +1,6 @@
 -- `pairing::half` meets its contract: so far the words up to j + h have taken in others. Assumes nothing.
 use mathlib.Core.Path.{◌≡◌, subst}
-use Prim.Native.Nat.{ℕ, ◌+◌, ◌-◌}
+use Prim.Native.Nat.{ℕ, ◌+◌}
 use native.Mathlib.Omega.{arith}
 use Rattle.pairing.specs.Sums.{Joined}
 use Rattle.pairing.proofs.Subsets.{joined_none, joined_step}

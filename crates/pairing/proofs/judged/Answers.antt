@@ -43,7 +43,7 @@ returns c =
     let put = c.put_all in (
       c.sums.ensures.long ∙ put.ensures.long ∙ zeros.ensures.0,
       λ names atoms k whole few l contacts serving e le.
-          row_judged names atoms k a.d a.s a.row a.contacts a.list.now whole few l contacts serving put.new.0 c.sums.new.0 zeros.result zeros.ensures.1
-          (written a.s (a.contacts / 2 ^ a.s) a.d a.row _ _ a.list.now zeros.result put.new.0 (start_is a.row a.d c.requires.2 c.requires.1) low.ensures put.ensures)
+          row_judged names atoms k a.d a.s a.row a.contacts a.list.now whole few l contacts serving put.new.table c.sums.new.table zeros.result zeros.ensures.1
+          (written a.s (a.contacts / 2 ^ a.s) a.d a.row _ _ a.list.now zeros.result put.new.table (start_is a.row a.d c.requires.2 c.requires.1) low.ensures put.ensures)
           c.sums.ensures e le,
     )

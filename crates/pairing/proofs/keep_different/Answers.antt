@@ -1,7 +1,7 @@
 -- `pairing::keep_different` meets its contract: so far the different ones of the first e masks are kept, and the masks from e on are as
 -- they were. Assumes nothing.
 use mathlib.Core.Path.{◌≡◌, refl, sym, ◌∙◌, subst}
-use Prim.Native.Nat.{ℕ, ◌-◌}
+use Prim.Native.Nat.{ℕ}
 use native.Mathlib.Omega.{arith}
 use lib.Seq.{get_or-set_other}
 use Rattle.evalset.specs.Sets.{room}

@@ -1,6 +1,6 @@
 -- `pairing::mark_each` meets its contract: so far the masks of the first k words of evaluations are marked. Assumes nothing.
 use mathlib.Core.Path.{◌≡◌, sym, ◌∙◌, subst}
-use Prim.Native.Nat.{ℕ, ◌+◌, ◌-◌, ◌*◌, min}
+use Prim.Native.Nat.{ℕ, ◌+◌, ◌*◌, min}
 use native.Mathlib.Omega.{arith}
 use Rattle.evalset.specs.Bit.{word_bits}
 use Rattle.evalset.specs.Sets.{room}
@@ -54,8 +54,8 @@ loop-k-preserved c =
     let start : min a.top (word_bits * k.k) ≡ word_bits * k.k = omega (arith, left) in
     let next : word_bits * k.k + n.result ≡ min a.top (word_bits * (k.k + 1)) = omega (arith, left, n.ensures) in (
       omega arith,
-      subst (λ (m : ℕ). MarkedTo a.x a.y m a.masks.now c.mark_word.new.0) next
-          (marked_word a.x a.y a.masks.now (word_bits * k.k) n.result c.word_of.result c.word_of-in-loop-k.result k.masks c.mark_word.new.0
+      subst (λ (m : ℕ). MarkedTo a.x a.y m a.masks.now c.mark_word.new.masks) next
+          (marked_word a.x a.y a.masks.now (word_bits * k.k) n.result c.word_of.result c.word_of-in-loop-k.result k.masks c.mark_word.new.masks
           (subst (λ (m : ℕ). MarkedTo a.x a.y m a.masks.now k.masks) start k.invariant.1) c.mark_word.ensures
           (λ e l. c.word_of.ensures e (omega (arith, n.ensures))) (λ e l. c.word_of-in-loop-k.ensures e (omega (arith, n.ensures)))),
     )

@@ -1,6 +1,6 @@
 -- `pairing::mark_word` meets its contract: so far the masks of the first e evaluations from one on are marked. Assumes nothing.
 use mathlib.Core.Path.{◌≡◌, sym, subst}
-use Prim.Native.Nat.{ℕ, ◌+◌, ◌-◌}
+use Prim.Native.Nat.{ℕ, ◌+◌}
 use native.Mathlib.Omega.{arith}
 use Rattle.evalset.specs.Bit.{bit}
 use Rattle.evalset.specs.Sets.{room}

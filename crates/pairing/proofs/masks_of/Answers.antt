@@ -1,6 +1,6 @@
 -- `pairing::masks_of` meets its contract: so far the masks are those by the first i atoms. Assumes nothing.
 use mathlib.Core.Path.{◌≡◌, refl, ◌∙◌, subst}
-use Prim.Native.Nat.{ℕ, ◌-◌}
+use Prim.Native.Nat.{ℕ}
 use native.Mathlib.Omega.{arith}
 use Rattle.lists.proofs.Lists.{repeated_at}
 use Rattle.evalset.specs.Sets.{mem_at}
@@ -22,11 +22,11 @@ unfolding mem_at
 loop-i-preserved c =
     let k = c.loop-i in
     let r = c.mark_each.ensures in
-    (omega arith, r.long ∙ k.invariant.1, λ e l. mask_more _ _ e k.i (entry k.masks e) (entry c.mark_each.new.0 e) (k.invariant.2 e l) (r.marked e l))
+    (omega arith, r.long ∙ k.invariant.1, λ e l. mask_more _ _ e k.i (entry k.masks e) (entry c.mark_each.new.masks e) (k.invariant.2 e l) (r.marked e l))
 
 pub returns : goal.returns
 returns c =
     let k = c.loop-i in
     let a = c.args in
     let z : k.i ≡ a.n = omega arith in
-    (k.invariant.1, λ e l. subst (λ (i : ℕ). MaskIs a.t1 a.t2 i e (entry k.masks e)) z (k.invariant.2 e l))
+    (k.invariant.1, λ e l. subst (λ (i : ℕ). MaskIs a.xs a.ys i e (entry k.masks e)) z (k.invariant.2 e l))

@@ -1,6 +1,6 @@
 -- `pairing::note_words` meets its contract: so far the first f words are noted. Assumes nothing.
 use mathlib.Core.Path.{◌≡◌, subst}
-use Prim.Native.Nat.{ℕ, ◌+◌, ◌-◌}
+use Prim.Native.Nat.{ℕ, ◌+◌}
 use native.Mathlib.Omega.{arith}
 use Rattle.evalset.specs.Sets.{room}
 use Rattle.pairing.specs.Listed.{entries_of, Noted}

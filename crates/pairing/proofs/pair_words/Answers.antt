@@ -1,6 +1,6 @@
 -- `pairing::pair_words` meets its contract: so far the words with the first f classes are made. Assumes nothing.
 use mathlib.Core.Path.{◌≡◌, subst}
-use Prim.Native.Nat.{ℕ, ◌+◌, ◌-◌}
+use Prim.Native.Nat.{ℕ, ◌+◌}
 use native.Mathlib.Omega.{arith}
 use Rattle.evalset.specs.Sets.{room}
 use Rattle.pairing.specs.Masks.{pair_word, PairsIn}

@@ -3,7 +3,7 @@ use mathlib.Core.Bool.{Bool, cond}
 use mathlib.Core.Path.{refl, sym, ap, ◌∙◌}
 use mathlib.Mathlib.Logic.Function.Defs.{congr_fun}
 use mathlib.Core.Logic.{⊎_elim}
-use Prim.Native.Nat.{ℕ, ◌+◌, ◌-◌, ◌^◌, ◌<◌}
+use Prim.Native.Nat.{ℕ, ◌+◌, ◌^◌, ◌<◌}
 use native.Mathlib.Omega.{arith}
 use Rattle.lists.proofs.Truth.{side}
 use Rattle.evalset.specs.Bit.{word_bits, bit}
@@ -13,14 +13,6 @@ use Rattle.evalset.proofs.Walk.{from_zero, Step, step, stop}
 use Rattle.pairing.specs.Words.{row_test}
 use Rattle.pairing.proofs.Testing.{tested_none, tested_skip, tested_more, tested_all}
 use Rattle.pairing.proofs.tested.Goals as goal
-
--- the row that was taken
-taken : (c : goal.In-At)
-    → Step word_bits c.loop-at.at c.in-At.e
-    (bit c.args.set) (bit c.loop-at.rest)
-taken c =
-    step word_bits _ _ _ c.loop-at.invariant.2 _
-    (sym c.word_least.ensures ∙ c.in-At.is)
 
 pub loop-at-init : goal.loop-at-init
 loop-at-init c = (omega arith, refl, from_zero _, tested_none _ _)
@@ -35,20 +27,34 @@ returns-in_default c =
     (λ h. bit_above word_bits a.set d small h) (side d word_bits)) k.invariant.3
 
 pub overflow_add-start : goal.overflow_add-start
-overflow_add-start c = omega (arith, (taken c).within, c.requires.1)
+overflow_add-start c =
+    let taken : Step word_bits c.loop-at.at c.in-At.e (bit c.args.set) (bit c.loop-at.rest) = step word_bits _ _ _ c.loop-at.invariant.2 _
+        (sym c.word_least.ensures ∙ c.in-At.is) in
+    omega (arith, taken.within, c.requires.1)
 
 pub passes-requires : goal.passes-requires
-passes-requires c = (c.requires.0, omega (arith, (taken c).within, c.requires.1))
+passes-requires c =
+    let taken : Step word_bits c.loop-at.at c.in-At.e (bit c.args.set) (bit c.loop-at.rest) = step word_bits _ _ _ c.loop-at.invariant.2 _
+        (sym c.word_least.ensures ∙ c.in-At.is) in
+    (c.requires.0, omega (arith, taken.within, c.requires.1))
 
 pub overflow_add-at : goal.overflow_add-at
-overflow_add-at c = omega (arith, (taken c.before.before.before).within)
+overflow_add-at c =
+    let taken : Step word_bits c.loop-at.at c.in-At.e (bit c.args.set) (bit c.loop-at.rest) = step word_bits _ _ _ c.loop-at.invariant.2 _
+        (sym c.word_least.ensures ∙ c.in-At.is) in
+    omega (arith, taken.within)
 
 pub loop-at-smaller : goal.loop-at-smaller
-loop-at-smaller c = omega (arith, (taken c.before.before.before).within, (taken c.before.before.before).low)
+loop-at-smaller c =
+    let taken : Step word_bits c.loop-at.at c.in-At.e (bit c.args.set) (bit c.loop-at.rest) = step word_bits _ _ _ c.loop-at.invariant.2 _
+        (sym c.word_least.ensures ∙ c.in-At.is) in
+    omega (arith, taken.within, taken.low)
 
 pub loop-at-preserved : goal.loop-at-preserved
 loop-at-preserved c =
-    let t = taken c.before.before.before in
+    let taken : Step word_bits c.loop-at.at c.in-At.e (bit c.args.set) (bit c.loop-at.rest) = step word_bits _ _ _ c.loop-at.invariant.2 _
+        (sym c.word_least.ensures ∙ c.in-At.is) in
+    let t = taken in
     let k = c.loop-at in
     let a = c.args in
     let test : ℕ → Bool = λ e. row_test a.table.now a.lone a.contacts a.low (a.start + e) in

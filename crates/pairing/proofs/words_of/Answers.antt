@@ -41,14 +41,14 @@ note_words-count-requires c =
     let few = spelt_few _ chart.atoms c.args.contacts c.requires.contacts_are c.requires.few in
     let e = c.loop-e.e in
     let words = c.pair_words.ensures in
-    let member = class_member _ _ chart.atoms (lowest_of chart.names) c.args.top masks.result kept.new.0 kept.result
+    let member = class_member _ _ chart.atoms (lowest_of chart.names) c.args.top masks.result kept.new.masks kept.result
     (omega (arith, masks.ensures.0, c.requires.fits)) masks.ensures.1 kept.ensures in (
       omega (arith, c.requires.fits, kept.ensures.few),
       omega (
         arith,
         c.loop-e.invariant.2.few,
         c.loop-e.invariant.2.long_list,
-        all_length (65535 - c.args.contacts) kept.new.0 e,
+        all_length (65535 - c.args.contacts) kept.new.masks e,
         count_next e kept.result (omega arith),
         count_grows kept.result c.args.top kept.ensures.few,
         c.requires.places,
@@ -56,7 +56,7 @@ note_words-count-requires c =
       λ f l.
           let a = member e (omega arith) in
           let b = member f (omega arith) in
-          let small = pair_small chart.atoms c.args.contacts (entry kept.new.0 e) (entry kept.new.0 f) few a.3.first_is.small b.3.first_is.small in
+          let small = pair_small chart.atoms c.args.contacts (entry kept.new.masks e) (entry kept.new.masks f) few a.3.first_is.small b.3.first_is.small in
           let is = words.are f (omega arith) in
           (omega (arith, is, small, pow_mono {i = chart.atoms} {j = 16} c.requires.few), omega (arith, is, small, c.requires.bits, c.loop-e.invariant.2.long_seen)),
     )
@@ -66,7 +66,7 @@ loop-e-preserved c =
     let words = c.pair_words.ensures in (
       omega (arith, c.loop-e-test.true),
       words.long,
-      all_noted (65535 - c.args.contacts) c.keep_different-classes.new.0 c.loop-e.e _ words c.loop-e.invariant.2
+      all_noted (65535 - c.args.contacts) c.keep_different-classes.new.masks c.loop-e.e _ words c.loop-e.invariant.2
           c.note_words-count.ensures,
     )
 
@@ -82,7 +82,7 @@ returns c =
     let a = c.args in
     let masks = c.masks_of-masks in
     let kept = c.keep_different-classes in
-    let classes = kept.new.0 in
+    let classes = kept.new.masks in
     let zeros = 65535 - a.contacts in
     let z : c.loop-e.e ≡ kept.result = omega arith in
     let few : c.loop-e.count ≤ pair_count a.top = omega (

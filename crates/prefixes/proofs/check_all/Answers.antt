@@ -17,7 +17,7 @@ mark_levels-requires c =
 
 pub returns : goal.returns
 returns c =
-    let s = c.before.before.before.before.before.before.before.before.before.before.before.before.before.before.before.before.before.before in
+    let s = c in
     let contacts = c.contacts_of-contacts in
     let listed = c.words_of-count in
     all_checked _ _ _ _ _ _ _ s.requires.0 contacts.ensures listed.ensures s.requires.3 c.mark_levels.ensures

@@ -4,17 +4,16 @@ use mathlib.Core.Path.{sym, subst}
 use Prim.Native.Nat.{◌*◌, ◌/◌, ◌%◌, ◌^◌}
 use lib.Bits.{bit_or}
 use lib.ListN.{get_or, set}
-use borrow.Author.Tests.{not-true, not-false}
 use Rattle.prefixes.specs.Filled.{Marked}
 use Rattle.prefixes.proofs.Filling.{marked, unmarked}
 use Rattle.prefixes.proofs.mark.Goals as goal
 
 pub returns-then-not-value : goal.returns-then-not-value
 returns-then-not-value c =
-    subst (λ (b : Bool). Marked c.args.h b c.args.bits.now c.args.bits.now) (sym (not-true _ c.if-not-value.true)) (unmarked _ _)
+    subst (λ (b : Bool). Marked c.args.h b c.args.bits.now c.args.bits.now) (sym c.if-not-value.true) (unmarked _ _)
 
 pub returns : goal.returns
 returns c =
     let a = c.args in
     subst (λ (b : Bool). Marked a.h b a.bits.now (set a.bits.now (a.h / 64) (bit_or (get_or a.bits.now (a.h / 64) 0) ((1 * 2 ^ (a.h % 64)) % 18446744073709551616))))
-    (sym (not-false _ c.if-not-value.false)) (marked _ _ c.requires)
+    (sym c.if-not-value.false) (marked _ _ c.requires)

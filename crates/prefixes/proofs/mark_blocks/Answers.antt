@@ -1,6 +1,6 @@
 -- `prefixes::mark_blocks` meets its contract: block after block is filled. Assumes nothing.
 use mathlib.Core.Path.{◌≡◌, subst}
-use Prim.Native.Nat.{ℕ, ◌+◌, ◌-◌, ◌*◌, ◌^◌}
+use Prim.Native.Nat.{ℕ, ◌+◌, ◌*◌, ◌^◌}
 use native.Mathlib.Omega.{arith}
 use Rattle.prefixes.specs.Filled.{Fills}
 use Rattle.prefixes.proofs.Filling.{fills_none, fills_more, blocks_end, row_fits}

@@ -15,7 +15,7 @@ pub returns-then-m-le10 : goal.returns-then-m-le10
 returns-then-m-le10 c =
     let a = c.args in
     let z : 0 + a.m ≡ a.m = omega arith in
-    subst (λ (x : ℕ). Fills a.list.now a.contacts (x + a.s) (2 ^ x) (2 * 2 ^ x) a.bits.now c.mark_blocks.new.0) z
+    subst (λ (x : ℕ). Fills a.list.now a.contacts (x + a.s) (2 ^ x) (2 * 2 ^ x) a.bits.now c.mark_blocks.new.bits) z
     c.mark_blocks.ensures
 
 pub mark_blocks-requires-2 : goal.mark_blocks-requires-2
@@ -27,5 +27,5 @@ pub returns : goal.returns
 returns c =
     let a = c.args in
     let z : a.m - 10 + 10 ≡ a.m = omega arith in
-    subst (λ (x : ℕ). Fills a.list.now a.contacts (x + a.s) (2 ^ x) (2 * 2 ^ x) a.bits.now c.mark_blocks-2.new.0) z
+    subst (λ (x : ℕ). Fills a.list.now a.contacts (x + a.s) (2 ^ x) (2 * 2 ^ x) a.bits.now c.mark_blocks-2.new.bits) z
     c.mark_blocks-2.ensures

@@ -25,7 +25,7 @@ loop-m-preserved c =
     let z : k.m + (a.n - k.m) ≡ a.n = omega arith in (
       omega arith,
       fills_more k.invariant.1
-          (subst (λ (x : ℕ). Fills a.list.now a.contacts x (2 ^ k.m) (2 * 2 ^ k.m) k.bits c.mark_level.new.0) z
+          (subst (λ (x : ℕ). Fills a.list.now a.contacts x (2 ^ k.m) (2 * 2 ^ k.m) k.bits c.mark_level.new.bits) z
           c.mark_level.ensures) (next_power k.m),
     )
 

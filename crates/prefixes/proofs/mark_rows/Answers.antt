@@ -1,6 +1,6 @@
 -- `prefixes::mark_rows` meets its contract: row by row, each bit is the row's test. Assumes nothing.
 use mathlib.Core.Path.{◌≡◌, subst}
-use Prim.Native.Nat.{ℕ, ◌+◌, ◌-◌}
+use Prim.Native.Nat.{ℕ, ◌+◌}
 use native.Mathlib.Omega.{arith}
 use Rattle.pairing.specs.Words.{row_test}
 use Rattle.prefixes.specs.Filled.{Marked, Tested}
@@ -31,7 +31,7 @@ loop-row-preserved c =
       omega (arith, k.invariant),
       omega arith,
       tested_more _ _ _ _ _ _ _ k.invariant.0 k.invariant.2
-          (subst (λ b. Marked (a.top + k.row) b k.bits c.mark.new.0) c.passes-value.ensures c.mark.ensures),
+          (subst (λ b. Marked (a.top + k.row) b k.bits c.mark.new.bits) c.passes-value.ensures c.mark.ensures),
     )
 
 pub shape_of-bits : goal.shape_of-bits

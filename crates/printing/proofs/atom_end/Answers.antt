@@ -3,7 +3,6 @@
 use mathlib.Core.Path.{◌≡◌, ap, subst}
 use Prim.Native.Nat.{ℕ, ◌-◌}
 use native.Mathlib.Omega.{arith}
-use borrow.Author.Tests.{not-true, not-false}
 use Rattle.printing.specs.Places.{Seeking}
 use Rattle.printing.proofs.Counting.{one_if}
 use Rattle.printing.proofs.Seeking.{place_of, few_atoms, seeks_first, order_ahead, seeks_sign, tokens_ahead, seeks_token, seeks_name}
@@ -28,7 +27,7 @@ loop-left-smaller-then-not-is_atom c = omega (arith, order_ahead c.loop-left.inv
 pub loop-left-preserved-then-not-is_atom : goal.loop-left-preserved-then-not-is_atom
 loop-left-preserved-then-not-is_atom c =
     let v = c.loop-left.invariant in
-    (v.0, seeks_sign v.0 v.1 c.loop-left-test.true c.if-kind-ne-NAME.true c.is_atom.result c.is_atom.ensures c.loop-left.left (omega (arith, ap one_if (not-true c.is_atom.result c.if-not-is_atom.true))))
+    (v.0, seeks_sign v.0 v.1 c.loop-left-test.true c.if-kind-ne-NAME.true c.is_atom.result c.is_atom.ensures c.loop-left.left (omega (arith, ap one_if c.if-not-is_atom.true)))
 
 pub overflow_sub-left : goal.overflow_sub-left
 overflow_sub-left c = c.loop-left-test.true
@@ -39,7 +38,7 @@ loop-left-smaller-then-kind-ne-NAME c = omega (arith, order_ahead c.loop-left.in
 pub loop-left-preserved-then-kind-ne-NAME : goal.loop-left-preserved-then-kind-ne-NAME
 loop-left-preserved-then-kind-ne-NAME c =
     let v = c.loop-left.invariant in
-    (v.0, seeks_sign v.0 v.1 c.loop-left-test.true c.if-kind-ne-NAME.true c.is_atom.result c.is_atom.ensures (c.loop-left.left - 1) (omega (arith, ap one_if (not-false c.is_atom.result c.if-not-is_atom.false), c.loop-left-test.true)))
+    (v.0, seeks_sign v.0 v.1 c.loop-left-test.true c.if-kind-ne-NAME.true c.is_atom.result c.is_atom.ensures (c.loop-left.left - 1) (omega (arith, ap one_if c.if-not-is_atom.false, c.loop-left-test.true)))
 
 -- ---- a name
 pub bounds-kinds-j : goal.bounds-kinds-j

@@ -37,7 +37,7 @@ loop-height-smaller-then-job-lt-NAMED c =
 
 pub loop-height-preserved-then-job-lt-NAMED : goal.loop-height-preserved-then-job-lt-NAMED
 loop-height-preserved-then-job-lt-NAMED c =
-    goes_operand c.loop-height.invariant c.loop-height-test.true c.if-job-lt-NAMED.true c.row_of.result c.row_of.ensures c.push-height.new.0 c.push-height.ensures.1
+    goes_operand c.loop-height.invariant c.loop-height-test.true c.if-job-lt-NAMED.true c.row_of.result c.row_of.ensures c.push-height.new.stack c.push-height.ensures.1
     c.push-height.result c.push-height.ensures.0
 
 -- ---- a byte
@@ -93,31 +93,31 @@ module _ (c : goal.After-wide-len) where
   fits =
       name_fits c.loop-height.invariant c.loop-height-test.true c.if-job-ne-NAMED.false c.if-kinds-j-ne-NAME.false c.wide-start.result c.wide-len.result c.wide-start.ensures c.wide-len.ensures lent refl
 
-  long : c.wide-len.result ≡ length lent
-  long =
-      name_long c.loop-height.invariant c.loop-height-test.true c.if-job-ne-NAMED.false c.if-kinds-j-ne-NAME.false c.wide-start.result c.wide-len.result c.wide-start.ensures c.wide-len.ensures lent refl
-
 pub overflow_add-end : goal.overflow_add-end
 overflow_add-end c = omega (arith, lies c, c.loop-height.invariant.1.read.short)
 
 pub overflow_sub-at-in-loop-height : goal.overflow_sub-at-in-loop-height
-overflow_sub-at-in-loop-height c = fits c
+overflow_sub-at-in-loop-height c =
+    name_fits c.loop-height.invariant c.loop-height-test.true c.if-job-ne-NAMED.false c.if-kinds-j-ne-NAME.false c.wide-start.result c.wide-len.result c.wide-start.ensures c.wide-len.ensures _ refl
+
+pub slice_bounds-put-end : goal.slice_bounds-put-end
+slice_bounds-put-end c = name_lies c.loop-height.invariant c.loop-height-test.true c.if-job-ne-NAMED.false c.if-kinds-j-ne-NAME.false c.wide-start.result c.wide-len.result c.wide-start.ensures c.wide-len.ensures
 
 pub put-requires : goal.put-requires
 put-requires c =
-    let w = c.before.before in
-    omega (arith, fits w, long w, c.loop-height.invariant.1.making.room, (few_left c.loop-height.invariant).3)
+    let fits = name_fits c.loop-height.invariant c.loop-height-test.true c.if-job-ne-NAMED.false c.if-kinds-j-ne-NAME.false c.wide-start.result c.wide-len.result c.wide-start.ensures c.wide-len.ensures _ refl in
+    let long = name_long c.loop-height.invariant c.loop-height-test.true c.if-job-ne-NAMED.false c.if-kinds-j-ne-NAME.false c.wide-start.result c.wide-len.result c.wide-start.ensures c.wide-len.ensures _ refl in
+    omega (arith, fits, long, c.loop-height.invariant.1.making.room, (few_left c.loop-height.invariant).3)
 
 pub loop-height-smaller : goal.loop-height-smaller
 loop-height-smaller c =
-    let w = c.before.before.before.before.before in
-    omega (arith, fits w, name_left c.loop-height.invariant c.loop-height-test.true w.if-job-ne-NAMED.false)
+    let fits = name_fits c.loop-height.invariant c.loop-height-test.true c.if-job-ne-NAMED.false c.if-kinds-j-ne-NAME.false c.wide-start.result c.wide-len.result c.wide-start.ensures c.wide-len.ensures _ refl in
+    omega (arith, fits, name_left c.loop-height.invariant c.loop-height-test.true c.if-job-ne-NAMED.false)
 
 pub loop-height-preserved : goal.loop-height-preserved
 loop-height-preserved c =
-    let w = c.before.before.before.before.before in
-    goes_name c.loop-height.invariant c.loop-height-test.true w.if-job-ne-NAMED.false w.if-kinds-j-ne-NAME.false w.wide-start.result w.wide-len.result w.wide-start.ensures w.wide-len.ensures (lent w) refl
-    c.put.new.0 c.put.ensures
+    goes_name c.loop-height.invariant c.loop-height-test.true c.if-job-ne-NAMED.false c.if-kinds-j-ne-NAME.false c.wide-start.result c.wide-len.result c.wide-start.ensures c.wide-len.ensures _ refl
+    c.put.new.out c.put.ensures
 
 pub shape_of-stack : goal.shape_of-stack
 shape_of-stack c = c.loop-height.invariant.1.stacked.room ∙ sym (ap length c.requires.2)

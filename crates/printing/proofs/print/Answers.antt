@@ -12,4 +12,4 @@ print_to-requires c = (c.requires, whole_ends c.args.text.now c.args.rule c.requ
 pub returns : goal.returns
 returns c =
     let call = c.print_to in
-    subst (λ (ws : List ℕ). Prints ws c.args.buffer.now call.result call.new.1.1.1.0) (whole_text c.args.text.now c.args.rule c.requires) call.ensures
+    subst (λ (ws : List ℕ). Prints ws c.args.buffer.now call.result call.new.buffer) (whole_text c.args.text.now c.args.rule c.requires) call.ensures

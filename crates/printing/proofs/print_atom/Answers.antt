@@ -21,5 +21,5 @@ pub returns : goal.returns
 returns c =
     let end = c.atom_end-place in
     let call = c.print_to in
-    subst (λ (ws : List ℕ). Prints ws c.args.buffer.now call.result call.new.1.1.1.0)
+    subst (λ (ws : List ℕ). Prints ws c.args.buffer.now call.result call.new.buffer)
     (atom_text_lem c.args.text.now c.args.rule c.requires.0 c.args.which c.requires.1 end.result end.ensures) call.ensures

@@ -7,7 +7,7 @@ use Prim.Native.Nat.{ℕ, ◌-◌, ◌≤◌, ◌<◌}
 use native.Mathlib.Omega.{arith}
 use borrow.Author.Tests.{le-leb, lt-leb}
 use lib.ListN.{length, take, drop, length-drop}
-use lib.Seq.{take_all, take-length}
+use lib.Seq.{take_all}
 use Rattle.lists.specs.Buffer.{over}
 use Rattle.printing.specs.Prints.{fits, Prints}
 use Rattle.printing.specs.Places.{text_to, Filled}
@@ -23,13 +23,13 @@ module _ (ws made : List ℕ) (from : ℕ) (f : Filled ws made from) (buf : List
       let b : fits ws buf ≡ false = lt-leb (length ws) (length buf) (omega (arith, long)) in
       record { answer = rw (b, long); bytes = rw b }
 
-  enough : 256 - from ≤ length buf → (out : List ℕ) → out ≡ take (length (take (256 - from) (drop from made))) (take (256 - from) (drop from made)) ++ drop (length (take (256 - from) (drop from made))) buf
-      → Prints ws buf (Text (256 - from)) out
+  enough : 256 - from ≤ length buf → (part : List ℕ) → part ≡ take (256 - from) (drop from made)
+      → Prints ws buf (Text (256 - from)) (part ++ drop (256 - from) buf)
   unfolding over
-  enough h out e =
+  enough h part e =
       let b : fits ws buf ≡ true = le-leb (length ws) (length buf) (omega (arith, long)) in
-      let t : take (256 - from) (drop from made) ≡ ws = take_all (256 - from) (drop from made) (omega (arith, length-drop from made, f.whole)) ∙ f.text in
-      record { answer = rw (b, long); bytes = rw b (e ∙ ap (λ (l : List ℕ). take (length l) l ++ drop (length l) buf) t ∙ ap (λ (l : List ℕ). l ++ drop (length ws) buf) (take-length ws)) }
+      let t : part ≡ ws = e ∙ take_all (256 - from) (drop from made) (omega (arith, length-drop from made, f.whole)) ∙ f.text in
+      record { answer = rw (b, long); bytes = rw b (ap (λ (l : List ℕ). l ++ drop (256 - from) buf) t ∙ ap (λ (n : ℕ). ws ++ drop n buf) long) }
 
 pub returns-then-buffer-n : goal.returns-then-buffer-n
 returns-then-buffer-n c =
@@ -37,6 +37,4 @@ returns-then-buffer-n c =
 
 pub returns : goal.returns
 returns c =
-    let start = c.before.before.before.before.before.before.before.before.before.before.before.before.before.before.before.before in
-    let filled = c.fill-from in
-    enough (text_to start.args.text.now start.args.place.order) _ filled.result filled.ensures start.args.buffer.now c.if-buffer-n.false c.before.before.copy.new.1.0 c.before.before.copy.ensures.1
+    enough (text_to c.args.text.now c.args.place.order) _ c.fill-from.result c.fill-from.ensures c.args.buffer.now c.if-buffer-n.false c.copy_from_slice.new.self c.copy_from_slice.ensures.after

@@ -39,6 +39,9 @@ module _ (r n : ℕ) (rows : List ℕ) (h : r < 25) (e : rows ≡ table) (w : n 
 pub overflow_add-end : goal.overflow_add-end
 overflow_add-end c = omega (arith, short _ _ _ c.requires.0 c.rows-rows.ensures c.wide-n.ensures)
 
+pub slice_bounds-put-end : goal.slice_bounds-put-end
+slice_bounds-put-end c = omega (arith, short _ _ _ c.requires.0 c.rows-rows.ensures c.wide-n.ensures)
+
 pub put-requires : goal.put-requires
 put-requires c = rw (jobs _ _ _ c.requires.0 c.rows-rows.ensures c.wide-n.ensures) c.requires.1
 
@@ -47,8 +50,7 @@ overflow_add-result c = omega (arith, short _ _ _ c.requires.0 c.rows-rows.ensur
 
 pub returns : goal.returns
 returns c =
-    let w = c.before.before.before.before.before.before in
-    let start = w.before.before.before in (
-      ap (λ (n : ℕ). start.args.height + n) (many _ _ _ start.requires.0 w.rows-rows.ensures w.wide-n.ensures),
-      c.put.ensures ∙ ap (sets start.args.stack.now start.args.height) (jobs _ _ _ start.requires.0 w.rows-rows.ensures w.wide-n.ensures),
+    (
+      ap (λ (n : ℕ). c.args.height + n) (many _ _ _ c.requires.0 c.rows-rows.ensures c.wide-n.ensures),
+      c.put.ensures ∙ ap (sets c.args.stack.now c.args.height) (jobs _ _ _ c.requires.0 c.rows-rows.ensures c.wide-n.ensures),
     )

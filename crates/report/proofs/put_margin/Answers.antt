@@ -1,15 +1,10 @@
 -- `report::put_margin` meets its contract: so far the blanks of the levels below this one are put. Assumes nothing.
 use mathlib.Core.Path.{refl}
-use mathlib.Core.List.{List}
-use Prim.Native.Nat.{ℕ, ◌-◌}
 use native.Mathlib.Omega.{arith}
 use Rattle.lists.proofs.Putting.{puts_none, puts_length, turn_fits, turn_puts, turns_put}
-use Rattle.lexer.specs.Text.{bytes}
 use Rattle.report.specs.Lines.{margin}
+use Rattle.report.proofs.put_margin.Invariants.{blanks}
 use Rattle.report.proofs.put_margin.Goals as goal
-
-abbrev blanks : ℕ → List ℕ
-blanks level = bytes "  "
 
 pub loop-level-init : goal.loop-level-init
 loop-level-init c =

@@ -11,11 +11,6 @@ slice_bounds-bytes-end c =
     let long : length c.args.name.bytes ≡ 16 = c.well_formed.0.1.1.0.1.0.1 in
     omega (arith, c.if-len-lt16.true, long)
 
-pub slice_bounds-put_text-end-2 : goal.slice_bounds-put_text-end-2
-slice_bounds-put_text-end-2 c =
-    let long : length c.args.name.bytes ≡ 16 = c.well_formed.0.1.1.0.1.0.1 in
-    sym (length-take-le _ _ (omega (arith, c.if-len-lt16.true, long)))
-
 pub put_text-requires : goal.put_text-requires
 put_text-requires c = let first = c.put_text-end.ensures in omega (arith, c.requires, first.place, puts_length first, length-take c.args.name.len c.args.name.bytes, c.if-len-lt16.true)
 

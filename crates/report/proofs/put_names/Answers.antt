@@ -1,18 +1,12 @@
 -- `report::put_names` meets its contract: so far the names with numbers below i are put. Assumes nothing.
-use mathlib.Core.List.{List}
 use Prim.Native.Nat.{ℕ, ◌-◌}
 use native.Mathlib.Omega.{arith}
 use lib.ListN.{length}
-use Rattle.lists.specs.Search.{collect}
 use Rattle.lists.proofs.Putting.{puts_none, puts_length, turn_puts, turns_put}
 use Rattle.names.specs.Gather.{known_of}
-use Rattle.names.specs.declared.Names.{Names}
-use Rattle.report.specs.Lines.{name_if, blanked}
 use Rattle.report.proofs.Parts.{names_parts}
+use Rattle.report.proofs.put_names.Invariants.{name_text}
 use Rattle.report.proofs.put_names.Goals as goal
-
-abbrev nameText : Names → ℕ → ℕ → List ℕ
-nameText names e i = collect blanked (name_if (known_of names) e i)
 
 -- src/lib.rt:177:5
 pub loop-i-init : goal.loop-i-init
@@ -31,7 +25,7 @@ pub loop-i-preserved : goal.loop-i-preserved
 loop-i-preserved c =
     let a = c.args in
     let k = c.loop-i in
-    (omega arith, turn_puts (nameText a.names a.e) k.i k.invariant.1 c.put_name_if-end.ensures.0, omega (arith, c.put_name_if-end.ensures.1, k.invariant.2))
+    (omega arith, turn_puts (name_text a.names a.e) k.i k.invariant.1 c.put_name_if-end.ensures.0, omega (arith, c.put_name_if-end.ensures.1, k.invariant.2))
 
 -- src/lib.rt:170:1
 pub shape_of-out : goal.shape_of-out
@@ -43,4 +37,4 @@ returns c =
     let a = c.args in
     let k = c.loop-i in
     let count = c.count_of-count.ensures in
-    (turns_put (nameText a.names a.e) k.i k.invariant.1 (length (known_of a.names)) (omega (arith, count.0)) (names_parts (known_of a.names) a.e), omega (arith, count.1, k.invariant.2))
+    (turns_put (name_text a.names a.e) k.i k.invariant.1 (length (known_of a.names)) (omega (arith, count.0)) (names_parts (known_of a.names) a.e), omega (arith, count.1, k.invariant.2))

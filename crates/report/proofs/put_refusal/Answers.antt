@@ -14,4 +14,4 @@ returns-in_default c =
 
 pub returns : goal.returns
 returns c =
-    puts_text (ap outcome_text (sym c.in-RefusedLine.is ∙ c.load_outcome-said.ensures)) c.Put-refused.ensures
+    puts_text (ap outcome_text (sym c.in-RefusedLine.is ∙ c.load_outcome-said.ensures)) c.put_refused.ensures

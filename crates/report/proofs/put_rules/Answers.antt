@@ -14,14 +14,14 @@ use Rattle.report.proofs.put_rules.Goals as goal
 pub returns-in_default : goal.returns-in_default
 unfolding names_in
 returns-in_default c =
-    let a = c in
+    let asking : Asking (question_of c.args.asked) c.args.table c.args.words.now c.ask-given.result c.ask-given.new.words = let pre = c.requires in record { from_us = pre.0; some = pre.1; room = pre.2; asks = c.ask-given.ensures } in
     let other = told_other _ (opened c.in_default.in_default-own.keys2) in
-    tells_short refl (no_plans (asking a) other) a.names-names.ensures (words_kept (asking a) other) (puts_over _ _ _ _ (puts_text (no_text (asking a) other) c.put_text-len.ensures))
+    tells_short refl (no_plans asking other) c.names-names.ensures (words_kept asking other) (puts_over _ _ _ _ (puts_text (no_text asking other) c.put_text-len.ensures))
 
 pub returns : goal.returns
 unfolding names_in
 returns c =
-    let asking : Asking (question_of c.args.asked) c.args.table c.args.words.now c.ask-given.result c.ask-given.new.1.1.0 = let pre = c.requires in record { from_us = pre.0; some = pre.1; room = pre.2; asks = c.ask-given.ensures } in
+    let asking : Asking (question_of c.args.asked) c.args.table c.args.words.now c.ask-given.result c.ask-given.new.words = let pre = c.requires in record { from_us = pre.0; some = pre.1; room = pre.2; asks = c.ask-given.ensures } in
     let e = c.in-Plan.is in
     let a = asking in
     let names = c.names-names.ensures in

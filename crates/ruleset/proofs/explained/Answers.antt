@@ -1,8 +1,7 @@
 -- `ruleset::explained` meets its contract: the compiled rules may be run, and what `explain` answers of them is by the writer's trees of the
 -- rules as read (Claims.antt). Assumes nothing.
 use mathlib.Core.Path.{◌≡◌, sym}
-use Prim.Native.Nat.{◌≤◌}
-use lib.ListN.{length, length-map}
+use lib.ListN.{length}
 use lib.Seq.{length-take-le}
 use borrow.Author.Rules.{rules}
 use Rattle.ruleset.specs.Texts.{ExplainedIs}
@@ -10,20 +9,20 @@ use Rattle.ruleset.proofs.Claims.{may_run, ends_fit, few_ends, answer_explained}
 use Rattle.ruleset.proofs.explained.Goals as goal
 
 -- the ends of the rules have their places
-long : (c : goal.Start) → length c.args.c.ends ≡ 16
-long c = c.well_formed.0.1.1.1.0.1.0.1
-
-places : (c : goal.Start) → c.args.c.known.count ≤ length c.args.c.ends
-places c = ends_fit _ _ _ _ c.requires.rules_compiled (long c)
-
 pub slice_bounds-ends-end : goal.slice_bounds-ends-end
-slice_bounds-ends-end c = places c.before.before.before.before.before
+slice_bounds-ends-end c =
+    let long : length c.args.c.ends ≡ 16 = search rules in
+    ends_fit _ _ _ _ c.requires.rules_compiled long
 
 pub slice_bounds-explain-end : goal.slice_bounds-explain-end
-slice_bounds-explain-end c = sym (length-take-le _ _ (places c.before.before.before.before.before.before))
+slice_bounds-explain-end c =
+    let long : length c.args.c.ends ≡ 16 = search rules in
+    sym (length-take-le _ _ (ends_fit _ _ _ _ c.requires.rules_compiled long))
 
 pub explain-requires : goal.explain-requires
-explain-requires c = let s = c.before.before.before.before.before.before in (may_run _ _ _ _ s.requires.rules_compiled, few_ends _ _ _ _ s.requires.rules_compiled (long s))
+explain-requires c =
+    let long : length c.args.c.ends ≡ 16 = search rules in
+    (may_run _ _ _ _ c.requires.rules_compiled, few_ends _ _ _ _ c.requires.rules_compiled long)
 
 pub returns : goal.returns
 unfolding ExplainedIs

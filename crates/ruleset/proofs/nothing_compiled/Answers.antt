@@ -8,5 +8,4 @@ unfolding NothingCompiled NothingKnown
 returns c = λ kept code w. record {
   known = c.nothing_known-known.ensures kept w;
   coded = coded_none _ code _ _ (c.nothing_known-known.ensures kept w).counted;
-
 }

@@ -14,5 +14,4 @@ returns c = λ kept w. record {
   compiled = c.no_atoms-atoms.ensures.1;
   keeps = keeps_none kept _ _ w;
   counted = refl;
-
 }

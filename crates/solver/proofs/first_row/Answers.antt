@@ -6,7 +6,6 @@ use Prim.Native.Nat.{ℕ}
 use native.Mathlib.Omega.{arith}
 use lib.ListN.{length}
 use lib.Pow.{pow_mono}
-use borrow.Author.Rules.{rules}
 use Rattle.lists.specs.Search.{first}
 use Rattle.contact.specs.Question.{Question}
 use Rattle.contact.specs.Row.{Row}

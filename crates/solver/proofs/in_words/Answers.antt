@@ -1,37 +1,12 @@
 -- `solver::in_words` meets its contract: so far the words below `at` are passed. Assumes nothing.
 use mathlib.Core.Path.{refl, sym, ◌∙◌}
-use mathlib.Core.List.{List}
-use Prim.Native.Nat.{ℕ, ◌-◌}
 use native.Mathlib.Omega.{arith}
 use Rattle.evalset.specs.Bit.{bit}
 use Rattle.kleene.specs.Rails.{word_rows}
 use Rattle.evalset.proofs.Walk.{Step, step}
-use Rattle.search.specs.declared.Chart.{Chart}
-use Rattle.solver.specs.declared.Cut.{Cut}
-use Rattle.solver.specs.Tree.{Given, RowsTested, Left}
 use Rattle.solver.proofs.Steps.{Turn, walk_starts, walk_ends, walk_stops, turn}
+use Rattle.solver.proofs.in_words.Invariants.{Known}
 use Rattle.solver.proofs.in_words.Goals as goal
-
--- what is known of the block
-abbrev Known : {code ends : List ℕ} {chart : Chart} {cut : Cut} → List ℕ → ℕ → ℕ → Given code ends chart cut → Type 0
-Known {cut = cut} table row words g = RowsTested g table row × Left g cut.k row cut.w words
-
--- the word that was taken
-taken : (c : goal.In-At)
-    → Step word_rows c.loop-at.at c.in-At.e
-    (bit c.args.words) (bit c.loop-at.rest)
-taken c =
-    step word_rows _ _ _ c.loop-at.invariant.0.rest_is _
-    (sym c.word_least.ensures ∙ c.in-At.is)
-
--- what is found in it
-turned : (c : goal.After-word-found)
-    →    let a = c.args in
-    Turn {code = a.code.now} {ends = a.ends.now} {chart = a.chart} {cut = a.cut} (Known a.table.now a.row a.words) a.cut.k a.row a.cut.w
-    a.cut.r a.words c.loop-at.rest c.in-At.e c.word-found.result
-turned c =
-    turn _ _ _ _ _ _ (λ g h. h.1) _ _ c.loop-at.invariant.0 c.requires.3 _ (taken c.before.before.before) _ _ refl _
-    (λ g h. c.word-found.ensures.1 g h.0)
 
 pub loop-at-init : goal.loop-at-init
 loop-at-init c = (walk_starts _ _ _ _ _ _, c.requires.4)
@@ -43,23 +18,39 @@ returns-in_default c =
 
 pub word-found-requires : goal.word-found-requires
 word-found-requires c =
+    let taken : Step word_rows c.loop-at.at c.in-At.e (bit c.args.words) (bit c.loop-at.rest) = step word_rows _ _ _ c.loop-at.invariant.0.rest_is _
+        (sym c.word_least.ensures ∙ c.in-At.is) in
     let p = c.requires in
-    (p.0, p.1, p.2, p.3 _ (taken c.before.before).passes, c.loop-at.invariant.1, p.5)
+    (p.0, p.1, p.2, p.3 _ taken.passes, c.loop-at.invariant.1, p.5)
 
 pub returns-in_default-found : goal.returns-in_default-found
-returns-in_default-found c = (c.word-found.ensures.0, (turned c.before).finds _ c.in_default-found.is)
+returns-in_default-found c =
+    let taken : Step word_rows c.loop-at.at c.in-At.e (bit c.args.words) (bit c.loop-at.rest) = step word_rows _ _ _ c.loop-at.invariant.0.rest_is _
+        (sym c.word_least.ensures ∙ c.in-At.is) in
+    let turned : let a = c.args in Turn {code = a.code.now} {ends = a.ends.now} {chart = a.chart} {cut = a.cut} (Known a.table.now a.row a.words) a.cut.k a.row a.cut.w a.cut.r a.words c.loop-at.rest c.in-At.e c.word-found.result = turn _ _ _ _ _ _ (λ g h. h.1) _ _ c.loop-at.invariant.0 c.requires.3 _ taken _ _ refl _
+        (λ g h. c.word-found.ensures.1 g h.0) in
+    (c.word-found.ensures.0, turned.finds _ c.in_default-found.is)
 
 pub overflow_add-at : goal.overflow_add-at
-overflow_add-at c = omega (arith, (taken c.before.before.before.before.before).within)
+overflow_add-at c =
+    let taken : Step word_rows c.loop-at.at c.in-At.e (bit c.args.words) (bit c.loop-at.rest) = step word_rows _ _ _ c.loop-at.invariant.0.rest_is _
+        (sym c.word_least.ensures ∙ c.in-At.is) in
+    omega (arith, taken.within)
 
 pub loop-at-smaller : goal.loop-at-smaller
 loop-at-smaller c =
-    let t = taken c.before.before.before.before.before in
+    let taken : Step word_rows c.loop-at.at c.in-At.e (bit c.args.words) (bit c.loop-at.rest) = step word_rows _ _ _ c.loop-at.invariant.0.rest_is _
+        (sym c.word_least.ensures ∙ c.in-At.is) in
+    let t = taken in
     omega (arith, t.within, t.low)
 
 pub loop-at-preserved : goal.loop-at-preserved
 loop-at-preserved c =
-    ((turned c.before.before).passes c.in-Nothing.is _ c.word_without-rest.ensures, c.word-found.ensures.0)
+    let taken : Step word_rows c.loop-at.at c.in-At.e (bit c.args.words) (bit c.loop-at.rest) = step word_rows _ _ _ c.loop-at.invariant.0.rest_is _
+        (sym c.word_least.ensures ∙ c.in-At.is) in
+    let turned : let a = c.args in Turn {code = a.code.now} {ends = a.ends.now} {chart = a.chart} {cut = a.cut} (Known a.table.now a.row a.words) a.cut.k a.row a.cut.w a.cut.r a.words c.loop-at.rest c.in-At.e c.word-found.result = turn _ _ _ _ _ _ (λ g h. h.1) _ _ c.loop-at.invariant.0 c.requires.3 _ taken _ _ refl _
+        (λ g h. c.word-found.ensures.1 g h.0) in
+    (turned.passes c.in-Nothing.is _ c.word_without-rest.ensures, c.word-found.ensures.0)
 
 pub returns : goal.returns
 returns c =

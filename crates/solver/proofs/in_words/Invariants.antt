@@ -3,11 +3,20 @@ use Prim.Native.Nat.{◌-◌}
 use Rattle.kleene.specs.Rails.{word_rows}
 use Rattle.solver.specs.Tree.{Lent}
 use Rattle.solver.proofs.Steps.{Walked}
+use mathlib.Core.List.{List}
+use Prim.Native.Nat.{ℕ}
+use Rattle.search.specs.declared.Chart.{Chart}
+use Rattle.solver.specs.declared.Cut.{Cut}
+use Rattle.solver.specs.Tree.{Given, RowsTested, Left}
 use Rattle.solver.proofs.in_words.Given as goal
+
+-- what is known of the block
+abbrev pub Known : {code ends : List ℕ} {chart : Chart} {cut : Cut} → List ℕ → ℕ → ℕ → Given code ends chart cut → Type 0
+Known {cut = cut} table row words g = RowsTested g table row × Left g cut.k row cut.w words
 
 abbrev pub invariant-loop-at : goal.invariant-loop-at
 invariant-loop-at l =
-    Walked {l.code = l.code} {l.ends = l.ends} {l.chart = l.chart} {l.cut = l.cut} (Known l.table l.row l.initial.rest) l.cut.k l.row l.cut.w l.cut.r l.initial.rest l.rest l.at
+    Walked {code = l.code} {ends = l.ends} {chart = l.chart} {cut = l.cut} (Known l.table l.row l.initial.rest) l.cut.k l.row l.cut.w l.cut.r l.initial.rest l.rest l.at
     × Lent l.cut l.leaves l.stack
 
 abbrev pub decreases-loop-at : goal.decreases-loop-at

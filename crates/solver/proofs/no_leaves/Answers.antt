@@ -1,21 +1,14 @@
 -- `solver::no_leaves` meets its contract: the entries before i are turned round, and the others are 0.
 -- Assumes nothing.
-use mathlib.Core.Bool.{not}
 use mathlib.Core.Path.{◌≡◌, refl, ◌∙◌}
-use Prim.Native.Nat.{ℕ, ◌-◌, ◌<◌}
+use Prim.Native.Nat.{ℕ, ◌<◌}
 use native.Mathlib.Omega.{arith}
-use lib.ListN.{length, get_or, length-set}
+use lib.ListN.{length, length-set}
 use lib.Seq.{get_or-set_other}
-use mathlib.Core.List.{List}
-use Rattle.evalset.specs.Bit.{bit}
 use Rattle.lists.proofs.Lists.{repeated_at}
-use Rattle.kleene.specs.Rails.{word_rows}
 use Rattle.solver.proofs.Whole.{set_next}
+use Rattle.solver.proofs.no_leaves.Invariants.{Opposite}
 use Rattle.solver.proofs.no_leaves.Goals as goal
-
--- a word has the opposite of an atom's values
-abbrev Opposite : List ℕ → ℕ → ℕ → Type 0
-Opposite ts i w = (e : ℕ) → e < word_rows → bit w e ≡ not (bit (get_or ts i 0) e)
 
 pub loop-i-init : goal.loop-i-init
 loop-i-init c = (omega arith, refl, λ j a b. absurd (omega arith), λ j l. repeated_at (λ (x : ℕ). x ≡ 0) refl refl 16 j)

@@ -2,7 +2,6 @@
 use Prim.Native.Nat.{◌^◌}
 use native.Mathlib.Nat.{div-le_self}
 use native.Mathlib.Omega.{arith}
-use borrow.Author.Tests.{not-true}
 use Rattle.solver.proofs.Shutting.{shut_none, shut_one, shut_block}
 use Rattle.solver.proofs.shut_to.Goals as goal
 
@@ -15,7 +14,7 @@ overflow_add-result c = omega (arith, div-le_self c.args.row (2 ^ c.loop-d.d))
 pub returns-then-not-building_of : goal.returns-then-not-building_of
 returns-then-not-building_of c =
     let d = c.loop-d.d in
-    shut_block c.args.chart c.args.row d (omega arith) (omega arith) c.requires.3 _ c.building_of.ensures (not-true _ c.if-not-building_of.true)
+    shut_block c.args.chart c.args.row d (omega arith) (omega arith) c.requires.3 _ c.building_of.ensures c.if-not-building_of.true
 
 pub returns-then-building : goal.returns-then-building
 returns-then-building c = shut_none _ _ _ c.building.ensures c.if-building.true

@@ -2,43 +2,38 @@
 -- Assumes nothing.
 use mathlib.Core.Path.{◌≡◌, refl, sym, ap, ◌∙◌, subst}
 use mathlib.Core.List.{[], List}
-use Prim.Native.Nat.{ℕ, ◌-◌, ◌≤◌, ◌<◌}
+use Prim.Native.Nat.{ℕ, ◌≤◌}
 use native.Mathlib.Omega.{arith}
 use lib.ListN.{length, get_or, drop, drop_of_length-le}
 use Rattle.lists.proofs.Lists.{rest}
 use Rattle.evalset.specs.Bit.{bit}
 use Rattle.evalset.proofs.Bits.{bit_none, bit_or_lem}
-use Rattle.contact.specs.Row.{unknown, PartialRow}
-use Rattle.kleene.specs.Rails.{exec, word_rows, rails_at}
+use Rattle.contact.specs.Row.{unknown}
+use Rattle.kleene.specs.Rails.{exec, rails_at}
 use Rattle.kleene.proofs.Claims.{rails_refuted}
-use Rattle.solver.specs.Coded.{PartSafe, SafeFrom, Values, RefutedSays}
+use Rattle.solver.specs.Coded.{PartSafe, SafeFrom, RefutedSays}
 use Rattle.solver.proofs.Codes.{Joined, joined_none, joined_next, joined_all}
+use Rattle.solver.proofs.some_refuted.Invariants.{Known}
 use Rattle.solver.proofs.some_refuted.Goals as goal
-
--- what is known of row e
-abbrev Known : List ℕ → List ℕ → ℕ → PartialRow → Type 0
-Known ts fs e row = (e < word_rows) × Values ts fs e row
-
--- the part that is run next
-this_part : (c : goal.After-shared_slice_known-in-loop-i-1)
-    → PartSafe c.args.code.now c.loop-i.from
-    (get_or c.args.ends.now c.loop-i.i 0)
-this_part c =
-    let loop = c.loop-i in
-    let a = c.args in
-    (subst (SafeFrom a.code.now loop.from) (rest a.ends.now loop.i 0 (omega arith)) loop.invariant.0).0
 
 pub loop-i-init : goal.loop-i-init
 loop-i-init c =
     (c.requires, refl, refl, λ many rules h. joined_none (Known c.args.yes.now c.args.no.now) many c.args.code.now rules c.args.ends.now (bit 0) (λ e row v. bit_none e) h)
 
 pub slice_bounds-run_rails-count : goal.slice_bounds-run_rails-count
-slice_bounds-run_rails-count c = (this_part c).ordered
+slice_bounds-run_rails-count c =
+    let this_part : PartSafe c.args.code.now c.loop-i.from (get_or c.args.ends.now c.loop-i.i 0) = let loop = c.loop-i in
+        let a = c.args in
+        (subst (SafeFrom a.code.now loop.from) (rest a.ends.now loop.i 0 (omega arith)) loop.invariant.0).0 in
+    this_part.ordered
 
 pub run_rails-found-requires : goal.run_rails-found-requires
 run_rails-found-requires c =
+    let this_part : PartSafe c.args.code.now c.loop-i.from (get_or c.args.ends.now c.loop-i.i 0) = let loop = c.loop-i in
+        let a = c.args in
+        (subst (SafeFrom a.code.now loop.from) (rest a.ends.now loop.i 0 (omega arith)) loop.invariant.0).0 in
     let loop = c.loop-i in
-    ((this_part c.before.before.before).safe, loop.invariant.1, loop.invariant.2)
+    (this_part.safe, loop.invariant.1, loop.invariant.2)
 
 pub loop-i-preserved : goal.loop-i-preserved
 loop-i-preserved c =

@@ -8,7 +8,15 @@ use Rattle.formula.specs.Formula.{Form}
 use Rattle.evalset.specs.Bit.{bit}
 use Rattle.solver.specs.Coded.{SafeFrom, Coded}
 use Rattle.solver.proofs.Codes.{Joined}
+use Prim.Native.Nat.{◌<◌}
+use Rattle.contact.specs.Row.{PartialRow}
+use Rattle.kleene.specs.Rails.{word_rows}
+use Rattle.solver.specs.Coded.{Values}
 use Rattle.solver.proofs.some_refuted.Given as goal
+
+-- what is known of row e
+abbrev pub Known : List ℕ → List ℕ → ℕ → PartialRow → Type 0
+Known ts fs e row = (e < word_rows) × Values ts fs e row
 
 abbrev pub invariant-loop-i : goal.invariant-loop-i
 invariant-loop-i l =

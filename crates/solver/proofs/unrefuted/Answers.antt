@@ -2,7 +2,6 @@
 use mathlib.Core.Bool.{true, not, and-true}
 use mathlib.Core.Path.{◌≡◌, sym, ap, ◌∙◌}
 use native.Mathlib.Omega.{arith}
-use borrow.Author.Rules.{rules}
 use Rattle.lists.proofs.Truth.{clash}
 use Rattle.evalset.specs.Bit.{bit}
 use Rattle.evalset.specs.Sets.{below_in}

@@ -8,7 +8,7 @@ use Rattle.solver.proofs.whole_candidates.Goals as goal
 
 pub returns : goal.returns
 returns c =
-    let s = c.before.before.before.before.before.before.before.before in
+    let s = c in
     let few = s.requires.1.1 in
     let set = c.row_leaves.ensures in
     let run = c.all_true-left in (

@@ -1,7 +1,7 @@
 -- `solver::word_leaves` meets its contract: the entries from k to i are the block's.
 -- Assumes nothing.
 use mathlib.Core.Path.{refl, ◌∙◌}
-use Prim.Native.Nat.{◌-◌, ◌<◌}
+use Prim.Native.Nat.{◌<◌}
 use native.Mathlib.Omega.{arith}
 use lib.ListN.{length, length-set}
 use Rattle.solver.proofs.Whole.{set_next, OfWord}

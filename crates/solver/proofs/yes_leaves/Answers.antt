@@ -1,20 +1,14 @@
 -- `solver::yes_leaves` meets its contract: the entries before i have their values, and the others are 0.
 -- Assumes nothing.
 use mathlib.Core.Path.{◌≡◌, refl, ◌∙◌}
-use Prim.Native.Nat.{ℕ, ◌-◌, ◌^◌, ◌<◌}
+use Prim.Native.Nat.{ℕ, ◌<◌}
 use native.Mathlib.Omega.{arith}
 use lib.ListN.{length, length-set}
 use lib.Seq.{get_or-set_other}
-use Rattle.evalset.specs.Bit.{bit}
 use Rattle.lists.proofs.Lists.{repeated_at}
-use Rattle.kleene.specs.Rails.{sure}
-use Rattle.solver.specs.Tree.{decided_at}
 use Rattle.solver.proofs.Whole.{set_next}
+use Rattle.solver.proofs.yes_leaves.Invariants.{Says}
 use Rattle.solver.proofs.yes_leaves.Goals as goal
-
--- a word has the values of an atom
-abbrev Says : ℕ → ℕ → ℕ → ℕ → ℕ → Type 0
-Says row k d i w = (e : ℕ) → e < 2 ^ d → sure (bit w e) ≡ decided_at k row d e i
 
 pub loop-i-init : goal.loop-i-init
 loop-i-init c = (omega arith, refl, refl, λ j a b. absurd (omega arith), λ j l. repeated_at (λ (x : ℕ). x ≡ 0) refl refl 16 j)

@@ -3,7 +3,15 @@
 use mathlib.Core.Path.{◌≡◌}
 use Prim.Native.Nat.{ℕ, ◌+◌, ◌-◌, ◌≤◌, ◌<◌}
 use lib.ListN.{length, get_or}
+use Prim.Native.Nat.{◌^◌}
+use Rattle.evalset.specs.Bit.{bit}
+use Rattle.kleene.specs.Rails.{sure}
+use Rattle.solver.specs.Tree.{decided_at}
 use Rattle.solver.proofs.yes_leaves.Given as goal
+
+-- a word has the values of an atom
+abbrev pub Says : ℕ → ℕ → ℕ → ℕ → ℕ → Type 0
+Says row k d i w = (e : ℕ) → e < 2 ^ d → sure (bit w e) ≡ decided_at k row d e i
 
 abbrev pub invariant-loop-i : goal.invariant-loop-i
 invariant-loop-i l =

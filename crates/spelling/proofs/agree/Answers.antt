@@ -1,5 +1,4 @@
 -- `spelling::agree` meets its contract: so far the symbols agree, and those that are left fall. Assumes nothing.
-use Prim.Native.Nat.{◌-◌}
 use mathlib.Core.Path.{sym, ◌∙◌}
 use native.Mathlib.Omega.{arith}
 use Rattle.spelling.proofs.Rows.{agree_none, agree_more, agree_not, agree_whole}

@@ -2,31 +2,28 @@
 -- that are left fall. Assumes nothing.
 use mathlib.Core.Bool.{Bool, cond}
 use mathlib.Core.Path.{◌≡◌, sym, ap, subst, ◌∙◌}
-use mathlib.Core.Logic.{⊎_elim}
-use Prim.Native.Nat.{ℕ, ◌-◌, ◌≤◌}
+use Prim.Native.Nat.{ℕ, ◌≤◌}
 use native.Mathlib.Omega.{arith}
 use borrow.Author.Tests.{not-true, not-false}
 use Rattle.lists.proofs.Truth.{clash}
 use Rattle.spelling.specs.Comparing.{Starts}
 use Rattle.spelling.proofs.Scan.{none_passed, other_length, other_sign, unmatched, matched, all_passed}
 use Rattle.spelling.proofs.number_of.Goals as goal
-
--- only of a contact symbols are passed in search of the second term
-passed_is : (c : goal.Joined-contact) → c.if-contact.passed ≡ cond c.args.contact c.args.len 0
-passed_is c = ⊎_elim (λ w. w.1 ∙ sym (ap (λ (b : Bool). cond b c.args.len 0) w.0.taken)) (λ w. w.1 ∙ sym (ap (λ (b : Bool). cond b c.args.len 0) w.0.left)) c.if-contact.branch
-
-passed_most : (c : goal.Joined-contact) → c.if-contact.passed ≤ c.args.len
-passed_most c = ⊎_elim (λ w. omega (arith, w.1)) (λ w. omega (arith, w.1)) c.if-contact.branch
+use Rattle.spelling.proofs.number_of.Goals.{then-contact, else-contact}
 
 pub second_start-second-requires : goal.second_start-second-requires
-second_start-second-requires c = (omega (arith, passed_most c, c.requires.spells.short), omega (arith, passed_most c, c.requires.spells.within))
+second_start-second-requires c =
+    let passed_most : c.if-contact.passed ≤ c.args.len = elim c.if-contact.branch [ then-contact w ↦ omega arith | else-contact w ↦ omega arith ] in
+    (omega (arith, passed_most, c.requires.spells.short), omega (arith, passed_most, c.requires.spells.within))
 
 pub loop-j-init : goal.loop-j-init
 loop-j-init c =
+    let passed_is : c.if-contact.passed ≡ cond c.args.contact c.args.len 0 = elim c.if-contact.branch [ then-contact w ↦ w.passed-is ∙ sym (ap (λ (b : Bool). cond b c.args.len 0) w.if-contact.true) | else-contact w ↦ w.passed-is ∙ sym (ap (λ (b : Bool). cond b c.args.len 0) w.if-contact.false) ] in
+    let passed_most : c.if-contact.passed ≤ c.args.len = elim c.if-contact.branch [ then-contact w ↦ omega arith | else-contact w ↦ omega arith ] in
     let a = c.args in (
       omega arith,
-      omega (arith, c.second_start-second.ensures.within, passed_most c.before),
-      subst (λ (n : ℕ). Starts a.row.now n c.second_start-second.result) (passed_is c.before) c.second_start-second.ensures,
+      omega (arith, c.second_start-second.ensures.within, passed_most),
+      subst (λ (n : ℕ). Starts a.row.now n c.second_start-second.result) passed_is c.second_start-second.ensures,
       none_passed _ _ _ _ _ _ _,
     )
 

@@ -1,6 +1,6 @@
 -- `spelling::second_start` meets its contract: of a row of two terms as many as are wanted are left behind the first (Second.antt), and
 -- the symbols that are left fall. Assumes nothing.
-use Prim.Native.Nat.{◌+◌, ◌-◌, ◌≤◌}
+use Prim.Native.Nat.{◌+◌, ◌≤◌}
 use Rattle.spelling.proofs.Second.{Left}
 use Rattle.spelling.proofs.second_start.Given as goal
 

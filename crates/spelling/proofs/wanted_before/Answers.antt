@@ -1,4 +1,5 @@
 -- `spelling::wanted_before` meets its contract, symbol by symbol. Assumes nothing.
+use native.Mathlib.Omega.{arith}
 use borrow.Author.Tests.{ne_eqb}
 use Rattle.spelling.specs.Comparing.{wanted_before}
 use Rattle.spelling.proofs.wanted_before.Goals as goal
@@ -17,4 +18,4 @@ returns-in-4 c = rw c.in-4.is
 
 pub returns-in_default : goal.returns-in_default
 unfolding wanted_before
-returns-in_default c = rw (ne_eqb _ 2 c.in_default.in_default-own.rest.0.0.1, ne_eqb _ 3 c.in_default.in_default-own.rest.0.1, ne_eqb _ 4 c.in_default.in_default-own.rest.1)
+returns-in_default c = rw (ne_eqb c.args.symbol 2 (omega arith), ne_eqb c.args.symbol 3 (omega arith), ne_eqb c.args.symbol 4 (omega arith))
