@@ -72,7 +72,7 @@ overflow_add-count c =
 pub returns : goal.returns
 unfolding WithRule
 returns c = λ rules f m.
-    let long : length c.args.rule.order ≡ 256 = search rules in
+    let long : length c.args.rule.order ≡ 256 = c.well_formed.1.0.1.1.1.1.0.1.0.1 in
     let gathered = c.gather-gathered.ensures in
     let told = c.in_default.is in
     let counted = c.names_in-used.ensures in
