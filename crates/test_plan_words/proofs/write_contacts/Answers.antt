@@ -1,0 +1,9 @@
+-- `test_plan_words::write_contacts` is safe and ends: each index is tested, the number of turns left falls, and 1,024 words are a square.
+-- Assumes nothing.
+use mathlib.Core.Logic.{inr}
+use borrow.Author.Rules.{rules}
+use Prim.Native.Nat.{◌-◌}
+use Rattle.test_plan_words.proofs.write_contacts.Goals as goal
+
+pub row_at-requires : goal.row_at-requires
+row_at-requires g c = inr (search rules)
