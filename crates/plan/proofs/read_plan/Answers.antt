@@ -64,7 +64,7 @@ returns-in-Refused-answer c =
     let held = points_passed a.words.now w.names w.count first.result.answer first.result.points first.ensures c.in_default-passed.is in
     let answer = c.read_contacts-answer in
     let say = answer.ensures.0 w.names held.1.pts
-        (links_come a.words.now w.names w.count held.0 first.result.points held.1 _ c.alone.ensures.rows) in
+    (links_come a.words.now w.names w.count held.0 first.result.points held.1 _ c.alone.ensures.rows) in
     let r = c.in-Refused-answer in
     reads_refused a.words.now r.at _
     (links_refused a.words.now w.names held.1.pts answer.result _ say r.at r.is)
@@ -78,6 +78,6 @@ returns c =
     let held = points_passed a.words.now w.names w.count first.result.answer first.result.points first.ensures c.in_default-passed.is in
     let answer = c.read_contacts-answer in
     let say = answer.ensures.0 w.names held.1.pts
-        (links_come a.words.now w.names w.count held.0 first.result.points held.1 _ c.alone.ensures.rows) in
+    (links_come a.words.now w.names w.count held.0 first.result.points held.1 _ c.alone.ensures.rows) in
     reads_plan a.words.now w.names w.count held.0 first.result.points held.1 answer.result _ say
     c.in_default-answer.is

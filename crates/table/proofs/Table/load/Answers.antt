@@ -16,7 +16,7 @@ use Rattle.table.proofs.Results.{may_put, loaded_by}
 use Rattle.table.proofs.Loading.{Progress, start, after_blank, after_added, line_refused, nothing_kept, something_kept, kept_table, too_long}
 use native.Mathlib.Omega.{arith}
 use Rattle.table.proofs.Table.load.Goals as goal
-use Rattle.table.proofs.Table.load.Goals.{then-not-blank_line, else-not-blank_line}
+use Rattle.table.proofs.Table.load.Goals.{then-not-blank_line+in-Added, else-not-blank_line}
 
 pub returns-then-file-gt-FILE : goal.returns-then-file-gt-FILE
 returns-then-file-gt-FILE c =
@@ -85,7 +85,7 @@ loop-from-preserved c =
     let cut = c.line_end-end.ensures in
     let h = c.loop-from-test.true in
     elim c.if-not-blank_line.branch [
-      then-not-blank_line w ↦
+      then-not-blank_line+in-Added w ↦
         let more = table_with (set at.table.lines at.table.count w.line_of-last.result) (at.table.count + 1) in
         let room = (may_put _ _ _ _ _ _ at.invariant.from_us at.invariant.known w.with_text-tried.ensures w.in-Added.is).1 in
         subst (λ (t : Table). Progress file t c.if-not-blank_line.known c.if-not-blank_line.symbols line from) (sym w.table-is)
