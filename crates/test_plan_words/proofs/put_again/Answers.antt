@@ -3,4 +3,4 @@ use mathlib.Core.Logic.{inr}
 use Rattle.test_plan_words.proofs.put_again.Goals as goal
 
 pub write_plan-requires : goal.write_plan-requires
-write_plan-requires c = inr c.before.before.Apart-in.ensures
+write_plan-requires c = inr c.apart_in-apart.ensures

@@ -4,4 +4,4 @@ use Prim.Native.Nat.{◌-◌}
 use Rattle.test_plan_words.proofs.write_contacts.Given as goal
 
 abbrev pub decreases-loop-i : goal.decreases-loop-i
-decreases-loop-i g l = 64 - i
+decreases-loop-i g l = 64 - l.i
