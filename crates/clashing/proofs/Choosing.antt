@@ -7,7 +7,7 @@ use mathlib.Core.List.{List, [], ◌∷◌, ◌++◌, map}
 use Prim.Native.Nat.{ℕ, zero, suc, ◌≤◌, ◌<◌}
 use native.Mathlib.Omega.{arith}
 use lib.ListN.{length, get_or, take, drop, replicate}
-use Rattle.lists.specs.Search.{In, here, next}
+use Rattle.lists.specs.Search.{In, next}
 use Rattle.lists.proofs.Search.{none_in, uncons, at_head}
 use Rattle.clashing.specs.Clash.{chosen}
 

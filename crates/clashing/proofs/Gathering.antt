@@ -3,7 +3,7 @@
 use mathlib.Core.Bool.{Bool, true, false, cond}
 use mathlib.Core.Path.{◌≡◌, refl, sym, ap, ap₂, subst, ◌∙◌}
 use mathlib.Core.List.{List, [], ◌∷◌, ◌++◌, append-nil}
-use Prim.Native.Nat.{ℕ, zero, suc, ◌+◌, ◌-◌, ◌≤◌, ◌<◌}
+use Prim.Native.Nat.{ℕ, suc, ◌+◌, ◌-◌, ◌≤◌, ◌<◌}
 use native.Mathlib.Omega.{arith}
 use lib.ListN.{length, get_or, take, drop, set, length-set, take-append-drop}
 use lib.Seq.{sets, length-sets, take-set-le, get_or-set_same, take_all, length-take-le}
@@ -12,7 +12,7 @@ use Rattle.lists.proofs.Lists.{rest, take_next}
 use Rattle.solver.specs.Coded.{part, PartSafe, SafeFrom, PartIs, CodedFrom, Coded}
 use Rattle.solver.proofs.Codes.{part_length}
 use Rattle.ruleset.specs.Ends.{last_end}
-use Rattle.ruleset.proofs.Coding.{coded_with, sets_first, sets_part, last_at}
+use Rattle.ruleset.proofs.Coding.{coded_with, sets_first, sets_part}
 use Rattle.clashing.specs.Clash.{chosen}
 use Rattle.clashing.proofs.Choosing.{chosen_next, chosen_short}
 
@@ -173,7 +173,7 @@ module _ (code ends : List ℕ) (s : List Bool) (before out kept : List ℕ) (co
         }
 
     pub put_more : (place : ℕ) (exit : List ℕ) → place ≡ at' → exit ≡ out' → PutTo code ends s before exit (set kept count place) (count + 1) place end (i + 1)
-    put_more place exit e f =
+    put_more k exit e f =
         subst (λ (k : ℕ). PutTo code ends s before exit (set kept count k) (count + 1) k end (i + 1)) (sym e)
         (subst (λ (l : List ℕ). PutTo code ends s before l kept' (count + 1) at' end (i + 1)) (sym f) more_put)
 

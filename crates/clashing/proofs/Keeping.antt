@@ -2,18 +2,18 @@
 -- that is kept is needed: the floor that meets those before it and those kept meets what is left of them. There is one such set, the
 -- computed one. Assumes nothing.
 use mathlib.Core.Bool.{Bool, true, false}
-use mathlib.Core.Path.{◌≡◌, refl, sym, ap, ap₂, subst, ◌∙◌}
+use mathlib.Core.Path.{◌≡◌, refl, sym, ap, subst, ◌∙◌}
 use mathlib.Core.Logic.{◌↔◌, ⊎_elim, ∥∥₁_map, ∥∥₁_elim}
-use mathlib.Core.List.{List, [], ◌∷◌, ◌++◌, map, map-append, append_assoc, append-nil}
+use mathlib.Core.List.{List, [], ◌∷◌, ◌++◌, map-append, append_assoc}
 use Prim.Native.Nat.{ℕ, zero, suc}
 use lib.ListN.{length, get_or, set}
-use Rattle.formula.specs.Formula.{Atom, Form, Formula, Name}
-use Rattle.lists.specs.Search.{In, here, next, all}
-use Rattle.lists.proofs.Search.{all_intro, all_elim, in_left, in_right, in_either, uncons, none_in}
-use Rattle.lists.proofs.Truth.{clash, cases}
-use Rattle.contact.specs.Meaning.{Floor, meets, meets_all}
-use Rattle.contact.specs.Question.{plain, Counts, NoFloor}
-use Rattle.contact.specs.Numbering.{names_of, numbered_atoms, row_atoms}
+use Rattle.formula.specs.Formula.{Form, Formula, Name}
+use Rattle.lists.specs.Search.{In, next}
+use Rattle.lists.proofs.Search.{all_intro, all_elim, in_left, in_right, in_either}
+use Rattle.lists.proofs.Truth.{clash}
+use Rattle.contact.specs.Meaning.{meets}
+use Rattle.contact.specs.Question.{plain, NoFloor}
+use Rattle.contact.specs.Numbering.{names_of, row_atoms}
 use Rattle.contact.specs.Check.{first_row}
 use Rattle.clashing.specs.Clash.{chosen, NoneMeets, SomeMeets, Kept, IsClash}
 use Rattle.clashing.specs.Clashing.{is_found, clash_from, clash_of}

@@ -1,16 +1,15 @@
 -- Of some of the rules, numbered as all of them are, a row is found exactly where a floor that counts for all the rules meets them: the atoms
 -- of all rules have the values of such a floor, and the numbered rules say of these values what the rules say of the floor. Of no rules
 -- a row is found: the floor of one point that lies in every name counts. Assumes nothing.
-use mathlib.Core.Bool.{Bool, true, false, ◌&&◌}
+use mathlib.Core.Bool.{true, false, ◌&&◌}
 use mathlib.Core.Path.{◌≡◌, refl, sym, ap, ap₂, ◌∙◌}
-use mathlib.Core.Logic.{◌↔◌}
-use mathlib.Core.List.{List, [], ◌∷◌, map, nil≢cons}
-use Prim.Native.Nat.{ℕ, ◌≤◌, ◌<◌}
+use mathlib.Core.List.{List, [], ◌∷◌, map}
+use Prim.Native.Nat.{ℕ, ◌≤◌}
 use native.Mathlib.Omega.{arith}
 use lib.ListN.{length, get_or}
 use Rattle.formula.specs.Formula.{Atom, Form, Formula, Name}
 use Rattle.formula.specs.Atoms.{atoms_of}
-use Rattle.lists.specs.Search.{In, here, next, any, all, first, below}
+use Rattle.lists.specs.Search.{In, here, next, all, below}
 use Rattle.lists.proofs.Lists.{map_at}
 use Rattle.lists.proofs.Search.{any_intro, collect_intro, first_short}
 use Rattle.lists.proofs.Truth.{clash}

@@ -2,7 +2,7 @@
 -- And the loop from the last rule to the first: before the place all are chosen, from it on those that are kept. Assumes nothing.
 use mathlib.Core.Bool.{Bool, true, false}
 use mathlib.Core.Path.{◌≡◌, refl, sym, ap, ap₂, subst, ◌∙◌}
-use mathlib.Core.List.{List, [], ◌∷◌, ◌++◌, append_assoc, append-nil}
+use mathlib.Core.List.{List, [], ◌∷◌, ◌++◌}
 use Prim.Native.Nat.{ℕ, zero, suc, ◌+◌, ◌-◌, ◌≤◌, ◌<◌}
 use native.Mathlib.Omega.{arith}
 use lib.ListN.{length, get_or, take, drop, set, replicate, length-map, replicate-append-replicate, drop_of_length-le}
@@ -15,8 +15,6 @@ use Rattle.contact.specs.Numbering.{names_of, numbered_atoms, row_atoms, map_for
 use Rattle.contact.specs.Row.{Row}
 use Rattle.contact.specs.Check.{first_row, first_row_of}
 use Rattle.contact.proofs.Claims.{numbered_below}
-use Rattle.search.specs.declared.Chart.{Chart}
-use Rattle.search.specs.Compiled.{limit}
 use Rattle.solver.specs.declared.RowAnswer.{RowAnswer}
 use Rattle.solver.specs.Coded.{CodedFrom, Coded}
 use Rattle.solver.specs.Tree.{ComesFrom, Runnable, answer_for, FirstRowSays}
@@ -27,7 +25,6 @@ use Rattle.ruleset.proofs.Claims.{comes_from, may_run}
 use Rattle.clashing.specs.Clash.{chosen}
 use Rattle.clashing.specs.Clashing.{is_found, clash_from, clash_of}
 use Rattle.clashing.specs.declared.Clashed.{Clashed}
-use Rattle.clashing.specs.declared.Clashed.TheVariants as Clashed
 use Rattle.clashing.specs.Steps.{found_row, KeptIs, Clashes, ClashIs}
 use Rattle.clashing.proofs.Choosing.{chosen_behind, chosen_short}
 use Rattle.clashing.proofs.Meeting.{found_no_rules}

@@ -8,12 +8,10 @@ use Rattle.contact.specs.Row.{Row}
 use Rattle.contact.specs.Check.{first_row, first_row_of}
 use Rattle.solver.specs.Coded.{Coded}
 use Rattle.solver.specs.declared.RowAnswer.{RowAnswer}
-use Rattle.solver.specs.declared.RowAnswer.TheVariants as RowAnswer
 use Rattle.ruleset.specs.declared.Compiling.{Compiling}
 use Rattle.ruleset.specs.Texts.{CompiledRules}
 use Rattle.clashing.specs.declared.Chosen.{Chosen}
 use Rattle.clashing.specs.declared.Clashed.{Clashed}
-use Rattle.clashing.specs.declared.Clashed.TheVariants as Clashed
 use Rattle.clashing.specs.Clash.{chosen}
 use Rattle.clashing.specs.Clashing.{is_found, clash_of}
 

@@ -33,8 +33,8 @@ use Rattle.plan.specs.declared.PlanAnswer.{PlanAnswer}
 use Rattle.plan.specs.declared.PlanAnswer.TheVariants as answer_is
 use Rattle.plan.specs.declared.PlanArrays.{PlanArrays}
 use Rattle.plan.specs.declared.PlanRead.{PlanRead}
-use Rattle.plan.specs.Words.{Plan, most_points}
-use Rattle.plan.specs.Reader.{kind_of, State, start, pointing, linking, whole, dead, opened, went, pointed, linked, step, Reading, plan, refused, ended, unless, read_from, read_of}
+use Rattle.plan.specs.Words.{most_points}
+use Rattle.plan.specs.Reader.{kind_of, State, start, pointing, linking, whole, dead, opened, went, pointed, linked, step, Reading, refused, ended, unless, read_from, read_of}
 use Rattle.plan.specs.Arrays.{answer_of, plan_in, Reads}
 use Rattle.plan.specs.Stored.{Stored}
 use Rattle.plan.specs.Private.{plan_of, joined_of, self_of, wanting, OpensTo, pointing_of, PointsCome, PointsHeld, PointsSay, last_of, linking_of, LinksCome, LinksHeld, LinksSay}

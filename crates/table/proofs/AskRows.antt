@@ -23,9 +23,7 @@ use Rattle.plan.proofs.Exact.{exact}
 use Rattle.plan.specs.Floor.{plan_floor, named_floor}
 use Rattle.plan.proofs.Claims.{plan_is_read, refused_exactly, uncovered_exactly, covered_exactly, judge_yes, judge_unmet, no_plan_given, given_exactly, given_at_most_one}
 use Rattle.table.specs.declared.AskAnswer.{AskAnswer}
-use Rattle.table.specs.declared.AskAnswer.TheVariants as AskAnswer
 use Rattle.table.specs.declared.JudgeAnswer.{JudgeAnswer}
-use Rattle.table.specs.declared.JudgeAnswer.TheVariants as JudgeAnswer
 use Rattle.table.specs.Sheet.{Text}
 use Rattle.table.specs.Rules.{AreRules}
 use Rattle.table.specs.Calls.{formulas_of}
@@ -33,7 +31,6 @@ use Rattle.table.specs.Asking.{plan_answer, found_answer, ask_answer, judgement_
 use Rattle.plan.specs.declared.PlanRead.{PlanRead}
 use Rattle.plan.specs.Arrays.{answer_of, Reads}
 use Rattle.table.specs.declared.Outcome.{Outcome}
-use Rattle.table.specs.declared.Outcome.TheVariants as Outcome
 use Rattle.table.proofs.Rules.{AllRead, are_formulas, formulas_are}
 use Rattle.table.proofs.Asking.{asked_some, judged_some}
 use Rattle.table.specs.Numbers.{ask_outcome, judge_outcome, plan_outcome}

@@ -10,15 +10,13 @@ use lib.ListN.{length, take}
 use lib.Seq.{take-append_seam}
 use borrow.Author.Tests.{le-leb, lt-leb, eq-eqb, ne_eqb}
 use Rattle.lists.specs.Buffer.{over}
-use Rattle.formula.specs.Formula.{Formula, Name}
 use Rattle.contact.specs.Question.{Question}
 use Rattle.contact.specs.Numbering.{names_of}
 use Rattle.plan.specs.declared.PlanArrays.{PlanArrays}
 use Rattle.plan.specs.declared.PlanAnswer.TheVariants as PlanAnswer
 use Rattle.plan.specs.declared.PlanRead.{PlanRead}
 use Rattle.plan.specs.declared.Written.{Written}
-use Rattle.plan.specs.declared.Written.TheVariants as Written
-use Rattle.plan.specs.Words.{Plan, IsPlan, words_of}
+use Rattle.plan.specs.Words.{Plan, words_of}
 use Rattle.plan.specs.Reader.{Reading, plan, refused, read_of, ReadingSays}
 use Rattle.plan.specs.Arrays.{answer_of, plan_in, Reads, Writes}
 use Rattle.plan.specs.Stored.{Stored}
@@ -28,21 +26,18 @@ use Rattle.plan.proofs.Claims.{given_exactly}
 use Rattle.plan.proofs.Exact.{exact}
 use Rattle.plan.specs.Floor.{named_floor}
 use Rattle.judging.specs.declared.Judged.{Judged}
-use Rattle.judging.specs.declared.Judged.TheVariants as Judged
 use Rattle.judging.specs.Values.{judged_of}
 use Rattle.ruleset.specs.declared.Compiling.{Compiling}
 use Rattle.ruleset.specs.Texts.{CompiledRules, JudgedIs}
 use Rattle.table.specs.declared.Table.{Table}
 use Rattle.table.specs.declared.AskAnswer.{AskAnswer}
-use Rattle.table.specs.declared.AskAnswer.TheVariants as AskAnswer
 use Rattle.table.specs.declared.AskResult.{AskResult}
 use Rattle.table.specs.declared.JudgeAnswer.{JudgeAnswer}
-use Rattle.table.specs.declared.JudgeAnswer.TheVariants as JudgeAnswer
 use Rattle.table.specs.declared.JudgeResult.{JudgeResult}
 use Rattle.table.specs.Store.{rules_of}
 use Rattle.table.specs.Sheet.{Text}
 use Rattle.table.specs.Calls.{formulas_of, FromUs}
-use Rattle.table.specs.Asking.{found_answer, ask_answer, found_words, ask_words, asked, Asks, judgement_answer, judge_decoded, judge_plan, judge_reading, judge_answer, judged, Judges}
+use Rattle.table.specs.Asking.{found_answer, ask_answer, found_words, ask_words, asked, Asks, judgement_answer, judge_decoded, judge_reading, judge_answer, judged, Judges}
 use Rattle.table.specs.Steps.{JudgementIs, judged_answer}
 use Rattle.table.specs.Rows.{SomeStand}
 use Rattle.table.proofs.Lines.{count_is, none_stand}

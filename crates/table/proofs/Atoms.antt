@@ -22,7 +22,6 @@ use Rattle.syntax.specs.Rule.{meaning_of}
 use Rattle.syntax.specs.RuleText.{IsRule}
 use Rattle.syntax.proofs.Claims.{is_rule}
 use Rattle.printing.specs.declared.Printed.{Printed}
-use Rattle.printing.specs.declared.Printed.TheVariants as Printed
 use Rattle.printing.specs.Text.{text_of}
 use Rattle.printing.specs.Prints.{atom_text, Prints}
 use Rattle.printing.proofs.Claims.{atom_never_longer}

@@ -1,6 +1,6 @@
 -- Clash is answered by the row that applies, and by no other: a row is found exactly where a plan exists, and the set has a place for each rule.
 -- Assumes nothing.
-use Prim.Native.Nat.{ℕ, ◌≤◌, ◌<◌}
+use Prim.Native.Nat.{ℕ, ◌≤◌}
 use mathlib.Core.Path.{◌≡◌, refl, sym, ap, ap₂, ◌∙◌, subst}
 use mathlib.Core.Bool.{Bool, true, false, cond}
 use mathlib.Core.List.{List, [], ◌∷◌, ◌++◌, cons≢nil}
@@ -19,13 +19,11 @@ use Rattle.clashing.specs.Clash.{IsClash}
 use Rattle.clashing.specs.Clashing.{clash_of}
 use Rattle.clashing.proofs.Claims.{clash_length, clash_exactly}
 use Rattle.table.specs.declared.ClashAnswer.{ClashAnswer}
-use Rattle.table.specs.declared.ClashAnswer.TheVariants as ClashAnswer
 use Rattle.table.specs.declared.Outcome.{Outcome}
-use Rattle.table.specs.declared.Outcome.TheVariants as Outcome
 use Rattle.table.specs.Sheet.{Text}
 use Rattle.table.specs.Calls.{formulas_of}
 use Rattle.table.specs.Rules.{AreRules, CanStand}
-use Rattle.table.specs.Clashing.{places_answer, rows_answer, clash_answer, rows_places, clash_places}
+use Rattle.table.specs.Clashing.{rows_answer, clash_answer, rows_places, clash_places}
 use Rattle.table.specs.Numbers.{clash_outcome}
 use Rattle.table.specs.Rows.{SomeStand, ClashRow}
 use Rattle.table.proofs.Rules.{can_rules, of_computed}

@@ -16,7 +16,6 @@ use Rattle.clashing.specs.Clashing.{clash_of}
 use Rattle.clashing.specs.Steps.{Clashes, ClashIs}
 use Rattle.table.specs.declared.Table.{Table}
 use Rattle.table.specs.declared.ClashAnswer.{ClashAnswer}
-use Rattle.table.specs.declared.ClashAnswer.TheVariants as ClashAnswer
 use Rattle.table.specs.declared.ClashResult.{ClashResult}
 use Rattle.table.specs.Store.{rules_of}
 use Rattle.table.specs.Sheet.{Text}

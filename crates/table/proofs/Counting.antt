@@ -11,7 +11,6 @@ use Rattle.lists.proofs.Truth.{cases}
 use Rattle.formula.specs.Formula.{Formula, Name}
 use Rattle.syntax.specs.Rule.{rule_of, meaning_of}
 use Rattle.syntax.specs.declared.RuleAnswer.{RuleAnswer}
-use Rattle.syntax.specs.declared.RuleAnswer.TheVariants as RuleAnswer
 use Rattle.syntax.specs.declared.Rule.{Rule}
 use Rattle.syntax.proofs.Claims.{is_rule}
 use Rattle.contact.specs.Numbering.{different_atoms}
@@ -19,15 +18,12 @@ use Rattle.names.specs.Gather.{arrays_of, gathered}
 use Rattle.names.specs.declared.Gathered.{Gathered}
 use Rattle.names.proofs.Claims.{rule_gathered}
 use Rattle.names.specs.declared.NamesAnswer.{NamesAnswer}
-use Rattle.names.specs.declared.NamesAnswer.TheVariants as NamesAnswer
 use Rattle.ruleset.specs.declared.Known.{Known}
 use Rattle.ruleset.specs.declared.Grown.{Grown}
 use Rattle.ruleset.specs.declared.RoomAnswer.{RoomAnswer}
-use Rattle.ruleset.specs.declared.RoomAnswer.TheVariants as RoomAnswer
 use Rattle.ruleset.specs.Texts.{KnownRules, OneMore, Ready, room_answer, WithRule}
 use Rattle.table.specs.declared.Tried.{Tried}
 use Rattle.table.specs.declared.AddAnswer.{AddAnswer}
-use Rattle.table.specs.declared.AddAnswer.TheVariants as AddAnswer
 use Rattle.table.specs.Sheet.{Text}
 use Rattle.table.specs.Calls.{formulas_of, names_in, atoms_in, read_answer, names_answer, first_refusal, judge_names, judge_atoms, judge_room, judge_text, judge_add}
 use Rattle.table.specs.Rules.{CanStand}

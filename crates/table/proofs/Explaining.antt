@@ -19,10 +19,8 @@ use Rattle.explaining.specs.declared.Explanation.{Explanation}
 use Rattle.explaining.specs.Explained.{Explained}
 use Rattle.table.specs.declared.Table.{Table}
 use Rattle.table.specs.declared.ExplainAnswer.{ExplainAnswer}
-use Rattle.table.specs.declared.ExplainAnswer.TheVariants as ExplainAnswer
 use Rattle.table.specs.declared.ExplainResult.{ExplainResult}
 use Rattle.table.specs.declared.CheckAnswer.{CheckAnswer}
-use Rattle.table.specs.declared.CheckAnswer.TheVariants as CheckAnswer
 use Rattle.table.specs.declared.CheckResult.{CheckResult}
 use Rattle.table.specs.Store.{rules_of}
 use Rattle.table.specs.Sheet.{Text}

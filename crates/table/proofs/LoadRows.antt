@@ -12,14 +12,11 @@ use borrow.Author.Tests.{ltb-true, ltb-false}
 use Rattle.lists.proofs.Search.{keep_append}
 use Rattle.lists.proofs.Truth.{cases}
 use Rattle.table.specs.declared.AddAnswer.{AddAnswer}
-use Rattle.table.specs.declared.AddAnswer.TheVariants as AddAnswer
 use Rattle.table.specs.declared.LoadAnswer.{LoadAnswer}
-use Rattle.table.specs.declared.LoadAnswer.TheVariants as LoadAnswer
 use Rattle.table.specs.Sheet.{Text, lines_of, blank_line, filled}
 use Rattle.table.specs.Calls.{judge_add, judge_lines, is_none, judge_load}
 use Rattle.table.specs.Rules.{CanStand}
 use Rattle.table.specs.declared.Outcome.{Outcome}
-use Rattle.table.specs.declared.Outcome.TheVariants as Outcome
 use Rattle.table.specs.Numbers.{add_outcome, on_line, load_outcome}
 use Rattle.table.specs.Rows.{AddRow, RefusedLine, LoadRow, long, blank, line, loads}
 use Rattle.table.proofs.Standing.{NotAdded, added_or, stand_none, stand_first, stand_more, stand_added}

@@ -12,9 +12,7 @@ use Rattle.ruleset.specs.Texts.{NothingKnown}
 use Rattle.table.specs.declared.Table.{Table}
 use Rattle.table.specs.declared.Tried.{Tried}
 use Rattle.table.specs.declared.AddAnswer.{AddAnswer}
-use Rattle.table.specs.declared.AddAnswer.TheVariants as AddAnswer
 use Rattle.table.specs.declared.LoadAnswer.{LoadAnswer}
-use Rattle.table.specs.declared.LoadAnswer.TheVariants as LoadAnswer
 use Rattle.table.specs.Store.{table_of, rules_of}
 use Rattle.table.specs.Sheet.{Text, lines_of, blank_line, filled}
 use Rattle.table.specs.Calls.{if_added, judge_add, lines_from, judge_lines, is_none, judge_load, FromUs}

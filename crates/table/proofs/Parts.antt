@@ -1,6 +1,6 @@
 -- The answers of the parts that are open to a caller, by their numbers: the cutter of tokens, the writer of plan words, the printer. Assumes nothing.
 use Prim.Native.Nat.{ℕ, ◌≤◌, ◌<◌}
-use mathlib.Core.Path.{◌≡◌, refl, ap, ◌∙◌}
+use mathlib.Core.Path.{◌≡◌, ap, ◌∙◌}
 use mathlib.Core.Bool.{Bool, cond}
 use mathlib.Core.List.{List}
 use native.Mathlib.Omega.{arith}
@@ -9,17 +9,13 @@ use lib.ListN.{length}
 use Rattle.lexer.specs.Arrays.{lexed}
 use Rattle.lexer.specs.Cutter.{cutting}
 use Rattle.lexer.specs.declared.LexAnswer.{LexAnswer}
-use Rattle.lexer.specs.declared.LexAnswer.TheVariants as LexAnswer
 use Rattle.syntax.specs.Rule.{refusal_of, tokens_in, by_answer, rule_of}
 use Rattle.plan.specs.declared.Written.{Written}
-use Rattle.plan.specs.declared.Written.TheVariants as Written
 use Rattle.plan.specs.Words.{Plan, words_of}
 use Rattle.plan.specs.Arrays.{Writes}
 use Rattle.printing.specs.declared.Printed.{Printed}
-use Rattle.printing.specs.declared.Printed.TheVariants as Printed
 use Rattle.printing.specs.Prints.{Prints}
 use Rattle.table.specs.declared.Outcome.{Outcome}
-use Rattle.table.specs.declared.Outcome.TheVariants as Outcome
 use Rattle.table.specs.Sheet.{Text}
 use Rattle.table.specs.Calls.{judge_add}
 use Rattle.table.specs.Numbers.{add_outcome, lex_outcome, rule_outcome, written_outcome, printed_outcome}

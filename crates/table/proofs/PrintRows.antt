@@ -21,11 +21,8 @@ use Rattle.printing.specs.Text.{text_of}
 use Rattle.printing.specs.Prints.{printed_text}
 use Rattle.printing.proofs.Claims.{gives_text}
 use Rattle.table.specs.declared.WithdrawAnswer.{WithdrawAnswer}
-use Rattle.table.specs.declared.WithdrawAnswer.TheVariants as WithdrawAnswer
 use Rattle.table.specs.declared.PrintAnswer.{PrintAnswer}
-use Rattle.table.specs.declared.PrintAnswer.TheVariants as PrintAnswer
 use Rattle.table.specs.declared.Outcome.{Outcome}
-use Rattle.table.specs.declared.Outcome.TheVariants as Outcome
 use Rattle.table.specs.Sheet.{Text}
 use Rattle.table.specs.Calls.{judge_withdraw, if_withdrawn}
 use Rattle.table.specs.Printing.{text_answer, text_bytes, print_answer, print_bytes}

@@ -7,14 +7,11 @@ use native.Mathlib.Omega.{arith}
 use lib.Dec.{leb}
 use lib.ListN.{length, get_or}
 use Rattle.printing.specs.declared.Printed.{Printed}
-use Rattle.printing.specs.declared.Printed.TheVariants as Printed
 use Rattle.printing.specs.Prints.{printed_text}
 use Rattle.printing.specs.Prints as printing
 use Rattle.table.specs.declared.Table.{Table}
 use Rattle.table.specs.declared.WithdrawAnswer.{WithdrawAnswer}
-use Rattle.table.specs.declared.WithdrawAnswer.TheVariants as WithdrawAnswer
 use Rattle.table.specs.declared.PrintAnswer.{PrintAnswer}
-use Rattle.table.specs.declared.PrintAnswer.TheVariants as PrintAnswer
 use Rattle.table.specs.declared.PrintResult.{PrintResult}
 use Rattle.table.specs.Store.{rules_of}
 use Rattle.table.specs.Sheet.{Text}

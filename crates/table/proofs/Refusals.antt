@@ -7,7 +7,6 @@ use types.Run.{OneOf, miss}
 use denote.Enum.Declared.{tag_of}
 use Rattle.table.specs.declared.AddAnswer.{AddAnswer}
 use Rattle.table.specs.declared.Outcome.{Outcome}
-use Rattle.table.specs.declared.Outcome.TheVariants as Outcome
 use Rattle.table.specs.Numbers.{on_line}
 use Rattle.table.specs.contracts.AddAnswer.{the_type}
 use Rattle.table.specs.contracts.Outcome.{the_type as outcome-type}

@@ -13,7 +13,6 @@ use Rattle.formula.specs.Names.{atom_names}
 use Rattle.syntax.specs.RuleText.{IsRule, Answers}
 use Rattle.syntax.specs.Rule.{rule_of, meaning_of}
 use Rattle.syntax.specs.declared.RuleAnswer.{RuleAnswer}
-use Rattle.syntax.specs.declared.RuleAnswer.TheVariants as RuleAnswer
 use Rattle.syntax.proofs.Claims.{text_answered, text_answered_only, is_rule}
 use Rattle.lexer.specs.Token.{Token}
 use Rattle.lists.specs.Search.{collect, here}
@@ -23,17 +22,14 @@ use Rattle.contact.specs.Numbering.{all_atoms, names_of}
 use Rattle.names.specs.Gather.{rule_tokens, gathered}
 use Rattle.names.specs.Ninth.{NinthAt, places_of}
 use Rattle.names.specs.declared.NamesAnswer.{NamesAnswer}
-use Rattle.names.specs.declared.NamesAnswer.TheVariants as NamesAnswer
 use Rattle.names.proofs.Claims.{rule_ninth}
 use Rattle.names.proofs.Tokens.{tokens_of_rule}
 use Rattle.table.specs.declared.AddAnswer.{AddAnswer}
-use Rattle.table.specs.declared.AddAnswer.TheVariants as AddAnswer
 use Rattle.table.specs.declared.WithdrawAnswer.{WithdrawAnswer}
 use Rattle.table.specs.Sheet.{Text}
 use Rattle.table.specs.Calls.{formulas_of, names_in, atoms_in, read_answer, judge_names, judge_text, judge_add, judge_withdraw}
 use Rattle.table.specs.Rules.{AreRules, CanStand}
 use Rattle.table.specs.declared.Outcome.{Outcome}
-use Rattle.table.specs.declared.Outcome.TheVariants as Outcome
 use Rattle.table.specs.Numbers.{add_outcome, withdraw_outcome, rule_outcome}
 use Rattle.table.specs.Rows.{AddRow, full, ninth, many, stands, WithdrawRow, none, taken}
 use Rattle.table.proofs.Rules.{rule_answer, are_read, are_formulas, formulas_are, are_names, are_atoms, can_read, can_rules, can_names}

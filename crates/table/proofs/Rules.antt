@@ -28,14 +28,14 @@ rule_answer s f r = sym (text_answered_only s RuleAnswer.Formula (formula r))
 
 pub are_read : (rs : List Text) (fs : List (Formula Name)) → AreRules rs fs → AllRead rs
 are_read [] fs AreRules.none s i = none_in i
-are_read (r ∷ rs) fs (AreRules.more {f = f} {fs = gs} h more) s i =
-    ⊎_elim (λ e. ap (λ (x : Text). (rule_of x).answer) e ∙ rule_answer r f h) (are_read rs gs more s) (uncons i)
+are_read (r ∷ rs) fs (AreRules.more {f = f} {fs = gs} h others) s i =
+    ⊎_elim (λ e. ap (λ (x : Text). (rule_of x).answer) e ∙ rule_answer r f h) (are_read rs gs others s) (uncons i)
 
 -- the formulas are those that are computed
 pub are_formulas : (rs : List Text) (fs : List (Formula Name)) → AreRules rs fs → fs ≡ formulas_of rs
 are_formulas [] fs AreRules.none = refl
-are_formulas (r ∷ rs) fs (AreRules.more {f = f} {fs = gs} h more) =
-    ap₂ (λ (x : Formula Name) (xs : List (Formula Name)). x ∷ xs) (sym (text_means r f h)) (are_formulas rs gs more)
+are_formulas (r ∷ rs) fs (AreRules.more {f = f} {fs = gs} h others) =
+    ap₂ (λ (x : Formula Name) (xs : List (Formula Name)). x ∷ xs) (sym (text_means r f h)) (are_formulas rs gs others)
 
 pub formulas_are : (rs : List Text) → AllRead rs → AreRules rs (formulas_of rs)
 formulas_are [] read = AreRules.none

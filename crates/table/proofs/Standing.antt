@@ -12,21 +12,16 @@ use borrow.Author.Tests.{ltb-false, leb-false, le-ltb, lt-leb}
 use Rattle.formula.specs.Formula.{Formula, Name}
 use Rattle.syntax.specs.Rule.{rule_of, meaning_of}
 use Rattle.syntax.specs.declared.RuleAnswer.{RuleAnswer}
-use Rattle.syntax.specs.declared.RuleAnswer.TheVariants as RuleAnswer
 use Rattle.syntax.proofs.Claims.{is_rule}
 use Rattle.lists.specs.Search.{In, here}
 use Rattle.lists.proofs.Search.{none_in, uncons, in_left, in_right, in_either, map_intro, map_elim, in_take, in_drop}
 use Rattle.contact.specs.Numbering.{names_of}
 use Rattle.names.specs.Gather.{gathered}
 use Rattle.names.specs.declared.NamesAnswer.{NamesAnswer}
-use Rattle.names.specs.declared.NamesAnswer.TheVariants as NamesAnswer
 use Rattle.names.proofs.Claims.{rule_enough}
 use Rattle.table.specs.declared.AddAnswer.{AddAnswer}
-use Rattle.table.specs.declared.AddAnswer.TheVariants as AddAnswer
 use Rattle.table.specs.declared.WithdrawAnswer.{WithdrawAnswer}
-use Rattle.table.specs.declared.WithdrawAnswer.TheVariants as WithdrawAnswer
 use Rattle.table.specs.declared.LoadAnswer.{LoadAnswer}
-use Rattle.table.specs.declared.LoadAnswer.TheVariants as LoadAnswer
 use Rattle.table.specs.Sheet.{Text, lines_of, blank_line, filled}
 use Rattle.table.specs.Calls.{formulas_of, names_in, atoms_in, read_answer, names_answer, if_added, first_refusal, judge_names, judge_atoms, judge_room, judge_text, judge_add, add_rules, judge_withdraw, without, if_withdrawn, withdraw_rules, judge_lines, is_none, judge_load, if_loaded, load_rules}
 use Rattle.table.specs.Rules.{CanStand}

@@ -29,7 +29,6 @@ use Rattle.plan.proofs.Exact.{exact}
 use Rattle.plan.proofs.Claims.{judge_yes}
 use Rattle.plan.proofs.Wider.{widened_plan, widened_stored, widened_floor}
 use Rattle.judging.specs.declared.Judged.{Judged}
-use Rattle.judging.specs.declared.Judged.TheVariants as Judged
 use Rattle.judging.specs.Values.{judged_of}
 use Rattle.judging.specs.Judges.{judged_plan}
 use Rattle.solver.specs.declared.RowAnswer.{RowAnswer}
@@ -38,7 +37,6 @@ use Rattle.ruleset.specs.declared.Compiling.{Compiling}
 use Rattle.ruleset.specs.Texts.{CompiledRules, FirstRowIs, JudgedIs}
 use Rattle.table.specs.declared.Table.{Table}
 use Rattle.table.specs.declared.StillAnswer.{StillAnswer}
-use Rattle.table.specs.declared.StillAnswer.TheVariants as StillAnswer
 use Rattle.table.specs.declared.StillResult.{StillResult}
 use Rattle.table.specs.Store.{rules_of}
 use Rattle.table.specs.Sheet.{Text}

@@ -29,7 +29,6 @@ use Rattle.plan.proofs.Exact.{exact}
 use Rattle.plan.proofs.Claims.{plan_is_read, uncovered_exactly, covered_exactly}
 use Rattle.plan.proofs.Wider.{widened_plan, widened_floor, floor_again}
 use Rattle.table.specs.declared.StillAnswer.{StillAnswer}
-use Rattle.table.specs.declared.StillAnswer.TheVariants as StillAnswer
 use Rattle.table.specs.declared.Outcome.{Outcome}
 use Rattle.table.specs.Sheet.{Text}
 use Rattle.table.specs.Calls.{formulas_of, names_in}

@@ -18,15 +18,12 @@ use Rattle.contact.proofs.Naming.{named_plan}
 use Rattle.contact.proofs.Numbered.{numbers_count}
 use Rattle.syntax.specs.Rule.{meaning_of}
 use Rattle.trees.specs.declared.Verdict.{Verdict}
-use Rattle.trees.specs.declared.Verdict.TheVariants as Verdict
 use Rattle.trees.specs.Trees.{Tree, words_of}
 use Rattle.trees.specs.OfRules.{IsWrittenTree}
 use Rattle.trees.specs.Checker.{checked_of, trees_of}
-use Rattle.trees.proofs.OfRules.{Writes, Writes.told, Writes.exists, writes, accepts_exactly, refuses_exactly, closed_no_plan, written_closed, written_once}
+use Rattle.trees.proofs.OfRules.{Writes, writes, accepts_exactly, refuses_exactly, closed_no_plan, written_closed, written_once}
 use Rattle.table.specs.declared.ExplainAnswer.{ExplainAnswer}
-use Rattle.table.specs.declared.ExplainAnswer.TheVariants as ExplainAnswer
 use Rattle.table.specs.declared.Outcome.{Outcome}
-use Rattle.table.specs.declared.Outcome.TheVariants as Outcome
 use Rattle.table.specs.Sheet.{Text}
 use Rattle.table.specs.Calls.{formulas_of, atoms_in}
 use Rattle.table.specs.Rules.{AreRules, CanStand}

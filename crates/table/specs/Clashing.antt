@@ -1,18 +1,15 @@
 -- What is computed: what clash gives, as a function of the list of standing texts and of the places lent beside the table, and its contract. Rows
 -- says what is meant; proofs/Claims.antt ties the two. The last definition is for proofs. Assumes nothing.
 use Rattle.std.specs.Prelude.{ℕ, ◌≡◌, Bool, cond, List, [], ◌∷◌, ◌++◌, leb, length, drop}
-use Rattle.formula.specs.Formula.{Formula, Name}
 use Rattle.contact.specs.Question.{plain}
 use Rattle.contact.specs.Row.{Row}
 use Rattle.contact.specs.Check.{first_row_of}
 use Rattle.clashing.specs.declared.Clashed.{Clashed}
-use Rattle.clashing.specs.declared.Clashed.TheVariants as Clashed
 use Rattle.clashing.specs.Clashing.{clash_of}
 use Rattle.clashing.specs.Steps.{ClashIs}
 use Rattle.ruleset.specs.declared.Compiling.{Compiling}
 use Rattle.table.specs.declared.Table.{Table}
 use Rattle.table.specs.declared.ClashAnswer.{ClashAnswer}
-use Rattle.table.specs.declared.ClashAnswer.TheVariants as ClashAnswer
 use Rattle.table.specs.declared.ClashResult.{ClashResult}
 use Rattle.table.specs.Store.{table_of, rules_of}
 use Rattle.table.specs.Sheet.{Text}

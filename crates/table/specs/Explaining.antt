@@ -8,18 +8,14 @@ use Rattle.formula.specs.Formula.{Formula, Name}
 use Rattle.printing.specs.declared.Printed.{Printed}
 use Rattle.printing.specs.Prints.{Prints}
 use Rattle.trees.specs.declared.Verdict.{Verdict}
-use Rattle.trees.specs.declared.Verdict.TheVariants as Verdict
 use Rattle.trees.specs.Trees.{Tree, words_of}
 use Rattle.trees.specs.Checker.{checked_of, trees_of}
 use Rattle.explaining.specs.declared.Explanation.{Explanation}
-use Rattle.explaining.specs.declared.Explanation.TheVariants as Explanation
 use Rattle.table.specs.declared.AtomText.{AtomText}
 use Rattle.table.specs.declared.Table.{Table}
 use Rattle.table.specs.declared.ExplainAnswer.{ExplainAnswer}
-use Rattle.table.specs.declared.ExplainAnswer.TheVariants as ExplainAnswer
 use Rattle.table.specs.declared.ExplainResult.{ExplainResult}
 use Rattle.table.specs.declared.CheckAnswer.{CheckAnswer}
-use Rattle.table.specs.declared.CheckAnswer.TheVariants as CheckAnswer
 use Rattle.table.specs.declared.CheckResult.{CheckResult}
 use Rattle.table.specs.Store.{table_of, rules_of}
 use Rattle.table.specs.Sheet.{Text}

@@ -1,37 +1,21 @@
 -- What is meant: document 01's number of each answer, and what it carries, by the table of calls; of print, explain, check_tree and still, that of document 02; of clash, those of explain. Assumes nothing.
 use Rattle.std.specs.Prelude.{ℕ}
 use Rattle.lexer.specs.declared.LexAnswer.{LexAnswer}
-use Rattle.lexer.specs.declared.LexAnswer.TheVariants as LexAnswer
 use Rattle.syntax.specs.declared.RuleAnswer.{RuleAnswer}
-use Rattle.syntax.specs.declared.RuleAnswer.TheVariants as RuleAnswer
 use Rattle.plan.specs.declared.PlanAnswer.{PlanAnswer}
-use Rattle.plan.specs.declared.PlanAnswer.TheVariants as PlanAnswer
 use Rattle.plan.specs.declared.Written.{Written}
-use Rattle.plan.specs.declared.Written.TheVariants as Written
 use Rattle.printing.specs.declared.Printed.{Printed}
-use Rattle.printing.specs.declared.Printed.TheVariants as Printed
 use Rattle.table.specs.declared.Outcome.{Outcome}
-use Rattle.table.specs.declared.Outcome.TheVariants as Outcome
 use Rattle.table.specs.declared.AddAnswer.{AddAnswer}
-use Rattle.table.specs.declared.AddAnswer.TheVariants as AddAnswer
 use Rattle.table.specs.declared.WithdrawAnswer.{WithdrawAnswer}
-use Rattle.table.specs.declared.WithdrawAnswer.TheVariants as WithdrawAnswer
 use Rattle.table.specs.declared.LoadAnswer.{LoadAnswer}
-use Rattle.table.specs.declared.LoadAnswer.TheVariants as LoadAnswer
 use Rattle.table.specs.declared.AskAnswer.{AskAnswer}
-use Rattle.table.specs.declared.AskAnswer.TheVariants as AskAnswer
 use Rattle.table.specs.declared.JudgeAnswer.{JudgeAnswer}
-use Rattle.table.specs.declared.JudgeAnswer.TheVariants as JudgeAnswer
 use Rattle.table.specs.declared.PrintAnswer.{PrintAnswer}
-use Rattle.table.specs.declared.PrintAnswer.TheVariants as PrintAnswer
 use Rattle.table.specs.declared.ExplainAnswer.{ExplainAnswer}
-use Rattle.table.specs.declared.ExplainAnswer.TheVariants as ExplainAnswer
 use Rattle.table.specs.declared.CheckAnswer.{CheckAnswer}
-use Rattle.table.specs.declared.CheckAnswer.TheVariants as CheckAnswer
 use Rattle.table.specs.declared.StillAnswer.{StillAnswer}
-use Rattle.table.specs.declared.StillAnswer.TheVariants as StillAnswer
 use Rattle.table.specs.declared.ClashAnswer.{ClashAnswer}
-use Rattle.table.specs.declared.ClashAnswer.TheVariants as ClashAnswer
 
 abbrev pub add_outcome : AddAnswer → Outcome
 add_outcome AddAnswer.Added = Outcome.Done

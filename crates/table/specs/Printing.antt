@@ -5,7 +5,6 @@ use Rattle.lists.specs.Buffer.{over}
 use Rattle.printing.specs.Prints.{printed_text}
 use Rattle.table.specs.declared.Table.{Table}
 use Rattle.table.specs.declared.PrintAnswer.{PrintAnswer}
-use Rattle.table.specs.declared.PrintAnswer.TheVariants as PrintAnswer
 use Rattle.table.specs.declared.PrintResult.{PrintResult}
 use Rattle.table.specs.Sheet.{Text}
 use Rattle.table.specs.Store.{table_of, rules_of}

@@ -15,7 +15,6 @@ use Rattle.plan.specs.Floor.{named_floor}
 use Rattle.names.specs.Ninth.{NinthAt, places_of}
 use Rattle.table.specs.Sheet.{Text, lines_of, blank_line, filled}
 use Rattle.table.specs.declared.Outcome.{Outcome}
-use Rattle.table.specs.declared.Outcome.TheVariants as Outcome
 use Rattle.table.specs.Rules.{AreRules, CanStand}
 use Rattle.plan.specs.Meant.{IsGiven, FirstUnmet}
 use Rattle.printing.specs.Text.{text_of}

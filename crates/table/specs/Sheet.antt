@@ -2,7 +2,6 @@
 use Rattle.std.specs.Prelude.{ℕ, List, [], ◌∷◌, Bool, true, false, cond, not, eqb}
 use Rattle.lexer.specs.Class.{class_of}
 use Rattle.lexer.specs.declared.Class.{Class}
-use Rattle.lexer.specs.declared.Class.TheVariants as Class
 use Rattle.lists.specs.Search.{all, keep}
 
 -- a text is its bytes

@@ -4,7 +4,6 @@ use Rattle.std.specs.Prelude.{ℕ, Bool, ◌≡◌, List, [], ◌∷◌, ◌++�
 use Rattle.contact.specs.Question.{Question}
 use Rattle.table.specs.Sheet.{Text, lines_of, filled}
 use Rattle.table.specs.declared.Outcome.{Outcome}
-use Rattle.table.specs.declared.Outcome.TheVariants as Outcome
 use Rattle.table.specs.Rows.{AddRow, WithdrawRow, LoadRow, IsKth}
 
 -- a call, with any text, number, buffer, plan words, tree words or places; ask for any question: `ask` of the code is that of the plain one, `ask_building` of the other

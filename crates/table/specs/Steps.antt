@@ -6,7 +6,6 @@ use Rattle.contact.specs.Question.{Question}
 use Rattle.contact.specs.Numbering.{different_atoms}
 use Rattle.ruleset.specs.declared.Known.{Known}
 use Rattle.ruleset.specs.declared.RoomAnswer.{RoomAnswer}
-use Rattle.ruleset.specs.declared.RoomAnswer.TheVariants as RoomAnswer
 use Rattle.ruleset.specs.declared.Compiling.{Compiling}
 use Rattle.ruleset.specs.declared.AtomPlace.{AtomPlace}
 use Rattle.ruleset.specs.Places.{Writing}
@@ -21,12 +20,9 @@ use Rattle.plan.specs.Stored.{Stored}
 use Rattle.explaining.specs.declared.Explanation.{Explanation}
 use Rattle.trees.specs.declared.Verdict.{Verdict}
 use Rattle.judging.specs.declared.Judged.{Judged}
-use Rattle.judging.specs.declared.Judged.TheVariants as Judged
 use Rattle.table.specs.declared.JudgeAnswer.{JudgeAnswer}
-use Rattle.table.specs.declared.JudgeAnswer.TheVariants as JudgeAnswer
 use Rattle.table.specs.declared.Table.{Table}
 use Rattle.table.specs.declared.AddAnswer.{AddAnswer}
-use Rattle.table.specs.declared.AddAnswer.TheVariants as AddAnswer
 use Rattle.table.specs.declared.LoadAnswer.{LoadAnswer}
 use Rattle.table.specs.declared.LoadResult.{LoadResult}
 use Rattle.table.specs.declared.Tried.{Tried}

@@ -14,14 +14,11 @@ use Rattle.plan.specs.Judging.{uncovered}
 use Rattle.plan.specs.Floor.{named_floor}
 use Rattle.plan.proofs.Exact.{exact}
 use Rattle.judging.specs.declared.Judged.{Judged}
-use Rattle.judging.specs.declared.Judged.TheVariants as Judged
 use Rattle.solver.specs.declared.RowAnswer.{RowAnswer}
-use Rattle.solver.specs.declared.RowAnswer.TheVariants as RowAnswer
 use Rattle.ruleset.specs.declared.Compiling.{Compiling}
 use Rattle.ruleset.specs.Texts.{CompiledRules}
 use Rattle.table.specs.declared.Table.{Table}
 use Rattle.table.specs.declared.StillAnswer.{StillAnswer}
-use Rattle.table.specs.declared.StillAnswer.TheVariants as StillAnswer
 use Rattle.table.specs.declared.StillResult.{StillResult}
 use Rattle.table.specs.Store.{table_of, rules_of}
 use Rattle.table.specs.Sheet.{Text}

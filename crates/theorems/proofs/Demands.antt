@@ -4,7 +4,7 @@
 use Prim.Native.Nat.{ℕ, ◌≤◌, ◌<◌}
 use mathlib.Core.Path.{◌≡◌, refl, sym, ap, ◌∙◌, subst}
 use mathlib.Core.Logic.{◌↔◌}
-use mathlib.Core.Bool.{Bool, true, false}
+use mathlib.Core.Bool.{Bool, true}
 use mathlib.Core.List.{List, [], ◌∷◌, ◌++◌}
 use native.Mathlib.Omega.{arith}
 use lib.ListN.{length, take, length-map}
@@ -16,7 +16,6 @@ use Rattle.syntax.proofs.Claims.{text_means}
 use Rattle.contact.specs.Meaning.{Floor, meets_all}
 use Rattle.contact.specs.Question.{Question, plain, Counts, NoFloor}
 use Rattle.plan.specs.Words.{Plan, words_of}
-use Rattle.plan.specs.Reader.{plan}
 use Rattle.plan.specs.Given.{given_plan}
 use Rattle.plan.specs.Plans.{row_plan, plans_of}
 use Rattle.plan.proofs.Claims.{written_read, no_plan_given, given_exactly, given_at_most_one, given_is_plan, given_counts, given_meets, given_found, row_plan_exactly}
@@ -26,7 +25,6 @@ use Rattle.contact.specs.Check.{first_row_of}
 use Rattle.contact.proofs.Claims.{first_row_named}
 use Rattle.table.specs.declared.Table.{Table}
 use Rattle.table.specs.declared.Outcome.{Outcome}
-use Rattle.table.specs.declared.Outcome.TheVariants as Outcome
 use Rattle.table.specs.declared.AddResult.{AddResult}
 use Rattle.table.specs.declared.WithdrawResult.{WithdrawResult}
 use Rattle.table.specs.declared.LoadResult.{LoadResult}

@@ -18,14 +18,11 @@ use Rattle.plan.specs.Meant.{IsGiven}
 use Rattle.plan.proofs.Claims.{no_plan_given, given_exactly}
 use Rattle.table.specs.declared.Table.{Table}
 use Rattle.table.specs.declared.Outcome.{Outcome}
-use Rattle.table.specs.declared.Outcome.TheVariants as Outcome
-use Rattle.table.specs.declared.AskResult.{AskResult}
 use Rattle.table.specs.declared.LoadResult.{LoadResult}
 use Rattle.table.specs.Store.{table_of, rules_of}
 use Rattle.table.specs.Sheet.{Text, lines_of, filled}
 use Rattle.table.specs.Rules.{CanStand}
 use Rattle.table.specs.Calls.{formulas_of, judge_add, added, loaded, Loads}
-use Rattle.table.specs.Asking.{Asks}
 use Rattle.table.specs.Numbers.{load_outcome, ask_outcome}
 use Rattle.table.specs.Rows.{LoadRow, SomeStand, AskRow}
 use Rattle.table.specs.Stands.{Call, adds, StandsAfter, StandsFrom, Stands}
@@ -35,7 +32,7 @@ use Rattle.table.proofs.Rules.{of_computed}
 use Rattle.table.proofs.Stands.{done_added}
 use Rattle.table.proofs.Standing.{stand_none, stand_more}
 use Rattle.table.proofs.Claims as table
-use Rattle.theorems.specs.Demands.{Called, Leaves, Exactly, words_enough}
+use Rattle.theorems.specs.Demands.{Called, Exactly, words_enough}
 use Rattle.theorems.specs.Order.{SameRules, AcceptsAll, LongEnough, BothSay, AnswersAlike, InAnyOrder, SameLines, LoadsAll, LinesInAnyOrder}
 use Rattle.theorems.proofs.Demands.{leaves_run, taken, demand_one}
 use Rattle.theorems.proofs.Room.{plan_few}

@@ -1,6 +1,6 @@
 -- A buffer that has room for what the standing rules' limits allow never gets 12; and a table came from us exactly if calls leave it. Assumes nothing.
 use Prim.Native.Nat.{ℕ, ◌≤◌, ◌^◌}
-use mathlib.Core.Path.{◌≡◌, ap, subst, sym}
+use mathlib.Core.Path.{◌≡◌, subst, sym}
 use mathlib.Core.Logic.{◌↔◌}
 use mathlib.Core.List.{List}
 use native.Mathlib.Omega.{arith}
@@ -18,14 +18,13 @@ use Rattle.trees.proofs.Claims.{written_few}
 use Rattle.printing.proofs.Claims.{never_longer}
 use Rattle.table.specs.declared.Table.{Table}
 use Rattle.table.specs.declared.Outcome.{Outcome}
-use Rattle.table.specs.declared.Outcome.TheVariants as Outcome
 use Rattle.table.specs.Sheet.{Text}
 use Rattle.table.specs.Rules.{AreRules, CanStand}
 use Rattle.table.specs.Calls.{FromUs}
 use Rattle.table.specs.Numbers.{ask_outcome, print_outcome, explain_outcome, clash_outcome}
 use Rattle.table.specs.Rows.{AskRow, PrintRow, ExplainRow, ClashRow}
 use Rattle.table.specs.Stands.{Call, Stands}
-use Rattle.table.specs.Runs.{run, standing}
+use Rattle.table.specs.Runs.{standing}
 use Rattle.table.proofs.Rules.{are_one}
 use Rattle.table.proofs.Claims as table
 use Rattle.theorems.specs.Demands.{Leaves, words_enough, tree_enough, EnoughRoom}

@@ -34,7 +34,6 @@ use Rattle.plan.specs.Plans.{row_plan, plans_of}
 use Rattle.table.specs.declared.Table.{Table}
 use Rattle.table.specs.declared.Outcome.{Outcome}
 use Rattle.table.specs.declared.AskAnswer.{AskAnswer}
-use Rattle.table.specs.declared.AskAnswer.TheVariants as AskAnswer
 use Rattle.table.specs.Sheet.{Text}
 use Rattle.table.specs.Calls.{formulas_of, names_in, atoms_in, judge_names, judge_atoms, judge_room, judge_text, judge_add, add_rules, judge_withdraw, without, withdraw_rules, is_none}
 use Rattle.table.specs.Stands.{Call, adds, Stands}

@@ -8,7 +8,6 @@ use Rattle.plan.specs.Words.{Plan, words_of}
 use Rattle.plan.specs.Meant.{IsGiven}
 use Rattle.table.specs.declared.Table.{Table}
 use Rattle.table.specs.declared.Outcome.{Outcome}
-use Rattle.table.specs.declared.Outcome.TheVariants as Outcome
 use Rattle.table.specs.declared.AddResult.{AddResult}
 use Rattle.table.specs.declared.LoadResult.{LoadResult}
 use Rattle.table.specs.declared.AskResult.{AskResult}

@@ -10,7 +10,6 @@ use Rattle.table.specs.Asking.{Asks}
 use Rattle.table.specs.declared.Table.{Table}
 use Rattle.table.specs.declared.AskResult.{AskResult}
 use Rattle.table.specs.declared.Outcome.{Outcome}
-use Rattle.table.specs.declared.Outcome.TheVariants as Outcome
 use Rattle.table.specs.Numbers.{ask_outcome}
 use Rattle.theorems.specs.Demands.{Leaves}
 

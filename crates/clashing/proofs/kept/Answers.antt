@@ -2,7 +2,6 @@
 use mathlib.Core.Path.{◌≡◌, refl, ap, ◌∙◌}
 use Prim.Native.Nat.{suc, ◌-◌, ◌≤◌}
 use native.Mathlib.Omega.{arith}
-use lib.ListN.{set}
 use Rattle.clashing.specs.Steps.{SomeFloorSays, KeptIs}
 use Rattle.clashing.proofs.Trying.{tried_to, tried_none, tried_all, tried_step}
 use Rattle.clashing.proofs.kept.Goals as goal

@@ -1,8 +1,8 @@
 -- `clashing::kept` meets its contract: before the place all rules are chosen, from it on those that are kept. Assumes nothing.
 use mathlib.Core.Path.{◌≡◌}
 use mathlib.Core.List.{List}
-use Prim.Native.Nat.{ℕ, ◌-◌, ◌≤◌}
-use lib.ListN.{length, set}
+use Prim.Native.Nat.{ℕ, ◌≤◌}
+use lib.ListN.{length}
 use Rattle.formula.specs.Formula.{Formula, Name}
 use Rattle.ruleset.specs.Texts.{CompiledRules}
 use Rattle.clashing.proofs.Trying.{tried_to}

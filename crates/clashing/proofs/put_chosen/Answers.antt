@@ -1,10 +1,8 @@
 -- `clashing::put_chosen` meets its contract: so far the chosen ones of the first i rules are put. Assumes nothing.
 use mathlib.Core.Path.{◌≡◌, refl}
-use Prim.Native.Nat.{◌-◌}
 use native.Mathlib.Omega.{arith}
-use lib.ListN.{length, get_or, set}
+use lib.ListN.{length}
 use borrow.Author.Rules.{rules}
-use Rattle.solver.specs.Coded.{PartSafe}
 use Rattle.clashing.proofs.Gathering.{put_none, next_safe, put_pass, piece_fits, put_more, put_all}
 use Rattle.clashing.proofs.put_chosen.Goals as goal
 

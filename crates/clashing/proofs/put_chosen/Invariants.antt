@@ -1,6 +1,6 @@
 -- `clashing::put_chosen` meets its contract: so far the chosen ones of the first i rules are put. Assumes nothing.
 use Prim.Native.Nat.{◌-◌}
-use lib.ListN.{length, set}
+use lib.ListN.{length}
 use Rattle.clashing.proofs.Gathering.{PutTo}
 use Rattle.clashing.proofs.put_chosen.Given as goal
 

@@ -1,7 +1,7 @@
 -- `clashing::put_set` meets its contract: so far the first i places are put. Assumes nothing.
 use mathlib.Core.Path.{◌≡◌}
 use Prim.Native.Nat.{◌-◌, ◌≤◌}
-use lib.ListN.{set, take}
+use lib.ListN.{take}
 use lib.Seq.{sets}
 use Rattle.clashing.proofs.put_set.Given as goal
 

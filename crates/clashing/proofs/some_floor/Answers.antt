@@ -1,9 +1,9 @@
 -- `clashing::some_floor` meets its contract: the codes of the chosen rules may be searched, and the search finds a row where there is one for
 -- them; with nothing chosen there is one. Assumes nothing.
 use mathlib.Core.Path.{◌≡◌, sym, ap, ◌∙◌}
-use Prim.Native.Nat.{ℕ, ◌≤◌}
+use Prim.Native.Nat.{ℕ}
 use native.Mathlib.Omega.{arith}
-use lib.ListN.{length, take, length-map}
+use lib.ListN.{length, take}
 use lib.Seq.{length-take-le}
 use borrow.Author.Rules.{rules}
 use Rattle.ruleset.proofs.Claims.{may_run, ends_fit, few_ends}

@@ -1,5 +1,4 @@
 -- `judging::first_unmet` meets its contract: the rules passed are met, and the judgement is that of the rules left. Assumes nothing.
-use Prim.Native.Nat.{◌-◌}
 use native.Mathlib.Omega.{arith}
 use Rattle.judging.proofs.Rules.{begins, part_safe, goes_on, stops, all_met}
 use Rattle.judging.proofs.first_unmet.Goals as goal

@@ -1,7 +1,7 @@
 -- `plan::alone` meets its contract: one row after the other gets its own position. Assumes nothing.
 use mathlib.Core.Path.{◌≡◌, refl, ap, ◌∙◌, subst}
 use mathlib.Core.Bool.{Bool}
-use Prim.Native.Nat.{ℕ, ◌-◌}
+use Prim.Native.Nat.{ℕ}
 use native.Mathlib.Omega.{arith}
 use Rattle.plan.specs.Private.{add_at, self_of, Grown}
 use Rattle.plan.proofs.Squares.{self_more}

@@ -1,6 +1,6 @@
 -- `plan::next` meets its contract: no position passed is in the row. Assumes nothing.
 use mathlib.Core.Path.{sym, ◌∙◌}
-use Prim.Native.Nat.{◌-◌, ◌^◌, ◌<◌}
+use Prim.Native.Nat.{◌^◌, ◌<◌}
 use native.Mathlib.Omega.{arith}
 use Rattle.evalset.specs.Bit.{word_bits}
 use Rattle.evalset.specs.Sets.{mem}

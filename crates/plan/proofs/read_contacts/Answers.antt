@@ -1,6 +1,6 @@
 -- `plan::read_contacts` meets its contract: what is left, read from the contacts so far, gives what all words give. Assumes nothing.
 use mathlib.Core.Path.{refl, ◌∙◌}
-use Prim.Native.Nat.{◌-◌, ◌≤◌, ◌<◌}
+use Prim.Native.Nat.{◌≤◌}
 use native.Mathlib.Omega.{arith}
 use lib.ListN.{length}
 use Rattle.plan.proofs.ReadLoop.{pair_within, links_start, links_next, links_over, links_short}

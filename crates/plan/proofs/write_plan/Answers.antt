@@ -4,15 +4,15 @@ use Prim.Native.Nat.{ℕ, ◌+◌, ◌*◌, ◌≤◌}
 use mathlib.Core.Path.{sym, subst}
 use mathlib.Core.Bool.{Bool}
 use mathlib.Core.List.{[], List}
-use lib.ListN.{length, take, length-set}
+use lib.ListN.{length, length-set}
 use Rattle.evalset.specs.Sets.{mem}
 use Rattle.squares.specs.Square.{square_at}
 use Rattle.plan.specs.declared.Written.TheVariants.{Needs}
-use Rattle.plan.specs.Words.{Plan, most_points}
+use Rattle.plan.specs.Words.{most_points}
 use Rattle.plan.specs.Links.{links_to}
 use Rattle.plan.specs.Arrays.{points_plan, Writes}
 use Rattle.plan.specs.Private.{rows_by}
-use Rattle.plan.proofs.Writing.{sizes, fits_by, lacks_by, Pieces, pieces, needs_more, mid_length, late_length, writes_all}
+use Rattle.plan.proofs.Writing.{sizes, fits_by, lacks_by, pieces, needs_more, mid_length, late_length, writes_all}
 use Rattle.plan.proofs.write_plan.Goals as goal
 
 -- ---- what is found of the set: its contacts

@@ -1,5 +1,5 @@
 -- `table::line_of` meets its contract: so far the bytes are those of the text that were passed, then zeros. Assumes nothing.
-use Prim.Native.Nat.{ℕ, ◌-◌}
+use Prim.Native.Nat.{ℕ}
 use mathlib.Core.Path.{ap, ◌∙◌}
 use mathlib.Core.List.{List}
 use lib.ListN.{length, get_or, set}

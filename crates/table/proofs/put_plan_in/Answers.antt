@@ -1,6 +1,5 @@
 -- `table::put_plan_in` meets its contract: the plan of the points, by what the square has apart, is that of the row. Assumes nothing.
 use mathlib.Core.Path.{subst}
-use borrow.Author.Rules.{rules}
 use Rattle.plan.specs.Words.{Plan}
 use Rattle.plan.specs.Arrays.{Writes}
 use Rattle.ruleset.specs.Texts.{RowPlanIs}

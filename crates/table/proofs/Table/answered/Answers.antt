@@ -1,16 +1,13 @@
 -- `table::Table::answered` meets its contract: the rules are compiled, the search finds the first row or none, and its plan is written. Assumes nothing.
 use mathlib.Core.List.{[]}
-use mathlib.Core.Path.{◌≡◌, refl, sym, ap, ◌∙◌}
+use mathlib.Core.Path.{refl, sym, ap, ◌∙◌}
 use Rattle.ruleset.specs.Texts.{CompiledRules}
 use Rattle.ruleset.proofs.Claims.{may_plan, none_given, plan_given}
-use Rattle.search.specs.Asked.{question_of}
 use Rattle.table.specs.Store.{rules_of}
-use Rattle.table.specs.declared.AskAnswer.{AskAnswer}
 use Rattle.table.specs.Calls.{formulas_of}
-use Rattle.table.specs.Asking.{Asks}
 use Rattle.table.specs.Steps.{PlanPut}
 use Rattle.table.proofs.Compiled.{reached_all}
-use Rattle.table.proofs.Asking.{ask_result, asks_none, asks_some, written_answer, wrote_plan}
+use Rattle.table.proofs.Asking.{asks_none, asks_some, written_answer, wrote_plan}
 use Rattle.table.proofs.Table.answered.Goals as goal
 
 pub returns-then-standing-le0 : goal.returns-then-standing-le0

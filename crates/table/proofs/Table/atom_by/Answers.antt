@@ -1,6 +1,5 @@
 -- `table::Table::atom_by` meets its contract: there is no such atom, or the rule in which it is written first is read again, and the atom
 -- printed. Assumes nothing.
-use Prim.Native.Nat.{◌<◌}
 use mathlib.Core.Path.{ap, ◌∙◌}
 use native.Mathlib.Omega.{arith}
 use Rattle.table.proofs.Lines.{count_few}

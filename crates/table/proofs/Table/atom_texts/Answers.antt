@@ -1,6 +1,5 @@
 -- `table::Table::atom_texts` meets its contract: so far the texts before place i are kept (Atoms.antt). Assumes nothing.
 use mathlib.Core.Path.{◌≡◌, subst}
-use Prim.Native.Nat.{◌-◌}
 use native.Mathlib.Omega.{arith}
 use Rattle.table.specs.Store.{rules_of}
 use Rattle.table.specs.Calls.{formulas_of}

@@ -1,5 +1,4 @@
 -- `table::Table::compiled` meets its contract: so far the first i texts are compiled. Assumes nothing.
-use borrow.Author.Rules.{rules}
 use Prim.Native.Nat.{◌-◌, ◌≤◌}
 use mathlib.Core.Path.{◌≡◌}
 use lib.ListN.{length}

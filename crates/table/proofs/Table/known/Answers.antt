@@ -1,5 +1,5 @@
 -- `table::Table::known` meets its contract: so far the first i texts are known (Recount.antt). Assumes nothing.
-use Prim.Native.Nat.{◌-◌, ◌<◌}
+use Prim.Native.Nat.{◌<◌}
 use native.Mathlib.Omega.{arith}
 use Rattle.table.proofs.Lines.{count_few}
 use Rattle.table.proofs.Recount.{known_none, known_all, text_within, text_length, known_so_far, known_more}

@@ -1,5 +1,4 @@
 -- `table::Table::known` meets its contract: so far the first i texts are known (Recount.antt). Assumes nothing.
-use borrow.Author.Rules.{rules}
 use Prim.Native.Nat.{◌-◌}
 use Rattle.table.proofs.Recount.{KnownTo}
 use Rattle.table.proofs.Table.known.Given as goal

@@ -1,7 +1,6 @@
 -- `table::Table::load` meets its contract: so far each line is judged and those that are not blank are held, the last one put in its place; a refused line ends the load, and the old table comes back. Assumes nothing.
 use borrow.Enum.Refused.{opened}
-use borrow.Author.Rules.{rules}
-use Prim.Native.Nat.{ℕ, ◌+◌, ◌-◌, ◌<◌}
+use Prim.Native.Nat.{ℕ, ◌+◌}
 use mathlib.Core.List.{List}
 use mathlib.Core.Path.{◌≡◌, sym, subst, ◌∙◌}
 use lib.ListN.{set}
@@ -85,19 +84,19 @@ loop-from-preserved c =
     let cut = c.line_end-end.ensures in
     let h = c.loop-from-test.true in
     elim c.if-not-blank_line.branch [
-      then-not-blank_line+in-Added w ↦
-        let more = table_with (set at.table.lines at.table.count w.line_of-last.result) (at.table.count + 1) in
-        let room = (may_put _ _ _ _ _ _ at.invariant.from_us at.invariant.known w.with_text-tried.ensures w.in-Added.is).1 in
-        subst (λ (t : Table). Progress file t c.if-not-blank_line.known c.if-not-blank_line.symbols line from) (sym w.table-is)
-        (subst (λ (x : Known). Progress file more x c.if-not-blank_line.symbols line from) (sym w.known-is)
-        (subst (λ (x : List ℕ). Progress file more w.with_text-tried.result.known x line from) (sym w.symbols-is)
-        (after_added _ _ _ _ _ _ _ at.invariant h cut.0 cut.1 cut.2 _ (sym c.blank_line.ensures ∙ w.if-not-blank_line.true) _ w.with_text-tried.ensures w.in-Added.is _
-        (put_table at.table _ _ at.invariant.from_us w.line_of-last.ensures room))))
-    | else-not-blank_line w ↦
-        subst (λ (t : Table). Progress file t c.if-not-blank_line.known c.if-not-blank_line.symbols line from) (sym w.table-is)
-        (subst (λ (x : Known). Progress file at.table x c.if-not-blank_line.symbols line from) (sym w.known-is)
-        (subst (λ (x : List ℕ). Progress file at.table at.known x line from) (sym w.symbols-is)
-        (after_blank _ _ _ _ _ _ _ at.invariant h cut.0 cut.1 cut.2 (sym c.blank_line.ensures ∙ w.if-not-blank_line.false))))
+      | then-not-blank_line+in-Added w ↦
+          let more = table_with (set at.table.lines at.table.count w.line_of-last.result) (at.table.count + 1) in
+          let room = (may_put _ _ _ _ _ _ at.invariant.from_us at.invariant.known w.with_text-tried.ensures w.in-Added.is).1 in
+          subst (λ (t : Table). Progress file t c.if-not-blank_line.known c.if-not-blank_line.symbols line from) (sym w.table-is)
+          (subst (λ (x : Known). Progress file more x c.if-not-blank_line.symbols line from) (sym w.known-is)
+          (subst (λ (x : List ℕ). Progress file more w.with_text-tried.result.known x line from) (sym w.symbols-is)
+          (after_added _ _ _ _ _ _ _ at.invariant h cut.0 cut.1 cut.2 _ (sym c.blank_line.ensures ∙ w.if-not-blank_line.true) _ w.with_text-tried.ensures w.in-Added.is _
+          (put_table at.table _ _ at.invariant.from_us w.line_of-last.ensures room))))
+      | else-not-blank_line w ↦
+          subst (λ (t : Table). Progress file t c.if-not-blank_line.known c.if-not-blank_line.symbols line from) (sym w.table-is)
+          (subst (λ (x : Known). Progress file at.table x c.if-not-blank_line.symbols line from) (sym w.known-is)
+          (subst (λ (x : List ℕ). Progress file at.table at.known x line from) (sym w.symbols-is)
+          (after_blank _ _ _ _ _ _ _ at.invariant h cut.0 cut.1 cut.2 (sym c.blank_line.ensures ∙ w.if-not-blank_line.false))))
     ]
 
 pub returns-then-table-le0 : goal.returns-then-table-le0

@@ -1,7 +1,6 @@
 -- `table::Table::load` meets its contract: so far each line is judged and those that are not blank are held, the last one put in its place; a refused line ends the load, and the old table comes back. Assumes nothing.
 use Prim.Native.Nat.{◌+◌, ◌-◌}
 use lib.ListN.{length}
-use Rattle.table.specs.declared.LoadAnswer.TheVariants as LoadAnswer
 use Rattle.table.proofs.Loading.{Progress}
 use Rattle.table.proofs.Table.load.Given as goal
 

@@ -1,5 +1,5 @@
 -- `table::Table::names` meets its contract: so far the names are those of the first i texts. Assumes nothing.
-use Prim.Native.Nat.{◌-◌, ◌<◌}
+use Prim.Native.Nat.{◌<◌}
 use Rattle.table.proofs.Lines.{count_few}
 use Rattle.table.proofs.Recount.{named_none, named_all, text_within, text_length, text_gathers, named_more}
 use native.Mathlib.Omega.{arith}

@@ -1,5 +1,4 @@
 -- `table::Table::names` meets its contract: so far the names are those of the first i texts. Assumes nothing.
-use borrow.Author.Rules.{rules}
 use Prim.Native.Nat.{◌-◌}
 use Rattle.table.proofs.Recount.{NamedTo}
 use Rattle.table.proofs.Table.names.Given as goal

@@ -1,5 +1,5 @@
 -- `table::Table::print` meets its contract: there is no k-th rule, or its text is read again and printed. Assumes nothing.
-use Prim.Native.Nat.{◌-◌, ◌≤◌, ◌<◌}
+use Prim.Native.Nat.{◌-◌, ◌<◌}
 use mathlib.Core.Path.{ap, ◌∙◌}
 use native.Mathlib.Omega.{arith}
 use Rattle.table.specs.Store.{rules_of}
