@@ -12,7 +12,6 @@ use Rattle.lists.specs.Search.{all}
 use Rattle.lists.proofs.Lists.{rest}
 use Rattle.lexer.specs.Class.{is_blank, is_alphanumeric, is_sign, class_of}
 use Rattle.lexer.specs.declared.Class.{Class}
-use Rattle.lexer.specs.declared.Class.TheVariants as Class
 use Rattle.lexer.specs.contracts.Class.{the_type}
 
 -- a test of classes that blanks alone pass

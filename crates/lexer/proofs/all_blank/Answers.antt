@@ -1,7 +1,6 @@
 -- `lexer::all_blank` meets its contract: the text is blank exactly if what is left of it is, since the bytes passed are. Assumes nothing.
 use borrow.Enum.Refused.{opened}
 use mathlib.Core.Path.{refl, sym, ◌∙◌}
-use Prim.Native.Nat.{◌-◌}
 use native.Mathlib.Omega.{arith}
 use Rattle.lexer.proofs.Blanks.{blank_next, blank_not, blank_end}
 use Rattle.lexer.proofs.all_blank.Goals as goal

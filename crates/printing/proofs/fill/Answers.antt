@@ -4,7 +4,7 @@ use Prim.Native.Nat.{ℕ, ◌+◌, ◌-◌, ◌≤◌}
 use mathlib.Core.Path.{◌≡◌, refl, sym, ap, ◌∙◌}
 use mathlib.Core.List.{List}
 use native.Mathlib.Omega.{arith}
-use lib.ListN.{length, take, drop, length-map}
+use lib.ListN.{length, take, drop}
 use Rattle.printing.proofs.Walking.{few_left, order_some, row_low, jobs_fit, goes_operand, byte_fits, goes_byte, name_left, goes_past, name_lies, name_long, name_fits, goes_name, goes_end, goes_first}
 use Rattle.printing.proofs.fill.Goals as goal
 
@@ -25,11 +25,10 @@ bounds-order-k c =
     omega (arith, order_some c.loop-height.invariant c.loop-height-test.true c.if-job-lt-NAMED.true, (few_left c.loop-height.invariant).1)
 
 pub push-height-requires : goal.push-height-requires
-push-height-requires c =
- (
-      row_low c.loop-height.invariant c.loop-height-test.true c.if-job-lt-NAMED.true c.row_of.result c.row_of.ensures,
-      jobs_fit c.loop-height.invariant c.loop-height-test.true c.if-job-lt-NAMED.true c.row_of.result c.row_of.ensures,
-    )
+push-height-requires c = (
+  row_low c.loop-height.invariant c.loop-height-test.true c.if-job-lt-NAMED.true c.row_of.result c.row_of.ensures,
+  jobs_fit c.loop-height.invariant c.loop-height-test.true c.if-job-lt-NAMED.true c.row_of.result c.row_of.ensures,
+)
 
 pub loop-height-smaller-then-job-lt-NAMED : goal.loop-height-smaller-then-job-lt-NAMED
 loop-height-smaller-then-job-lt-NAMED c =
