@@ -19,6 +19,7 @@ no_leaves-no-requires c = c.requires.2
 pub loop-i-init : goal.loop-i-init
 loop-i-init c = (omega arith, refl, refl, refl, refl, falses_none _ _ _ _ _)
 
+-- `this_part`: the part that is run next
 pub slice_bounds-run_rails-count : goal.slice_bounds-run_rails-count
 slice_bounds-run_rails-count c =
     let this_part : let a = c.args in let k = c.loop-i in PartSafe a.code.now k.from (get_or a.ends.now k.i 0) = let k = c.loop-i in

@@ -26,6 +26,7 @@ returns-in_default c =
     (λ h. stop word_bits k.at _ _ k.invariant.2 (sym c.word_least.ensures ∙ c.in_default.is) d l h)
     (λ h. bit_above word_bits a.set d small h) (side d word_bits)) k.invariant.3
 
+-- `taken`: the row that was taken
 pub overflow_add-start : goal.overflow_add-start
 overflow_add-start c =
     let taken : Step word_bits c.loop-at.at c.in-At.e (bit c.args.set) (bit c.loop-at.rest) = step word_bits _ _ _ c.loop-at.invariant.2 _

@@ -27,10 +27,14 @@ loop-i-init c = (
   λ atoms h ms are set same ok. ap (all (met ms set)) (no_marks atoms),
 )
 
+-- `here`: whether the mark of the atom at hand is met
 pub returns-then-not-met : goal.returns-then-not-met
 unfolding MetSays mem_at
 returns-then-not-met c =
-    let here : let a = c.args in let i = c.loop-i.i in (atoms : List (Atom ℕ)) → Compiled a.chart atoms → (ms : List Mark) → RowsAre a.chart.names a.rows.now ms → (set : List ℕ) → ((f : ℕ) → mem a.piece f ≡ elem f set) → ((f : ℕ) → In f set → allowed a.chart.names ms f ≡ true) → c.met.result ≡ met ms set (mark (atom_at atoms i) (get_or (row_bits a.chart.atoms a.row) i false)) = λ atoms h ms are set same ok.
+    let here : let a = c.args in let i = c.loop-i.i in (atoms : List (Atom ℕ)) → Compiled a.chart atoms → (ms : List Mark)
+    → RowsAre a.chart.names a.rows.now ms → (set : List ℕ) → ((f : ℕ) → mem a.piece f ≡ elem f set)
+    → ((f : ℕ) → In f set → allowed a.chart.names ms f ≡ true)
+    → c.met.result ≡ met ms set (mark (atom_at atoms i) (get_or (row_bits a.chart.atoms a.row) i false)) = λ atoms h ms are set same ok.
     let a = c.args in
     let i = c.loop-i.i in
     let within : i < length atoms = omega (arith, h.counted) in
@@ -49,7 +53,10 @@ returns-then-not-met c =
 pub loop-i-preserved : goal.loop-i-preserved
 unfolding mem_at
 loop-i-preserved c =
-    let here : let a = c.args in let i = c.loop-i.i in (atoms : List (Atom ℕ)) → Compiled a.chart atoms → (ms : List Mark) → RowsAre a.chart.names a.rows.now ms → (set : List ℕ) → ((f : ℕ) → mem a.piece f ≡ elem f set) → ((f : ℕ) → In f set → allowed a.chart.names ms f ≡ true) → c.met.result ≡ met ms set (mark (atom_at atoms i) (get_or (row_bits a.chart.atoms a.row) i false)) = λ atoms h ms are set same ok.
+    let here : let a = c.args in let i = c.loop-i.i in (atoms : List (Atom ℕ)) → Compiled a.chart atoms → (ms : List Mark)
+    → RowsAre a.chart.names a.rows.now ms → (set : List ℕ) → ((f : ℕ) → mem a.piece f ≡ elem f set)
+    → ((f : ℕ) → In f set → allowed a.chart.names ms f ≡ true)
+    → c.met.result ≡ met ms set (mark (atom_at atoms i) (get_or (row_bits a.chart.atoms a.row) i false)) = λ atoms h ms are set same ok.
     let a = c.args in
     let i = c.loop-i.i in
     let within : i < length atoms = omega (arith, h.counted) in

@@ -25,6 +25,8 @@ returns-in_default c = λ e.
     ∙ pair_none _ _ _ (walk_ends _ _ _ loop.from loop.invariant.2
     (stop room loop.from _ _ loop.invariant.1 (sym c.least.ensures ∙ c.in_default.is))) e
 
+-- `partner`: the least of its partners
+-- `taken`: the evaluation that was taken
 pub returns-in-At-least : goal.returns-in-At-least
 returns-in-At-least c =
     let taken : Step room c.loop-from.from c.in-At.p (mem c.args.first) (mem c.loop-from.rest) = step room _ _ _ c.loop-from.invariant.1 _

@@ -42,6 +42,7 @@ returns-in_default c =
           ∙ sym c.least.ensures ∙ c.in_default.is));
     }
 
+-- `taken`: the evaluation that is looked at: the least that was not
 pub loop-p-smaller : goal.loop-p-smaller
 loop-p-smaller c =
     let taken : let loop = c.loop-p in Least room c.in-At.p (minus_of (mem loop.piece) (mem loop.looked)) = found_least _ room _

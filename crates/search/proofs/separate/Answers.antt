@@ -27,6 +27,7 @@ pub join_at-requires : goal.join_at-requires
 join_at-requires c =
     same_square c.loop-from.rows c.args.rows.now c.loop-from.invariant.1 c.requires
 
+-- `taken`: the evaluation that was taken
 pub overflow_add-from : goal.overflow_add-from
 unfolding room
 overflow_add-from c =

@@ -21,6 +21,7 @@ returns-then-left-eq0 c =
     let a = c.args in
     (loop.invariant.1, none_true a.code.now a.ends.now a.leaves.now loop.from loop.left _ loop.invariant.2 c.if-left-eq0.true)
 
+-- `this_part`: the part that is run next
 pub slice_bounds-run_whole-count : goal.slice_bounds-run_whole-count
 slice_bounds-run_whole-count c =
     let this_part : PartSafe c.args.code.now c.loop-i.from (get_or c.args.ends.now c.loop-i.i 0) = let loop = c.loop-i in

@@ -17,6 +17,7 @@ loop-at-init c = (tried_none _ _ _, λ atoms h f a b. absurd (omega arith))
 pub returns-in_default : goal.returns-in_default
 returns-in_default c = none_left _ _ _ _ _ c.loop-at.invariant.0 (sym c.word_least.ensures ∙ c.in_default.is)
 
+-- `taken`: the row that was taken
 pub overflow_add-row : goal.overflow_add-row
 overflow_add-row c =
     let taken : Step word_rows c.loop-at.at c.in-At.e (bit c.args.set) (bit c.loop-at.rest) = step word_rows _ _ _ c.loop-at.invariant.0.rest_is _
@@ -29,6 +30,7 @@ passed_to-till-requires c =
     (sym c.word_least.ensures ∙ c.in-At.is) in
     (c.requires.1, omega (arith, taken.within))
 
+-- `passed`: up to where no piece meets the rows from it on
 pub returns-then-till-row : goal.returns-then-till-row
 returns-then-till-row c =
     let taken : Step word_rows c.loop-at.at c.in-At.e (bit c.args.set) (bit c.loop-at.rest) = step word_rows _ _ _ c.loop-at.invariant.0.rest_is _

@@ -19,6 +19,7 @@ returns-in_default c =
     walk_stops _ _ _ _ _ _ (λ g h. left_refuted g _ _ _ _ c.unrefuted-rest.ensures) _ _ c.loop-at.invariant.0
     c.requires.1.fits.blocks (sym c.word_least.ensures ∙ c.in_default.is)
 
+-- `taken`: the block that was taken
 pub block-found-requires : goal.block-found-requires
 block-found-requires c =
     let taken : Step word_rows c.loop-at.at c.in-At.e (bit c.unrefuted-rest.result) (bit c.loop-at.rest) = step word_rows _ _ _ c.loop-at.invariant.0.rest_is _
@@ -26,6 +27,7 @@ block-found-requires c =
     let p = c.requires in
     (p.0, p.1, c.unrefuted-rest.ensures.low _ taken.passes, c.loop-at.invariant.1, p.2)
 
+-- `turned`: what is found in it
 pub returns-in_default-found : goal.returns-in_default-found
 returns-in_default-found c =
     let taken : Step word_rows c.loop-at.at c.in-At.e (bit c.unrefuted-rest.result) (bit c.loop-at.rest) = step word_rows _ _ _ c.loop-at.invariant.0.rest_is _

@@ -16,6 +16,7 @@ tested-passing-requires c =
     let cut = c.args.cut in
     (low_small (cut.k + cut.w) _ (omega arith) c.low_bits-low.ensures, start_small cut.k cut.w _ (omega arith) c.requires.2)
 
+-- `passing`: the words that pass the check
 pub returns-then-passing-eq0 : goal.returns-then-passing-eq0
 returns-then-passing-eq0 c =
     let passing : let a = c.args in Low a.cut.w c.tested-passing.result × ((chart : Chart) (g : Given a.code.now a.ends.now chart a.cut) → WordsTested g a.upper.now a.row → Left g a.cut.k a.row a.cut.w c.tested-passing.result) = let cut = c.args.cut in

@@ -7,6 +7,7 @@ use Rattle.spelling.proofs.keep_row.Goals as goal
 pub loop-i-init : goal.loop-i-init
 loop-i-init c = (omega arith, stored_none _ _ _ _ c.requires.whole)
 
+-- `symbols_small`: the two symbols fit half a byte each
 pub overflow_mul-kept : goal.overflow_mul-kept
 overflow_mul-kept c =
     let symbols_small : (c.symbol_in.result < 16) × (c.symbol_in-in-loop-i.result < 16) = (

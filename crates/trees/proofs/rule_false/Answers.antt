@@ -14,6 +14,7 @@ returns-then-k-eq0 c = let p = c.requires in (p.2, p.3, rule_none _ _ _ _ _ c.if
 pub returns-then-k-ends : goal.returns-then-k-ends
 returns-then-k-ends c = let p = c.requires in (p.2, p.3, rule_past _ _ _ _ _ c.if-k-ends.true)
 
+-- `this_part`: the rule's part of the code
 pub slice_bounds-run_rails-count : goal.slice_bounds-run_rails-count
 slice_bounds-run_rails-count c =
     let this_part : PartSafe c.args.code.now c.rule_start-from.result (get_or c.args.ends.now (c.args.k - 1) 0) = let a = c.args in
