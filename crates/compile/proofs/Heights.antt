@@ -10,7 +10,7 @@ use lib.ListN.{length, get_or, take, length-append, get_or-append}
 use lib.Seq.{take-append-le, take-append_seam, get_or-append_seam}
 use Rattle.lists.proofs.Truth.{side, clash}
 use Rattle.formula.specs.Formula.{Term, Atom, Form, Formula, Name}
-use Rattle.syntax.specs.Symbol.{leaf, minus, tilde, opening, closing, comma, is_zero, binary, constant, relation, contact, part}
+use Rattle.syntax.specs.Symbol.{leaf, minus, tilde, opening, closing, comma, is_zero, binary, constant, relation}
 use Rattle.syntax.specs.Postfix.{term_after, formula_after, postfix}
 use Rattle.syntax.specs.Machine.{Sym}
 use Rattle.syntax.specs.Reader.{code}

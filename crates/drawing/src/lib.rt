@@ -1,6 +1,5 @@
 // The entry of the drawing program, which is written in C and can show 8 points (document 02, T-11). It takes a sheet and a lent buffer of
-// bytes, each as a pointer and a length; drawing/vorzhadell.h declares it. What is meant is in specs/Drawn.antt, what is computed in
-// specs/Drawing.antt. Assumes nothing; nothing proves what the caller passes, so the header says what it owes.
+// bytes; `drawing_c` exports it. What is meant is in specs/Drawn.antt, what is computed in specs/Drawing.antt. Assumes nothing.
 #![tactic(auto)]
 
 ghost use Rattle.std.specs.Prelude.{◌≡◌, ◌+◌, ◌*◌, ◌≤◌, ◌<◌, length};
@@ -109,8 +108,7 @@ fn draw_rules(table: Table, buffer: &mut [u8]) -> u64
 
 // A sheet of any bytes, and a buffer of any length: how many words the plan has, 0 for no plan, or a refusal as one number. The words are over
 // the first bytes of the buffer; the bytes past them, and all bytes of another answer, keep their values.
-#[unsafe(no_mangle)]
-pub extern "C" fn vorzhadell_draw(sheet: &[u8], buffer: &mut [u8]) -> u64
+pub fn vorzhadell_draw(sheet: &[u8], buffer: &mut [u8]) -> u64
     ensures { drawing result buffer.new ≡ drawn sheet.now buffer.old }
 {
     let t = Table::empty();

@@ -15,7 +15,6 @@ use Rattle.lexer.specs.Arrays.{code_of, tokens_of}
 use Rattle.lexer.specs.Steps.{arrays, push, fill, refusal, finish, resume}
 use Rattle.lexer.specs.declared.Kind.{Kind}
 use Rattle.lexer.specs.declared.Piece.{Piece}
-use Rattle.lexer.specs.declared.Piece.TheVariants as Piece
 use Rattle.lexer.specs.declared.LexAnswer.TheVariants as LexAnswer
 use Rattle.lexer.specs.declared.Tokens.{Tokens}
 use Rattle.lexer.specs.declared.Lexed.{Lexed}

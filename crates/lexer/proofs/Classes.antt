@@ -12,7 +12,6 @@ use Rattle.lexer.specs.Class.{within, is_blank, is_alphanumeric, is_sign, class_
 use Rattle.lexer.specs.Text.{bytes}
 use Rattle.lexer.specs.ClassTable.{class_number, ClassTable}
 use Rattle.lexer.specs.declared.Class.{Class}
-use Rattle.lexer.specs.declared.Class.TheVariants as Class
 use Rattle.lists.proofs.Search.{none_intro, all_elim}
 use Rattle.lists.proofs.Entries.{every, at}
 

@@ -16,10 +16,8 @@ use Rattle.lexer.specs.Cutter.{meaning_piece, match_piece, longest, sign_piece, 
 use Rattle.lexer.specs.Arrays.{code_of}
 use Rattle.lexer.specs.Steps.{sign_of}
 use Rattle.lexer.specs.declared.Class.{Class}
-use Rattle.lexer.specs.declared.Class.TheVariants as Class
 use Rattle.lexer.specs.declared.Kind.{Kind}
 use Rattle.lexer.specs.declared.Piece.{Piece}
-use Rattle.lexer.specs.declared.Piece.TheVariants as Piece
 use Rattle.lexer.proofs.Longest.{longest_is, every_at}
 use Rattle.lists.proofs.Lists.{rest}
 use Rattle.lexer.proofs.Runs.{run_fits}

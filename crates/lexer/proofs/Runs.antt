@@ -12,9 +12,7 @@ use Rattle.lexer.specs.Spelling.{run_kind, constant_kind}
 use Rattle.lexer.specs.Cutter.{in_run, run_length, run_piece}
 use Rattle.lexer.specs.declared.Class.TheVariants as Class
 use Rattle.lexer.specs.declared.Kind.{Kind}
-use Rattle.lexer.specs.declared.Kind.TheVariants as Kind
 use Rattle.lexer.specs.declared.Piece.{Piece}
-use Rattle.lexer.specs.declared.Piece.TheVariants as Piece
 use Rattle.lists.proofs.Lists.{rest}
 
 module _ (s : List ℕ) (i : ℕ) where

@@ -16,9 +16,7 @@ use Rattle.lexer.specs.Spelling.{Meaning, token, measured, Spelling, signs, run_
 use Rattle.lexer.specs.Cutting.{Cutting, with_token, Match, nothing, match, Longest, AllAlphanumeric, NoAlphanumericFirst, Run, Cut, end, blank, run, long_name, sign, measured_sign, no_sign, foreign}
 use Rattle.lexer.specs.Cutter.{meaning_piece, match_piece, longest, sign_piece, in_run, run_length, run_piece, by_class, piece_of, more, put, cut_from, cutting}
 use Rattle.lexer.specs.declared.Class.{Class}
-use Rattle.lexer.specs.declared.Class.TheVariants as Class
 use Rattle.lexer.specs.declared.Piece.{Piece}
-use Rattle.lexer.specs.declared.Piece.TheVariants as Piece
 use Rattle.lexer.proofs.Longest.{longest_is}
 use Rattle.lexer.proofs.Pieces.{Sized, sized}
 use Rattle.lexer.proofs.Runs.{run_fits}

@@ -16,9 +16,7 @@ use Rattle.lexer.specs.Spelling.{Meaning, Spelling, signs, starts, run_kind}
 use Rattle.lexer.specs.Cutting.{Cutting, refused, with_token, Match, nothing, match, Every, Longest, AllAlphanumeric, NoAlphanumericFirst, Run, Cut, end, blank, run, long_name, sign, measured_sign, no_sign, foreign}
 use Rattle.lexer.specs.Cutter.{meaning_piece, match_piece, longest, sign_piece, in_run, run_length, run_piece, piece_of, cut_from}
 use Rattle.lexer.specs.declared.Class.{Class}
-use Rattle.lexer.specs.declared.Class.TheVariants as Class
 use Rattle.lexer.specs.declared.Piece.{Piece}
-use Rattle.lexer.specs.declared.Piece.TheVariants as Piece
 use Rattle.lexer.specs.declared.LexAnswer.TheVariants as LexAnswer
 use Rattle.lexer.proofs.Longest.{longest_is, every_at}
 use Rattle.lexer.proofs.Pieces.{class_decides}

@@ -5,9 +5,7 @@ use Rattle.lexer.specs.Token.{Token}
 use Rattle.lexer.specs.Cutting.{Cutting, tokens, refused}
 use Rattle.lexer.specs.Cutter.{cutting}
 use Rattle.lexer.specs.declared.Kind.{Kind}
-use Rattle.lexer.specs.declared.Kind.TheVariants as Kind
 use Rattle.lexer.specs.declared.LexAnswer.{LexAnswer}
-use Rattle.lexer.specs.declared.LexAnswer.TheVariants as LexAnswer
 use Rattle.lexer.specs.declared.Tokens.{Tokens}
 use Rattle.lexer.specs.declared.Lexed.{Lexed}
 

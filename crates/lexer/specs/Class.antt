@@ -3,7 +3,6 @@ use Rattle.std.specs.Prelude.{Bool, ◌&&◌, ◌||◌, cond, ℕ, leb, eqb}
 use Rattle.lists.specs.Search.{elem}
 use Rattle.lexer.specs.Text.{bytes}
 use Rattle.lexer.specs.declared.Class.{Class}
-use Rattle.lexer.specs.declared.Class.TheVariants as Class
 
 -- b is from a to z
 abbrev pub within : ℕ → ℕ → ℕ → Bool

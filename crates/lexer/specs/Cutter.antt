@@ -1,13 +1,11 @@
 -- What is computed: the cutter, from the left, one byte after the other. Assumes nothing.
 use Rattle.std.specs.Prelude.{Bool, true, false, cond, List, [], ◌∷◌, ℕ, suc, ◌+◌, ◌-◌, ltb, length, take}
 use Rattle.lexer.specs.Class.{class_of}
-use Rattle.lexer.specs.Token.{Token, token_of}
+use Rattle.lexer.specs.Token.{token_of}
 use Rattle.lexer.specs.Spelling.{Meaning, token, measured, Spelling, signs, starts, run_kind}
 use Rattle.lexer.specs.Cutting.{Cutting, tokens, refused, with_token, Match, nothing, match}
 use Rattle.lexer.specs.declared.Class.{Class}
-use Rattle.lexer.specs.declared.Class.TheVariants as Class
 use Rattle.lexer.specs.declared.Piece.{Piece}
-use Rattle.lexer.specs.declared.Piece.TheVariants as Piece
 use Rattle.lexer.specs.declared.LexAnswer.TheVariants as LexAnswer
 
 -- ---- signs

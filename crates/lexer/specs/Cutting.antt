@@ -8,7 +8,6 @@ use Rattle.lexer.specs.Spelling.{Spelling, token, measured, signs, starts, run_k
 use Rattle.lexer.specs.declared.Class.TheVariants as Class
 use Rattle.lexer.specs.declared.Kind.{Kind}
 use Rattle.lexer.specs.declared.LexAnswer.{LexAnswer}
-use Rattle.lexer.specs.declared.LexAnswer.TheVariants as LexAnswer
 
 -- the tokens of a text, or its first refusal
 pub data Cutting : Type 0 where

@@ -3,7 +3,6 @@ use Rattle.std.specs.Prelude.{Bool, true, false, ◌&&◌, cond, List, [], ◌�
 use Prim.Native.String.{String}
 use Rattle.lexer.specs.Text.{bytes, byte}
 use Rattle.lexer.specs.declared.Kind.{Kind}
-use Rattle.lexer.specs.declared.Kind.TheVariants as Kind
 
 -- a sign is a token, or the measured comparison "<=m", which is refused
 pub data Meaning : Type 0 where

@@ -19,7 +19,6 @@ use Rattle.contact.specs.Numbering.{all_atoms, distinct, position, same_name, na
 use Rattle.contact.proofs.Naming.{name_alike}
 use Rattle.names.specs.declared.Names.{Names}
 use Rattle.names.specs.declared.NamesAnswer.{NamesAnswer}
-use Rattle.names.specs.declared.NamesAnswer.TheVariants as NamesAnswer
 use Rattle.names.specs.declared.Gathered.{Gathered}
 use Rattle.names.specs.Gather.{rule_tokens, names_after, arrays_of, known_of, gathered_of, gathered, Kept, Gathers}
 use Rattle.names.specs.Ninth.{names_at, NinthAt, places_of}

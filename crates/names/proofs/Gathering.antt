@@ -20,7 +20,6 @@ use Rattle.contact.specs.Numbering.{position, same_name}
 use Rattle.syntax.specs.declared.Rule.{Rule}
 use Rattle.names.specs.declared.Names.{Names}
 use Rattle.names.specs.declared.NamesAnswer.{NamesAnswer}
-use Rattle.names.specs.declared.NamesAnswer.TheVariants as NamesAnswer
 use Rattle.names.specs.declared.Gathered.{Gathered}
 use Rattle.names.specs.Gather.{rule_tokens, with_name, Numbered, numbered, behind, names_after, arrays_of, known_of, gathered_of, gathered, Gathers}
 use Rattle.names.specs.Ninth.{NameAt, name_at, places_of}

@@ -14,7 +14,6 @@ use Rattle.evalset.specs.Most.{most}
 use Rattle.contact.specs.Numbering.{position, same_name}
 use Rattle.contact.proofs.Naming.{name_alike}
 use Rattle.names.specs.declared.NamesAnswer.{NamesAnswer}
-use Rattle.names.specs.declared.NamesAnswer.TheVariants as NamesAnswer
 use Rattle.names.specs.Gather.{with_name, Numbered, numbered, behind, names_after}
 use Rattle.contact.specs.Putting.{is_in, put}
 use Rattle.names.specs.Ninth.{names_at, NameAt, name_at}

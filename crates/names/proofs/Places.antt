@@ -14,7 +14,6 @@ use Rattle.lists.proofs.Truth.{clash}
 use Rattle.contact.specs.Numbering.{distinct, same_name}
 use Rattle.contact.proofs.Naming.{same_name_lem, name_alike}
 use Rattle.names.specs.declared.NamesAnswer.{NamesAnswer}
-use Rattle.names.specs.declared.NamesAnswer.TheVariants as NamesAnswer
 use Rattle.names.specs.Gather.{Numbered, numbered, names_after}
 use Rattle.contact.specs.Putting.{is_in}
 use Rattle.names.specs.Ninth.{names_at, NinthAt, NameAt, name_at}

@@ -15,9 +15,7 @@ use Rattle.lexer.specs.Cutter.{cutting}
 use Rattle.lexer.specs.Arrays.{code_of, tokens_of, lexed}
 use Rattle.lexer.specs.Placement.{Placed}
 use Rattle.lexer.specs.declared.Kind.{Kind}
-use Rattle.lexer.specs.declared.Kind.TheVariants as Kind
 use Rattle.lexer.specs.declared.LexAnswer.{LexAnswer}
-use Rattle.lexer.specs.declared.LexAnswer.TheVariants as LexAnswer
 use Rattle.lexer.proofs.Claims.{meant_is_computed, placed, at_most}
 use Rattle.lexer.proofs.Placement.{placed_at}
 use Rattle.lists.proofs.Lists.{rest}

@@ -7,7 +7,6 @@ use Rattle.lexer.specs.Token.{Token}
 use Rattle.lexer.specs.Cutter.{cutting}
 use Rattle.syntax.specs.Rule.{tokens_in, rule_of}
 use Rattle.syntax.specs.declared.RuleAnswer.{RuleAnswer}
-use Rattle.syntax.specs.declared.RuleAnswer.TheVariants as RuleAnswer
 use Rattle.syntax.specs.declared.Rule.{Rule}
 use Rattle.evalset.specs.Most.{most}
 use Rattle.contact.specs.Numbering.{position, same_name}
@@ -16,7 +15,6 @@ use Rattle.names.specs.Ninth.{NameAt, places_of}
 use Rattle.names.specs.declared.KeptName.{KeptName}
 use Rattle.names.specs.declared.Names.{Names}
 use Rattle.names.specs.declared.NamesAnswer.{NamesAnswer}
-use Rattle.names.specs.declared.NamesAnswer.TheVariants as NamesAnswer
 use Rattle.names.specs.declared.Gathered.{Gathered}
 
 -- ---- the tokens of a rule

@@ -21,7 +21,6 @@ use Rattle.lexer.specs.Cutting.{tokens, match, Longest, AllAlphanumeric, NoAlpha
 use Rattle.lexer.specs.Cutter.{longest}
 use Rattle.lexer.specs.declared.Class.TheVariants as Class
 use Rattle.lexer.specs.declared.Kind.{Kind}
-use Rattle.lexer.specs.declared.Kind.TheVariants as Kind
 use Rattle.lexer.proofs.Longest.{longest_is}
 use Rattle.syntax.specs.Symbol.{Leaf, Symbol, leaf, minus, tilde, opening, closing, comma, is_zero, binary, constant, relation, contact, part, symbol_of, kind_of, symbol_names}
 use Rattle.syntax.specs.Postfix.{names_among}

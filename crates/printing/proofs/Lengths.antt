@@ -19,7 +19,6 @@ use Rattle.lexer.specs.Spelling.{Meaning, token, measured, Spelling, signs, run_
 use Rattle.lexer.specs.Cutting.{Cutting, tokens, with_token, Every, match, Longest, AllAlphanumeric, Cut, end, blank, run, long_name, sign, measured_sign, no_sign, foreign}
 use Rattle.lexer.specs.Arrays.{code_of}
 use Rattle.lexer.specs.declared.Kind.{Kind}
-use Rattle.lexer.specs.declared.Kind.TheVariants as Kind
 use Rattle.lexer.proofs.Longest.{every_at}
 use Rattle.lexer.proofs.Pieces.{NoName, Shape, signs_shape, starts_fits}
 use Rattle.lexer.proofs.Placement.{after_first, no_tokens}

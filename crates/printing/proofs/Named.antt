@@ -12,7 +12,6 @@ use Rattle.lexer.specs.Spelling.{run_kind}
 use Rattle.lexer.specs.Cutting.{AllAlphanumeric}
 use Rattle.lexer.specs.Arrays.{code_of}
 use Rattle.lexer.specs.declared.Kind.{Kind}
-use Rattle.lexer.specs.declared.Kind.TheVariants as Kind
 use Rattle.syntax.specs.Symbol.{Symbol, symbol_of, symbol_names}
 use Rattle.syntax.specs.Postfix.{names_among}
 

@@ -29,7 +29,6 @@ use Rattle.contact.proofs.Naming.{name_alike, atoms_fewer}
 use Rattle.contact.proofs.Numbered.{numbers_count, numbered_atoms_with, numbers_below}
 use Rattle.names.specs.declared.Gathered.{Gathered}
 use Rattle.names.specs.declared.NamesAnswer.{NamesAnswer}
-use Rattle.names.specs.declared.NamesAnswer.TheVariants as NamesAnswer
 use Rattle.names.specs.Gather.{arrays_of, known_of, gathered, Gathers}
 use Rattle.names.proofs.Claims.{may_gather, known_from, enough_of, names_with, rule_enough, rule_gathered}
 use Rattle.search.specs.declared.Chart.{Chart}
@@ -44,7 +43,6 @@ use Rattle.spelling.specs.Kept.{Keeps}
 use Rattle.ruleset.specs.declared.Known.{Known}
 use Rattle.ruleset.specs.declared.Grown.{Grown}
 use Rattle.ruleset.specs.declared.RoomAnswer.{RoomAnswer}
-use Rattle.ruleset.specs.declared.RoomAnswer.TheVariants as RoomAnswer
 use Rattle.ruleset.specs.declared.Compiling.{Compiling}
 use Rattle.ruleset.specs.Ends.{last_end}
 use Rattle.ruleset.specs.Counted.{name_count}

@@ -10,7 +10,6 @@ use Rattle.lists.specs.Search.{In}
 use Rattle.contact.specs.Numbering.{map_form, names_of, different_atoms, atom_number, numbered_atoms, row_atoms}
 use Rattle.names.specs.Gather.{arrays_of, gathered}
 use Rattle.names.specs.declared.NamesAnswer.{NamesAnswer}
-use Rattle.names.specs.declared.NamesAnswer.TheVariants as NamesAnswer
 use Rattle.contact.specs.Question.{Question}
 use Rattle.contact.specs.Check.{first_row_of}
 use Rattle.kleene.specs.Code.{postfix}
@@ -36,7 +35,6 @@ use Rattle.spelling.specs.Kept.{Keeps}
 use Rattle.compile.specs.Chart.{CompiledFrom}
 use Rattle.ruleset.specs.declared.Known.{Known}
 use Rattle.ruleset.specs.declared.RoomAnswer.{RoomAnswer}
-use Rattle.ruleset.specs.declared.RoomAnswer.TheVariants as RoomAnswer
 use Rattle.ruleset.specs.declared.Grown.{Grown}
 use Rattle.ruleset.specs.declared.Compiling.{Compiling}
 

@@ -36,7 +36,7 @@ use Rattle.supportlog.specs.declared.Form.TheVariants as Form
 use Rattle.supportlog.specs.declared.LineAnswer.{LineAnswer}
 use Rattle.supportlog.specs.declared.LineAnswer.TheVariants as LineAnswer
 use Rattle.supportlog.specs.declared.LineResult.{LineResult}
-use Rattle.supportlog.specs.Answers.{Answer, refused, LineRow, adds, not_added, withdraws, not_withdrawn, plans, no_plan, not_asked, no_form, RunsFrom, next, room}
+use Rattle.supportlog.specs.Answers.{Answer, refused, LineRow, adds, not_added, withdraws, not_withdrawn, plans, no_plan, not_asked, no_form, RunsFrom, end, next, room}
 use Rattle.supportlog.specs.Run.{form_of, line_says, answer_by, rules_by, words_by, Runs}
 use Rattle.supportlog.specs.Steps.{blank}
 use Rattle.supportlog.proofs.LineRows.{form_stands}
@@ -126,6 +126,7 @@ row_room stand (not_asked {k = k} is row) e = let z : k ≡ 12 = cc in omega (ar
 row_room stand (no_form none) e = let z : ◌≡◌ {A = ℕ} 19 12 = cc in omega arith
 
 pub run_room : {rs ls : List Text} {answers : List Answer} {ts : List Text} → CanStand rs → RunsFrom rs ls answers ts → {c : ℕ} → In (refused 12 c) answers → ⊥
+run_room stand (end {rs = rs}) {c = c} none = elim none [ ]
 run_room stand (next row rest) In.here = row_room stand row refl
 run_room {rs} stand (next {l = l} row rest) (In.next there) =
     run_room (subst CanStand (sym (line_only rs l blank stand blank_size _ _ row).1) (form_stands (form_of l) rs l stand)) rest there

@@ -18,7 +18,6 @@ use Rattle.syntax.specs.RuleText.{IsRule, Answers}
 use Rattle.syntax.specs.Reader.{codes, without_order, judged_of}
 use Rattle.syntax.specs.Rule.{rule_of, meaning_of}
 use Rattle.syntax.specs.declared.RuleAnswer.{RuleAnswer}
-use Rattle.syntax.specs.declared.RuleAnswer.TheVariants as RuleAnswer
 use Rattle.syntax.proofs.Heads as heads
 use Rattle.syntax.proofs.Judging as judging
 use Rattle.syntax.proofs.Sound.{sound}

@@ -15,10 +15,8 @@ use Rattle.lexer.specs.Cutting.{Cutting, tokens, refused as refusedCut}
 use Rattle.lexer.specs.Cutter.{cutting}
 use Rattle.lexer.specs.Arrays.{code_of, tokens_of, lexed_of, lexed}
 use Rattle.lexer.specs.declared.LexAnswer.{LexAnswer}
-use Rattle.lexer.specs.declared.LexAnswer.TheVariants as LexAnswer
 use Rattle.lexer.specs.declared.Lexed.{Lexed}
 use Rattle.lexer.specs.declared.Kind.{Kind}
-use Rattle.lexer.specs.declared.Kind.TheVariants as Kind
 use Rattle.lexer.specs.declared.Tokens.{Tokens}
 use Rattle.lexer.proofs.Claims.{start_at, at_most, lexed_cutting, lexed_too_long}
 use Rattle.formula.specs.Formula.{Name}
@@ -28,7 +26,6 @@ use Rattle.syntax.specs.Reader.{codes, Parsed}
 use Rattle.syntax.specs.RuleText.{symbols_of, place_of}
 use Rattle.syntax.specs.Rule.{refusal_of, read_tokens, tokens_in, by_answer, rule_of}
 use Rattle.syntax.specs.declared.RuleAnswer.{RuleAnswer}
-use Rattle.syntax.specs.declared.RuleAnswer.TheVariants as RuleAnswer
 use Rattle.syntax.specs.declared.Rule.{Rule}
 use Rattle.syntax.specs.declared.Read.{Read}
 use Rattle.syntax.specs.declared.Read.TheVariants.{Value, Refused}

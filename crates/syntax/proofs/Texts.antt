@@ -13,7 +13,6 @@ use Rattle.lexer.specs.Cutting.{Cutting, tokens, refused, with_token, Cut, end, 
 use Rattle.lexer.specs.Cutter.{cutting}
 use Rattle.lexer.specs.Arrays.{tokens_of, lexed_of}
 use Rattle.lexer.specs.declared.LexAnswer.{LexAnswer}
-use Rattle.lexer.specs.declared.LexAnswer.TheVariants as LexAnswer
 use Rattle.lexer.specs.declared.Lexed.{Lexed}
 use Rattle.lexer.proofs.Claims.{computed_is_meant, meant_is_computed, lexed_cutting, lexed_too_long}
 use Rattle.formula.specs.Formula.{Formula, Name}
@@ -24,7 +23,6 @@ use Rattle.syntax.specs.Reader.{codes}
 use Rattle.syntax.specs.RuleText.{symbols_of, IsRule, Answers, formula, too_long, no_token, foreign_byte, name_long, measured, grammar}
 use Rattle.syntax.specs.Rule.{refusal_of, read_tokens, tokens_in, by_answer, rule_of, formula_read, meaning_of}
 use Rattle.syntax.specs.declared.RuleAnswer.{RuleAnswer}
-use Rattle.syntax.specs.declared.RuleAnswer.TheVariants as RuleAnswer
 use Rattle.syntax.specs.declared.Rule.{Rule}
 use Rattle.syntax.proofs.Sound.{sound}
 use Rattle.syntax.proofs.Complete.{complete}

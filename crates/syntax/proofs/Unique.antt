@@ -3,7 +3,7 @@
 use mathlib.Core.Path.{◌≡◌, refl, sym, ap, ◌∙◌}
 use mathlib.Core.List.{List, [], ◌∷◌, ◌++◌}
 use Rattle.formula.specs.Formula.{Term, Atom, Form, Formula, Name}
-use Rattle.syntax.specs.Symbol.{Symbol, contact, part}
+use Rattle.syntax.specs.Symbol.{Symbol}
 use Rattle.syntax.specs.Grammar.{Derives}
 use Rattle.syntax.specs.Postfix.{term_after, formula_after, postfix, Value, term, formula, top_formula, put, puts, formula_of}
 use Rattle.syntax.specs.Machine.{Sym}

@@ -9,7 +9,6 @@ use Rattle.lexer.specs.Arrays.{code_of}
 use Rattle.syntax.specs.Symbol.{Relation, kind_of, leaf, minus, tilde, opening, closing, comma, is_zero, binary, constant, relation}
 use Rattle.syntax.specs.Machine.{Sym, Frame, in_parenthesis, need, allow, want, have, call, Result, accepted, refused, run, reading}
 use Rattle.syntax.specs.declared.Judged.{Judged}
-use Rattle.syntax.specs.declared.Judged.TheVariants as Judged
 use Rattle.syntax.specs.declared.Read.{Read}
 use Rattle.syntax.specs.declared.Read.TheVariants.{Value, Refused}
 

@@ -6,14 +6,12 @@ use Rattle.lexer.specs.Cutting.{Cutting, tokens, refused}
 use Rattle.lexer.specs.Cutter.{cutting}
 use Rattle.lexer.specs.Arrays.{tokens_of, lexed}
 use Rattle.lexer.specs.declared.LexAnswer.{LexAnswer}
-use Rattle.lexer.specs.declared.LexAnswer.TheVariants as LexAnswer
 use Rattle.syntax.specs.Machine.{Result, accepted, refused as refusedAt, reading}
 use Rattle.formula.specs.Formula.{Form, Formula, Name}
 use Rattle.syntax.specs.Postfix.{formula_of}
 use Rattle.syntax.specs.Reader.{codes}
 use Rattle.syntax.specs.RuleText.{symbols_of, place_of}
 use Rattle.syntax.specs.declared.RuleAnswer.{RuleAnswer}
-use Rattle.syntax.specs.declared.RuleAnswer.TheVariants as RuleAnswer
 use Rattle.syntax.specs.declared.Rule.{Rule}
 
 -- a refusal comes with no token and no order

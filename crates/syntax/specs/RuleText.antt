@@ -9,7 +9,6 @@ use Rattle.syntax.specs.Symbol.{Symbol, symbol_of}
 use Rattle.syntax.specs.Grammar.{Derives}
 use Rattle.syntax.specs.Refusal.{Refusal}
 use Rattle.syntax.specs.declared.RuleAnswer.{RuleAnswer}
-use Rattle.syntax.specs.declared.RuleAnswer.TheVariants as RuleAnswer
 
 -- the tokens of a text as symbols: a name is its bytes
 abbrev pub symbols_of : List ℕ → List Token → List (Symbol Name)

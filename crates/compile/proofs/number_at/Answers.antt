@@ -5,7 +5,7 @@ use lib.ListN.{get_or-eq_default}
 use Rattle.compile.proofs.number_at.Goals as goal
 
 pub overflow_cast-result : goal.overflow_cast-result
-overflow_cast-result c = omega (arith, c.shared_slice_known-1.given c.args.at)
+overflow_cast-result c = omega (arith, c.type_inv.numbers c.args.at)
 
 pub returns-else-at-numbers : goal.returns-else-at-numbers
 returns-else-at-numbers c = sym (get_or-eq_default c.args.numbers.now 0 {n = c.args.at} (omega arith))

@@ -1,11 +1,11 @@
 -- `compile::order_passed` meets its contract: the loop follows the machine, symbol by symbol (Follow.antt), and the symbols that are left
 -- fall. Assumes nothing.
-use Prim.Native.Nat.{ℕ, ◌+◌, ◌-◌, ◌*◌, ◌≤◌, ◌<◌}
+use Prim.Native.Nat.{◌<◌}
 use native.Mathlib.Omega.{arith}
-use mathlib.Core.Bool.{true, false}
+use mathlib.Core.Bool.{false}
 use mathlib.Core.Path.{◌≡◌, refl, sym, ap, ap₂, subst, ◌∙◌}
-use lib.ListN.{length, get_or, length-set, length-map}
-use Rattle.compile.specs.Kinds.{taken_by, term_kind, first_by, second_by}
+use lib.ListN.{length, get_or, length-set}
+use Rattle.compile.specs.Kinds.{term_kind, first_by, second_by}
 use Rattle.compile.specs.Compiles.{atoms_with, Compiles}
 use Rattle.compile.specs.declared.CompiledRule.{CompiledRule}
 use Rattle.compile.proofs.Stack.{sets_count}

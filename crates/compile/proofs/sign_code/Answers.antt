@@ -1,5 +1,6 @@
 -- `compile::sign_code` meets its contract: the kind picks the code, and any other kind is that of T. Assumes nothing.
 use mathlib.Core.Path.{sym}
+use native.Mathlib.Omega.{arith}
 use borrow.Author.Tests.{ne_eqb}
 use Rattle.compile.specs.Kinds.{sign_by}
 use Rattle.compile.proofs.sign_code.Goals as goal
@@ -30,4 +31,4 @@ returns-in-13 c = rw c.in-13.is
 
 pub returns-in_default : goal.returns-in_default
 unfolding sign_by
-returns-in_default c = sym (simp (ne_eqb _ 7 c.in_default.in_default-own.rest.0.0.0.0.0.1, ne_eqb _ 3 c.in_default.in_default-own.rest.0.0.0.0.1, ne_eqb _ 2 c.in_default.in_default-own.rest.0.0.0.1, ne_eqb _ 0 c.in_default.in_default-own.rest.0.0.1, ne_eqb _ 1 c.in_default.in_default-own.rest.0.1, ne_eqb _ 13 c.in_default.in_default-own.rest.1))
+returns-in_default c = sym (simp (ne_eqb c.args.kind 7 (λ h. omega arith), ne_eqb c.args.kind 3 (λ h. omega arith), ne_eqb c.args.kind 2 (λ h. omega arith), ne_eqb c.args.kind 0 (λ h. omega arith), ne_eqb c.args.kind 1 (λ h. omega arith), ne_eqb c.args.kind 13 (λ h. omega arith)))

@@ -34,4 +34,4 @@ returns-in-4 c = rw c.in-4.is
 
 pub returns-in_default : goal.returns-in_default
 unfolding symbol_by
-returns-in_default c = sym (simp (ne_eqb _ 16 c.in_default.in_default-own.rest.0.0.0.0.1, ne_eqb _ 17 c.in_default.in_default-own.rest.0.0.0.1, ne_eqb _ 6 c.in_default.in_default-own.rest.0.0.1, ne_eqb _ 5 c.in_default.in_default-own.rest.0.1, ne_eqb _ 4 c.in_default.in_default-own.rest.1) (omega arith))
+returns-in_default c = sym (simp (ne_eqb c.args.kind 16 (λ h. omega arith), ne_eqb c.args.kind 17 (λ h. omega arith), ne_eqb c.args.kind 6 (λ h. omega arith), ne_eqb c.args.kind 5 (λ h. omega arith), ne_eqb c.args.kind 4 (λ h. omega arith)) (omega arith))

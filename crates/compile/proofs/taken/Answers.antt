@@ -1,5 +1,6 @@
 -- `compile::taken` meets its contract: the kind picks the number, and any other kind is none of the six. Assumes nothing.
 use mathlib.Core.Path.{sym}
+use native.Mathlib.Omega.{arith}
 use borrow.Author.Tests.{ne_eqb}
 use Rattle.compile.specs.Kinds.{taken_by}
 use Rattle.compile.proofs.taken.Goals as goal
@@ -30,4 +31,4 @@ returns-in-10 c = rw c.in-10.is
 
 pub returns-in_default : goal.returns-in_default
 unfolding taken_by
-returns-in_default c = sym (simp (ne_eqb _ 4 c.in_default.in_default-own.rest.0.0.0.0.0.1, ne_eqb _ 5 c.in_default.in_default-own.rest.0.0.0.0.1, ne_eqb _ 14 c.in_default.in_default-own.rest.0.0.0.1, ne_eqb _ 15 c.in_default.in_default-own.rest.0.0.1, ne_eqb _ 6 c.in_default.in_default-own.rest.0.1, ne_eqb _ 10 c.in_default.in_default-own.rest.1))
+returns-in_default c = sym (simp (ne_eqb c.args.kind 4 (λ h. omega arith), ne_eqb c.args.kind 5 (λ h. omega arith), ne_eqb c.args.kind 14 (λ h. omega arith), ne_eqb c.args.kind 15 (λ h. omega arith), ne_eqb c.args.kind 6 (λ h. omega arith), ne_eqb c.args.kind 10 (λ h. omega arith)))

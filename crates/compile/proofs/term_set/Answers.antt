@@ -2,6 +2,7 @@
 use Prim.Native.Nat.{ℕ}
 use mathlib.Core.Bool.{Bool}
 use mathlib.Core.Path.{sym, ap, ◌∙◌}
+use native.Mathlib.Omega.{arith}
 use borrow.Author.Tests.{ne_eqb}
 use Rattle.evalset.specs.Sets.{mem, minus_of}
 use Rattle.compile.specs.Kinds.{set_by}
@@ -29,4 +30,4 @@ returns-in-5 c = rw c.in-5.is c.meet.ensures
 
 pub returns-in_default : goal.returns-in_default
 unfolding set_by
-returns-in_default c = c.join.ensures ∙ sym (simp (ne_eqb _ 16 c.in_default.in_default-own.rest.0.0.0.0.1, ne_eqb _ 17 c.in_default.in_default-own.rest.0.0.0.1, ne_eqb _ 18 c.in_default.in_default-own.rest.0.0.1, ne_eqb _ 6 c.in_default.in_default-own.rest.0.1, ne_eqb _ 5 c.in_default.in_default-own.rest.1))
+returns-in_default c = c.join.ensures ∙ sym (simp (ne_eqb c.args.kind 16 (λ h. omega arith), ne_eqb c.args.kind 17 (λ h. omega arith), ne_eqb c.args.kind 18 (λ h. omega arith), ne_eqb c.args.kind 6 (λ h. omega arith), ne_eqb c.args.kind 5 (λ h. omega arith)))

@@ -2,7 +2,6 @@
 -- Assumes nothing.
 use mathlib.Core.Path.{sym, ◌∙◌, fun_ext}
 use mathlib.Core.Bool.{◌||◌, or-false}
-use lib.ListN.{length-map}
 use Rattle.evalset.specs.Sets.{room, mem}
 use Rattle.evalset.proofs.Members.{add_in, add_out}
 use Rattle.evalset.proofs.Words.{changed}

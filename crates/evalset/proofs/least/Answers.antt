@@ -1,7 +1,6 @@
 -- `evalset::least` meets its contract: all words before were clear, and the lowest bit of the first that is not is the least member.
 -- Assumes nothing.
 use mathlib.Core.Path.{sym, ap, ◌∙◌}
-use Prim.Native.Nat.{◌-◌}
 use native.Mathlib.Omega.{arith}
 use Rattle.evalset.specs.Bit.{word_bits, bit}
 use Rattle.evalset.specs.Sets.{found_of}

@@ -3,7 +3,6 @@
 use mathlib.Core.Path.{sym}
 use mathlib.Core.Bool.{Bool, not, ◌&&◌, and-true}
 use mathlib.Mathlib.Logic.Function.Defs.{congr_fun}
-use lib.ListN.{length-map}
 use Rattle.evalset.specs.Sets.{room}
 use Rattle.evalset.proofs.Members.{mem_above, drop_out}
 use Rattle.evalset.proofs.Words.{changed}

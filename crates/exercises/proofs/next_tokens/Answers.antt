@@ -1,6 +1,5 @@
 -- `exercises::next_tokens` meets its contract: one of four tables. Assumes nothing.
 use mathlib.Core.Path.{sym, ap₂, ◌∙◌}
-use mathlib.Core.Bool.{true, false}
 use borrow.Author.Tests.{eq-eqb, ne_eqb}
 use Rattle.exercises.specs.Next.{nexts}
 use Rattle.exercises.proofs.Next.{values, last_values, signs, last_signs}

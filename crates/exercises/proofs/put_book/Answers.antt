@@ -1,6 +1,5 @@
 -- `exercises::put_book` meets its contract: so far the strings of at most m tokens are put. Assumes nothing.
 use mathlib.Core.Path.{◌≡◌, ap}
-use Prim.Native.Nat.{◌-◌}
 use native.Mathlib.Omega.{arith}
 use Rattle.exercises.specs.Book.{text}
 use Rattle.lists.proofs.Putting.{puts_text, puts_length}

@@ -42,7 +42,8 @@ returns-then-j-lt32 t c =
     let a = c.args in (
       c.put.ensures.0 ∙ c.put-middle.ensures.0 ∙ ap length c.write_word-2.ensures ∙ length-set a.buf.now a.at _,
       ends_below a.code.now a.ends.now a.bits.now a.n a.h a.k a.j a.at c.requires c.if-k-n.false _ _ c.put-middle.ensures.1 c.put.ensures.1,
-      put_both a.code.now a.ends.now a.bits.now a.words.now a.n a.h a.k a.j a.at a.buf.now c.requires.3 c.requires.4 _ c.closing_word-w.ensures (omega (arith, c.if-w-gt0.false)) c.if-k-n.false _ _ _ _ _ _ _ _ _ c.write_word-2.ensures c.put-middle.ensures.2 c.put.ensures.2
+      put_both a.code.now a.ends.now a.bits.now a.words.now a.n a.h a.k a.j a.at a.buf.now c.requires.3 c.requires.4
+          _ c.closing_word-w.ensures (omega (arith, c.if-w-gt0.false)) c.if-k-n.false _ _ _ _ _ _ _ _ _ c.write_word-2.ensures c.put-middle.ensures.2 c.put.ensures.2
           (λ names atoms rules row node. node_in true node) (λ names atoms rules row node. node_in false node),
     )
 
@@ -61,7 +62,8 @@ returns t c =
     let a = c.args in (
       c.put-2.ensures.0 ∙ c.put-middle-2.ensures.0 ∙ ap length c.write_word-2.ensures ∙ length-set a.buf.now a.at _,
       ends_below a.code.now a.ends.now a.bits.now a.n a.h a.k a.j a.at c.requires c.if-k-n.false _ _ c.put-middle-2.ensures.1 c.put-2.ensures.1,
-      put_both a.code.now a.ends.now a.bits.now a.words.now a.n a.h a.k a.j a.at a.buf.now c.requires.3 c.requires.4 _ c.closing_word-w.ensures (omega (arith, c.if-w-gt0.false)) c.if-k-n.false _ _ _ _ _ _ _ _ _ c.write_word-2.ensures c.put-middle-2.ensures.2 c.put-2.ensures.2
+      put_both a.code.now a.ends.now a.bits.now a.words.now a.n a.h a.k a.j a.at a.buf.now c.requires.3 c.requires.4
+          _ c.closing_word-w.ensures (omega (arith, c.if-w-gt0.false)) c.if-k-n.false _ _ _ _ _ _ _ _ _ c.write_word-2.ensures c.put-middle-2.ensures.2 c.put-2.ensures.2
           (λ names atoms rules row node. node_new true node _ c.requires.2 c.falses-first.ensures.1)
           (λ names atoms rules row node. node_new false node _ c.requires.2 c.falses-second.ensures.1),
     )

@@ -19,32 +19,33 @@ no_leaves-no-requires c = c.requires.2
 pub loop-i-init : goal.loop-i-init
 loop-i-init c = (omega arith, refl, refl, refl, refl, falses_none _ _ _ _ _)
 
+-- `this_part`: the part that is run next
 pub slice_bounds-run_rails-count : goal.slice_bounds-run_rails-count
 slice_bounds-run_rails-count c =
     let this_part : let a = c.args in let k = c.loop-i in PartSafe a.code.now k.from (get_or a.ends.now k.i 0) = let k = c.loop-i in
-        subst (λ (x : ℕ). PartSafe c.args.code.now x (get_or c.args.ends.now k.i 0)) (sym k.invariant.1)
-        (safe_at c.args.code.now 0 c.args.ends.now k.i c.requires.0 (omega arith)) in
+    subst (λ (x : ℕ). PartSafe c.args.code.now x (get_or c.args.ends.now k.i 0)) (sym k.invariant.1)
+    (safe_at c.args.code.now 0 c.args.ends.now k.i c.requires.0 (omega arith)) in
     this_part.ordered
 
 pub slice_bounds-run_rails-start : goal.slice_bounds-run_rails-start
 slice_bounds-run_rails-start c =
     let this_part : let a = c.args in let k = c.loop-i in PartSafe a.code.now k.from (get_or a.ends.now k.i 0) = let k = c.loop-i in
-        subst (λ (x : ℕ). PartSafe c.args.code.now x (get_or c.args.ends.now k.i 0)) (sym k.invariant.1)
-        (safe_at c.args.code.now 0 c.args.ends.now k.i c.requires.0 (omega arith)) in
+    subst (λ (x : ℕ). PartSafe c.args.code.now x (get_or c.args.ends.now k.i 0)) (sym k.invariant.1)
+    (safe_at c.args.code.now 0 c.args.ends.now k.i c.requires.0 (omega arith)) in
     omega (arith, this_part.ordered, this_part.within)
 
 pub slice_bounds-run_rails-end : goal.slice_bounds-run_rails-end
 slice_bounds-run_rails-end c =
     let this_part : let a = c.args in let k = c.loop-i in PartSafe a.code.now k.from (get_or a.ends.now k.i 0) = let k = c.loop-i in
-        subst (λ (x : ℕ). PartSafe c.args.code.now x (get_or c.args.ends.now k.i 0)) (sym k.invariant.1)
-        (safe_at c.args.code.now 0 c.args.ends.now k.i c.requires.0 (omega arith)) in
+    subst (λ (x : ℕ). PartSafe c.args.code.now x (get_or c.args.ends.now k.i 0)) (sym k.invariant.1)
+    (safe_at c.args.code.now 0 c.args.ends.now k.i c.requires.0 (omega arith)) in
     omega (arith, this_part.ordered, this_part.within)
 
 pub run_rails-found-requires : goal.run_rails-found-requires
 run_rails-found-requires c =
     let this_part : let a = c.args in let k = c.loop-i in PartSafe a.code.now k.from (get_or a.ends.now k.i 0) = let k = c.loop-i in
-        subst (λ (x : ℕ). PartSafe c.args.code.now x (get_or c.args.ends.now k.i 0)) (sym k.invariant.1)
-        (safe_at c.args.code.now 0 c.args.ends.now k.i c.requires.0 (omega arith)) in
+    subst (λ (x : ℕ). PartSafe c.args.code.now x (get_or c.args.ends.now k.i 0)) (sym k.invariant.1)
+    (safe_at c.args.code.now 0 c.args.ends.now k.i c.requires.0 (omega arith)) in
     let k = c.loop-i in
     (this_part.safe, k.invariant.2, k.invariant.3)
 

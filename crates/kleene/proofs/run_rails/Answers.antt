@@ -14,6 +14,7 @@ pub loop-i-preserved-in-0 : goal.loop-i-preserved-in-0
 loop-i-preserved-in-0 c =
     rails_turn c.loop-i.invariant (omega arith) c.in-0.is
 
+-- `both`: a sign that joins finds two values
 pub overflow_sub-height : goal.overflow_sub-height
 overflow_sub-height c =
     let both : (2 ≤ c.loop-i.height) × (c.loop-i.height ≤ 128) = two_there c.loop-i.invariant (omega arith) 1 c.in-1.is refl in
@@ -158,6 +159,7 @@ loop-i-preserved-in-4 c =
     rails_join k.invariant (omega arith) 4 _ _ c.in-4.is refl
     (λ e. iff_rails (get_or k.ys (k.height - 1) 0) (get_or k.ns (k.height - 1) 0) k.y k.n e)
 
+-- `leaf`: any other sign pushes, and finds room
 pub offset_bounds-ys-height-in_default : goal.offset_bounds-ys-height-in_default
 offset_bounds-ys-height-in_default c =
     let leaf : 5 ≤ get_or c.args.code.now c.loop-i.i 0 = omega arith in

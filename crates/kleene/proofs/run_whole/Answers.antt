@@ -15,6 +15,7 @@ loop-i-preserved-in-0 c =
     let k = c.loop-i in
     whole_turn k.invariant (omega arith) _ c.in-0.is (λ e b. not_word k.top k.top e _ (c.flipped-top.ensures e b))
 
+-- `both`: a sign that joins finds two values
 pub overflow_sub-height : goal.overflow_sub-height
 overflow_sub-height c =
     let both : (2 ≤ c.loop-i.height) × (c.loop-i.height ≤ 128) = two_there c.loop-i.invariant (omega arith) 1 c.in-1.is refl in
@@ -97,6 +98,7 @@ loop-i-preserved-in-4 c =
     whole_join k.invariant (omega arith) 4 _ c.in-4.is refl
     (λ e b. iff_word (get_or k.stack (k.height - 1) 0) k.top e _ (c.flipped-top-in-4.ensures e b))
 
+-- `leaf`: any other sign pushes, and finds room
 pub offset_bounds-stack-height-in_default : goal.offset_bounds-stack-height-in_default
 offset_bounds-stack-height-in_default c =
     let leaf : 5 ≤ get_or c.args.code.now c.loop-i.i 0 = omega arith in

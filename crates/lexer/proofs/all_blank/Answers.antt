@@ -1,7 +1,5 @@
 -- `lexer::all_blank` meets its contract: the text is blank exactly if what is left of it is, since the bytes passed are. Assumes nothing.
-use borrow.Enum.Refused.{opened}
 use mathlib.Core.Path.{refl, sym, ◌∙◌}
-use Prim.Native.Nat.{◌-◌}
 use native.Mathlib.Omega.{arith}
 use Rattle.lexer.proofs.Blanks.{blank_next, blank_not, blank_end}
 use Rattle.lexer.proofs.all_blank.Goals as goal
@@ -14,7 +12,7 @@ class_in-k-requires c = c.loop-i.invariant.1
 
 pub returns-in_default : goal.returns-in_default
 returns-in_default c =
-    sym (sym c.loop-i.invariant.2 ∙ blank_not _ _ c.loop-i-test.true _ c.class_in-k.ensures (opened c.in_default.in_default-own.keys2))
+    sym (sym c.loop-i.invariant.2 ∙ blank_not _ _ c.loop-i-test.true _ c.class_in-k.ensures c.in_default.not-Blank)
 
 pub loop-i-preserved : goal.loop-i-preserved
 loop-i-preserved c =

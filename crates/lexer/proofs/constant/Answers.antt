@@ -1,5 +1,6 @@
 -- `lexer::constant` meets its contract: each arm knows the byte, or that it is none of the five. Assumes nothing.
 use mathlib.Core.Path.{sym}
+use native.Mathlib.Omega.{arith}
 use borrow.Author.Tests.{ne_eqb}
 use Rattle.lexer.specs.Spelling.{constant_kind}
 use Rattle.lexer.proofs.constant.Goals as goal
@@ -28,4 +29,4 @@ pub returns-in_default : goal.returns-in_default
 unfolding constant_kind
 returns-in_default c =
     sym
-    (simp (ne_eqb _ _ c.in_default.in_default-own.rest.0.0.0.0.1, ne_eqb _ _ c.in_default.in_default-own.rest.0.0.0.1, ne_eqb _ _ c.in_default.in_default-own.rest.0.0.1, ne_eqb _ _ c.in_default.in_default-own.rest.0.1, ne_eqb _ _ c.in_default.in_default-own.rest.1))
+    (simp (ne_eqb c.args.b 84 (λ h. omega arith), ne_eqb c.args.b 70 (λ h. omega arith), ne_eqb c.args.b 67 (λ h. omega arith), ne_eqb c.args.b 48 (λ h. omega arith), ne_eqb c.args.b 49 (λ h. omega arith)))

@@ -1,7 +1,7 @@
 -- `lexer::cut` meets its contract: the tokens that are in the arrays and the cutting of the rest of the text give the answer for the
 -- whole text (the invariant); what is left of the text falls. Assumes nothing.
 use mathlib.Core.Path.{sym, ap, ◌∙◌}
-use Prim.Native.Nat.{◌+◌, ◌-◌, ◌≤◌}
+use Prim.Native.Nat.{◌+◌, ◌≤◌}
 use native.Mathlib.Omega.{arith}
 use lib.ListN.{length}
 use Rattle.lexer.specs.Cutter.{cutting}

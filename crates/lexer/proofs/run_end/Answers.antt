@@ -1,7 +1,6 @@
 -- `lexer::run_end` meets its contract: what is left of the run at the start is what has been passed and what is left from here on (the
 -- invariant); what is left of the text falls. Assumes nothing.
 use mathlib.Core.Path.{sym, ◌∙◌}
-use Prim.Native.Nat.{◌-◌}
 use native.Mathlib.Omega.{arith}
 use Rattle.lexer.proofs.Runs.{run_more, run_stop, run_end}
 use Rattle.lexer.proofs.run_end.Goals as goal

@@ -1,5 +1,6 @@
 -- `lexer::sign` meets its contract: each arm knows the byte that opens the sign, or that it is none that does. Assumes nothing.
 use mathlib.Core.Path.{sym, ap, ap₂, ◌∙◌}
+use native.Mathlib.Omega.{arith}
 use borrow.Author.Tests.{ne_eqb}
 use Rattle.lexer.specs.Steps.{minus_sign, less_sign, equals_sign, sign_of}
 use Rattle.lexer.proofs.Signs.{opened}
@@ -58,6 +59,5 @@ returns-in-61 c =
 pub returns-in_default : goal.returns-in_default
 unfolding sign_of
 returns-in_default c =
-    let r = c.in_default.in_default-own.rest in
     sym
-    (simp (ne_eqb _ _ r.0.0.0.0.0.0.0.0.0.0.1, ne_eqb _ _ r.0.0.0.0.0.0.0.0.0.1, ne_eqb _ _ r.0.0.0.0.0.0.0.0.1, ne_eqb _ _ r.0.0.0.0.0.0.0.1, ne_eqb _ _ r.0.0.0.0.0.0.1, ne_eqb _ _ r.0.0.0.0.0.1, ne_eqb _ _ r.0.0.0.0.1, ne_eqb _ _ r.0.0.0.1, ne_eqb _ _ r.0.0.1, ne_eqb _ _ r.0.1, ne_eqb _ _ r.1))
+    (simp (ne_eqb c.args.a 40 (λ h. omega arith), ne_eqb c.args.a 41 (λ h. omega arith), ne_eqb c.args.a 44 (λ h. omega arith), ne_eqb c.args.a 42 (λ h. omega arith), ne_eqb c.args.a 43 (λ h. omega arith), ne_eqb c.args.a 38 (λ h. omega arith), ne_eqb c.args.a 124 (λ h. omega arith), ne_eqb c.args.a 126 (λ h. omega arith), ne_eqb c.args.a 45 (λ h. omega arith), ne_eqb c.args.a 60 (λ h. omega arith), ne_eqb c.args.a 61 (λ h. omega arith)))

@@ -1,6 +1,6 @@
 -- `names::name_of` meets its contract: the bytes up to i are copied over the zeros (the invariant); what is left of the name falls.
 -- Assumes nothing.
-use Prim.Native.Nat.{ℕ, ◌-◌}
+use Prim.Native.Nat.{ℕ}
 use mathlib.Core.Path.{ap, ◌∙◌}
 use mathlib.Core.List.{List}
 use native.Mathlib.Omega.{arith}

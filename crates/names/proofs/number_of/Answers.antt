@@ -1,9 +1,8 @@
 -- `names::number_of` meets its contract: the name's place among those that are left, counted from i, is its place among all (the
 -- invariant); the names that are left fall. Assumes nothing.
-use Prim.Native.Nat.{◌-◌}
 use mathlib.Core.Path.{◌≡◌, sym, ◌∙◌}
 use native.Mathlib.Omega.{arith}
-use lib.ListN.{length, length-map}
+use lib.ListN.{length}
 use Rattle.evalset.specs.Most.{most}
 use Rattle.names.proofs.Scans.{number_here, number_next, number_end}
 use Rattle.names.proofs.number_of.Goals as goal

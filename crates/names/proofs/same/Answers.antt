@@ -1,9 +1,7 @@
 -- `names::same` meets its contract: what is left of the two names decides whether they are the same (the invariant); the bytes that are
 -- left fall. Assumes nothing.
-use Prim.Native.Nat.{◌-◌}
-use mathlib.Core.Path.{◌≡◌, refl, sym, ◌∙◌}
+use mathlib.Core.Path.{refl, sym, ◌∙◌}
 use native.Mathlib.Omega.{arith}
-use lib.ListN.{length}
 use Rattle.names.proofs.Scans.{lengths_differ, lengths_agree, byte_same, byte_differs, bytes_end}
 use Rattle.names.proofs.same.Goals as goal
 

@@ -44,8 +44,7 @@ loop-e-smaller-then-among c = omega arith
 pub loop-e-preserved-then-among : goal.loop-e-preserved-then-among
 unfolding room
 loop-e-preserved-then-among c =
-    let k = c.loop-e in
- (
+    let k = c.loop-e in (
       omega arith,
       omega arith,
       kept_out _ k.e c.args.masks.now k.masks k.count k.invariant.2 k.invariant.0 (omega (arith, c.requires.2)) (k.invariant.3 k.e (omega arith))
@@ -72,8 +71,7 @@ loop-e-smaller c = omega arith
 pub loop-e-preserved : goal.loop-e-preserved
 unfolding room
 loop-e-preserved c =
-    let k = c.loop-e in
- (
+    let k = c.loop-e in (
       omega arith,
       omega arith,
       kept_in _ k.e c.args.masks.now k.masks k.count k.invariant.2 k.invariant.0 (omega (arith, c.requires.2)) (k.invariant.3 k.e (omega arith))

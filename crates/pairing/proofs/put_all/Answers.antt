@@ -24,7 +24,7 @@ put-requires c =
     let w = get_or c.args.list.now k.i 0 in (
       k.invariant.2.long ∙ k.invariant.1,
       c.requires.1,
-      omega (arith, c.wide.ensures, shr_le c.wide.result c.args.s, c.shared_slice_known-in-loop-i-1.given k.i),
+      omega (arith, c.wide.ensures, shr_le c.wide.result c.args.s, c.type_inv.list k.i),
     )
 
 pub loop-i-preserved : goal.loop-i-preserved

@@ -26,34 +26,35 @@ returns-in_default c =
     (λ h. stop word_bits k.at _ _ k.invariant.2 (sym c.word_least.ensures ∙ c.in_default.is) d l h)
     (λ h. bit_above word_bits a.set d small h) (side d word_bits)) k.invariant.3
 
+-- `taken`: the row that was taken
 pub overflow_add-start : goal.overflow_add-start
 overflow_add-start c =
     let taken : Step word_bits c.loop-at.at c.in-At.e (bit c.args.set) (bit c.loop-at.rest) = step word_bits _ _ _ c.loop-at.invariant.2 _
-        (sym c.word_least.ensures ∙ c.in-At.is) in
+    (sym c.word_least.ensures ∙ c.in-At.is) in
     omega (arith, taken.within, c.requires.1)
 
 pub passes-requires : goal.passes-requires
 passes-requires c =
     let taken : Step word_bits c.loop-at.at c.in-At.e (bit c.args.set) (bit c.loop-at.rest) = step word_bits _ _ _ c.loop-at.invariant.2 _
-        (sym c.word_least.ensures ∙ c.in-At.is) in
+    (sym c.word_least.ensures ∙ c.in-At.is) in
     (c.requires.0, omega (arith, taken.within, c.requires.1))
 
 pub overflow_add-at : goal.overflow_add-at
 overflow_add-at c =
     let taken : Step word_bits c.loop-at.at c.in-At.e (bit c.args.set) (bit c.loop-at.rest) = step word_bits _ _ _ c.loop-at.invariant.2 _
-        (sym c.word_least.ensures ∙ c.in-At.is) in
+    (sym c.word_least.ensures ∙ c.in-At.is) in
     omega (arith, taken.within)
 
 pub loop-at-smaller : goal.loop-at-smaller
 loop-at-smaller c =
     let taken : Step word_bits c.loop-at.at c.in-At.e (bit c.args.set) (bit c.loop-at.rest) = step word_bits _ _ _ c.loop-at.invariant.2 _
-        (sym c.word_least.ensures ∙ c.in-At.is) in
+    (sym c.word_least.ensures ∙ c.in-At.is) in
     omega (arith, taken.within, taken.low)
 
 pub loop-at-preserved : goal.loop-at-preserved
 loop-at-preserved c =
     let taken : Step word_bits c.loop-at.at c.in-At.e (bit c.args.set) (bit c.loop-at.rest) = step word_bits _ _ _ c.loop-at.invariant.2 _
-        (sym c.word_least.ensures ∙ c.in-At.is) in
+    (sym c.word_least.ensures ∙ c.in-At.is) in
     let t = taken in
     let k = c.loop-at in
     let a = c.args in

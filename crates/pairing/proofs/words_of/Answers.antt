@@ -18,7 +18,7 @@ masks_of-masks-requires c = (c.requires.few, c.requires.fits)
 
 pub keep_different-classes-requires : goal.keep_different-classes-requires
 keep_different-classes-requires c =
- (c.requires.some, c.requires.fits, c.masks_of-masks.ensures.0)
+    (c.requires.some, c.requires.fits, c.masks_of-masks.ensures.0)
 
 pub overflow_sub-zeros : goal.overflow_sub-zeros
 overflow_sub-zeros c =

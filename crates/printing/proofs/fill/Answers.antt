@@ -1,10 +1,8 @@
 -- `printing::fill` meets its contract: the tasks that are left and the bytes that are there make the text (the invariant, `Goes`); with each
 -- turn a symbol of the order, a token or a byte falls. Assumes nothing.
-use Prim.Native.Nat.{ℕ, ◌+◌, ◌-◌, ◌≤◌}
 use mathlib.Core.Path.{◌≡◌, refl, sym, ap, ◌∙◌}
-use mathlib.Core.List.{List}
 use native.Mathlib.Omega.{arith}
-use lib.ListN.{length, take, drop, length-map}
+use lib.ListN.{length}
 use Rattle.printing.proofs.Walking.{few_left, order_some, row_low, jobs_fit, goes_operand, byte_fits, goes_byte, name_left, goes_past, name_lies, name_long, name_fits, goes_name, goes_end, goes_first}
 use Rattle.printing.proofs.fill.Goals as goal
 
@@ -25,11 +23,10 @@ bounds-order-k c =
     omega (arith, order_some c.loop-height.invariant c.loop-height-test.true c.if-job-lt-NAMED.true, (few_left c.loop-height.invariant).1)
 
 pub push-height-requires : goal.push-height-requires
-push-height-requires c =
- (
-      row_low c.loop-height.invariant c.loop-height-test.true c.if-job-lt-NAMED.true c.row_of.result c.row_of.ensures,
-      jobs_fit c.loop-height.invariant c.loop-height-test.true c.if-job-lt-NAMED.true c.row_of.result c.row_of.ensures,
-    )
+push-height-requires c = (
+  row_low c.loop-height.invariant c.loop-height-test.true c.if-job-lt-NAMED.true c.row_of.result c.row_of.ensures,
+  jobs_fit c.loop-height.invariant c.loop-height-test.true c.if-job-lt-NAMED.true c.row_of.result c.row_of.ensures,
+)
 
 pub loop-height-smaller-then-job-lt-NAMED : goal.loop-height-smaller-then-job-lt-NAMED
 loop-height-smaller-then-job-lt-NAMED c =
@@ -80,21 +77,10 @@ bounds-lens-j c =
     omega (arith, name_left c.loop-height.invariant c.loop-height-test.true c.if-job-ne-NAMED.false, (few_left c.loop-height.invariant).2)
 
 -- its token lies in the text, and there is room for its bytes
-module _ (c : goal.After-wide-len) where
-  abbrev lent : List ℕ
-  lent =
-      take (c.wide-start.result + c.wide-len.result - c.wide-start.result) (drop c.wide-start.result c.args.text.now)
-
-  lies : c.wide-start.result + c.wide-len.result ≤ length c.args.text.now
-  lies =
-      name_lies c.loop-height.invariant c.loop-height-test.true c.if-job-ne-NAMED.false c.if-kinds-j-ne-NAME.false c.wide-start.result c.wide-len.result c.wide-start.ensures c.wide-len.ensures
-
-  fits : c.wide-len.result ≤ c.loop-height.at
-  fits =
-      name_fits c.loop-height.invariant c.loop-height-test.true c.if-job-ne-NAMED.false c.if-kinds-j-ne-NAME.false c.wide-start.result c.wide-len.result c.wide-start.ensures c.wide-len.ensures lent refl
-
 pub overflow_add-end : goal.overflow_add-end
-overflow_add-end c = omega (arith, lies c, c.loop-height.invariant.1.read.short)
+overflow_add-end c =
+    let lies = name_lies c.loop-height.invariant c.loop-height-test.true c.if-job-ne-NAMED.false c.if-kinds-j-ne-NAME.false c.wide-start.result c.wide-len.result c.wide-start.ensures c.wide-len.ensures in
+    omega (arith, lies, c.loop-height.invariant.1.read.short)
 
 pub overflow_sub-at-in-loop-height : goal.overflow_sub-at-in-loop-height
 overflow_sub-at-in-loop-height c =

@@ -1,6 +1,6 @@
 -- `printing::fill` meets its contract: the tasks that are left and the bytes that are there make the text (the invariant, `Goes`); with each
 -- turn a symbol of the order, a token or a byte falls. Assumes nothing.
-use Prim.Native.Nat.{◌+◌, ◌-◌}
+use Prim.Native.Nat.{◌+◌}
 use Rattle.printing.specs.Places.{text_to}
 use Rattle.printing.proofs.Walking.{Goes}
 use Rattle.printing.proofs.fill.Given as goal

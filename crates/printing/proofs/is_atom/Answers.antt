@@ -1,5 +1,6 @@
 -- `printing::is_atom` meets its contract: the kind is =0 or C, or the test for <= decides. Assumes nothing.
 use mathlib.Core.Path.{sym}
+use native.Mathlib.Omega.{arith}
 use borrow.Author.Tests.{ne_eqb}
 use Rattle.printing.specs.Places.{makes_atom}
 use Rattle.printing.proofs.is_atom.Goals as goal
@@ -14,4 +15,4 @@ returns-in-14 c = rw c.in-14.is
 
 pub returns-in_default : goal.returns-in_default
 unfolding makes_atom
-returns-in_default c = sym (simp (ne_eqb _ 10 c.in_default.in_default-own.rest.0.1, ne_eqb _ 14 c.in_default.in_default-own.rest.1))
+returns-in_default c = sym (simp (ne_eqb c.args.kind 10 (λ h. omega arith), ne_eqb c.args.kind 14 (λ h. omega arith)))

@@ -2,7 +2,7 @@
 use mathlib.Core.Path.{◌≡◌, subst}
 use mathlib.Core.List.{List}
 use Prim.Native.Nat.{ℕ}
-use lib.ListN.{length, length-map}
+use lib.ListN.{length}
 use Rattle.printing.specs.Prints.{Prints}
 use Rattle.printing.proofs.AtomEnds.{can_seek, atom_text_lem, atom_ends}
 use Rattle.printing.proofs.print_atom.Goals as goal

@@ -49,8 +49,7 @@ pub overflow_add-result : goal.overflow_add-result
 overflow_add-result c = omega (arith, short _ _ _ c.requires.0 c.rows-rows.ensures c.wide-n.ensures)
 
 pub returns : goal.returns
-returns c =
-    (
-      ap (λ (n : ℕ). c.args.height + n) (many _ _ _ c.requires.0 c.rows-rows.ensures c.wide-n.ensures),
-      c.put.ensures ∙ ap (sets c.args.stack.now c.args.height) (jobs _ _ _ c.requires.0 c.rows-rows.ensures c.wide-n.ensures),
-    )
+returns c = (
+  ap (λ (n : ℕ). c.args.height + n) (many _ _ _ c.requires.0 c.rows-rows.ensures c.wide-n.ensures),
+  c.put.ensures ∙ ap (sets c.args.stack.now c.args.height) (jobs _ _ _ c.requires.0 c.rows-rows.ensures c.wide-n.ensures),
+)

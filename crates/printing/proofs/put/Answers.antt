@@ -1,4 +1,4 @@
--- `printing::put` meets its contract: what was copied into the rest of the slice stands at the place. Assumes nothing.
+-- `printing::put` meets its contract: what was copied into the part of the slice stands at the place. Assumes nothing.
 use mathlib.Core.Path.{◌≡◌, sym, ap, ap₂, ◌∙◌}
 use mathlib.Core.List.{List, ◌++◌, append_assoc}
 use Prim.Native.Nat.{ℕ, ◌+◌, ◌≤◌}

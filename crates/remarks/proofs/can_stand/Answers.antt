@@ -13,16 +13,16 @@ pub slice_bounds-put_text-end : goal.slice_bounds-put_text-end
 slice_bounds-put_text-end c = sym (length-take-le _ _ c.within-before.ensures.1)
 
 pub put_text-end-requires : goal.put_text-end-requires
-put_text-end-requires c = omega (arith, length-take-le c.within-before.result c.args.text.now c.within-before.ensures.1, c.if-before-gt-RULE.false, c.no_text-whole.ensures.0)
+put_text-end-requires c = omega (arith, length-take-le c.within-before.result c.args.text.now c.within-before.ensures.1, c.if-before-gt-RULE.false, c.no_text-whole.ensures.result_len)
 
 pub put_text-end-requires-2 : goal.put_text-end-requires-2
-put_text-end-requires-2 c = omega (arith, c.put_text-end.ensures.place, puts_length c.put_text-end.ensures, length-take-le c.within-before.result c.args.text.now c.within-before.ensures.1, c.if-before-gt-RULE.false, c.no_text-whole.ensures.0)
+put_text-end-requires-2 c = omega (arith, c.put_text-end.ensures.place, puts_length c.put_text-end.ensures, length-take-le c.within-before.result c.args.text.now c.within-before.ensures.1, c.if-before-gt-RULE.false, c.no_text-whole.ensures.result_len)
 
 pub put_text-end-requires-3 : goal.put_text-end-requires-3
 put_text-end-requires-3 c =
     let one = c.put_text-end.ensures in
     let two = c.put_text-end-2.ensures in
-    omega (arith, one.place, puts_length one, two.place, puts_length two, length-take-le c.within-before.result c.args.text.now c.within-before.ensures.1, c.if-before-gt-RULE.false, c.no_text-whole.ensures.0, c.requires)
+    omega (arith, one.place, puts_length one, two.place, puts_length two, length-take-le c.within-before.result c.args.text.now c.within-before.ensures.1, c.if-before-gt-RULE.false, c.no_text-whole.ensures.result_len, c.requires)
 
 pub slice_bounds-read_rule-end : goal.slice_bounds-read_rule-end
 slice_bounds-read_rule-end c = sym (length-take-le _ _ (omega (arith, c.put_text-end-3.ensures.place, c.put_text-end-3.ensures.fits, puts_length c.put_text-end-3.ensures)))

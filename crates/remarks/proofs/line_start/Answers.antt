@@ -2,13 +2,13 @@
 -- Assumes nothing.
 use mathlib.Core.Path.{◌≡◌, refl, sym, ap, ◌∙◌}
 use mathlib.Core.List.{[], List}
-use mathlib.Core.Logic.{⊎_elim}
 use Prim.Native.Nat.{ℕ, ◌+◌, ◌-◌}
 use native.Mathlib.Omega.{arith}
 use lib.ListN.{get_or, drop, drop_of_length-le}
 use Rattle.table.specs.Sheet.{lines_of}
 use Rattle.remarks.proofs.Parts.{line_passed, byte_passed, line_past}
 use Rattle.remarks.proofs.line_start.Goals as goal
+use Rattle.remarks.proofs.line_start.Goals.{then-sheet-i-eq-LINE_END, else-sheet-i-eq-LINE_END}
 
 pub loop-i-init : goal.loop-i-init
 loop-i-init c = (omega arith, refl)
@@ -27,10 +27,10 @@ loop-i-preserved c =
     let on : ℕ → List ℕ = λ n. get_or (lines_of (drop (k.i + 1) s)) (n - 1) [] in
     let taken = c.loop-i-test.true in (
       omega arith,
-      ⊎_elim
-          (λ w. ap on w.1 ∙ sym (line_passed s k.i k.left taken c.if-left-le1.false w.0.taken) ∙ k.invariant.1)
-          (λ w. ap on w.1 ∙ sym (byte_passed s k.i k.left taken c.if-left-le1.false w.0.left) ∙ k.invariant.1)
-          c.if-sheet-i-eq-LINE_END.branch,
+      elim c.if-sheet-i-eq-LINE_END.branch
+          [ then-sheet-i-eq-LINE_END w ↦ ap on w.left-is ∙ sym (line_passed s k.i k.left taken c.if-left-le1.false w.if-sheet-i-eq-LINE_END.true) ∙ k.invariant.1
+          | else-sheet-i-eq-LINE_END w ↦ ap on w.left-is ∙ sym (byte_passed s k.i k.left taken c.if-left-le1.false w.if-sheet-i-eq-LINE_END.false) ∙ k.invariant.1
+          ],
     )
 
 pub returns : goal.returns

@@ -1,5 +1,4 @@
 -- `ruleset::names_in` meets its contract: the names before a place and those from it on are all. Assumes nothing.
-use Prim.Native.Nat.{◌-◌}
 use native.Mathlib.Omega.{arith}
 use lib.ListN.{get_or}
 use Rattle.compile.proofs.Steps.{one_at_most}

@@ -1,6 +1,5 @@
 -- `ruleset::points_of` meets its contract: what search's `points_of` finds of the compiled rules' chart is the plan of the row (Claims.antt).
 -- Assumes nothing.
-use borrow.Author.Rules.{rules}
 use Rattle.ruleset.specs.Texts.{RowPlanIs}
 use Rattle.ruleset.proofs.Claims.{answer_row_plan}
 use Rattle.ruleset.proofs.points_of.Goals as goal

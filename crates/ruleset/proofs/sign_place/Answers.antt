@@ -1,6 +1,6 @@
 -- `ruleset::sign_place` meets its contract: the place in the parts that are left is the place in all. Assumes nothing.
 use mathlib.Core.Path.{refl, sym, ap, ◌∙◌}
-use Prim.Native.Nat.{ℕ, ◌-◌}
+use Prim.Native.Nat.{ℕ}
 use native.Mathlib.Omega.{arith}
 use Rattle.ruleset.specs.declared.AtomPlace.{AtomPlace}
 use Rattle.ruleset.proofs.Scanning.{place_end, safe_next, place_here, place_later}

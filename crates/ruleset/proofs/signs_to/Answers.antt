@@ -1,5 +1,4 @@
 -- `ruleset::signs_to` meets its contract: the signs of atoms that were counted and those to come are all. Assumes nothing.
-use Prim.Native.Nat.{◌-◌}
 use native.Mathlib.Omega.{arith}
 use Rattle.ruleset.proofs.Scanning.{signs_end, signs_no_atom, signs_here, signs_other}
 use Rattle.ruleset.proofs.signs_to.Goals as goal

@@ -1,6 +1,5 @@
 -- `ruleset::stands` meets its contract: the sign stands in the code if it stands in what is left of it. Assumes nothing.
 use mathlib.Core.Path.{refl, sym, ◌∙◌}
-use Prim.Native.Nat.{◌-◌}
 use native.Mathlib.Omega.{arith}
 use Rattle.ruleset.proofs.Scanning.{elem_end, elem_here, elem_next}
 use Rattle.ruleset.proofs.stands.Goals as goal

@@ -38,8 +38,7 @@ unfolding WithText
 returns c =
     let pre = c.requires in
     let order_long : length c.read_rule-rule.result.order ≡ 256 = search rules in
-    let ends_long : length c.args.c.ends ≡ 16 = search rules in
-    (
+    let ends_long : length c.args.c.ends ≡ 16 = search rules in (
       λ rules f a. compiled_now _ _ _ _ rules f a _ c.read_rule-rule.ensures _ c.last_end-from.ensures order_long _ _ _ c.with_rule-grown.ensures ends_long,
       length_now _ _ _ _ pre.rules pre.formula pre.another _ c.read_rule-rule.ensures _ c.last_end-from.ensures order_long _ _ _ c.with_rule-grown.ensures ends_long,
     )

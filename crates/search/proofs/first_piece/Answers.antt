@@ -29,15 +29,20 @@ returns-in_default c = λ atoms h f.
     (found_nothing _ room (sym c.least.ensures ∙ c.in_default.is)) refl
     (congr_fun c.empty.ensures)
 
+-- `tried`: its piece, and whether that meets the row
+-- `taken`: the evaluation whose piece is tried: the least that is left
 pub returns-then-met_by : goal.returns-then-met_by
 unfolding FoundSays MetSays
 returns-then-met_by c =
     let taken : Least room c.in-At.e (mem c.loop-e.left) = found_least _ room _ (sym c.least.ensures ∙ c.in-At.is) in
-    let tried : let a = c.args in let e = c.in-At.e in (atoms : List (Atom ℕ)) → Compiled a.chart atoms → Fit a.chart.names (state a.allowed a.rows.now) (marks_in a.chart atoms a.row) → let whole = whole_piece a.chart.names (marks_in a.chart atoms a.row) e in ((f : ℕ) → mem c.piece-piece.result f ≡ elem f whole) × (c.met_by.result ≡ all (met (marks_in a.chart atoms a.row) whole) (marks_in a.chart atoms a.row)) = λ atoms h f.
-        let loop = c.loop-e in
-        let ok = (loop.invariant atoms h f).within _ taken.passes in
-        let same = c.piece-piece.ensures.whole _ h.few _ f ok in
-        (same, c.met_by.ensures atoms h _ f.rows_are _ same (piece_allowed _ _ _ ok)) in
+    let tried : let a = c.args in let e = c.in-At.e in (atoms : List (Atom ℕ)) → Compiled a.chart atoms
+    → Fit a.chart.names (state a.allowed a.rows.now) (marks_in a.chart atoms a.row)
+    → let whole = whole_piece a.chart.names (marks_in a.chart atoms a.row) e in ((f : ℕ) → mem c.piece-piece.result f ≡ elem f whole)
+    × (c.met_by.result ≡ all (met (marks_in a.chart atoms a.row) whole) (marks_in a.chart atoms a.row)) = λ atoms h f.
+    let loop = c.loop-e in
+    let ok = (loop.invariant atoms h f).within _ taken.passes in
+    let same = c.piece-piece.ensures.whole _ h.few _ f ok in
+    (same, c.met_by.ensures atoms h _ f.rows_are _ same (piece_allowed _ _ _ ok)) in
     λ atoms h f.
     let loop = c.loop-e in
     let t = taken in
@@ -57,11 +62,14 @@ pub loop-e-preserved : goal.loop-e-preserved
 unfolding MetSays
 loop-e-preserved c =
     let taken : Least room c.in-At.e (mem c.loop-e.left) = found_least _ room _ (sym c.least.ensures ∙ c.in-At.is) in
-    let tried : let a = c.args in let e = c.in-At.e in (atoms : List (Atom ℕ)) → Compiled a.chart atoms → Fit a.chart.names (state a.allowed a.rows.now) (marks_in a.chart atoms a.row) → let whole = whole_piece a.chart.names (marks_in a.chart atoms a.row) e in ((f : ℕ) → mem c.piece-piece.result f ≡ elem f whole) × (c.met_by.result ≡ all (met (marks_in a.chart atoms a.row) whole) (marks_in a.chart atoms a.row)) = λ atoms h f.
-        let loop = c.loop-e in
-        let ok = (loop.invariant atoms h f).within _ taken.passes in
-        let same = c.piece-piece.ensures.whole _ h.few _ f ok in
-        (same, c.met_by.ensures atoms h _ f.rows_are _ same (piece_allowed _ _ _ ok)) in
+    let tried : let a = c.args in let e = c.in-At.e in (atoms : List (Atom ℕ)) → Compiled a.chart atoms
+    → Fit a.chart.names (state a.allowed a.rows.now) (marks_in a.chart atoms a.row)
+    → let whole = whole_piece a.chart.names (marks_in a.chart atoms a.row) e in ((f : ℕ) → mem c.piece-piece.result f ≡ elem f whole)
+    × (c.met_by.result ≡ all (met (marks_in a.chart atoms a.row) whole) (marks_in a.chart atoms a.row)) = λ atoms h f.
+    let loop = c.loop-e in
+    let ok = (loop.invariant atoms h f).within _ taken.passes in
+    let same = c.piece-piece.ensures.whole _ h.few _ f ok in
+    (same, c.met_by.ensures atoms h _ f.rows_are _ same (piece_allowed _ _ _ ok)) in
     λ atoms h f.
     let loop = c.loop-e in
     let t = taken in

@@ -24,7 +24,6 @@ loop-i-init c = (
   refl,
   λ atoms h ms f e.
       congr_fun c.empty-acc.ensures e ∙ sym (ap (λ (marks : List Mark). elem e (collect (gives c.args.chart.names ms) marks)) (no_marks atoms)),
-
 )
 
 pub loop-i-preserved : goal.loop-i-preserved

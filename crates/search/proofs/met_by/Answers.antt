@@ -25,19 +25,22 @@ loop-i-init c = (
   omega arith,
   refl,
   λ atoms h ms are set same ok. ap (all (met ms set)) (no_marks atoms),
-
 )
 
+-- `here`: whether the mark of the atom at hand is met
 pub returns-then-not-met : goal.returns-then-not-met
 unfolding MetSays mem_at
 returns-then-not-met c =
-    let here : let a = c.args in let i = c.loop-i.i in (atoms : List (Atom ℕ)) → Compiled a.chart atoms → (ms : List Mark) → RowsAre a.chart.names a.rows.now ms → (set : List ℕ) → ((f : ℕ) → mem a.piece f ≡ elem f set) → ((f : ℕ) → In f set → allowed a.chart.names ms f ≡ true) → c.met.result ≡ met ms set (mark (atom_at atoms i) (get_or (row_bits a.chart.atoms a.row) i false)) = λ atoms h ms are set same ok.
-        let a = c.args in
-        let i = c.loop-i.i in
-        let within : i < length atoms = omega (arith, h.counted) in
-        c.met.ensures
-        ∙ met_is a.chart.names h.few a.rows.now ms are _ set same ok _ _ _ _ (atom_at atoms i) (h.atom_is i within)
-        ∙ ap (λ (v : Bool). met ms set (mark (atom_at atoms i) v)) c.value_in.ensures in
+    let here : let a = c.args in let i = c.loop-i.i in (atoms : List (Atom ℕ)) → Compiled a.chart atoms → (ms : List Mark)
+    → RowsAre a.chart.names a.rows.now ms → (set : List ℕ) → ((f : ℕ) → mem a.piece f ≡ elem f set)
+    → ((f : ℕ) → In f set → allowed a.chart.names ms f ≡ true)
+    → c.met.result ≡ met ms set (mark (atom_at atoms i) (get_or (row_bits a.chart.atoms a.row) i false)) = λ atoms h ms are set same ok.
+    let a = c.args in
+    let i = c.loop-i.i in
+    let within : i < length atoms = omega (arith, h.counted) in
+    c.met.ensures
+    ∙ met_is a.chart.names h.few a.rows.now ms are _ set same ok _ _ _ _ (atom_at atoms i) (h.atom_is i within)
+    ∙ ap (λ (v : Bool). met ms set (mark (atom_at atoms i) v)) c.value_in.ensures in
     λ atoms h ms are set same ok.
     let a = c.args in
     let i = c.loop-i.i in
@@ -50,13 +53,16 @@ returns-then-not-met c =
 pub loop-i-preserved : goal.loop-i-preserved
 unfolding mem_at
 loop-i-preserved c =
-    let here : let a = c.args in let i = c.loop-i.i in (atoms : List (Atom ℕ)) → Compiled a.chart atoms → (ms : List Mark) → RowsAre a.chart.names a.rows.now ms → (set : List ℕ) → ((f : ℕ) → mem a.piece f ≡ elem f set) → ((f : ℕ) → In f set → allowed a.chart.names ms f ≡ true) → c.met.result ≡ met ms set (mark (atom_at atoms i) (get_or (row_bits a.chart.atoms a.row) i false)) = λ atoms h ms are set same ok.
-        let a = c.args in
-        let i = c.loop-i.i in
-        let within : i < length atoms = omega (arith, h.counted) in
-        c.met.ensures
-        ∙ met_is a.chart.names h.few a.rows.now ms are _ set same ok _ _ _ _ (atom_at atoms i) (h.atom_is i within)
-        ∙ ap (λ (v : Bool). met ms set (mark (atom_at atoms i) v)) c.value_in.ensures in
+    let here : let a = c.args in let i = c.loop-i.i in (atoms : List (Atom ℕ)) → Compiled a.chart atoms → (ms : List Mark)
+    → RowsAre a.chart.names a.rows.now ms → (set : List ℕ) → ((f : ℕ) → mem a.piece f ≡ elem f set)
+    → ((f : ℕ) → In f set → allowed a.chart.names ms f ≡ true)
+    → c.met.result ≡ met ms set (mark (atom_at atoms i) (get_or (row_bits a.chart.atoms a.row) i false)) = λ atoms h ms are set same ok.
+    let a = c.args in
+    let i = c.loop-i.i in
+    let within : i < length atoms = omega (arith, h.counted) in
+    c.met.ensures
+    ∙ met_is a.chart.names h.few a.rows.now ms are _ set same ok _ _ _ _ (atom_at atoms i) (h.atom_is i within)
+    ∙ ap (λ (v : Bool). met ms set (mark (atom_at atoms i) v)) c.value_in.ensures in
     let a = c.args in
     let loop = c.loop-i in
     let row = row_bits a.chart.atoms a.row in

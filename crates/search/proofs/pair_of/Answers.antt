@@ -25,13 +25,15 @@ returns-in_default c = λ e.
     ∙ pair_none _ _ _ (walk_ends _ _ _ loop.from loop.invariant.2
     (stop room loop.from _ _ loop.invariant.1 (sym c.least.ensures ∙ c.in_default.is))) e
 
+-- `partner`: the least of its partners
+-- `taken`: the evaluation that was taken
 pub returns-in-At-least : goal.returns-in-At-least
 returns-in-At-least c =
     let taken : Step room c.loop-from.from c.in-At.p (mem c.args.first) (mem c.loop-from.rest) = step room _ _ _ c.loop-from.invariant.1 _
-        (sym c.least.ensures ∙ c.in-At.is) in
+    (sym c.least.ensures ∙ c.in-At.is) in
     let partner : let a = c.args in c.least-in-loop-from.result ≡ found_of (first (minus_of (mem a.second) (square_at a.rows.now c.in-At.p)) (below room)) = let a = c.args in
-        c.least-in-loop-from.ensures
-        ∙ ap (λ (p : ℕ → Bool). found_of (first p (below room))) (c.minus.ensures ∙ ap (minus_of (mem a.second)) c.row_at-r.ensures) in
+    c.least-in-loop-from.ensures
+    ∙ ap (λ (p : ℕ → Bool). found_of (first p (below room))) (c.minus.ensures ∙ ap (minus_of (mem a.second)) c.row_at-r.ensures) in
     λ e.
     let x = c in
     let t = taken in
@@ -49,23 +51,23 @@ pub overflow_add-from : goal.overflow_add-from
 unfolding room
 overflow_add-from c =
     let taken : Step room c.loop-from.from c.in-At.p (mem c.args.first) (mem c.loop-from.rest) = step room _ _ _ c.loop-from.invariant.1 _
-        (sym c.least.ensures ∙ c.in-At.is) in
+    (sym c.least.ensures ∙ c.in-At.is) in
     omega (arith, taken.within)
 
 pub loop-from-smaller : goal.loop-from-smaller
 unfolding room
 loop-from-smaller c =
     let taken : Step room c.loop-from.from c.in-At.p (mem c.args.first) (mem c.loop-from.rest) = step room _ _ _ c.loop-from.invariant.1 _
-        (sym c.least.ensures ∙ c.in-At.is) in
+    (sym c.least.ensures ∙ c.in-At.is) in
     omega (arith, taken.within, taken.low)
 
 pub loop-from-preserved : goal.loop-from-preserved
 loop-from-preserved c =
     let taken : Step room c.loop-from.from c.in-At.p (mem c.args.first) (mem c.loop-from.rest) = step room _ _ _ c.loop-from.invariant.1 _
-        (sym c.least.ensures ∙ c.in-At.is) in
+    (sym c.least.ensures ∙ c.in-At.is) in
     let partner : let a = c.args in c.least-in-loop-from.result ≡ found_of (first (minus_of (mem a.second) (square_at a.rows.now c.in-At.p)) (below room)) = let a = c.args in
-        c.least-in-loop-from.ensures
-        ∙ ap (λ (p : ℕ → Bool). found_of (first p (below room))) (c.minus.ensures ∙ ap (minus_of (mem a.second)) c.row_at-r.ensures) in
+    c.least-in-loop-from.ensures
+    ∙ ap (λ (p : ℕ → Bool). found_of (first p (below room))) (c.minus.ensures ∙ ap (minus_of (mem a.second)) c.row_at-r.ensures) in
     let t = taken in (
       omega (arith, t.within),
       c.without-rest.ensures ∙ t.rest,

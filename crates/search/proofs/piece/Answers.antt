@@ -42,11 +42,12 @@ returns-in_default c =
           ∙ sym c.least.ensures ∙ c.in_default.is));
     }
 
+-- `taken`: the evaluation that is looked at: the least that was not
 pub loop-p-smaller : goal.loop-p-smaller
 loop-p-smaller c =
     let taken : let loop = c.loop-p in Least room c.in-At.p (minus_of (mem loop.piece) (mem loop.looked)) = found_least _ room _
-        (ap (λ (p : ℕ → Bool). found_of (first p (below room))) (sym c.minus.ensures)
-        ∙ sym c.least.ensures ∙ c.in-At.is) in
+    (ap (λ (p : ℕ → Bool). found_of (first p (below room))) (sym c.minus.ensures)
+    ∙ sym c.least.ensures ∙ c.in-At.is) in
     let t = taken in
     let loop = c.loop-p in
     subst (λ (set : ℕ → Bool). unseen set < unseen (mem loop.looked)) (sym c.insert-looked.ensures)
@@ -55,8 +56,8 @@ loop-p-smaller c =
 pub loop-p-preserved : goal.loop-p-preserved
 loop-p-preserved c =
     let taken : let loop = c.loop-p in Least room c.in-At.p (minus_of (mem loop.piece) (mem loop.looked)) = found_least _ room _
-        (ap (λ (p : ℕ → Bool). found_of (first p (below room))) (sym c.minus.ensures)
-        ∙ sym c.least.ensures ∙ c.in-At.is) in
+    (ap (λ (p : ℕ → Bool). found_of (first p (below room))) (sym c.minus.ensures)
+    ∙ sym c.least.ensures ∙ c.in-At.is) in
     let a = c.args in
     let t = taken in
     let loop = c.loop-p in

@@ -27,25 +27,26 @@ pub join_at-requires : goal.join_at-requires
 join_at-requires c =
     same_square c.loop-from.rows c.args.rows.now c.loop-from.invariant.1 c.requires
 
+-- `taken`: the evaluation that was taken
 pub overflow_add-from : goal.overflow_add-from
 unfolding room
 overflow_add-from c =
     let taken : Step room c.loop-from.from c.in-At.p (mem c.args.first) (mem c.loop-from.rest) = step room _ _ _ c.loop-from.invariant.2 _
-        (sym c.least.ensures ∙ c.in-At.is) in
+    (sym c.least.ensures ∙ c.in-At.is) in
     omega (arith, taken.within)
 
 pub loop-from-smaller : goal.loop-from-smaller
 unfolding room
 loop-from-smaller c =
     let taken : Step room c.loop-from.from c.in-At.p (mem c.args.first) (mem c.loop-from.rest) = step room _ _ _ c.loop-from.invariant.2 _
-        (sym c.least.ensures ∙ c.in-At.is) in
+    (sym c.least.ensures ∙ c.in-At.is) in
     let t = taken in omega (arith, t.within, t.low)
 
 pub loop-from-preserved : goal.loop-from-preserved
 unfolding room
 loop-from-preserved c =
     let taken : Step room c.loop-from.from c.in-At.p (mem c.args.first) (mem c.loop-from.rest) = step room _ _ _ c.loop-from.invariant.2 _
-        (sym c.least.ensures ∙ c.in-At.is) in
+    (sym c.least.ensures ∙ c.in-At.is) in
     let a = c.args in
     let loop = c.loop-from in
     let t = taken in

@@ -16,13 +16,12 @@ use Rattle.search.proofs.Rows.{row_length, marks_take, marks_whole}
 use Rattle.search.proofs.state_of.Goals as goal
 
 pub loop-i-init : goal.loop-i-init
-loop-i-init c =
- (
-      omega arith,
-      refl,
-      refl,
-      λ atoms h wide. subst (Fit _ _) (sym (no_marks atoms)) (fit_start _ _ c.possible-allowed.ensures c.requires.2 h.few),
-    )
+loop-i-init c = (
+  omega arith,
+  refl,
+  refl,
+  λ atoms h wide. subst (Fit _ _) (sym (no_marks atoms)) (fit_start _ _ c.possible-allowed.ensures c.requires.2 h.few),
+)
 
 pub step-allowed-requires : goal.step-allowed-requires
 step-allowed-requires c =

@@ -11,5 +11,4 @@ returns c = (
   λ atoms h l are wide ms f.
       let a = c.args in
       fit_step _ h.few _ _ _ _ (atom_at atoms a.k) (h.atom_is a.k l) ms _ are _ _ wide f c.decided.ensures,
-
 )

@@ -21,18 +21,19 @@ returns-then-left-eq0 c =
     let a = c.args in
     (loop.invariant.1, none_true a.code.now a.ends.now a.leaves.now loop.from loop.left _ loop.invariant.2 c.if-left-eq0.true)
 
+-- `this_part`: the part that is run next
 pub slice_bounds-run_whole-count : goal.slice_bounds-run_whole-count
 slice_bounds-run_whole-count c =
     let this_part : PartSafe c.args.code.now c.loop-i.from (get_or c.args.ends.now c.loop-i.i 0) = let loop = c.loop-i in
-        let a = c.args in
-        (subst (SafeFrom a.code.now loop.from) (rest a.ends.now loop.i 0 (omega arith)) loop.invariant.0).0 in
+    let a = c.args in
+    (subst (SafeFrom a.code.now loop.from) (rest a.ends.now loop.i 0 (omega arith)) loop.invariant.0).0 in
     this_part.ordered
 
 pub run_whole-left-requires : goal.run_whole-left-requires
 run_whole-left-requires c =
     let this_part : PartSafe c.args.code.now c.loop-i.from (get_or c.args.ends.now c.loop-i.i 0) = let loop = c.loop-i in
-        let a = c.args in
-        (subst (SafeFrom a.code.now loop.from) (rest a.ends.now loop.i 0 (omega arith)) loop.invariant.0).0 in
+    let a = c.args in
+    (subst (SafeFrom a.code.now loop.from) (rest a.ends.now loop.i 0 (omega arith)) loop.invariant.0).0 in
     (this_part.safe, c.loop-i.invariant.1)
 
 pub loop-i-preserved : goal.loop-i-preserved

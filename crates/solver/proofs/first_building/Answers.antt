@@ -17,46 +17,48 @@ loop-at-init c = (tried_none _ _ _, λ atoms h f a b. absurd (omega arith))
 pub returns-in_default : goal.returns-in_default
 returns-in_default c = none_left _ _ _ _ _ c.loop-at.invariant.0 (sym c.word_least.ensures ∙ c.in_default.is)
 
+-- `taken`: the row that was taken
 pub overflow_add-row : goal.overflow_add-row
 overflow_add-row c =
     let taken : Step word_rows c.loop-at.at c.in-At.e (bit c.args.set) (bit c.loop-at.rest) = step word_rows _ _ _ c.loop-at.invariant.0.rest_is _
-        (sym c.word_least.ensures ∙ c.in-At.is) in
+    (sym c.word_least.ensures ∙ c.in-At.is) in
     omega (arith, taken.within)
 
 pub passed_to-till-requires : goal.passed_to-till-requires
 passed_to-till-requires c =
     let taken : Step word_rows c.loop-at.at c.in-At.e (bit c.args.set) (bit c.loop-at.rest) = step word_rows _ _ _ c.loop-at.invariant.0.rest_is _
-        (sym c.word_least.ensures ∙ c.in-At.is) in
+    (sym c.word_least.ensures ∙ c.in-At.is) in
     (c.requires.1, omega (arith, taken.within))
 
+-- `passed`: up to where no piece meets the rows from it on
 pub returns-then-till-row : goal.returns-then-till-row
 returns-then-till-row c =
     let taken : Step word_rows c.loop-at.at c.in-At.e (bit c.args.set) (bit c.loop-at.rest) = step word_rows _ _ _ c.loop-at.invariant.0.rest_is _
-        (sym c.word_least.ensures ∙ c.in-At.is) in
+    (sym c.word_least.ensures ∙ c.in-At.is) in
     let passed : let a = c.args in ShutTo a.chart (a.start + c.in-At.e) c.passed_to-till.result = let loop = c.loop-at in
-        c.passed_to-till.ensures (shut_less _ _ _ _ (omega (arith, taken.low)) loop.invariant.1) in
+    c.passed_to-till.ensures (shut_less _ _ _ _ (omega (arith, taken.low)) loop.invariant.1) in
     let t = c in
     met_first _ _ _ _ _ t.loop-at.invariant.0 _ taken _ (passed.met c.if-till-row.true) refl
 
 pub overflow_add-at : goal.overflow_add-at
 overflow_add-at c =
     let taken : Step word_rows c.loop-at.at c.in-At.e (bit c.args.set) (bit c.loop-at.rest) = step word_rows _ _ _ c.loop-at.invariant.0.rest_is _
-        (sym c.word_least.ensures ∙ c.in-At.is) in
+    (sym c.word_least.ensures ∙ c.in-At.is) in
     omega (arith, taken.within)
 
 pub loop-at-smaller : goal.loop-at-smaller
 loop-at-smaller c =
     let taken : Step word_rows c.loop-at.at c.in-At.e (bit c.args.set) (bit c.loop-at.rest) = step word_rows _ _ _ c.loop-at.invariant.0.rest_is _
-        (sym c.word_least.ensures ∙ c.in-At.is) in
+    (sym c.word_least.ensures ∙ c.in-At.is) in
     let t = taken in
     omega (arith, t.within, t.low)
 
 pub loop-at-preserved : goal.loop-at-preserved
 loop-at-preserved c =
     let taken : Step word_rows c.loop-at.at c.in-At.e (bit c.args.set) (bit c.loop-at.rest) = step word_rows _ _ _ c.loop-at.invariant.0.rest_is _
-        (sym c.word_least.ensures ∙ c.in-At.is) in
+    (sym c.word_least.ensures ∙ c.in-At.is) in
     let passed : let a = c.args in ShutTo a.chart (a.start + c.in-At.e) c.passed_to-till.result = let loop = c.loop-at in
-        c.passed_to-till.ensures (shut_less _ _ _ _ (omega (arith, taken.low)) loop.invariant.1) in
+    c.passed_to-till.ensures (shut_less _ _ _ _ (omega (arith, taken.low)) loop.invariant.1) in
     let t = c in
     let p = passed in (
       tried_more _ _ _ _ _ t.loop-at.invariant.0 _ taken _ (shut_row _ _ _ p c.if-till-row.false) refl _

@@ -20,18 +20,19 @@ pub loop-i-init : goal.loop-i-init
 loop-i-init c =
     (c.requires, refl, refl, λ many rules h. joined_none (Known c.args.yes.now c.args.no.now) many c.args.code.now rules c.args.ends.now (bit 0) (λ e row v. bit_none e) h)
 
+-- `this_part`: the part that is run next
 pub slice_bounds-run_rails-count : goal.slice_bounds-run_rails-count
 slice_bounds-run_rails-count c =
     let this_part : PartSafe c.args.code.now c.loop-i.from (get_or c.args.ends.now c.loop-i.i 0) = let loop = c.loop-i in
-        let a = c.args in
-        (subst (SafeFrom a.code.now loop.from) (rest a.ends.now loop.i 0 (omega arith)) loop.invariant.0).0 in
+    let a = c.args in
+    (subst (SafeFrom a.code.now loop.from) (rest a.ends.now loop.i 0 (omega arith)) loop.invariant.0).0 in
     this_part.ordered
 
 pub run_rails-found-requires : goal.run_rails-found-requires
 run_rails-found-requires c =
     let this_part : PartSafe c.args.code.now c.loop-i.from (get_or c.args.ends.now c.loop-i.i 0) = let loop = c.loop-i in
-        let a = c.args in
-        (subst (SafeFrom a.code.now loop.from) (rest a.ends.now loop.i 0 (omega arith)) loop.invariant.0).0 in
+    let a = c.args in
+    (subst (SafeFrom a.code.now loop.from) (rest a.ends.now loop.i 0 (omega arith)) loop.invariant.0).0 in
     let loop = c.loop-i in
     (this_part.safe, loop.invariant.1, loop.invariant.2)
 

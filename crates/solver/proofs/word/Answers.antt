@@ -7,6 +7,7 @@ use Rattle.solver.proofs.Places.{row_small, start_is, start_small, next_is, next
 use Rattle.solver.proofs.Under.{tested_below, word_first}
 use Rattle.solver.proofs.word.Goals as goal
 
+-- `fits`: the word's row, and its first
 pub overflow_add-next : goal.overflow_add-next
 overflow_add-next c =
     let fits : let a = c.args in (a.row * 2 ^ a.cut.w) % 18446744073709551616 + a.e < 2 ^ (a.cut.k + a.cut.w) = next_fits c.args.cut.k c.args.cut.w c.args.row (omega arith) c.requires.2 c.args.e c.requires.3 in

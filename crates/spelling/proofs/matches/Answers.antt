@@ -8,6 +8,7 @@ use Rattle.spelling.proofs.matches.Goals as goal
 pub returns-then-agree : goal.returns-then-agree
 returns-then-agree c = tells_one (c.agree.ensures.yes_is c.if-agree.true)
 
+-- `not_whole`: the row as it is does not agree
 pub returns-then-second-eq0 : goal.returns-then-second-eq0
 returns-then-second-eq0 c =
     let not_whole : Agree c.args.kept.now c.args.number 0 c.args.row.now 0 c.args.len → ⊥ = λ g. clash (c.agree.ensures.is_yes g) c.if-agree.false in

@@ -16,9 +16,14 @@ second_start-second-requires c =
     let passed_most : c.if-contact.passed ≤ c.args.len = elim c.if-contact.branch [ then-contact w ↦ omega arith | else-contact w ↦ omega arith ] in
     (omega (arith, passed_most, c.requires.spells.short), omega (arith, passed_most, c.requires.spells.within))
 
+-- `passed_is`: only of a contact symbols are passed in search of the second term
 pub loop-j-init : goal.loop-j-init
 loop-j-init c =
-    let passed_is : c.if-contact.passed ≡ cond c.args.contact c.args.len 0 = elim c.if-contact.branch [ then-contact w ↦ w.passed-is ∙ sym (ap (λ (b : Bool). cond b c.args.len 0) w.if-contact.true) | else-contact w ↦ w.passed-is ∙ sym (ap (λ (b : Bool). cond b c.args.len 0) w.if-contact.false) ] in
+    let passed_is : c.if-contact.passed ≡ cond c.args.contact c.args.len 0 =
+    elim c.if-contact.branch [
+      | then-contact w ↦ w.passed-is ∙ sym (ap (λ (b : Bool). cond b c.args.len 0) w.if-contact.true)
+      | else-contact w ↦ w.passed-is ∙ sym (ap (λ (b : Bool). cond b c.args.len 0) w.if-contact.false)
+    ] in
     let passed_most : c.if-contact.passed ≤ c.args.len = elim c.if-contact.branch [ then-contact w ↦ omega arith | else-contact w ↦ omega arith ] in
     let a = c.args in (
       omega arith,

@@ -17,8 +17,7 @@ wanted_before-wanted-requires c = (omega arith, omega arith)
 
 pub loop-i-preserved : goal.loop-i-preserved
 loop-i-preserved c =
-    let k = c.loop-i in
- (
+    let k = c.loop-i in (
       omega arith,
       omega (arith, c.wanted_before-wanted.ensures, wanted_most (get_or c.args.row.now (k.i - 1) 0) k.wanted),
       left_next c.args.row.now c.args.len k.wanted k.i c.wanted_before-wanted.result (omega arith) (omega (arith, c.requires.1)) c.if-wanted-eq0.false c.wanted_before-wanted.ensures k.invariant.2,

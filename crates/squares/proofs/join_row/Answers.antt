@@ -11,6 +11,7 @@ use Rattle.evalset.proofs.Words.{four}
 use Rattle.squares.proofs.Rows.{narrow_is, wide_is, within, short, joined_none, joined_step, joined_row}
 use Rattle.squares.proofs.join_row.Goals as goal
 
+-- `narrow_in`: the row is in the square
 pub join_word-requires : goal.join_word-requires
 join_word-requires c =
     let narrow_in : c.args.p < length c.args.ws.now = omega (arith, within c.args.ws.now c.args.p 1 (narrow_is _ c.if-ws-eq64.true) c.requires.1) in

@@ -9,6 +9,7 @@ use Rattle.evalset.specs.Sets.{mem}
 use Rattle.squares.proofs.Rows.{narrow_is, wide_is, narrow_row, wide_row, within, short}
 use Rattle.squares.proofs.row_of.Goals as goal
 
+-- `narrow_in`: the row is in the square
 pub offset_bounds-ws-p : goal.offset_bounds-ws-p
 offset_bounds-ws-p c =
     let narrow_in : c.args.p < length c.args.ws.now = omega (arith, within c.args.ws.now c.args.p 1 (narrow_is _ c.if-ws-eq64.true) c.requires.1) in

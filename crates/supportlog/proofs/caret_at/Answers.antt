@@ -1,5 +1,4 @@
 -- `supportlog::caret_at` meets its contract, form by form. Assumes nothing.
-use borrow.Enum.Refused.{opened}
 use mathlib.Core.Path.{◌≡◌, sym, ap, ◌∙◌}
 use Prim.Native.Nat.{ℕ, ◌+◌, min}
 use native.Mathlib.Omega.{arith}
@@ -29,4 +28,4 @@ returns-in-Withdraw c =
 pub returns-in_default : goal.returns-in_default
 returns-in_default c =
     let a = c.args in
-    ap (λ (x : ℕ). min x (length a.line.now)) (caret_first a.form a.carried (opened c.in_default.in_default-own.keys3))
+    ap (λ (x : ℕ). min x (length a.line.now)) (caret_first a.form a.carried c.in_default.in_default-own.keys3)

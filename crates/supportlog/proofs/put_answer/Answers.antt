@@ -15,4 +15,4 @@ pub returns-in-NoPlan : goal.returns-in-NoPlan
 returns-in-NoPlan c = told c.args.words.now c.in-NoPlan.is c.put_text-in-NoPlan.ensures
 
 pub returns-in-Refused : goal.returns-in-Refused
-returns-in-Refused c = told c.args.words.now c.in-Refused.is c.Put-refused.ensures
+returns-in-Refused c = told c.args.words.now c.in-Refused.is c.put_refused.ensures

@@ -14,7 +14,7 @@ pub returns-then-log-from : goal.returns-then-log-from
 returns-then-log-from c = gives_none c.requires.0 _ (omega arith) c.passed.ensures
 
 pub returns-then-log-gt-LOG : goal.returns-then-log-gt-LOG
-returns-then-log-gt-LOG c = gives_whole c.requires.0 (omega arith) _ (omega arith) c.Put-refused.ensures c.passed-then-log-gt-LOG.ensures
+returns-then-log-gt-LOG c = gives_whole c.requires.0 (omega arith) _ (omega arith) c.put_refused-len.ensures c.passed-then-log-gt-LOG.ensures
 
 pub slice_bounds-line_by-end : goal.slice_bounds-line_by-end
 slice_bounds-line_by-end c = sym (length-take-le _ _ c.kept-n.ensures.0)
@@ -28,7 +28,7 @@ returns c =
     (record {
       line = take (found.result - a.state.from) (drop a.state.from a.log.now);
       cut = found.ensures.2;
-      runs = subst (λ (l : Text). Runs a.state.table l a.words.now by.result.result by.new.1.1.0) c.kept-n.ensures.1 by.ensures.0;
+      runs = subst (λ (l : Text). Runs a.state.table l a.words.now by.result.result by.new.words) c.kept-n.ensures.1 by.ensures.0;
       tally = by.ensures.1;
       next = omega (arith, found.ensures.0, length-take-le (found.result - a.state.from) (drop a.state.from a.log.now) (omega (arith, length-drop a.state.from a.log.now, found.ensures.1)));
     })

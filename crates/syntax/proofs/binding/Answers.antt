@@ -1,4 +1,5 @@
 -- `syntax::binding` meets its contract: the kind picks the sign, and any other kind is none of the six. Assumes nothing.
+use native.Mathlib.Omega.{arith}
 use Rattle.syntax.specs.Reader.{binding_of}
 use Rattle.syntax.proofs.Returns.{binding_none}
 use Rattle.syntax.proofs.binding.Goals as goal
@@ -28,4 +29,4 @@ unfolding binding_of
 returns-in-5 c = rw c.in-5.is c.goes_on-in-5.ensures
 
 pub returns-in_default : goal.returns-in_default
-returns-in_default c = binding_none c.args.term c.args.kind c.in_default.in_default-own.rest
+returns-in_default c = binding_none c.args.term c.args.kind ((((((tt, (λ h. omega arith)), (λ h. omega arith)), (λ h. omega arith)), (λ h. omega arith)), (λ h. omega arith)), (λ h. omega arith))

@@ -1,5 +1,5 @@
 -- `syntax::parsed` meets its contract: the kinds that are parsed are those of the text's symbols. Assumes nothing.
-use mathlib.Core.Path.{◌≡◌, ◌∙◌}
+use mathlib.Core.Path.{◌∙◌}
 use Rattle.syntax.specs.RuleText.{symbols_of}
 use Rattle.syntax.proofs.Rules.{kinds_read, read_value, read_refused}
 use Rattle.syntax.proofs.parsed.Goals as goal

@@ -5,12 +5,12 @@ use Rattle.trees.proofs.closes.Goals as goal
 
 pub returns-in-0-to-255 : goal.returns-in-0-to-255
 returns-in-0-to-255 c =
-    (c.rule_false.ensures.0, c.rule_false.ensures.1, closes_rule _ _ _ _ _ _ _ c.in-6.is (omega (arith, c.in-0-to-255.if-body-lt256-own.true)) _ c.rule_false.ensures.2)
+    (c.rule_false.ensures.0, c.rule_false.ensures.1, closes_rule _ _ _ _ _ _ _ c.in-6.is (omega arith) _ c.rule_false.ensures.2)
 
 pub returns-in_default-body : goal.returns-in_default-body
 returns-in_default-body c =
     let p = c.requires in
-    (p.2, p.3, closes_high _ _ _ _ _ _ _ c.in-6.is (omega (arith, c.in_default-body.if-body-lt256-own.false)))
+    (p.2, p.3, closes_high _ _ _ _ _ _ _ c.in-6.is (omega arith))
 
 pub returns-in-0 : goal.returns-in-0
 returns-in-0 c =
@@ -18,7 +18,7 @@ returns-in-0 c =
     (p.2, p.3, closes_floor _ _ _ _ _ _ _ c.in-7.is c.in-0.is p.1 _ c.some_floor.ensures)
 
 pub returns-in_default-body-2 : goal.returns-in_default-body-2
-returns-in_default-body-2 c = let p = c.requires in (p.2, p.3, closes_body _ _ _ _ _ _ _ c.in-7.is c.in_default-body-2.in_default-body-2-own.rest.1)
+returns-in_default-body-2 c = let p = c.requires in (p.2, p.3, closes_body _ _ _ _ _ _ _ c.in-7.is (omega arith))
 
 pub returns-in_default : goal.returns-in_default
-returns-in_default c = let p = c.requires in (p.2, p.3, closes_none _ _ _ _ _ _ _ c.in_default.in_default-own.rest.0.1 c.in_default.in_default-own.rest.1)
+returns-in_default c = let p = c.requires in (p.2, p.3, closes_none _ _ _ _ _ _ _ (omega arith) (omega arith))

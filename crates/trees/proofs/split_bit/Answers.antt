@@ -17,7 +17,7 @@ unfolding bit
 returns-else-known-at-eq1 c = split_on _ _ _ c.in-5.is c.if-a-many.false (ne_eqb _ 1 c.if-known-at-eq1.false) c.requires
 
 pub returns-in_default-a : goal.returns-in_default-a
-returns-in_default-a c = split_past _ _ _ c.in-5.is (omega (arith, c.in_default-a.if-a-lt256-own.false, c.requires))
+returns-in_default-a c = split_past _ _ _ c.in-5.is (omega (arith, c.requires))
 
 pub returns-in_default : goal.returns-in_default
-returns-in_default c = split_kind _ _ _ c.in_default.in_default-own.rest.1
+returns-in_default c = split_kind _ _ _ (omega arith)

@@ -1,0 +1,6 @@
+-- `why::write_tree` is safe and ends: each piece goes on to a later word. Assumes nothing.
+use Rattle.std.proofs.Common.{◌-◌}
+use Rattle.why.proofs.write_tree.Given as goal
+
+abbrev pub decreases-loop-next : goal.decreases-loop-next
+decreases-loop-next g l = l.count - l.next
