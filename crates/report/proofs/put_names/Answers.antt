@@ -1,5 +1,4 @@
 -- `report::put_names` meets its contract: so far the names with numbers below i are put. Assumes nothing.
-use Prim.Native.Nat.{ℕ, ◌-◌}
 use native.Mathlib.Omega.{arith}
 use lib.ListN.{length}
 use Rattle.lists.proofs.Putting.{puts_none, puts_length, turn_puts, turns_put}
