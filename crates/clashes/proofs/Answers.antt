@@ -2,7 +2,7 @@
 use mathlib.Core.Bool.{Bool}
 use mathlib.Core.Path.{◌≡◌, refl, sym, ap, subst, ◌∙◌}
 use mathlib.Core.List.{List, [], ◌∷◌, ◌++◌, append-nil}
-use Prim.Native.Nat.{ℕ, ◌-◌, ◌≤◌, ◌<◌}
+use Prim.Native.Nat.{ℕ, ◌-◌, ◌≤◌}
 use native.Mathlib.Omega.{arith}
 use lib.ListN.{length, take, drop, replicate, length-map}
 use lib.Seq.{take_all}
@@ -20,15 +20,13 @@ use Rattle.clashing.specs.Clashing.{clash_of}
 use Rattle.clashing.proofs.Claims.{clash_exactly, clash_length}
 use Rattle.table.specs.declared.Table.{Table}
 use Rattle.table.specs.declared.ClashAnswer.{ClashAnswer}
-use Rattle.table.specs.declared.ClashAnswer.TheVariants as ClashAnswer
 use Rattle.table.specs.declared.ClashResult.{ClashResult}
 use Rattle.table.specs.contracts.ClashAnswer.{the_type}
 use Rattle.table.specs.declared.Outcome.{Outcome}
-use Rattle.table.specs.declared.Outcome.TheVariants as Outcome
 use Rattle.table.specs.Sheet.{Text}
 use Rattle.table.specs.Store.{rules_of}
 use Rattle.table.specs.Calls.{formulas_of, FromUs}
-use Rattle.table.specs.Clashing.{clash_answer, clash_given, GivesClash}
+use Rattle.table.specs.Clashing.{clash_given, GivesClash}
 use Rattle.table.specs.Numbers.{clash_outcome}
 use Rattle.table.specs.Rows.{SomeStand, ClashRow}
 use Rattle.table.proofs.Rules.{of_computed, can_rules}

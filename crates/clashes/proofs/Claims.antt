@@ -1,7 +1,7 @@
 -- What is proved of the text that the program clash prints for a sheet, `clash_text`, which `clash` gives by its contract: for every list of bytes it
 -- is what is meant (specs/Printed.antt), and no other text is. Assumes nothing.
 use mathlib.Core.Bool.{Bool}
-use mathlib.Core.Path.{◌≡◌, refl, sym, ap, ap₂, ◌∙◌}
+use mathlib.Core.Path.{◌≡◌, refl, sym, ap₂, ◌∙◌}
 use mathlib.Core.List.{List, [], ◌∷◌}
 use Prim.Native.Nat.{ℕ, ◌≤◌}
 use native.Mathlib.Omega.{arith}

@@ -1,24 +1,19 @@
 -- The lines of rules that clash: what lies behind the last rule is not read, and the lines from a place on are that of the rule there, if it is in
 -- the set, and those from the next place on. Assumes nothing.
 use mathlib.Core.Bool.{Bool, true, false, not, cond}
-use mathlib.Core.Path.{◌≡◌, refl, sym, ap, ap₂, subst, ◌∙◌}
+use mathlib.Core.Path.{◌≡◌, refl, sym, ap, ap₂, ◌∙◌}
 use mathlib.Core.List.{List, [], ◌∷◌, ◌++◌, append_assoc, append-nil}
-use Prim.Native.Nat.{ℕ, zero, suc, ◌+◌, ◌*◌, ◌^◌, ◌≤◌, ◌<◌}
+use Prim.Native.Nat.{ℕ, suc, ◌+◌, ◌*◌, ◌^◌, ◌≤◌, ◌<◌}
 use native.Mathlib.Omega.{arith}
 use lib.ListN.{length, get_or, take, drop, length-append, length-map, length-take, drop_of_length-le}
-use lib.Seq.{take_all}
 use Rattle.formula.specs.Formula.{Form, Formula, Name}
 use Rattle.lexer.specs.Text.{bytes}
 use Rattle.syntax.specs.Rule.{meaning_of}
-use Rattle.syntax.specs.RuleText.{IsRule}
 use Rattle.syntax.proofs.Claims.{is_rule}
-use Rattle.lists.specs.Search.{In, collect}
-use Rattle.lists.specs.Padded.{pad}
 use Rattle.lists.specs.Putting.{Puts}
 use Rattle.lists.proofs.Lists.{rest, map_at}
 use Rattle.lists.proofs.Search.{in_take, in_drop, map_elim, collect_few}
 use Rattle.lists.proofs.Putting.{puts_none, puts_text, puts_more}
-use Rattle.lists.proofs.Truth.{cases}
 use Rattle.printing.specs.Text.{text_of}
 use Rattle.printing.proofs.Claims.{never_longer}
 use Rattle.table.specs.Sheet.{Text, blank_line, filled}

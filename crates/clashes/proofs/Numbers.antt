@@ -1,16 +1,15 @@
 -- The numbers of the lines that are not blank, found line by line: those so far, and those of the lines to come. Assumes nothing.
 use mathlib.Core.Bool.{Bool, true, false, cond}
-use mathlib.Core.Path.{◌≡◌, refl, sym, ap, ap₂, subst, ◌∙◌}
+use mathlib.Core.Path.{◌≡◌, refl, sym, ap, ◌∙◌}
 use mathlib.Core.List.{List, [], ◌∷◌, ◌++◌, append_assoc, append-nil}
 use Prim.Native.Nat.{ℕ, suc, ◌+◌, ◌-◌, ◌≤◌, ◌<◌}
 use native.Mathlib.Omega.{arith}
-use lib.Dec.{leb}
 use lib.ListN.{length, take, drop, set, length-append}
 use lib.Seq.{take_at, take_all}
 use borrow.Author.Tests.{le-leb, lt-leb}
 use Rattle.lists.specs.Search.{all}
 use Rattle.lists.specs.Padded.{pad}
-use Rattle.lists.proofs.Padded.{pad_none, pad_set}
+use Rattle.lists.proofs.Padded.{pad_set}
 use Rattle.lexer.specs.Class.{is_blank}
 use Rattle.table.specs.Sheet.{Text, lines_of, blank_line}
 use Rattle.table.specs.Calls.{lines_from}

@@ -12,7 +12,6 @@ use Rattle.table.specs.Sheet.{Text, lines_of, blank_line, filled}
 use Rattle.table.specs.Rules.{AreRules}
 use Rattle.table.specs.Rows.{LoadRow}
 use Rattle.table.specs.declared.Outcome.{Outcome}
-use Rattle.table.specs.declared.Outcome.TheVariants as Outcome
 use Rattle.report.specs.Lines.{labelled, ended, refused_text}
 
 -- the numbers of the lines that are not blank, where the first line has the number n: "from 1, blank ones counted"

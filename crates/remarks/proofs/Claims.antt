@@ -1,7 +1,7 @@
 -- What is proved of the remark on a sheet, `remark_of`, which `remark` and `remark_sheet` give by their contracts: there is none exactly where the
 -- sheet is loaded; the caret stands under the place; what is named as expected can stand there; every remark has room; and the issue's example.
 -- Assumes nothing.
-use mathlib.Core.Path.{◌≡◌, refl, sym, ap, subst, ◌∙◌}
+use mathlib.Core.Path.{◌≡◌, refl, sym, ap, subst}
 use mathlib.Core.List.{List, [], nil≢cons, map}
 use Prim.Native.Nat.{ℕ, ◌-◌, ◌^◌, ◌≤◌, ◌<◌}
 use native.Mathlib.Omega.{arith}
@@ -10,13 +10,10 @@ use Rattle.lexer.specs.Text.{bytes}
 use Rattle.table.specs.Sheet.{Text, lines_of}
 use Rattle.table.specs.Calls.{judge_load}
 use Rattle.table.specs.Rows.{LoadRow}
-use Rattle.table.specs.Numbers.{load_outcome, add_outcome}
+use Rattle.table.specs.Numbers.{load_outcome}
 use Rattle.table.specs.declared.AddAnswer.{AddAnswer}
-use Rattle.table.specs.declared.AddAnswer.TheVariants as AddAnswer
 use Rattle.table.specs.declared.LoadAnswer.{LoadAnswer}
-use Rattle.table.specs.declared.LoadAnswer.TheVariants as LoadAnswer
 use Rattle.table.specs.declared.Outcome.{Outcome}
-use Rattle.table.specs.declared.Outcome.TheVariants as Outcome
 use Rattle.table.proofs.LoadRows.{load_done}
 use Rattle.table.proofs.Claims.{load_answered, load_line_refused}
 use Rattle.remarks.specs.declared.Expected.TheVariants as Expected

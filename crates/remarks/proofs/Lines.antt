@@ -8,7 +8,7 @@ use native.Mathlib.Omega.{arith}
 use lib.Dec.{ltb, leb, eqb}
 use lib.ListN.{length, take, drop, replicate, length-append, length-map, length-take, length-drop, length-replicate}
 use lib.Seq.{take-add, drop-drop, length-take-le}
-use borrow.Author.Tests.{ltb-true, ltb-false}
+use borrow.Author.Tests.{ltb-false}
 use Rattle.lists.specs.Search.{collect, first}
 use Rattle.lists.proofs.Truth.{cases, cond_holds}
 use Rattle.lexer.specs.Cutting.{Every}
@@ -16,7 +16,6 @@ use Rattle.report.specs.Lines.{labelled}
 use Rattle.lexer.specs.Text.{bytes, byte}
 use Rattle.table.specs.Sheet.{Text}
 use Rattle.remarks.specs.declared.Expected.{Expected}
-use Rattle.remarks.specs.declared.Expected.TheVariants as Expected
 use Rattle.remarks.specs.Remark.{shown_byte, dots, shown_part, shown_from, leading, about, expected_at, grammar_sentence, Sentence, sentences, sentence, said, two_lines, Under}
 use Rattle.remarks.proofs.Parts.{digits_few}
 

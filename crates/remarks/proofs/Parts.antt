@@ -1,6 +1,6 @@
 -- Laws of the parts of a remark: a line of a sheet, the part of it that is shown, and a text that is read on. Assumes nothing.
-use mathlib.Core.Path.{◌≡◌, refl, sym, ap, ap₂, subst, ◌∙◌}
-use mathlib.Core.Bool.{Bool, true, false, cond}
+use mathlib.Core.Path.{◌≡◌, refl, sym, ap, ap₂, ◌∙◌}
+use mathlib.Core.Bool.{false}
 use mathlib.Core.List.{List, [], ◌∷◌, ◌++◌, map, append-nil, append_assoc}
 use mathlib.Core.Logic.{⊎_elim}
 use Prim.Native.Nat.{ℕ, zero, suc, ◌+◌, ◌-◌, ◌^◌, min, ◌≤◌, ◌<◌}
@@ -21,18 +21,16 @@ use Rattle.syntax.specs.Rule.{rule_of}
 use Rattle.syntax.specs.RuleText.{Answers}
 use Rattle.syntax.specs.declared.Rule.{Rule}
 use Rattle.syntax.specs.declared.RuleAnswer.{RuleAnswer}
-use Rattle.syntax.specs.declared.RuleAnswer.TheVariants as RuleAnswer
 use Rattle.syntax.specs.contracts.RuleAnswer.{the_type}
 use Rattle.syntax.proofs.Claims.{text_answered_only}
 use Rattle.table.specs.Sheet.{Text, lines_of, on_first}
 use Rattle.table.specs.declared.Outcome.{Outcome}
-use Rattle.table.specs.declared.Outcome.TheVariants as Outcome
 use Rattle.table.specs.contracts.Outcome.{the_type as outcome-type}
 use Rattle.report.specs.Lines.{decimal}
 use Rattle.report.proofs.Digits.{decimal_few}
 use Rattle.report.proofs.Putting.{puts_over}
 use Rattle.remarks.specs.declared.Expected.{Expected}
-use Rattle.remarks.specs.Remark.{shown_byte, dots, shown_part, shown_from, leading, begins, gone_on, can_stand, spelling, tried, or_nothing, expected_at, about, grammar_sentence, sentences, sentence, said, two_lines, line_remark}
+use Rattle.remarks.specs.Remark.{shown_byte, dots, shown_part, shown_from, leading, begins, gone_on, can_stand, expected_at, about, grammar_sentence, sentences, sentence, said, two_lines, line_remark}
 
 pub digits_few : (n : ℕ) → n < 2 ^ 64 → length (decimal n) ≤ 20
 digits_few n h = decimal_few 19 n (omega arith)

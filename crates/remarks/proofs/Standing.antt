@@ -1,12 +1,12 @@
 -- What is named as expected can stand there: the text that was read begins a formula, since it is one, or is refused at its end alone, where no
 -- token is. Assumes nothing.
 use mathlib.Core.Path.{◌≡◌, refl, sym, ap, subst, ◌∙◌}
-use mathlib.Core.Bool.{Bool, true, false, true≢false}
-use mathlib.Core.List.{List, [], ◌∷◌, ◌++◌, map, append-nil, nil≢cons}
+use mathlib.Core.Bool.{Bool, true, true≢false}
+use mathlib.Core.List.{List, [], ◌∷◌, ◌++◌, append-nil}
 use mathlib.Core.Logic.{⊎_elim}
-use Prim.Native.Nat.{ℕ, ◌+◌, ◌≤◌, ◌<◌}
+use Prim.Native.Nat.{ℕ, ◌≤◌}
 use native.Mathlib.Omega.{arith}
-use lib.ListN.{length, get_or, length-append, length-map}
+use lib.ListN.{length, length-append, length-map}
 use borrow.Author.Tests.{eqb-true}
 use Rattle.lists.specs.Search.{In, here, first}
 use Rattle.lists.proofs.Search.{first_in}
@@ -26,7 +26,6 @@ use Rattle.syntax.specs.declared.RuleAnswer.{RuleAnswer}
 use Rattle.syntax.proofs.Claims.{text_answered}
 use Rattle.table.specs.Sheet.{Text}
 use Rattle.remarks.specs.declared.Expected.{Expected}
-use Rattle.remarks.specs.declared.Expected.TheVariants as Expected
 use Rattle.remarks.specs.Remark.{begins, gone_on, BeginsRule, can_stand, spelling, tried, or_nothing, expected_at}
 
 -- a place that is the text's length is behind its last token

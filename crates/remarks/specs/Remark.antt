@@ -11,16 +11,12 @@ use Rattle.syntax.specs.Grammar.{Begins}
 use Rattle.syntax.specs.RuleText.{symbols_of}
 use Rattle.syntax.specs.Rule.{rule_of}
 use Rattle.syntax.specs.declared.RuleAnswer.{RuleAnswer}
-use Rattle.syntax.specs.declared.RuleAnswer.TheVariants as RuleAnswer
 use Rattle.table.specs.Sheet.{Text, lines_of}
 use Rattle.table.specs.Numbers.{add_outcome}
 use Rattle.table.specs.declared.LoadAnswer.{LoadAnswer}
-use Rattle.table.specs.declared.LoadAnswer.TheVariants as LoadAnswer
 use Rattle.table.specs.declared.Outcome.{Outcome}
-use Rattle.table.specs.declared.Outcome.TheVariants as Outcome
 use Rattle.report.specs.Lines.{labelled}
 use Rattle.remarks.specs.declared.Expected.{Expected}
-use Rattle.remarks.specs.declared.Expected.TheVariants as Expected
 
 -- ---- the line as it came
 

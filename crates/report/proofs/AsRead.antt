@@ -21,11 +21,9 @@ use Rattle.printing.specs.Text.{text_of}
 use Rattle.printing.proofs.Claims.{never_longer}
 use Rattle.table.specs.declared.Table.{Table}
 use Rattle.table.specs.declared.PrintAnswer.{PrintAnswer}
-use Rattle.table.specs.declared.PrintAnswer.TheVariants as PrintAnswer
 use Rattle.table.specs.declared.PrintResult.{PrintResult}
 use Rattle.table.specs.contracts.PrintAnswer.{the_type}
 use Rattle.table.specs.declared.Outcome.{Outcome}
-use Rattle.table.specs.declared.Outcome.TheVariants as Outcome
 use Rattle.table.specs.Numbers.{print_outcome}
 use Rattle.table.specs.Store.{rules_of}
 use Rattle.table.specs.Sheet.{Text}

@@ -17,7 +17,6 @@ use Rattle.lists.specs.Buffer.{over}
 use Rattle.lists.specs.Putting.{Puts}
 use Rattle.report.specs.declared.Piece.{Piece}
 use Rattle.report.specs.declared.TextAnswer.{TextAnswer}
-use Rattle.report.specs.declared.TextAnswer.TheVariants as TextAnswer
 use Rattle.report.specs.Pieces.{lines_from, fitting, piece_lines, Answers, GivesPiece, Pieces}
 use Rattle.report.specs.Putting.{Reports}
 use Rattle.report.proofs.Putting.{puts_over}

@@ -19,9 +19,7 @@ use Rattle.table.specs.Rules.{AreRules}
 use Rattle.table.specs.Calls.{formulas_of, judge_load, if_loaded}
 use Rattle.table.specs.Rows.{LoadRow}
 use Rattle.table.specs.declared.LoadAnswer.{LoadAnswer}
-use Rattle.table.specs.declared.LoadAnswer.TheVariants as LoadAnswer
 use Rattle.table.specs.declared.Outcome.{Outcome}
-use Rattle.table.specs.declared.Outcome.TheVariants as Outcome
 use Rattle.table.specs.Numbers.{load_outcome}
 use Rattle.table.proofs.Standing.{not_loaded}
 use Rattle.table.proofs.LoadRows.{load_done}
@@ -32,7 +30,7 @@ use Rattle.contact.proofs.Naming.{named_plan}
 use Rattle.trees.specs.Trees.{Tree, split, rule, floorless, missing}
 use Rattle.trees.specs.OfRules.{IsWrittenTree}
 use Rattle.trees.specs.Checker.{trees_of}
-use Rattle.trees.proofs.OfRules.{Writes, Writes.told, Writes.exists, writes}
+use Rattle.trees.proofs.OfRules.{Writes, writes}
 use Rattle.table.specs.AtomText.{atom_text_of}
 use Rattle.table.proofs.TreeRows.{trees_none, trees_one}
 use Rattle.report.specs.Output.{plans_text, rules_text, trees_text, reasons_text, outcome_text, sheet_text, output_of, as_read_of, why_of}

@@ -21,10 +21,8 @@ use Rattle.plan.specs.Plans.{plans_of}
 use Rattle.plan.proofs.Claims.{no_plan_given, given_exactly, given_found, given_is_plan, given_words, given_points, room_words, room_points}
 use Rattle.table.specs.declared.Table.{Table}
 use Rattle.table.specs.declared.AskAnswer.{AskAnswer}
-use Rattle.table.specs.declared.AskAnswer.TheVariants as AskAnswer
 use Rattle.table.specs.declared.AskResult.{AskResult}
 use Rattle.table.specs.declared.LoadAnswer.{LoadAnswer}
-use Rattle.table.specs.declared.LoadAnswer.TheVariants as LoadAnswer
 use Rattle.table.specs.declared.LoadResult.{LoadResult}
 use Rattle.table.specs.contracts.AskAnswer.{the_type}
 use Rattle.table.specs.contracts.LoadAnswer.{the_type as load-type}
@@ -37,7 +35,6 @@ use Rattle.table.specs.Rows.{SomeStand, AskRow, LoadRow}
 use Rattle.plan.specs.Meant.{IsGiven}
 use Rattle.table.proofs.Claims.{ask_answered, load_answered, rules_back}
 use Rattle.table.specs.declared.Outcome.{Outcome}
-use Rattle.table.specs.declared.Outcome.TheVariants as Outcome
 use Rattle.table.specs.Numbers.{load_outcome, ask_outcome}
 use Rattle.table.proofs.Rules.{of_computed, can_read, can_names, can_atoms}
 use Rattle.table.proofs.Standing.{not_loaded}

@@ -1,13 +1,12 @@
 -- What explain wrote is the tree of the writer, so that its lines with the depths that were put are the text of the rules; where it wrote none a
 -- plan exists, because a rule stands and the words are enough. Before it, the texts of atoms that an array holds. Assumes nothing.
-use Prim.Native.Nat.{ℕ, zero, suc, ◌+◌, ◌-◌, ◌^◌, ◌≤◌, ◌<◌}
+use Prim.Native.Nat.{ℕ, zero, suc, ◌+◌, ◌^◌, ◌≤◌, ◌<◌}
 use mathlib.Core.Path.{◌≡◌, refl, sym, ap, subst, ◌∙◌, fun_ext}
 use mathlib.Core.Bool.{Bool, cond}
 use mathlib.Core.Logic.{⊎_elim}
 use mathlib.Core.List.{List, [], ◌∷◌, map, append-nil}
 use native.Mathlib.Omega.{arith}
 use lib.Pow.{pow_mono}
-use lib.Dec.{leb}
 use lib.ListN.{length, get_or, take, drop, length-append, get_or-eq_default}
 use lib.Seq.{take-append_seam}
 use borrow.Author.Tests.{le-ltb, le-leb}
@@ -26,10 +25,9 @@ use Rattle.trees.specs.Trees.{Tree, words_of}
 use Rattle.trees.specs.Closed.{root}
 use Rattle.trees.specs.OfRules.{NoPlanFor, IsWrittenTree}
 use Rattle.trees.specs.Checker.{trees_of}
-use Rattle.trees.proofs.OfRules.{Writes, Writes.told, Writes.exists, writes, written_few}
+use Rattle.trees.proofs.OfRules.{Writes, writes, written_few}
 use Rattle.table.specs.declared.Table.{Table}
 use Rattle.table.specs.declared.ExplainAnswer.{ExplainAnswer}
-use Rattle.table.specs.declared.ExplainAnswer.TheVariants as ExplainAnswer
 use Rattle.table.specs.declared.ExplainResult.{ExplainResult}
 use Rattle.table.specs.contracts.ExplainAnswer.{the_type}
 use Rattle.table.specs.Store.{rules_of}

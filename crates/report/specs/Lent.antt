@@ -12,7 +12,6 @@ use Rattle.table.specs.AtomText.{atom_text_of}
 use Rattle.table.specs.Explaining.{texts_of}
 use Rattle.trees.specs.Trees.{Tree, words_of}
 use Rattle.report.specs.declared.TextAnswer.{TextAnswer}
-use Rattle.report.specs.declared.TextAnswer.TheVariants as TextAnswer
 use Rattle.report.specs.declared.PlanResult.{PlanResult}
 use Rattle.report.specs.declared.WhyResult.{WhyResult}
 use Rattle.report.specs.Pieces.{plan_line_at, line_at, depths_of, Answers}

@@ -10,7 +10,6 @@ use Rattle.table.specs.AtomText.{atom_text_of}
 use Rattle.table.specs.Sheet.{Text, lines_of, filled}
 use Rattle.table.specs.Calls.{formulas_of, judge_load, if_loaded}
 use Rattle.table.specs.declared.Outcome.{Outcome}
-use Rattle.table.specs.declared.Outcome.TheVariants as Outcome
 use Rattle.table.specs.Numbers.{load_outcome}
 use Rattle.trees.specs.Trees.{Tree}
 use Rattle.trees.specs.Checker.{trees_of}

@@ -8,7 +8,6 @@ use Rattle.lists.specs.Putting.{Puts}
 use Rattle.trees.specs.Trees.{Tree, split, rule, floorless, missing, words_of}
 use Rattle.table.specs.declared.AtomText.{AtomText}
 use Rattle.report.specs.declared.TextAnswer.{TextAnswer}
-use Rattle.report.specs.declared.TextAnswer.TheVariants as TextAnswer
 use Rattle.report.specs.declared.Piece.{Piece}
 use Rattle.report.specs.Lines.{head_line, point_line, contact_line, indented, split_text, rule_text, floorless_text}
 use Rattle.report.specs.Putting.{Reports}

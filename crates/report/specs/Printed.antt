@@ -16,7 +16,6 @@ use Rattle.table.specs.Sheet.{Text, lines_of, filled}
 use Rattle.table.specs.Rules.{AreRules}
 use Rattle.table.specs.Rows.{LoadRow}
 use Rattle.table.specs.declared.Outcome.{Outcome}
-use Rattle.table.specs.declared.Outcome.TheVariants as Outcome
 use Rattle.trees.specs.Trees.{Tree}
 use Rattle.trees.specs.OfRules.{IsWrittenTree}
 use Rattle.report.specs.Lines.{ended, plan_text, rule_lines, refused_text, reason_lines}

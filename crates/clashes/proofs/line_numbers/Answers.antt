@@ -1,7 +1,7 @@
 -- `clashes::line_numbers` meets its contract: line by line, the numbers so far (Numbers.antt). Assumes nothing.
 use mathlib.Core.Path.{sym, subst, ◌∙◌}
 use mathlib.Core.List.{List}
-use Prim.Native.Nat.{ℕ, ◌-◌}
+use Prim.Native.Nat.{ℕ}
 use native.Mathlib.Omega.{arith}
 use Rattle.lists.proofs.Padded.{pad_none}
 use Rattle.clashes.proofs.Numbers.{NumbersTo, numbers_none, numbers_pass, numbers_more, numbers_full, numbers_all}

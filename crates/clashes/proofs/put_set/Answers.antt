@@ -1,6 +1,6 @@
 -- `clashes::put_set` meets its contract: so far the lines of the rules before place i are put (Lines.antt). Assumes nothing.
 use mathlib.Core.Path.{◌≡◌}
-use Prim.Native.Nat.{ℕ, ◌-◌, ◌≤◌, ◌<◌}
+use Prim.Native.Nat.{◌≤◌, ◌<◌}
 use native.Mathlib.Omega.{arith}
 use lib.ListN.{length, length-map}
 use Rattle.syntax.specs.Rule.{meaning_of}

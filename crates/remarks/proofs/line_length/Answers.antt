@@ -1,7 +1,7 @@
 -- `remarks::line_length` meets its contract: the first line is what was passed, and the first line of what is left. Assumes nothing.
 use mathlib.Core.Path.{◌≡◌, refl, sym, ap, ◌∙◌}
 use mathlib.Core.List.{[], List, ◌++◌, append-nil}
-use Prim.Native.Nat.{ℕ, ◌-◌}
+use Prim.Native.Nat.{ℕ}
 use native.Mathlib.Omega.{arith}
 use lib.ListN.{get_or, take, drop, drop_of_length-le}
 use Rattle.table.specs.Sheet.{lines_of}

@@ -27,10 +27,10 @@ loop-i-preserved c =
     let on : ℕ → List ℕ = λ n. get_or (lines_of (drop (k.i + 1) s)) (n - 1) [] in
     let taken = c.loop-i-test.true in (
       omega arith,
-      elim c.if-sheet-i-eq-LINE_END.branch
-          [ then-sheet-i-eq-LINE_END w ↦ ap on w.left-is ∙ sym (line_passed s k.i k.left taken c.if-left-le1.false w.if-sheet-i-eq-LINE_END.true) ∙ k.invariant.1
-          | else-sheet-i-eq-LINE_END w ↦ ap on w.left-is ∙ sym (byte_passed s k.i k.left taken c.if-left-le1.false w.if-sheet-i-eq-LINE_END.false) ∙ k.invariant.1
-          ],
+      elim c.if-sheet-i-eq-LINE_END.branch [
+        | then-sheet-i-eq-LINE_END w ↦ ap on w.left-is ∙ sym (line_passed s k.i k.left taken c.if-left-le1.false w.if-sheet-i-eq-LINE_END.true) ∙ k.invariant.1
+        | else-sheet-i-eq-LINE_END w ↦ ap on w.left-is ∙ sym (byte_passed s k.i k.left taken c.if-left-le1.false w.if-sheet-i-eq-LINE_END.false) ∙ k.invariant.1
+      ],
     )
 
 pub returns : goal.returns

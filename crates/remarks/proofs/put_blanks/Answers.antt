@@ -1,7 +1,7 @@
 -- `remarks::put_blanks` meets its contract: so far i of them are put. Assumes nothing.
 use mathlib.Core.List.{[]}
 use mathlib.Core.Path.{◌≡◌, sym, ap, subst}
-use Prim.Native.Nat.{ℕ, ◌+◌, ◌-◌}
+use Prim.Native.Nat.{ℕ, ◌+◌}
 use native.Mathlib.Omega.{arith}
 use lib.ListN.{length, replicate, length-replicate, set}
 use Rattle.lists.specs.Putting.{Puts}

@@ -1,7 +1,7 @@
 -- `report::count_of` meets its contract: as many as are counted, and no more than there are. Assumes nothing.
 use native.Mathlib.Omega.{arith}
 use mathlib.Core.Path.{◌≡◌}
-use lib.ListN.{length, length-map}
+use lib.ListN.{length}
 use Rattle.report.proofs.Kept.{known_count}
 use Rattle.report.proofs.count_of.Goals as goal
 

@@ -1,7 +1,7 @@
 -- `report::put_atom_text` meets its contract: as many bytes as its length, or all. Assumes nothing.
 use mathlib.Core.Path.{◌≡◌, sym}
 use native.Mathlib.Omega.{arith}
-use lib.ListN.{length, length-take, length-map}
+use lib.ListN.{length, length-take}
 use lib.Seq.{take_all, length-take-le}
 use Rattle.lists.proofs.Putting.{puts_text}
 use Rattle.report.specs.Pieces.{held}

@@ -1,7 +1,6 @@
 -- `report::put_lines` meets its contract: so far the lines of the rules before place i are put (AsRead.antt). Assumes nothing.
 use mathlib.Core.Path.{ap}
 use mathlib.Core.List.{List}
-use Prim.Native.Nat.{◌-◌}
 use native.Mathlib.Omega.{arith}
 use lib.Seq.{take_all}
 use Rattle.lists.proofs.Putting.{puts_none, puts_text, puts_length, puts_more, fits_next}

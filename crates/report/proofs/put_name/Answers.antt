@@ -1,8 +1,8 @@
 -- `report::put_name` meets its contract: a blank, then as many of the bytes as the length says, or all. Assumes nothing.
 use mathlib.Core.Path.{◌≡◌, sym}
 use native.Mathlib.Omega.{arith}
-use lib.ListN.{length, length-take, length-map}
-use lib.Seq.{take_all, length-take-le}
+use lib.ListN.{length, length-take}
+use lib.Seq.{take_all}
 use Rattle.lists.proofs.Putting.{puts_text, puts_length, puts_more}
 use Rattle.report.proofs.put_name.Goals as goal
 

@@ -1,5 +1,4 @@
 -- `report::put_names` meets its contract: so far the names with numbers below i are put. Assumes nothing.
-use Prim.Native.Nat.{ℕ, ◌-◌}
 use native.Mathlib.Omega.{arith}
 use lib.ListN.{length}
 use Rattle.lists.proofs.Putting.{puts_none, puts_length, turn_puts, turns_put}
@@ -8,30 +7,25 @@ use Rattle.report.proofs.Parts.{names_parts}
 use Rattle.report.proofs.put_names.Invariants.{name_text}
 use Rattle.report.proofs.put_names.Goals as goal
 
--- src/lib.rt:177:5
 pub loop-i-init : goal.loop-i-init
 loop-i-init c =
     (omega arith, puts_none c.args.at c.args.out.now (omega (arith, c.requires)), omega arith)
 
--- src/lib.rt:178:9
 pub put_name_if-end-requires : goal.put_name_if-end-requires
 put_name_if-end-requires c =
     let k = c.loop-i in
     let count = c.count_of-count.ensures in
     (omega (arith, count.0), omega (arith, count.1), omega (arith, count.1, c.requires, k.invariant.2, puts_length k.invariant.1))
 
--- src/lib.rt:177:5
 pub loop-i-preserved : goal.loop-i-preserved
 loop-i-preserved c =
     let a = c.args in
     let k = c.loop-i in
     (omega arith, turn_puts (name_text a.names a.e) k.i k.invariant.1 c.put_name_if-end.ensures.0, omega (arith, c.put_name_if-end.ensures.1, k.invariant.2))
 
--- src/lib.rt:170:1
 pub shape_of-out : goal.shape_of-out
 shape_of-out c = puts_length c.loop-i.invariant.1
 
--- src/lib.rt:170:1
 pub returns : goal.returns
 returns c =
     let a = c.args in

@@ -1,5 +1,4 @@
 -- `report::put_reasons` meets its contract: so far the lines from the index to the next are put (Reasons.antt). Assumes nothing.
-use Prim.Native.Nat.{◌-◌}
 use native.Mathlib.Omega.{arith}
 use Rattle.lists.proofs.Putting.{puts_none, puts_text, puts_length, puts_more}
 use Rattle.report.proofs.Pieces.{lines_none, lines_next, fits_begin, fits_all, fits_full, fits_next, not_empty, gives}

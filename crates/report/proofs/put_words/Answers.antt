@@ -1,6 +1,5 @@
 -- `report::put_words` meets its contract: so far the lines from the index to the next are put (Pieces.antt). Assumes nothing.
 use mathlib.Core.Path.{ap}
-use Prim.Native.Nat.{◌-◌}
 use native.Mathlib.Omega.{arith}
 use Rattle.lists.proofs.Putting.{puts_none, puts_text, puts_length, puts_more}
 use Rattle.report.specs.Pieces.{plan_line, plan_line_at}
