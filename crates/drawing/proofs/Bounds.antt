@@ -11,7 +11,6 @@ use Rattle.lexer.specs.Token.{Token, bytes_of}
 use Rattle.lexer.specs.Cutting.{Cutting, tokens, refused, with_token, Every, Cut}
 use Rattle.lexer.proofs.Pieces.{starts_fits}
 use Rattle.lexer.specs.declared.LexAnswer.{LexAnswer}
-use Rattle.lexer.specs.declared.LexAnswer.TheVariants as LexAnswer
 use Rattle.formula.specs.Formula.{Name}
 use Rattle.syntax.specs.Symbol.{symbol_of, symbol_names}
 use Rattle.syntax.specs.RuleText.{Answers}
@@ -19,7 +18,6 @@ use Rattle.names.specs.Ninth.{NameAt, name_at, places_of}
 use Rattle.table.specs.Sheet.{Text, lines_of, on_first}
 use Rattle.table.specs.Rows.{AddRow, LoadRow}
 use Rattle.table.specs.declared.Outcome.{Outcome}
-use Rattle.table.specs.declared.Outcome.TheVariants as Outcome
 use Rattle.drawing.specs.Drawing.{Small, Fits}
 
 -- ---- places

@@ -20,7 +20,6 @@ use Rattle.table.specs.Calls.{formulas_of, judge_load, if_loaded}
 use Rattle.table.specs.Rows.{LoadRow}
 use Rattle.table.specs.declared.LoadAnswer.{LoadAnswer}
 use Rattle.table.specs.declared.Outcome.{Outcome}
-use Rattle.table.specs.declared.Outcome.TheVariants as Outcome
 use Rattle.table.specs.Numbers.{load_outcome}
 use Rattle.table.proofs.Standing.{not_loaded}
 use Rattle.table.proofs.LoadRows.{load_done}

@@ -20,11 +20,9 @@ use Rattle.plan.specs.Plans.{plans_of}
 use Rattle.plan.proofs.Claims.{given_points, given_words}
 use Rattle.contact.specs.Question.{plain}
 use Rattle.table.specs.declared.LoadAnswer.{LoadAnswer}
-use Rattle.table.specs.declared.LoadAnswer.TheVariants as LoadAnswer
 use Rattle.table.specs.declared.LoadResult.{LoadResult}
 use Rattle.table.specs.declared.Table.{Table}
 use Rattle.table.specs.declared.Outcome.{Outcome}
-use Rattle.table.specs.declared.Outcome.TheVariants as Outcome
 use Rattle.table.specs.contracts.Outcome.{the_type as outcome-type}
 use Rattle.table.specs.Sheet.{Text, lines_of, filled}
 use Rattle.table.specs.Store.{rules_of}

@@ -19,7 +19,6 @@ use Rattle.table.specs.Sheet.{Text, lines_of, filled}
 use Rattle.table.specs.Rules.{CanStand}
 use Rattle.table.specs.Rows.{LoadRow}
 use Rattle.table.specs.declared.Outcome.{Outcome}
-use Rattle.table.specs.declared.Outcome.TheVariants as Outcome
 use Rattle.table.proofs.Claims.{formulas_one}
 use Rattle.drawing.specs.Drawn.{most, Loaded}
 

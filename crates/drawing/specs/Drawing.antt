@@ -9,7 +9,6 @@ use Rattle.plan.specs.Plans.{plans_of}
 use Rattle.table.specs.Sheet.{Text, lines_of, filled}
 use Rattle.table.specs.Calls.{formulas_of, judge_load, if_loaded}
 use Rattle.table.specs.declared.Outcome.{Outcome}
-use Rattle.table.specs.declared.Outcome.TheVariants as Outcome
 use Rattle.table.specs.Numbers.{load_outcome}
 use Rattle.drawing.specs.Drawn.{bytes_of, room_of, refusal_number, most}
 

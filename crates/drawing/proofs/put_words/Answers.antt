@@ -1,6 +1,5 @@
 -- `drawing::put_words` meets its contract: so far the bytes of the first i words are put. Assumes nothing.
 use mathlib.Core.Path.{ap}
-use Prim.Native.Nat.{◌-◌}
 use native.Mathlib.Omega.{arith}
 use lib.Seq.{take_all}
 use Rattle.lists.proofs.Putting.{puts_none, puts_text, puts_more, puts_length}
