@@ -9,7 +9,6 @@ use Rattle.table.specs.Sheet.{Text}
 use Rattle.table.specs.Stands.{Call, StandsAfter, StandsFrom}
 use Rattle.table.specs.declared.Outcome.TheVariants as Outcome
 use Rattle.supportlog.specs.declared.Form.{Form}
-use Rattle.supportlog.specs.declared.Form.TheVariants as Form
 use Rattle.supportlog.specs.Lines.{Wanted, add, withdraw, ask, IsLine}
 use Rattle.supportlog.specs.Answers.{Answer, LineRow, adds, not_added, withdraws, not_withdrawn, plans, no_plan, not_asked, no_form, RunsFrom, end, next, Makes, makes_add, makes_withdraw, makes_ask, CallsOf, no_line, call, no_call}
 use Rattle.supportlog.specs.Run.{form_of}

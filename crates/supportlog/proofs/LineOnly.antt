@@ -1,11 +1,11 @@
 -- One answer only, and one list of rules after it, is meant for a line, and so for a log: each is the one that is computed. Assumes nothing.
 use mathlib.Core.Path.{◌≡◌, refl, sym, ap, ap₂, subst, ◌∙◌}
 use mathlib.Core.List.{List, [], ◌∷◌, ◌++◌}
-use Prim.Native.Nat.{ℕ, ◌+◌, ◌-◌, ◌≤◌}
+use Prim.Native.Nat.{ℕ, ◌-◌, ◌≤◌}
 use native.Mathlib.Omega.{arith}
 use lib.ListN.{length, drop, length-replicate}
 use Rattle.contact.specs.Question.{plain}
-use Rattle.plan.specs.Words.{Plan, words_of}
+use Rattle.plan.specs.Words.{words_of}
 use Rattle.plan.specs.Meant.{IsGiven}
 use Rattle.table.specs.Sheet.{Text}
 use Rattle.table.specs.Rules.{CanStand}
@@ -15,16 +15,12 @@ use Rattle.table.specs.Rows.{AddRow, AskRow, SomeStand}
 use Rattle.table.specs.Stands.{TakesOut}
 use Rattle.table.specs.Numbers.{add_outcome, withdraw_outcome}
 use Rattle.table.specs.declared.AddAnswer.{AddAnswer}
-use Rattle.table.specs.declared.AddAnswer.TheVariants as AddAnswer
 use Rattle.table.specs.declared.WithdrawAnswer.{WithdrawAnswer}
-use Rattle.table.specs.declared.WithdrawAnswer.TheVariants as WithdrawAnswer
 use Rattle.table.specs.declared.Outcome.{Outcome}
-use Rattle.table.specs.declared.Outcome.TheVariants as Outcome
 use Rattle.table.proofs.Rules.{of_computed}
 use Rattle.table.proofs.Asking.{first_words}
 use Rattle.table.proofs.Claims.{add_answered_only, withdraw_answered_only, ask_answered_only}
 use Rattle.supportlog.specs.declared.Form.{Form}
-use Rattle.supportlog.specs.declared.Form.TheVariants as Form
 use Rattle.supportlog.specs.declared.LineAnswer.TheVariants as LineAnswer
 use Rattle.supportlog.specs.Lines.{Wanted, add, withdraw, ask, IsLine, plus}
 use Rattle.supportlog.specs.Answers.{Answer, LineRow, adds, not_added, withdraws, not_withdrawn, plans, no_plan, not_asked, no_form, room, RunsFrom, end, next}

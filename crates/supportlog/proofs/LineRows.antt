@@ -14,20 +14,15 @@ use Rattle.table.specs.Rows.{AddRow, WithdrawRow, AskRow}
 use Rattle.table.specs.Stands.{TakesOut}
 use Rattle.table.specs.Numbers.{add_outcome, withdraw_outcome, ask_outcome}
 use Rattle.table.specs.declared.AddAnswer.{AddAnswer}
-use Rattle.table.specs.declared.AddAnswer.TheVariants as AddAnswer
 use Rattle.table.specs.declared.WithdrawAnswer.{WithdrawAnswer}
-use Rattle.table.specs.declared.WithdrawAnswer.TheVariants as WithdrawAnswer
 use Rattle.table.specs.declared.Outcome.{Outcome}
-use Rattle.table.specs.declared.Outcome.TheVariants as Outcome
 use Rattle.table.proofs.Rules.{of_computed}
 use Rattle.table.proofs.PrintRows.{kth_is}
 use Rattle.table.proofs.Asking.{first_words}
 use Rattle.table.proofs.Standing.{stand_add, stand_withdraw}
 use Rattle.table.proofs.Claims.{add_answered, withdraw_answered, ask_answered}
 use Rattle.supportlog.specs.declared.Form.{Form}
-use Rattle.supportlog.specs.declared.Form.TheVariants as Form
 use Rattle.supportlog.specs.declared.LineAnswer.{LineAnswer}
-use Rattle.supportlog.specs.declared.LineAnswer.TheVariants as LineAnswer
 use Rattle.supportlog.specs.Lines.{add, withdraw, ask, IsLine}
 use Rattle.supportlog.specs.Answers.{Answer, LineRow, adds, not_added, withdraws, not_withdrawn, plans, no_plan, not_asked, no_form, room}
 use Rattle.supportlog.specs.Run.{form_of, line_says, answer_by, rules_by, words_by}

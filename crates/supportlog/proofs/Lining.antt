@@ -18,12 +18,9 @@ use Rattle.table.specs.declared.AddResult.{AddResult}
 use Rattle.table.specs.declared.WithdrawResult.{WithdrawResult}
 use Rattle.table.specs.declared.AskResult.{AskResult}
 use Rattle.table.specs.declared.Outcome.{Outcome}
-use Rattle.table.specs.declared.Outcome.TheVariants as Outcome
 use Rattle.table.specs.contracts.Outcome.{the_type as outcome-type}
 use Rattle.supportlog.specs.declared.Form.{Form}
-use Rattle.supportlog.specs.declared.Form.TheVariants as Form
 use Rattle.supportlog.specs.declared.LineAnswer.{LineAnswer}
-use Rattle.supportlog.specs.declared.LineAnswer.TheVariants as LineAnswer
 use Rattle.supportlog.specs.declared.LineResult.{LineResult}
 use Rattle.supportlog.specs.Run.{form_of, line_says, RunsAs, Runs}
 

@@ -3,7 +3,7 @@
 use mathlib.Core.Path.{◌≡◌, refl, sym, ap, subst, ◌∙◌}
 use mathlib.Core.Bool.{Bool, true, false, cond}
 use mathlib.Core.List.{List, [], ◌∷◌, ◌++◌}
-use Prim.Native.Nat.{ℕ, ◌+◌, ◌-◌, ◌≤◌}
+use Prim.Native.Nat.{ℕ, ◌-◌, ◌≤◌}
 use native.Mathlib.Omega.{arith}
 use lib.Dec.{leb}
 use lib.ListN.{length, drop}
@@ -24,17 +24,12 @@ use Rattle.table.specs.Rows.{AddRow, WithdrawRow, AskRow}
 use Rattle.table.specs.Numbers.{add_outcome, withdraw_outcome, ask_outcome}
 use Rattle.table.specs.declared.Table.{Table}
 use Rattle.table.specs.declared.AddAnswer.{AddAnswer}
-use Rattle.table.specs.declared.AddAnswer.TheVariants as AddAnswer
 use Rattle.table.specs.declared.WithdrawAnswer.{WithdrawAnswer}
-use Rattle.table.specs.declared.WithdrawAnswer.TheVariants as WithdrawAnswer
 use Rattle.table.specs.declared.AskAnswer.TheVariants as AskAnswer
 use Rattle.table.specs.declared.Outcome.{Outcome}
-use Rattle.table.specs.declared.Outcome.TheVariants as Outcome
 use Rattle.table.proofs.Claims.{formulas_one}
 use Rattle.supportlog.specs.declared.Form.{Form}
-use Rattle.supportlog.specs.declared.Form.TheVariants as Form
 use Rattle.supportlog.specs.declared.LineAnswer.{LineAnswer}
-use Rattle.supportlog.specs.declared.LineAnswer.TheVariants as LineAnswer
 use Rattle.supportlog.specs.declared.LineResult.{LineResult}
 use Rattle.supportlog.specs.Answers.{Answer, refused, LineRow, adds, not_added, withdraws, not_withdrawn, plans, no_plan, not_asked, no_form, RunsFrom, end, next, room}
 use Rattle.supportlog.specs.Run.{form_of, line_says, answer_by, rules_by, words_by, Runs}

@@ -1,12 +1,10 @@
 -- The remark on a line of a log: its caret and its rule's text by the line's form, and the line that is next. Assumes nothing.
 use mathlib.Core.Path.{◌≡◌, refl, sym, ap, ap₂, ◌∙◌}
-use mathlib.Core.Bool.{cond}
 use mathlib.Core.List.{List, [], ◌∷◌}
 use mathlib.Core.Logic.{◌⊎◌, ⊎_elim}
 use Prim.Native.Nat.{ℕ, ◌+◌, ◌-◌, min, ◌≤◌, ◌<◌}
 use native.Mathlib.Omega.{arith}
-use lib.ListN.{length, take, drop, length-drop, drop_of_length-le}
-use lib.Seq.{take_all}
+use lib.ListN.{length, take, drop, drop_of_length-le}
 use borrow.Author.Tests.{lt-ltb, le-ltb}
 use types.Run.{OneOf, miss}
 use denote.Enum.Declared.{tag_of}
@@ -15,9 +13,7 @@ use Rattle.table.specs.Sheet.{Text}
 use Rattle.remarks.specs.Remark.{sentence, two_lines}
 use Rattle.remarks.proofs.Parts.{same_caret, part_from}
 use Rattle.supportlog.specs.declared.Form.{Form}
-use Rattle.supportlog.specs.declared.Form.TheVariants as Form
 use Rattle.supportlog.specs.declared.LineAnswer.{LineAnswer}
-use Rattle.supportlog.specs.declared.LineAnswer.TheVariants as LineAnswer
 use Rattle.supportlog.specs.contracts.Form.{the_type as form_type_lem}
 use Rattle.supportlog.specs.contracts.LineAnswer.{the_type as answer-type}
 use Rattle.supportlog.specs.Lines.{split_log, without_return, add, IsLine}

@@ -6,9 +6,7 @@ use Rattle.lexer.specs.Text.{bytes}
 use Rattle.table.specs.Sheet.{Text}
 use Rattle.remarks.specs.Remark.{sentence, two_lines}
 use Rattle.supportlog.specs.declared.Form.{Form}
-use Rattle.supportlog.specs.declared.Form.TheVariants as Form
 use Rattle.supportlog.specs.declared.LineAnswer.{LineAnswer}
-use Rattle.supportlog.specs.declared.LineAnswer.TheVariants as LineAnswer
 use Rattle.supportlog.specs.Lines.{split_log, without_return}
 use Rattle.supportlog.specs.Answers.{room}
 use Rattle.supportlog.specs.Run.{form_of, answer_by}

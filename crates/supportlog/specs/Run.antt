@@ -9,15 +9,11 @@ use Rattle.table.specs.Asking.{ask_answer, ask_words}
 use Rattle.table.specs.Numbers.{add_outcome, withdraw_outcome, ask_outcome}
 use Rattle.table.specs.declared.Table.{Table}
 use Rattle.table.specs.declared.Outcome.{Outcome}
-use Rattle.table.specs.declared.Outcome.TheVariants as Outcome
 use Rattle.tally.specs.declared.Kind.{Kind}
-use Rattle.tally.specs.declared.Kind.TheVariants as Kind
 use Rattle.tally.specs.declared.Tally.{Tally}
 use Rattle.tally.specs.Count.{counted_of}
 use Rattle.supportlog.specs.declared.Form.{Form}
-use Rattle.supportlog.specs.declared.Form.TheVariants as Form
 use Rattle.supportlog.specs.declared.LineAnswer.{LineAnswer}
-use Rattle.supportlog.specs.declared.LineAnswer.TheVariants as LineAnswer
 use Rattle.supportlog.specs.declared.LineResult.{LineResult}
 
 -- ---- the form of a line

@@ -1,6 +1,5 @@
 -- `supportlog::line_end` meets its contract: the lines from the start on are those of what is left, with what was passed in front of the first.
 -- Assumes nothing.
-use Prim.Native.Nat.{◌-◌}
 use mathlib.Core.Path.{◌≡◌, sym, ◌∙◌}
 use lib.ListN.{length}
 use native.Mathlib.Omega.{arith}

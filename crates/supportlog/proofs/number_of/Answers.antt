@@ -1,6 +1,5 @@
 -- `supportlog::number_of` meets its contract: the number so far, with the digits that are left behind it, is the whole number. Assumes nothing.
 use mathlib.Core.Path.{sym, ◌∙◌}
-use Prim.Native.Nat.{◌-◌}
 use native.Mathlib.Omega.{arith}
 use Rattle.supportlog.proofs.Numbers.{turn_start, turn_stop, turn_next, turn_small, turn_end}
 use Rattle.supportlog.proofs.number_of.Goals as goal

@@ -11,10 +11,10 @@ pub returns-in_default : goal.returns-in_default
 returns-in_default c = let a = c.args in puts_text (no_remark a.number a.line.now _ a.answer (opened c.in_default.in_default-own.keys2)) (puts_none 0 a.out.now (omega arith))
 
 pub slice_bounds-put_remark-count : goal.slice_bounds-put_remark-count
-slice_bounds-put_remark-count c = elim c.if-text-le0.branch
-    [ then-text-le0 w ↦ omega arith
-    | else-text-le0 w ↦ omega arith
-    ]
+slice_bounds-put_remark-count c = elim c.if-text-le0.branch [
+  | then-text-le0 w ↦ omega arith
+  | else-text-le0 w ↦ omega arith
+]
 
 pub returns : goal.returns
 returns c =
