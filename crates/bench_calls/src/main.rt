@@ -11,7 +11,7 @@
 ghost use Rattle.table.specs.Calls.{FromUs};
 
 use reading::Got;
-use std::{env, io};
+use std::env::Env;
 use table::{
     AskAnswer, CheckAnswer, ExplainAnswer, JudgeAnswer, LoadAnswer, PrintAnswer, StillAnswer, Table,
 };
@@ -174,23 +174,23 @@ fn make_calls(rt: &impl Print, calls: &[u8], table: Table, words: &mut [u32])
     }
 }
 
-fn main(rt: HostRuntime) -> io::Result<()> {
+fn main(rt: HostRuntime) {
     let mut sheet = reading::no_bytes();
     let got = reading::read_sheet(&mut rt.stdin(), &mut sheet);
     let Got::Bytes(n) = got else {
-        return rt.eprintln("bench_calls: the sheet cannot be read");
+        let _ = rt.eprintln("bench_calls: the sheet cannot be read");
+        return;
     };
-    let calls = env::args(&rt)?.nth(1);
+    let mut calls = [0u8; 16];
+    let len = rt.arg(1, &mut calls).unwrap_or(0);
     let mut words = no_words();
     let empty = Table::empty();
     let loaded = empty.load(&sheet[..n]);
     let answer = loaded.answer;
     let LoadAnswer::Loaded = answer else {
-        return rt.write_all(b"refused\n");
+        test_kit::write_bytes(&rt, b"refused\n");
+        return;
     };
     let table = loaded.table;
-    if let Some(calls) = calls {
-        make_calls(&rt, calls.as_bytes(), table, &mut words);
-    }
-    Ok(())
+    make_calls(&rt, &calls[..len], table, &mut words);
 }
