@@ -1,7 +1,6 @@
 -- For proofs: what reading gives. Assumes nothing.
 use Rattle.std.specs.Prelude.{ℕ, ◌+◌, ◌≤◌}
 use Rattle.reading.specs.declared.Got.{Got}
-use Rattle.reading.specs.declared.Got.TheVariants as Got
 
 -- the bytes that came, from a place on, are within n
 abbrev pub Within : ℕ → ℕ → Got → Type 0

@@ -1,9 +1,6 @@
 -- `logrun::write_log` is safe and ends: the table came from us, each piece goes on to a later place, and no line has a number above its place.
 -- Assumes nothing.
-use mathlib.Core.Path.{sym}
-use Prim.Native.Nat.{◌-◌}
 use native.Mathlib.Omega.{arith}
-use lib.Seq.{length-take-le}
 use Rattle.logrun.proofs.write_log.Goals as goal
 
 pub loop-state-init : goal.loop-state-init

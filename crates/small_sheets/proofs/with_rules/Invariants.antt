@@ -1,5 +1,4 @@
 -- `small_sheets::with_rules` is safe and ends: at most ten rules are drawn, and those left fall. Assumes nothing.
-use borrow.Author.Rules.{rules}
 use Prim.Native.Nat.{◌-◌}
 use Rattle.small_sheets.proofs.with_rules.Given as goal
 

@@ -1,6 +1,5 @@
 -- `test_examples::same_pieces` is safe and ends: what was compared is within the text, and each piece goes on to a later word. Assumes nothing.
 use mathlib.Core.Path.{sym}
-use Prim.Native.Nat.{◌-◌}
 use native.Mathlib.Omega.{arith}
 use lib.Seq.{length-take-le}
 use Rattle.test_examples.proofs.same_pieces.Goals as goal

@@ -1,6 +1,4 @@
 -- `test_examples::show_building` is safe: the text, and the piece of a plan's, is a part of its buffer. Assumes nothing.
-use mathlib.Core.Path.{sym}
-use lib.Seq.{length-take-le}
 use Rattle.report.proofs.Pieces.{answered_text}
 use Rattle.test_examples.proofs.show_building.Goals as goal
 

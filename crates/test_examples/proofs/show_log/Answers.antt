@@ -1,8 +1,5 @@
 -- `test_examples::show_log` is safe and ends: the table came from us, and each piece goes on to a later place. Assumes nothing.
-use mathlib.Core.Path.{sym}
-use Prim.Native.Nat.{◌-◌}
 use native.Mathlib.Omega.{arith}
-use lib.Seq.{length-take-le}
 use Rattle.test_examples.proofs.show_log.Goals as goal
 
 pub loop-state-init : goal.loop-state-init

@@ -1,6 +1,5 @@
 -- `test_kit::put_bytes` meets its contract: so far the first i bytes are put, and the bytes left fall. Assumes nothing.
 use mathlib.Core.Path.{sym}
-use Prim.Native.Nat.{◌-◌}
 use native.Mathlib.Omega.{arith}
 use lib.Seq.{take_all}
 use Rattle.lists.proofs.Lists.{take_next}

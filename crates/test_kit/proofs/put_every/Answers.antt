@@ -1,7 +1,7 @@
 -- `test_kit::put_every` meets its contract: so far the contacts of the first i positions are put, and the positions left fall.
 -- Assumes nothing.
 use mathlib.Core.Path.{◌≡◌, ap}
-use Prim.Native.Nat.{ℕ, ◌+◌, ◌-◌, ◌<◌, ◌^◌}
+use Prim.Native.Nat.{ℕ, ◌+◌, ◌<◌, ◌^◌}
 use native.Mathlib.Omega.{arith}
 use Rattle.lists.specs.Search.{collect, below}
 use Rattle.lists.proofs.Below.{collect_more}

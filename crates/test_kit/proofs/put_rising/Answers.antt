@@ -1,6 +1,6 @@
 -- `test_kit::put_rising` meets its contract: so far the first i words are put, and the words left fall. Assumes nothing.
 use mathlib.Core.Path.{◌≡◌, sym, ap}
-use Prim.Native.Nat.{ℕ, ◌-◌}
+use Prim.Native.Nat.{ℕ}
 use native.Mathlib.Omega.{arith}
 use Rattle.lists.specs.Search.{from}
 use Rattle.lists.proofs.Search.{from_append}

@@ -1,6 +1,6 @@
 -- `test_kit::put_times` meets its contract: so far the bytes are put i times, and the turns left fall. Assumes nothing.
 use mathlib.Core.Path.{◌≡◌, ap}
-use Prim.Native.Nat.{ℕ, ◌-◌}
+use Prim.Native.Nat.{ℕ}
 use native.Mathlib.Omega.{arith}
 use Rattle.lists.proofs.Below.{collect_more}
 use Rattle.test_kit.specs.Putting.{times}

@@ -2,7 +2,6 @@
 use mathlib.Core.Logic.{inr}
 use mathlib.Core.Path.{◌∙◌}
 use borrow.Author.Rules.{rules}
-use Prim.Native.Nat.{◌-◌}
 use Rattle.test_plan_words.proofs.apart_in.Goals as goal
 
 pub row_at-row-requires : goal.row_at-row-requires

@@ -2,7 +2,6 @@
 -- Assumes nothing.
 use mathlib.Core.Logic.{inr}
 use borrow.Author.Rules.{rules}
-use Prim.Native.Nat.{◌-◌}
 use Rattle.test_plan_words.proofs.write_contacts.Goals as goal
 
 pub row_at-requires : goal.row_at-requires

@@ -1,6 +1,5 @@
 -- `test_remarks::show_log` is safe and ends: the table came from us, each piece goes on to a later place, and no line has a number above its
 -- place. Assumes nothing.
-use Prim.Native.Nat.{◌-◌}
 use native.Mathlib.Omega.{arith}
 use Rattle.test_remarks.proofs.show_log.Goals as goal
 
