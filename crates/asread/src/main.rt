@@ -3,12 +3,10 @@
 // standard error and never as an answer. The file `stdout` has the text for the sheet `stdin`, worked out by hand from T-02's words.
 #![tactic(auto)]
 
-use reading::Got;
-
 fn main(rt: HostRuntime) {
     let mut sheet = reading::no_bytes();
     let got = reading::read_sheet(&mut rt.stdin(), &mut sheet);
-    let Got::Bytes(n) = got else {
+    let Ok(n) = got else {
         let _ = rt.eprintln("asread: the sheet cannot be read");
         return;
     };

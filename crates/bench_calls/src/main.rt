@@ -10,7 +10,6 @@
 
 ghost use Rattle.table.specs.Calls.{FromUs};
 
-use reading::Got;
 use std::env::Env;
 use table::{
     AskAnswer, CheckAnswer, ExplainAnswer, JudgeAnswer, LoadAnswer, PrintAnswer, StillAnswer, Table,
@@ -108,25 +107,19 @@ fn prints(table: Table, k: usize) -> bool
     let mut text = [0u8; 256];
     let r = table.print(k, &mut text);
     let answer = r.answer;
-    if let PrintAnswer::Text(_) = answer {
-        true
-    } else {
-        false
-    }
+    matches!(answer, PrintAnswer::Text(_))
 }
 
 // One rule after another, until there is none.
 fn print(table: Table) -> usize
     requires { FromUs table }
 {
-    let mut done: usize = 0;
-    while done < 16 {
+    for done in 0..16 {
         if !prints(table, done + 1) {
             return done;
         }
-        done += 1;
     }
-    done
+    16
 }
 
 // The call that a byte is, and the number for its line.
@@ -165,19 +158,16 @@ fn write_line(rt: &impl Print, byte: u8, n: usize) {
 fn make_calls(rt: &impl Print, calls: &[u8], table: Table, words: &mut [u32])
     requires { FromUs table }
 {
-    let mut i: usize = 0;
-    while i < calls.len() {
-        let byte = calls[i];
-        let n = call(byte, table, words);
-        write_line(rt, byte, n);
-        i += 1;
+    for byte in calls {
+        let n = call(*byte, table, words);
+        write_line(rt, *byte, n);
     }
 }
 
 fn main(rt: HostRuntime) {
     let mut sheet = reading::no_bytes();
     let got = reading::read_sheet(&mut rt.stdin(), &mut sheet);
-    let Got::Bytes(n) = got else {
+    let Ok(n) = got else {
         let _ = rt.eprintln("bench_calls: the sheet cannot be read");
         return;
     };

@@ -6,7 +6,6 @@
 #![tactic(auto)]
 
 use names::Names;
-use reading::Got;
 use report::TextAnswer;
 use std::io;
 
@@ -14,6 +13,7 @@ use std::io;
 fn write_plan(rt: &impl Print, words: &[u32; 32642], count: usize, names: Names) -> io::Result<()> {
     let mut text = report::no_text();
     let mut next: usize = 0;
+    // By index: a piece ends where it has no more room, and says where the next begins.
     while next < count {
         let piece = report::building_piece(words, count, names, next, &mut text);
         let len = piece.len;
@@ -26,7 +26,7 @@ fn write_plan(rt: &impl Print, words: &[u32; 32642], count: usize, names: Names)
 fn main(rt: HostRuntime) {
     let mut sheet = reading::no_bytes();
     let got = reading::read_sheet(&mut rt.stdin(), &mut sheet);
-    let Got::Bytes(n) = got else {
+    let Ok(n) = got else {
         let _ = rt.eprintln("building: the sheet cannot be read");
         return;
     };

@@ -6,12 +6,10 @@
 // left out, since raw is part of cooked and not empty whether or not cooked is said not to be; those on lines 4 and 1 are needed.
 #![tactic(auto)]
 
-use reading::Got;
-
 fn main(rt: HostRuntime) {
     let mut sheet = reading::no_bytes();
     let got = reading::read_sheet(&mut rt.stdin(), &mut sheet);
-    let Got::Bytes(n) = got else {
+    let Ok(n) = got else {
         let _ = rt.eprintln("clash: the sheet cannot be read");
         return;
     };

@@ -41,6 +41,7 @@ fn line_numbers(file: &[u8]) -> [usize; RULES]
     let mut count: usize = 0;
     let mut line: usize = 0;
     let mut from: usize = 0;
+    // By index: a line begins behind the end of the one before it.
     while from <= file.len() {
         let start = from;
         let end = table::line_end(file, start);
@@ -80,16 +81,12 @@ fn put_set(
     ensures { Puts 0 (clash_lines numbers (formulas_of (rules_of table)) set) out.old out.new result }
 {
     let mut end: usize = 0;
-    let mut i: usize = 0;
-    while i < count {
-        let here = i;
-        let needed = set[here];
-        let number = numbers[here];
-        i += 1;
+    for i in 0..count {
+        let needed = set[i];
         if !needed {
             continue;
         }
-        end = put_rule(table, here, number, out, end);
+        end = put_rule(table, i, numbers[i], out, end);
     }
     end
 }

@@ -15,7 +15,7 @@ use Rattle.contact.specs.Numbering.{names_of, numbered_atoms, row_atoms, map_for
 use Rattle.contact.specs.Row.{Row}
 use Rattle.contact.specs.Check.{first_row, first_row_of}
 use Rattle.contact.proofs.Claims.{numbered_below}
-use Rattle.solver.specs.declared.RowAnswer.{RowAnswer}
+use Rattle.std.specs.Option.{is_some}
 use Rattle.solver.specs.Coded.{CodedFrom, Coded}
 use Rattle.solver.specs.Tree.{ComesFrom, Runnable, answer_for, FirstRowSays}
 use Rattle.solver.proofs.Claims.{runnable, answer_is}
@@ -24,14 +24,15 @@ use Rattle.ruleset.specs.Texts.{CompiledRules, FirstRowIs}
 use Rattle.ruleset.proofs.Claims.{comes_from, may_run}
 use Rattle.clashing.specs.Clash.{chosen}
 use Rattle.clashing.specs.Clashing.{is_found, clash_from, clash_of}
-use Rattle.clashing.specs.declared.Clashed.{Clashed}
-use Rattle.clashing.specs.Steps.{found_row, KeptIs, Clashes, ClashIs}
+use Rattle.std.specs.Prelude.{Option, Result, Ok, Err}
+use Rattle.clashing.specs.declared.NoClash.{NoClash}
+use Rattle.clashing.specs.Steps.{KeptIs, Clashes, ClashIs}
 use Rattle.clashing.proofs.Choosing.{chosen_behind, chosen_short}
 use Rattle.clashing.proofs.Meeting.{found_no_rules}
 
 -- ---- one search
 
-row_found : (l : List Row) → found_row (answer_for l) ≡ is_found l
+row_found : (l : List Row) → is_some (answer_for l) ≡ is_found l
 row_found [] = refl
 row_found (row ∷ l) = refl
 
@@ -49,10 +50,10 @@ module _ (rules : List (Formula Name)) (c : Compiling) (kept code : List ℕ) (h
   chosen_run = runnable from_chosen (may_run rules c kept code h).atoms_fit
 
   -- and answers for them
-  pub chosen_found : (r : RowAnswer) → FirstRowSays plain out ends c.known.atoms.chart r
-      → found_row r ≡ is_found (first_row plain (length (names_of rules)) (row_atoms rules) nums)
+  pub chosen_found : (r : Option ℕ) → FirstRowSays plain out ends c.known.atoms.chart r
+      → is_some r ≡ is_found (first_row plain (length (names_of rules)) (row_atoms rules) nums)
   chosen_found r says =
-      ap found_row
+      ap is_some
       (answer_is plain out ends c.known.atoms.chart r says (row_atoms rules) nums from_chosen
       ∙ ap (λ (n : ℕ). answer_for (first_row plain n (row_atoms rules) nums)) h.known.names_counted)
       ∙ row_found (first_row plain (length (names_of rules)) (row_atoms rules) nums)
@@ -145,26 +146,26 @@ module _ (rules : List (Formula Name)) where
 
 -- ---- the answer
 
-module _ (c : Compiling) (code : List ℕ) (before : List Bool) (r : RowAnswer) (first : FirstRowIs plain c code r) where
+module _ (c : Compiling) (code : List ℕ) (before : List Bool) (r : Option ℕ) (first : FirstRowIs plain c code r) where
   module _ (rules : List (Formula Name)) (kept : List ℕ) (h : CompiledRules rules c kept code) where
-    rows_found : found_row r ≡ is_found (first_row_of plain rules)
+    rows_found : is_some r ≡ is_found (first_row_of plain rules)
     unfolding FirstRowIs
-    rows_found = ap found_row (first rules kept h) ∙ row_found (first_row_of plain rules)
+    rows_found = ap is_some (first rules kept h) ∙ row_found (first_row_of plain rules)
 
     as_many : c.known.count ≡ length (clash_of rules)
     as_many = h.known.counted ∙ sym (clash_long (length (names_of rules)) (row_atoms rules) [] (numbered_atoms rules) ∙ length-map rules (map_form (atom_number rules)))
 
   -- a plan exists
-  pub clash_plan : found_row r ≡ true → ClashIs c code before before Clashed.PlanExists
+  pub clash_plan : is_some r ≡ true → ClashIs c code before before (Err NoClash.PlanExists)
   unfolding ClashIs
   clash_plan e rules kept h = go (first_row_of plain rules) (sym (rows_found rules kept h) ∙ e)
     where
-      go : (l : List Row) → is_found l ≡ true → Clashes l (clash_of rules) before before Clashed.PlanExists
+      go : (l : List Row) → is_found l ≡ true → Clashes l (clash_of rules) before before (Err NoClash.PlanExists)
       go [] k = clash k refl
       go (row ∷ l) k = (refl, refl)
 
   -- or none does
-  module _ (none : found_row r ≡ false) (after : List Bool) (a : Clashed) where
+  module _ (none : is_some r ≡ false) (after : List Bool) (a : Result ℕ NoClash) where
     pub clash_none : ((s : List Bool) → c.known.count ≡ length s → ((rules : List (Formula Name)) (kept : List ℕ) → CompiledRules rules c kept code → s ≡ clash_of rules → Clashes [] s before after a))
         → ClashIs c code before after a
     unfolding ClashIs
@@ -175,20 +176,20 @@ module _ (c : Compiling) (code : List ℕ) (before : List Bool) (r : RowAnswer) 
         go (row ∷ l) k = clash refl k
 
   -- and there are too few places
-  pub clash_few : found_row r ≡ false → length before < c.known.count → ClashIs c code before before (Clashed.Short c.known.count)
+  pub clash_few : is_some r ≡ false → length before < c.known.count → ClashIs c code before before (Err (NoClash.Short c.known.count))
   clash_few none l =
-      clash_none none before (Clashed.Short c.known.count)
-      (λ s m rules kept h e. (λ fits. absurd (omega arith), λ k. (ap Clashed.Short m, refl)))
+      clash_none none before (Err (NoClash.Short c.known.count))
+      (λ s m rules kept h e. (λ fits. absurd (omega arith), λ k. (ap (λ (n : ℕ). Err (NoClash.Short n)) m, refl)))
 
   -- or enough
-  pub clash_placed : found_row r ≡ false → c.known.count ≤ length before → (s after : List Bool) → KeptIs c code s → after ≡ take c.known.count s ++ drop c.known.count before
-      → ClashIs c code before after (Clashed.Places c.known.count)
+  pub clash_placed : is_some r ≡ false → c.known.count ≤ length before → (s after : List Bool) → KeptIs c code s → after ≡ take c.known.count s ++ drop c.known.count before
+      → ClashIs c code before after (Ok c.known.count)
   unfolding KeptIs
   clash_placed none l s after says put =
-      clash_none none after (Clashed.Places c.known.count)
+      clash_none none after (Ok c.known.count)
       (λ t m rules kept h e. (
         λ fits. (
-          ap Clashed.Places m,
+          ap Ok m,
           put ∙ ap₂ (λ (u : List Bool) (n : ℕ). u ++ drop n before) (ap (take c.known.count) (says rules kept h)
               ∙ take_at (clash_of rules) (replicate (16 - length rules) true) c.known.count (sym (as_many rules kept h)) ∙ sym e) m,
         ),

@@ -8,16 +8,14 @@ ghost use Rattle.std.specs.Prelude.{◌≡◌, ◌++◌, ◌+◌, ◌≤◌, len
 ghost use Rattle.std.proofs.lemmas.List.Edits.{sets};
 ghost use Rattle.solver.specs.Coded.{SafeFrom};
 ghost use Rattle.ruleset.specs.Texts.{Whole};
-ghost use Rattle.clashing.specs.Steps.{PutsChosen, found_row, SomeFloorSays, KeptIs, ClashIs};
+ghost use Rattle.clashing.specs.Steps.{PutsChosen, SomeFloorSays, KeptIs, ClashIs};
 
 use ruleset::Compiling;
 use search::Asked;
-use solver::RowAnswer;
 
-// What is answered: which rules clash, at so many places, that a plan exists, or the places needed.
+// Why which rules clash is not said: a plan exists, or there are too few places, with how many are needed.
 #[derive(Clone, Copy)]
-pub enum Clashed {
-    Places(usize),
+pub enum NoClash {
     PlanExists,
     Short(usize),
 }
@@ -37,12 +35,9 @@ fn put_part(part: &[u8], out: &mut [u8], at: usize) -> usize
     requires { at + length part.now ≤ length out.old }
     ensures { (result ≡ at + length part.now) × (out.new ≡ sets out.old at part.now) }
 {
-    let mut i: usize = 0;
-    while i < part.len() {
-        out[at + i] = part[i];
-        i += 1;
-    }
-    at + i
+    let end = at + part.len();
+    out[at..end].copy_from_slice(part);
+    end
 }
 
 // The code of the rules of the set, one behind the other.
@@ -54,13 +49,11 @@ fn put_chosen(code: &[u8], ends: &[usize], set: [bool; RULES], out: &mut [u8]) -
     let mut count: usize = 0;
     let mut at: usize = 0;
     let mut from: usize = 0;
-    let mut i: usize = 0;
-    while i < ends.len() {
+    for i in 0..ends.len() {
         let start = from;
         let end = ends[i];
         let needed = set[i];
         from = end;
-        i += 1;
         if !needed {
             continue;
         }
@@ -71,16 +64,6 @@ fn put_chosen(code: &[u8], ends: &[usize], set: [bool; RULES], out: &mut [u8]) -
     Chosen {
         ends: chosen,
         count,
-    }
-}
-
-// Whether the search found a row.
-fn is_found(found: RowAnswer) -> bool
-    ensures { result ≡ found_row found }
-{
-    match found {
-        RowAnswer::At(_) => true,
-        RowAnswer::Nothing => false,
     }
 }
 
@@ -99,7 +82,7 @@ fn some_floor(c: Compiling, code: &[u8], set: [bool; RULES], room: &mut [u8]) ->
     }
     let chart = c.known.atoms.chart;
     let found = solver::first_row(room, &ends[..count], chart, Asked::Plain);
-    is_found(found)
+    found.is_some()
 }
 
 // Which of the compiled rules are kept: true for each. Room for their code is lent.
@@ -108,9 +91,7 @@ fn kept(c: Compiling, code: &[u8], room: &mut [u8]) -> [bool; RULES]
     ensures { KeptIs c code.now result }
 {
     let mut set = [true; RULES];
-    let mut i = c.known.count;
-    while 0 < i {
-        i -= 1;
+    for i in (0..c.known.count).rev() {
         set[i] = false;
         let needed = some_floor(c, code, set, room);
         set[i] = needed;
@@ -123,28 +104,29 @@ fn put_set(set: [bool; RULES], count: usize, places: &mut [bool])
     requires { (count ≤ 16) × (count ≤ length places.old) }
     ensures { places.new ≡ take count set ++ drop count places.old }
 {
-    let mut i: usize = 0;
-    while i < count {
-        places[i] = set[i];
-        i += 1;
-    }
+    places[..count].copy_from_slice(&set[..count]);
 }
 
 // Which of the compiled rules clash: where no floor meets them all, a place for each rule over the first places that are lent, true for those that
-// clash. Nothing more is searched where a plan exists or the places are too few; then they keep their values.
-pub fn clash(c: Compiling, code: &[u8], room: &mut [u8], places: &mut [bool]) -> Clashed
+// clash; how many places. Nothing more is searched where a plan exists or the places are too few; then they keep their values.
+pub fn clash(
+    c: Compiling,
+    code: &[u8],
+    room: &mut [u8],
+    places: &mut [bool],
+) -> Result<usize, NoClash>
     requires { Whole c code.now × (length code.now ≤ length room.old) }
     ensures { ClashIs c code.now places.old places.new result }
 {
     let found = ruleset::row_of(c, code, Asked::Plain);
-    if is_found(found) {
-        return Clashed::PlanExists;
+    if found.is_some() {
+        return Err(NoClash::PlanExists);
     }
     let count = c.known.count;
     if places.len() < count {
-        return Clashed::Short(count);
+        return Err(NoClash::Short(count));
     }
     let set = kept(c, code, room);
     put_set(set, count, places);
-    Clashed::Places(count)
+    Ok(count)
 }

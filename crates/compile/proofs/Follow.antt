@@ -1,5 +1,6 @@
 -- The loop follows the machine: after i symbols its stack, its row, its arrays and its code are those of the machine's state, for
 -- every formula, numbering and atoms that were given. Each turn is one symbol. Assumes nothing.
+use Rattle.std.specs.Prelude.{None, Some}
 use mathlib.Core.Bool.{true, false}
 use mathlib.Core.Path.{◌≡◌, refl, sym, ap, ap₂, subst, ◌∙◌}
 use mathlib.Core.List.{List, [], ◌∷◌, ◌++◌, map}
@@ -36,7 +37,7 @@ use Rattle.compile.specs.Stack.{Roomy}
 use Rattle.compile.proofs.Orders.{run_last, run_append, formula_run, Bounds, run_bounds}
 use Rattle.compile.proofs.Heights.{symbol_at, Finds, order_fine}
 use Rattle.compile.proofs.Placing.{Holds, Shows, seventeen}
-use Rattle.compile.proofs.Turns.{Written, Turns}
+use Rattle.compile.proofs.Turns.{Turned, Written, Turns}
 use Rattle.compile.proofs.Steps.{Stacked, spelled_all, Put, term_step, Made, atom_step, sign_step, names_by_lem, no_name, one_at_most, symbol_small}
 
 -- ---- the names of an order
@@ -103,20 +104,20 @@ pub record Waits (stack : List EvalSet) (row : List ℕ) (height len : ℕ) (ts 
   pub spells : take len row ≡ spelled_all ts
 
 -- the rule, from the one before, is that of the atoms and the code
-pub record Grown (before : CompiledRule) (buf kept out : List ℕ) (rule : CompiledRule) (s : State) : Type 0 where
+pub record Grown (before : Turned) (buf kept out : List ℕ) (rule : Turned) (s : State) : Type 0 where
   pub named : rule.atoms.chart.names ≡ before.atoms.chart.names
   pub holds : Holds rule.atoms kept s.atoms
   pub ends : rule.end ≡ before.end + length s.code
   pub wrote : out ≡ sets buf before.end s.code
 
 -- the loop's values are those of the machine's state s, where so many names are passed
-pub record Follows (before : CompiledRule) (buf : List ℕ) (s : State) (count : ℕ) (kept out : List ℕ) (rule : CompiledRule) (stack : List EvalSet)
+pub record Follows (before : Turned) (buf : List ℕ) (s : State) (count : ℕ) (kept out : List ℕ) (rule : Turned) (stack : List EvalSet)
     (row : List ℕ) (height len used : ℕ) : Type 0 where
   pub waits : Waits stack row height len s.terms
   pub counted : used ≡ count
   pub grown : Grown before buf kept out rule s
 
-pub record Inv (order numbers : List ℕ) (before : CompiledRule) (keeping buf kept out : List ℕ) (rule : CompiledRule) (stack : List EvalSet)
+pub record Inv (order numbers : List ℕ) (before : Turned) (keeping buf kept out : List ℕ) (rule : Turned) (stack : List EvalSet)
     (row : List ℕ) (height len used i : ℕ) : Type 0 where
   pub within : i ≤ length order
   pub roomy : Roomy order stack
@@ -130,7 +131,7 @@ pub record Inv (order numbers : List ℕ) (before : CompiledRule) (keeping buf k
 
 -- ---- before the first symbol
 
-pub begins : (order numbers : List ℕ) (before : CompiledRule) (keeping buf : List ℕ) (stack : List EvalSet) (row : List ℕ) → Roomy order stack
+pub begins : (order numbers : List ℕ) (before : Turned) (keeping buf : List ℕ) (stack : List EvalSet) (row : List ℕ) → Roomy order stack
     → length row ≡ 256 → before.enough ≡ true → Inv order numbers before keeping buf keeping buf before stack row 0 0 0 0
 unfolding run names_among
 begins order numbers before keeping buf stack row w l b =
@@ -179,7 +180,7 @@ none_wait : (stack : List EvalSet) (row : List ℕ) (h : ℕ) (ts : List (Term �
 none_wait stack row h [] e l = record { high = e; stacked = tt; spells = refl }
 none_wait stack row h (t ∷ ts) e l = absurd (omega arith)
 
-module _ {order numbers : List ℕ} {before : CompiledRule} {keeping buf kept out : List ℕ} {rule : CompiledRule} {stack : List EvalSet}
+module _ {order numbers : List ℕ} {before : Turned} {keeping buf kept out : List ℕ} {rule : Turned} {stack : List EvalSet}
     {row : List ℕ} {height len used i : ℕ} (q : Asked order numbers before.atoms keeping buf before.end)
     (inv : Inv order numbers before keeping buf kept out rule stack row height len used i) where
   abbrev first_follows : Follows before buf (reached q.formula q.numbering q.atoms i) (passed (postfix q.formula) i) kept out rule stack row height len used
@@ -244,7 +245,7 @@ module _ {order numbers : List ℕ} {before : CompiledRule} {keeping buf kept ou
     -- ---- a turn
 
     -- the next symbol, once the values are those of the state after it
-    next : {kept' out' : List ℕ} {rule' : CompiledRule} {stack' : List EvalSet} {row' : List ℕ} {height' len' used' : ℕ} → Roomy order stack' → length row' ≡ 256
+    next : {kept' out' : List ℕ} {rule' : Turned} {stack' : List EvalSet} {row' : List ℕ} {height' len' used' : ℕ} → Roomy order stack' → length row' ≡ 256
         → length out' ≡ length buf → len' ≤ i + 1 → ((v : ℕ) → In v (take len' row') → v < 16) → rule'.enough ≡ true
         → ((f : Formula Name) (g : Name → ℕ) (atoms : List (Atom ℕ)) → Given order numbers before.atoms keeping f g atoms → kind ≡ code (symbol_at (postfix f) i)
         → Finds g (start atoms) (take i (postfix f)) (symbol_at (postfix f) i)
@@ -353,7 +354,7 @@ module _ {order numbers : List ℕ} {before : CompiledRule} {keeping buf kept ou
             let H = first_follows.grown.holds in
             (record { atoms = _; atom = M.atom; counted = H.compiled.counted; keeps = H.keeps; spells = M.shows.spells }, omega (arith, inv.behind, q.short))
 
-        module _ {kept' out' : List ℕ} {rule' : CompiledRule} (says : Turns rule kept out row len kind (mem_at stack h) (mem_at stack (h + 1)) rule' kept' out') where
+        module _ {kept' out' : List ℕ} {rule' : Turned} (says : Turns rule kept out row len kind (mem_at stack h) (mem_at stack (h + 1)) rule' kept' out') where
           -- outside of terms no name is passed
           no_more : (n : ℕ) → used ≡ n → used ≡ n + names_by kind
           no_more n e = omega (arith, no_name kind t)
@@ -408,7 +409,7 @@ module _ {order numbers : List ℕ} {before : CompiledRule} {keeping buf kept ou
               (λ f g atoms G e found F. cases (atom_kind kind) (of_atom G found F b) (of_sign G found F))
 
           -- where sixteen atoms are not enough
-          pub refused : rule'.enough ≡ false → Compiles order numbers before.atoms keeping buf before.end rule' kept' out'
+          pub refused : rule'.enough ≡ false → Compiles order numbers before.atoms keeping buf before.end None kept' out'
           unfolding Compiles
           refused b f g atoms G =
               let S : State = reached f g atoms i in
@@ -423,25 +424,24 @@ module _ {order numbers : List ℕ} {before : CompiledRule} {keeping buf kept ou
                 ap (λ (s : State). length s.atoms) (reached_next f g atoms i z ∙ M.made),
                 (reached_on f g atoms (i + 1)).more,
               ) in
-              (b ∙ sym (lt-leb (length (atoms_after g f atoms)) 16 many), λ y. clash y b)
+              (sym (lt-leb (length (atoms_after g f atoms)) 16 many), tt)
 
 -- ---- past the last symbol
 
-pub finished : {order numbers : List ℕ} {before : CompiledRule} {keeping buf kept out : List ℕ} {rule : CompiledRule} {stack : List EvalSet}
+pub finished : {order numbers : List ℕ} {before : Turned} {keeping buf kept out : List ℕ} {rule : Turned} {stack : List EvalSet}
     {row : List ℕ} {height len used i : ℕ} → Inv order numbers before keeping buf kept out rule stack row height len used i → length order ≤ i
-    → Compiles order numbers before.atoms keeping buf before.end rule kept out
+    → Compiles order numbers before.atoms keeping buf before.end (Some (record { atoms = rule.atoms; end = rule.end })) kept out
 unfolding Compiles
 finished {order} {numbers} {before} {keeping} {buf} {kept} {out} {rule} {stack} {row} {height} {len} {used} {i} inv past f g atoms G =
     let F = inv.follows f g atoms G in
     let z : reached f g atoms i ≡ last f g atoms = reached_end f g atoms i (omega (arith, inv.within, same_length G)) in
     let H : Holds rule.atoms kept (atoms_after g f atoms) = subst (λ (s : State). Holds rule.atoms kept s.atoms) z F.grown.holds in (
-      inv.going ∙ sym (le-leb (length (atoms_after g f atoms)) 16 H.compiled.few),
-      λ y.
-          record {
-            names_kept = F.grown.named;
-            compiled = H.compiled;
-            keeps = H.keeps;
-            ends = F.grown.ends ∙ ap (λ (s : State). before.end + length s.code) z;
-            wrote = F.grown.wrote ∙ ap (λ (s : State). sets buf before.end s.code) z;
-          },
+      sym (le-leb (length (atoms_after g f atoms)) 16 H.compiled.few),
+      record {
+        names_kept = F.grown.named;
+        compiled = H.compiled;
+        keeps = H.keeps;
+        ends = F.grown.ends ∙ ap (λ (s : State). before.end + length s.code) z;
+        wrote = F.grown.wrote ∙ ap (λ (s : State). sets buf before.end s.code) z;
+      },
     )

@@ -16,23 +16,32 @@ use Rattle.formula.specs.Same.{same_atom}
 use Rattle.contact.proofs.Distinct.{position_most}
 use Rattle.search.specs.declared.Chart.{Chart}
 use Rattle.kleene.specs.Code.{atom_sign}
-use Rattle.compile.specs.declared.CompiledRule.{CompiledRule}
+use Rattle.compile.specs.declared.Atoms.{Atoms}
 use Rattle.compile.specs.Kinds.{atom_kind, first_by, second_by, sign_by}
 use Rattle.compile.specs.Chart.{Grows}
 use Rattle.compile.specs.Machine.{with_put, place_in}
-use Rattle.compile.specs.Compiles.{atoms_with, rule_with}
+use Rattle.compile.specs.Compiles.{atoms_with}
 use Rattle.compile.specs.Signs.{Signs}
 use Rattle.compile.proofs.Placing.{Holds, Shows, held_again, held_more}
 
+-- a rule on the way: its atoms, where its code ends, and whether sixteen atoms are enough so far
+pub record Turned : Type 0 where
+  pub atoms : Atoms
+  pub end : ℕ
+  pub enough : Bool
+
+abbrev pub turned : Chart → List ℕ → ℕ → Bool → Turned
+turned chart lens end enough = record { atoms = atoms_with chart lens; end = end; enough = enough }
+
 -- the sign v is written behind those before
-pub record Written (before r : CompiledRule) (buf : List ℕ) (v : ℕ) (out : List ℕ) : Type 0 where
+pub record Written (before r : Turned) (buf : List ℕ) (v : ℕ) (out : List ℕ) : Type 0 where
   pub names_kept : r.atoms.chart.names ≡ before.atoms.chart.names
   pub ends : r.end ≡ before.end + 1
   pub wrote : out ≡ set buf before.end v
 
 -- the sign of an atom is its number's, and its atom stands behind those before, or it is the seventeenth; another sign leaves the atoms as
 -- they were
-pub record Turns (before : CompiledRule) (kept buf row : List ℕ) (len kind : ℕ) (x y : ℕ → Bool) (r : CompiledRule) (keptOut out : List ℕ) : Type 0 where
+pub record Turns (before : Turned) (kept buf row : List ℕ) (len kind : ℕ) (x y : ℕ → Bool) (r : Turned) (keptOut out : List ℕ) : Type 0 where
   pub long : length out ≡ length buf
   pub atom_put : atom_kind kind ≡ true → r.enough ≡ true → (atoms : List (Atom ℕ)) (a : Atom ℕ) → Holds before.atoms kept atoms
       → Shows row len kind x y a → Written before r buf (atom_sign (place_in atoms a)) out × Holds r.atoms keptOut (with_put atoms a)
@@ -60,7 +69,7 @@ module _ (chart : Chart) (lens : List ℕ) {kept row : List ℕ} {len kind sign 
   place_is k atoms a H S = says.placed k atoms a H.compiled.counted H.keeps S.spells
 
   module _ (end : ℕ) (buf : List ℕ) (x y : ℕ → Bool) where
-    pub seventeenth : 23 ≤ sign → Turns (rule_with chart lens end true) kept buf row len kind x y (rule_with chart lensOut end false) keptOut buf
+    pub seventeenth : 23 ≤ sign → Turns (turned chart lens end true) kept buf row len kind x y (turned chart lensOut end false) keptOut buf
     seventeenth l =
         record {
           long = refl;
@@ -74,7 +83,7 @@ module _ (chart : Chart) (lens : List ℕ) {kept row : List ℕ} {len kind sign 
 
     -- no atom is made, or one that the arrays hold
     pub no_more : (sign ≡ 7 + chart.atoms → ⊥)
-        → Turns (rule_with chart lens end true) kept buf row len kind x y (rule_with chart lensOut (end + 1) true) keptOut (set buf end sign)
+        → Turns (turned chart lens end true) kept buf row len kind x y (turned chart lensOut (end + 1) true) keptOut (set buf end sign)
     no_more n =
         let same = says.same n in
         let still : (atoms : List (Atom ℕ)) → Holds (atoms_with chart lens) kept atoms → Holds (atoms_with chart lensOut) keptOut atoms
@@ -94,7 +103,7 @@ module _ (chart : Chart) (lens : List ℕ) {kept row : List ℕ} {len kind sign 
     -- an atom more
     pub one_more : {grown : Chart} → sign ≡ 7 + chart.atoms → sign < 23 → length lens ≡ 16
         → Grows chart grown (eqb kind 14) (first_by kind x y) (second_by kind y)
-        → Turns (rule_with chart lens end true) kept buf row len kind x y (rule_with grown lensOut (end + 1) true) keptOut (set buf end sign)
+        → Turns (turned chart lens end true) kept buf row len kind x y (turned grown lensOut (end + 1) true) keptOut (set buf end sign)
     one_more {grown} z few long grows =
         let T = says.stored z (omega arith) in
         record {

@@ -1,6 +1,6 @@
 -- For proofs: the contract of `compile_rule`, which only our own crates call: what the compiler is asked and answers, over every formula,
 -- numbering of its names, and list of atoms before it. Assumes nothing.
-use Rattle.std.specs.Prelude.{Bool, true, ◌≡◌, ℕ, ◌+◌, ◌≤◌, ◌<◌, leb, length}
+use Rattle.std.specs.Prelude.{Option, IfSome, is_some, ◌≡◌, ℕ, ◌+◌, ◌≤◌, ◌<◌, leb, length}
 use mathlib.Core.List.{List, map, foldl}
 use Rattle.std.proofs.lemmas.List.Edits.{sets}
 use Rattle.lists.specs.Search.{In}
@@ -23,8 +23,8 @@ use Rattle.compile.specs.Machine.{with_put, place_in}
 abbrev pub atoms_with : Chart → List ℕ → Atoms
 atoms_with chart lens = record { chart = chart; lens = lens }
 
-abbrev pub rule_with : Chart → List ℕ → ℕ → Bool → CompiledRule
-rule_with chart lens end enough = record { atoms = atoms_with chart lens; end = end; enough = enough }
+abbrev pub rule_with : Chart → List ℕ → ℕ → CompiledRule
+rule_with chart lens end = record { atoms = atoms_with chart lens; end = end }
 
 -- the atoms once those of the formula, its names numbered by g, are put behind them: "atoms that are the same count as one"
 abbrev pub atoms_after : (Name → ℕ) → Formula Name → List (Atom ℕ) → List (Atom ℕ)
@@ -63,8 +63,8 @@ pub record Result (f : Formula Name) (g : Name → ℕ) (atoms : List (Atom ℕ)
   pub ends : r.end ≡ from + length (code_after g f atoms)
   pub wrote : out ≡ sets buf from (code_after g f atoms)
 
--- for each formula, numbering and atoms that were given, the answer says whether sixteen atoms are enough, and is right where they are
-unfoldable pub Compiles : List ℕ → List ℕ → Atoms → List ℕ → List ℕ → ℕ → CompiledRule → List ℕ → List ℕ → Type 0
+-- for each formula, numbering and atoms that were given, there is an answer exactly if sixteen atoms are enough, and it is right
+unfoldable pub Compiles : List ℕ → List ℕ → Atoms → List ℕ → List ℕ → ℕ → Option CompiledRule → List ℕ → List ℕ → Type 0
 Compiles order numbers a kept buf from r keptOut out =
     (f : Formula Name) (g : Name → ℕ) (atoms : List (Atom ℕ)) → Given order numbers a kept f g atoms
-    → (r.enough ≡ leb (length (atoms_after g f atoms)) 16) × (r.enough ≡ true → Result f g atoms a buf from r keptOut out)
+    → (is_some r ≡ leb (length (atoms_after g f atoms)) 16) × IfSome r (λ c. Result f g atoms a buf from c keptOut out)

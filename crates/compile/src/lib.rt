@@ -28,13 +28,11 @@ pub struct Atoms {
     pub lens: [u8; ATOMS],
 }
 
-// The atoms with the rule's behind them, the place after the rule's code, and whether sixteen atoms are enough. Where they are
-// not, nothing is said of the rest.
+// The atoms with the rule's behind them, and the place after the rule's code.
 #[derive(Clone, Copy)]
 pub struct CompiledRule {
     pub atoms: Atoms,
     pub end: usize,
-    pub enough: bool,
 }
 
 // The code of the number 16, which a seventeenth atom would have.
@@ -59,41 +57,31 @@ pub fn no_atoms() -> Atoms
 }
 
 // How many sets a token takes off the stack.
+#[tactic(auto, unfolding(crate::specs::Kinds::taken_by))]
 fn taken(kind: u8) -> usize
     ensures { result ≡ taken_by kind }
 {
     match kind {
-        PLUS => 2,
-        TIMES => 2,
-        CONTACT => 2,
-        PART => 2,
-        MINUS => 1,
-        IS_ZERO => 1,
+        PLUS | TIMES | CONTACT | PART => 2,
+        MINUS | IS_ZERO => 1,
         _ => 0,
     }
 }
 
 // Whether a token belongs to a term: a sign of terms, or 0, 1 or a name, whose kinds are the last.
+#[tactic(auto, unfolding(crate::specs::Kinds::term_kind))]
 fn is_term(kind: u8) -> bool
     ensures { result ≡ term_kind kind }
 {
-    match kind {
-        PLUS => true,
-        TIMES => true,
-        MINUS => true,
-        _ => ZERO <= kind,
-    }
+    matches!(kind, PLUS | TIMES | MINUS) || ZERO <= kind
 }
 
 // Whether a token makes an atom.
+#[tactic(auto, unfolding(crate::specs::Kinds::atom_kind))]
 pub fn is_atom(kind: u8) -> bool
     ensures { result ≡ atom_kind kind }
 {
-    match kind {
-        IS_ZERO => true,
-        CONTACT => true,
-        _ => kind == PART,
-    }
+    matches!(kind, IS_ZERO | CONTACT | PART)
 }
 
 // How many names a token is.
@@ -231,11 +219,11 @@ fn signed(
 }
 
 // What is compiled of a rule.
-fn whole(chart: Chart, lens: [u8; ATOMS], end: usize, enough: bool) -> CompiledRule
-    ensures { result ≡ rule_with chart lens end enough }
+fn whole(chart: Chart, lens: [u8; ATOMS], end: usize) -> CompiledRule
+    ensures { result ≡ rule_with chart lens end }
 {
     let atoms = Atoms { chart, lens };
-    CompiledRule { atoms, end, enough }
+    CompiledRule { atoms, end }
 }
 
 // How far the terms are passed: how many sets are on the stack, symbols in the row, and names behind.
@@ -283,8 +271,9 @@ fn term_passed(
     }
 }
 
-// The rule with the signs of this order behind it. Where a sign of the formula stands, the terms of its atom are all that is on the stack,
-// and so their symbols are all that is in the row. The chart is changed in place, since to hand it on would copy it.
+// The rule with the signs of this order behind it, if sixteen atoms are enough. Where a sign of the formula stands, the terms of its atom
+// are all that is on the stack, and so their symbols are all that is in the row. The chart is changed in place, since to hand it on would
+// copy it.
 fn order_passed(
     order: &[u8],
     numbers: &[u8],
@@ -294,7 +283,7 @@ fn order_passed(
     code: &mut [u8],
     mut end: usize,
     stack: &mut [u64],
-) -> CompiledRule
+) -> Option<CompiledRule>
     requires { Asked order.now numbers.now (atoms_with chart lens) kept.old code.old end × Roomy order.now (sets_in stack.old) }
     ensures { Compiles order.now numbers.now (atoms_with chart lens) kept.old code.old end result kept.new code.new × (length code.new ≡ length code.old) }
 {
@@ -309,7 +298,7 @@ fn order_passed(
         let many = chart.atoms;
         let sign = signed(kept, &mut lens, &chart.contact, many, &row, at.len, kind);
         if SEVENTEENTH <= sign {
-            return whole(chart, lens, end, false);
+            return None;
         }
         code[end] = sign;
         end += 1;
@@ -322,11 +311,12 @@ fn order_passed(
         chart.ys[many] = second_set(kind, set_at(stack, 1));
         chart.atoms = many + 1;
     }
-    whole(chart, lens, end, true)
+    Some(whole(chart, lens, end))
 }
 
 // The rule with this order, whose names have these numbers at their places: its atoms go behind those before where they are none
-// of them, its code into the array from a place on. The requires asks for the order of a formula, compiled atoms, and room for
+// of them, its code into the array from a place on. None where sixteen atoms are not enough: then nothing is said of what the arrays
+// hold. The requires asks for the order of a formula, compiled atoms, and room for
 // the code: a caller has them of what was read (`order_read` and `order_short` of proofs/Claims.antt). The stack has words for 24 sets
 // or for 172, as the order asks (`Roomy` of specs/Stack.antt): most rules are short. The words are whichever, and where they are many
 // not zero, since the C library clears so many bytes by an instruction that counts once a byte.
@@ -337,7 +327,7 @@ pub fn compile_rule(
     kept: &mut [u8; 2048],
     code: &mut [u8],
     from: usize,
-) -> CompiledRule
+) -> Option<CompiledRule>
     requires { Asked order.now numbers.now before kept.old code.old from }
     ensures { Compiles order.now numbers.now before kept.old code.old from result kept.new code.new × (length code.new ≡ length code.old) }
 {

@@ -10,7 +10,7 @@ use lib.ListN.{length, get_or, length-append, length-drop}
 use Rattle.lexer.specs.Token.{Token, bytes_of}
 use Rattle.lexer.specs.Cutting.{Cutting, tokens, refused, with_token, Every, Cut}
 use Rattle.lexer.proofs.Pieces.{starts_fits}
-use Rattle.lexer.specs.declared.LexAnswer.{LexAnswer}
+use Rattle.lexer.specs.declared.LexError.{LexError}
 use Rattle.formula.specs.Formula.{Name}
 use Rattle.syntax.specs.Symbol.{symbol_of, symbol_names}
 use Rattle.syntax.specs.RuleText.{Answers}
@@ -23,13 +23,12 @@ use Rattle.drawing.specs.Drawing.{Small, Fits}
 -- ---- places
 
 -- every place of a cut is within the text
-abbrev Place : ℕ → LexAnswer → Type 0
-Place n LexAnswer.Tokens = Unit {0}
-Place n LexAnswer.TooLong = Unit {0}
-Place n LexAnswer.NoToken = Unit {0}
-Place n (LexAnswer.ForeignByte i) = i ≤ n
-Place n (LexAnswer.LongName i) = i ≤ n
-Place n (LexAnswer.Measured i) = i ≤ n
+abbrev Place : ℕ → LexError → Type 0
+Place n LexError.TooLong = Unit {0}
+Place n LexError.NoToken = Unit {0}
+Place n (LexError.ForeignByte i) = i ≤ n
+Place n (LexError.LongName i) = i ≤ n
+Place n (LexError.Measured i) = i ≤ n
 
 abbrev Starts : ℕ → List Token → Type 0
 Starts n ts = Every (λ (t : Token). t.start ≤ n) ts
@@ -42,13 +41,12 @@ with_token_lem : (n : ℕ) (t : Token) (r : Cutting) → t.start ≤ n → Withi
 with_token_lem n t (tokens ts) h w = (h, w)
 with_token_lem n t (refused a) h w = w
 
-wider_place : (m n : ℕ) → m ≤ n → (a : LexAnswer) → Place m a → Place n a
-wider_place m n h LexAnswer.Tokens w = w
-wider_place m n h LexAnswer.TooLong w = w
-wider_place m n h LexAnswer.NoToken w = w
-wider_place m n h (LexAnswer.ForeignByte i) w = omega arith
-wider_place m n h (LexAnswer.LongName i) w = omega arith
-wider_place m n h (LexAnswer.Measured i) w = omega arith
+wider_place : (m n : ℕ) → m ≤ n → (a : LexError) → Place m a → Place n a
+wider_place m n h LexError.TooLong w = w
+wider_place m n h LexError.NoToken w = w
+wider_place m n h (LexError.ForeignByte i) w = omega arith
+wider_place m n h (LexError.LongName i) w = omega arith
+wider_place m n h (LexError.Measured i) w = omega arith
 
 wider_starts : (m n : ℕ) → m ≤ n → (ts : List Token) → Starts m ts → Starts n ts
 wider_starts m n h [] w = tt

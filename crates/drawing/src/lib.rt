@@ -46,11 +46,9 @@ fn put_word(word: u32, buffer: &mut [u8], at: usize) -> usize
     requires { at + 4 ≤ length buffer.old }
     ensures { Puts at (word_bytes word) buffer.old buffer.new result }
 {
-    buffer[at] = (word / 0x100_0000 % 256) as u8;
-    buffer[at + 1] = (word / 0x1_0000 % 256) as u8;
-    buffer[at + 2] = (word / 0x100 % 256) as u8;
-    buffer[at + 3] = (word % 256) as u8;
-    at + 4
+    let end = at + 4;
+    buffer[at..end].copy_from_slice(&word.to_be_bytes());
+    end
 }
 
 // Words, one after the other.
@@ -59,10 +57,8 @@ fn put_words(words: &[u32], buffer: &mut [u8]) -> usize
     ensures { Puts 0 (bytes_of words.now) buffer.old buffer.new result }
 {
     let mut end: usize = 0;
-    let mut i: usize = 0;
-    while i < words.len() {
-        end = put_word(words[i], buffer, end);
-        i += 1;
+    for word in words {
+        end = put_word(*word, buffer, end);
     }
     end
 }

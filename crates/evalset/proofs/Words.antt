@@ -92,14 +92,10 @@ module _ (g : Bool → Bool → Bool) (zeros : g false false ≡ false) (a b : E
   abbrev pub OfBoth : ℕ → ℕ → Type 0
   OfBoth k x = (e : ℕ) → bit x e ≡ g (bit (word a k) e) (bit (word b k) e)
 
-  both : (k x : ℕ) → k < 4 → OfBoth k x → Bits (λ e. g (mem a e) (mem b e)) k x
-  both k x l h e m = h e ∙ sym (ap₂ g (mem_word a k e l m) (mem_word b k e l m))
-
-  pub paired : (x y z w : ℕ) → OfBoth 0 x → OfBoth 1 y → OfBoth 2 z → OfBoth 3 w
-      → mem (record { words = x ∷ y ∷ z ∷ w ∷ [] }) ≡ (λ e. g (mem a e) (mem b e))
-  paired x y z w h i j k =
-      made (λ e. g (mem a e) (mem b e)) x y z w (both 0 x (omega arith) h) (both 1 y (omega arith) i) (both 2 z (omega arith) j)
-      (both 3 w (omega arith) k) (λ e l. ap₂ g (mem_above a e l) (mem_above b e l) ∙ zeros)
+  pub paired : (s : EvalSet) → ((k : ℕ) → k < 4 → OfBoth k (word s k)) → mem s ≡ (λ e. g (mem a e) (mem b e))
+  paired s h =
+      by_word s (λ e. g (mem a e) (mem b e)) (λ k e l m. h k l e ∙ sym (ap₂ g (mem_word a k e l m) (mem_word b k e l m)))
+      (λ e l. ap₂ g (mem_above a e l) (mem_above b e l) ∙ zeros)
 
 -- ---- a bit of one word changed
 module _ (h : Bool → Bool → Bool) (keeps : (b : Bool) → h b false ≡ b) (s : EvalSet) (long : length s.words ≡ 4) (i : ℕ)

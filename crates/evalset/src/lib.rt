@@ -9,7 +9,7 @@ ghost use Rattle.std.specs.Prelude.{◌≡◌, not, ◌||◌, ℕ, ◌+◌, ◌*
 ghost use Rattle.lists.specs.Search.{any, first, below};
 ghost use Rattle.evalset.specs.Bit.{word_bits, bit};
 ghost use Rattle.evalset.specs.Most.{most};
-ghost use Rattle.evalset.specs.Sets.{room, mem, none_of, name_in, below_in, full_of, name_set, below_of, meet_of, join_of, minus_of, drop_of, add_of, found_of};
+ghost use Rattle.evalset.specs.Sets.{room, mem, none_of, name_in, below_in, full_of, name_set, below_of, MadeByWords, meet_of, join_of, minus_of, drop_of, add_of, found_of};
 
 // Evaluations are below this.
 pub const ROOM: usize = 256;
@@ -21,13 +21,6 @@ pub const NAMES: usize = 8;
 #[derive(Clone, Copy)]
 pub struct EvalSet {
     pub words: [u64; 4],
-}
-
-// An evaluation, or none.
-#[derive(Clone, Copy)]
-pub enum Found {
-    At(usize),
-    Nothing,
 }
 
 // "The six sets of evaluations in which each name holds": bit e of mask i is bit i of e. Each word of a set has them.
@@ -54,23 +47,20 @@ pub fn word_below(d: usize) -> u64
     ensures { bit result ≡ below_in word_bits d }
 {
     if d < 6 {
-        let one: usize = 1;
-        let word: u64 = 1;
-        (word << (one << d)) - 1
+        (1u64 << (1usize << d)) - 1
     } else {
-        0xFFFF_FFFF_FFFF_FFFF
+        u64::MAX
     }
 }
 
 // The lowest set bit of a word.
-pub fn word_least(w: u64) -> Found
+pub fn word_least(w: u64) -> Option<usize>
     ensures { result ≡ found_of (first (bit w) (below word_bits)) }
 {
     if w == 0 {
-        Found::Nothing
+        None
     } else {
-        let e = u64::trailing_zeros(w) as usize;
-        Found::At(e)
+        Some(w.trailing_zeros() as usize)
     }
 }
 
@@ -78,19 +68,7 @@ pub fn word_least(w: u64) -> Found
 pub fn word_without(w: u64, e: usize) -> u64
     ensures { bit result ≡ drop_of (bit w) e }
 {
-    if e < 64 {
-        let one: u64 = 1;
-        w & !(one << e)
-    } else {
-        w
-    }
-}
-
-// The bits of the first word that are not set in the second.
-fn word_minus(a: u64, b: u64) -> u64
-    ensures { bit result ≡ minus_of (bit a) (bit b) }
-{
-    a & !b
+    if e < 64 { w & !(1u64 << e) } else { w }
 }
 
 // The word and bit e, of which it has 64.
@@ -98,8 +76,7 @@ fn word_with(w: u64, e: usize) -> u64
     requires { e < word_bits }
     ensures { (i : ℕ) → bit result i ≡ (bit w i || eqb i e) }
 {
-    let one: u64 = 1;
-    w | (one << e)
+    w | (1u64 << e)
 }
 
 // ---- sets
@@ -116,7 +93,7 @@ pub fn full() -> EvalSet
     ensures { mem result ≡ full_of }
 {
     EvalSet {
-        words: [0xFFFF_FFFF_FFFF_FFFF; 4],
+        words: [u64::MAX; 4],
     }
 }
 
@@ -128,10 +105,10 @@ pub fn word_of(s: EvalSet, k: usize) -> u64
 }
 
 // The word with every bit where it is wanted, or with none.
-fn all_bits(wanted: bool) -> u64
+pub fn all_bits(wanted: bool) -> u64
     ensures { (e : ℕ) → e < word_bits → bit result e ≡ wanted }
 {
-    if wanted { 0xFFFF_FFFF_FFFF_FFFF } else { 0 }
+    if wanted { u64::MAX } else { 0 }
 }
 
 // Word k of the evaluations in which name i holds: for the first six names a mask, the same in each word; for the seventh and the eighth
@@ -161,7 +138,7 @@ pub fn name_set(i: usize) -> EvalSet
             ],
         }
     } else {
-        EvalSet { words: [0; 4] }
+        empty()
     }
 }
 
@@ -176,84 +153,70 @@ pub fn below(names: usize) -> EvalSet
     }
 }
 
+// The set whose words `f` makes of the words of two sets, each at its place.
+fn by_words<F: Fn(u64, u64) -> u64>(a: EvalSet, b: EvalSet, f: F) -> EvalSet
+    requires { F.IsAlwaysCallable f }
+    ensures { MadeByWords (F.post f) a b result }
+{
+    EvalSet {
+        words: [
+            f(a.words[0], b.words[0]),
+            f(a.words[1], b.words[1]),
+            f(a.words[2], b.words[2]),
+            f(a.words[3], b.words[3]),
+        ],
+    }
+}
+
 // The evaluations in both sets.
 pub fn meet(a: EvalSet, b: EvalSet) -> EvalSet
     ensures { mem result ≡ meet_of (mem a) (mem b) }
 {
-    EvalSet {
-        words: [
-            a.words[0] & b.words[0],
-            a.words[1] & b.words[1],
-            a.words[2] & b.words[2],
-            a.words[3] & b.words[3],
-        ],
-    }
+    by_words(a, b, |x, y| x & y)
 }
 
 // The evaluations in one of the sets.
 pub fn join(a: EvalSet, b: EvalSet) -> EvalSet
     ensures { mem result ≡ join_of (mem a) (mem b) }
 {
-    EvalSet {
-        words: [
-            a.words[0] | b.words[0],
-            a.words[1] | b.words[1],
-            a.words[2] | b.words[2],
-            a.words[3] | b.words[3],
-        ],
-    }
+    by_words(a, b, |x, y| x | y)
 }
 
 // The evaluations in the first set and not in the second.
 pub fn minus(a: EvalSet, b: EvalSet) -> EvalSet
     ensures { mem result ≡ minus_of (mem a) (mem b) }
 {
-    EvalSet {
-        words: [
-            word_minus(a.words[0], b.words[0]),
-            word_minus(a.words[1], b.words[1]),
-            word_minus(a.words[2], b.words[2]),
-            word_minus(a.words[3], b.words[3]),
-        ],
-    }
+    by_words(a, b, |x, y| x & !y)
 }
 
 // Whether e is in the set: no number from ROOM up is.
 pub fn contains(s: EvalSet, e: usize) -> bool
     ensures { result ≡ mem s e }
 {
-    if e < ROOM {
-        (s.words[e / 64] >> (e % 64)) % 2 == 1
-    } else {
-        false
-    }
+    e < ROOM && (s.words[e / 64] >> (e % 64)) % 2 == 1
 }
 
 // "The least evaluation in a set is the one with the lowest set bit", of the first word that has one: that one, or nothing where the
 // set is empty.
-pub fn least(s: EvalSet) -> Found
+pub fn least(s: EvalSet) -> Option<usize>
     ensures { result ≡ found_of (first (mem s) (below room)) }
 {
-    let mut k: usize = 0;
-    while k < 4 {
-        let w = s.words[k];
-        if let Found::At(e) = word_least(w) {
-            return Found::At(64 * k + e);
+    for k in 0..4 {
+        if let Some(e) = word_least(s.words[k]) {
+            return Some(64 * k + e);
         }
-        k += 1;
     }
-    Found::Nothing
+    None
 }
 
-// The set less e: the set itself where e is not in it, so too from ROOM up.
+// The set less e: the set itself where e is not in it, so too from ROOM up. `insert` has the same shape, and one line that differs: with
+// this line handed in as a closure it would be no plainer.
 pub fn without(s: EvalSet, e: usize) -> EvalSet
     ensures { mem result ≡ drop_of (mem s) e }
 {
     let mut out = s;
     if e < ROOM {
-        let k = e / 64;
-        let w = s.words[k];
-        out.words[k] = word_without(w, e % 64);
+        out.words[e / 64] = word_without(s.words[e / 64], e % 64);
     }
     out
 }
@@ -264,9 +227,7 @@ pub fn insert(s: EvalSet, e: usize) -> EvalSet
 {
     let mut out = s;
     if e < ROOM {
-        let k = e / 64;
-        let w = s.words[k];
-        out.words[k] = word_with(w, e % 64);
+        out.words[e / 64] = word_with(s.words[e / 64], e % 64);
     }
     out
 }
@@ -275,8 +236,5 @@ pub fn insert(s: EvalSet, e: usize) -> EvalSet
 pub fn is_empty(s: EvalSet) -> bool
     ensures { result ≡ not (any (mem s) (below room)) }
 {
-    let Found::Nothing = least(s) else {
-        return false;
-    };
-    true
+    least(s).is_none()
 }

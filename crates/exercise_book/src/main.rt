@@ -2,12 +2,10 @@
 // does not take the text is said on standard error.
 #![tactic(auto)]
 
-use exercises::BookAnswer;
-
 fn main(rt: HostRuntime) {
     let mut text = exercises::no_text();
     let answer = exercises::book(&mut text);
-    let BookAnswer::Text(len) = answer else {
+    let Ok(len) = answer else {
         let _ = rt.eprintln("exercise_book: the book has no room");
         return;
     };

@@ -6,34 +6,37 @@ use Prim.Native.Nat.{ℕ, ◌≤◌, ◌<◌}
 use native.Mathlib.Omega.{arith}
 use borrow.Author.Tests.{le-leb, lt-leb}
 use lib.ListN.{length, drop, length-append}
+use Rattle.std.specs.Prelude.{Result, Ok, Err}
 use Rattle.lists.specs.Buffer.{over}
+use Rattle.lists.specs.declared.ShortBuffer.{ShortBuffer}
 use Rattle.lists.specs.Putting.{Puts}
 use Rattle.lists.proofs.Buffer.{written_over}
 use Rattle.exercises.specs.Answer.{fits, Gives}
-use Rattle.exercises.specs.declared.BookAnswer.{BookAnswer}
-use Rattle.exercises.specs.declared.BookAnswer.TheVariants.{Text, ShortBuffer}
 
-pub gives_needed : (text buffer : List ℕ) (n : ℕ) → length text ≡ n → length buffer < n → Gives text buffer (ShortBuffer n) buffer
+pub gives_needed : (text buffer : List ℕ) (n : ℕ) → length text ≡ n → length buffer < n → Gives text buffer (Err (record { needed = n })) buffer
 gives_needed text buffer n e h =
     let b : fits text buffer ≡ false = lt-leb (length text) (length buffer) (omega (arith, e)) in
     record { answer = rw (b, e); bytes = rw b }
 
-pub gives_text : {text buffer exit : List ℕ} {end : ℕ} → Puts 0 text buffer exit end → Gives text buffer (Text end) exit
+pub gives_text : {text buffer exit : List ℕ} {end : ℕ} → Puts 0 text buffer exit end → Gives text buffer (Ok end) exit
 gives_text {text} {buffer} {exit} {end} p =
     let b : fits text buffer ≡ true = le-leb (length text) (length buffer) (omega (arith, p.fits)) in
     let e : end ≡ length text = omega (arith, p.place) in
     record { answer = rw (b, e); bytes = rw b (p.bytes ∙ written_over text buffer) }
 
 -- a text that is given is in the buffer
-abbrev length_given : BookAnswer → ℕ
-length_given (Text n) = n
-length_given (ShortBuffer n) = 0
+abbrev needs : ℕ → Result ℕ ShortBuffer
+needs n = Err (record { needed = n })
 
-within : (b : Bool) (text buffer exit : List ℕ) (n : ℕ) → Text n ≡ cond b (Text (length text)) (ShortBuffer (length text))
+abbrev length_given : Result ℕ ShortBuffer → ℕ
+length_given (Ok n) = n
+length_given (Err e) = 0
+
+within : (b : Bool) (text buffer exit : List ℕ) (n : ℕ) → Ok n ≡ cond b (Ok (length text)) (needs (length text))
     → exit ≡ cond b (over text buffer) buffer → n ≤ length exit
 unfolding over
 within true text buffer exit n a e = omega (arith, ap length_given a, ap length e, length-append text (drop (length text) buffer))
 within false text buffer exit n a e = omega (arith, ap length_given a)
 
-pub given_within : {text buffer exit : List ℕ} {r : BookAnswer} (n : ℕ) → Gives text buffer r exit → r ≡ Text n → n ≤ length exit
+pub given_within : {text buffer exit : List ℕ} {r : Result ℕ ShortBuffer} (n : ℕ) → Gives text buffer r exit → r ≡ Ok n → n ≤ length exit
 given_within {text} {buffer} {exit} n g e = within (fits text buffer) text buffer exit n (sym e ∙ g.answer) g.bytes

@@ -3,23 +3,23 @@
 use mathlib.Core.Path.{◌≡◌, refl, sym, ap, ◌∙◌, subst}
 use mathlib.Core.Logic.{◌⊎◌, inl, inr, ⊎_elim}
 use mathlib.Core.Bool.{Bool, true, false, true≢false, not, ◌&&◌, ◌||◌, beq, cond}
-use mathlib.Core.List.{List, [], ◌∷◌, ◌++◌, map}
-use Prim.Native.Nat.{ℕ, zero, suc, ◌+◌, ◌-◌, ◌≤◌, ◌<◌}
+use mathlib.Core.List.{List, [], ◌∷◌, ◌++◌}
+use Prim.Native.Nat.{ℕ, ◌+◌, ◌-◌}
 use native.Mathlib.Omega.{arith}
-use native.Mathlib.Nat.{add-zero}
 use lib.Dec.{eqb}
 use lib.ListN.{length, get_or, take}
+use lib.Seq.{take_all}
 use borrow.Author.Tests.{eqb-true}
-use Rattle.lists.specs.Search.{collect, from, below}
+use Rattle.lists.specs.Search.{collect, keep, below}
 use Rattle.lists.proofs.Lists.{take_next}
 use Rattle.lists.proofs.Truth.{beq_true, beq_false}
 use Rattle.syntax.specs.Symbol.{Relation, leaf, minus, tilde, opening, closing, comma, is_zero, binary, constant, relation}
 use Rattle.syntax.specs.Machine.{Sym, Frame, in_parenthesis, after_minus, after_tilde, after_binary, first_of, second_of, State, want, have, call, dead, allow, pop, loosest, rank_of, guard, shut, parted, part_at, zeroed, join, step, finish}
 use Rattle.formula.specs.Sign.{joins_terms}
-use Rattle.exercises.specs.Tokens.{table, entry, count, token_at}
+use Rattle.exercises.specs.Tokens.{table, entry, token_at}
 use Rattle.exercises.specs.Lines.{line}
 use Rattle.exercises.specs.Book.{is_accepted, walk}
-use Rattle.exercises.specs.Next.{begins, awaits, ends, awaiting, may, flag, nexts}
+use Rattle.exercises.specs.Next.{begins, awaits, ends, awaiting, may, nexts}
 use Rattle.exercises.proofs.States.{Leads, after, leads_next, leads_after, whole_by, dead_none}
 use Rattle.exercises.proofs.Branches.{branch}
 
@@ -164,18 +164,19 @@ unended s (relation c) i n h = wanted_unended (step s (relation c) i) n (sorted_
 
 -- ---- the walk
 
+-- where f gives nothing at the others, those that are kept give all
+collect_kept : (f : ℕ → List ℕ) (p : ℕ → Bool) → ((k : ℕ) → p k ≡ false → f k ≡ []) → (xs : List ℕ) → collect f xs ≡ collect f (keep p xs)
+collect_kept f p h [] = refl
+collect_kept f p h (x ∷ xs) = go (collect_kept f p h xs) (p x) refl
+  where
+    go : collect f xs ≡ collect f (keep p xs) → (b : Bool) → p x ≡ b → f x ++ collect f xs ≡ collect f (cond b (x ∷ keep p xs) (keep p xs))
+    go r true e = ap (λ (l : List ℕ). f x ++ l) r
+    go r false e = ap (λ (l : List ℕ). l ++ collect f xs) (h x e) ∙ r
+
 refuted : (p l e : Bool) → (p && (not l || e)) ≡ false → (p ≡ false) ⊎ ((l ≡ true) × (e ≡ false))
 refuted false l e h = inl refl
 refuted true true e h = inr (refl, h)
 refuted true false e h = absurd (true≢false h)
-
-flag_from : (f : ℕ → ℕ) (a n k : ℕ) → k < n → get_or (map f (from a n)) k 0 ≡ f (a + k)
-flag_from f a zero k h = absurd (omega arith)
-flag_from f a (suc n) zero h = ap f (sym (add-zero a))
-flag_from f a (suc n) (suc k) h = let e : suc a + k ≡ a + suc k = omega arith in flag_from f (suc a) n k (omega arith) ∙ ap f e
-
-flag_at : (f : ℕ → ℕ) (k : ℕ) → k < 20 → get_or (map f (below count)) k 0 ≡ f k
-flag_at f k h = let e : 0 + k ≡ k = omega arith in flag_from f 0 20 k h ∙ ap f e
 
 module _ (ks : List ℕ) (k : ℕ) where
   state : State
@@ -206,21 +207,15 @@ module _ (ks : List ℕ) (k : ℕ) where
       ap (λ (m : ℕ). walk m (ks ++ k ∷ [])) n ∙ no_end q.1)
       (refuted (beq (awaiting true ks) (begins (token_at k))) (eqb left 1) (ends (token_at k)) h)
 
-unflagged : (b : Bool) → flag b ≡ 0 → b ≡ false
-unflagged true h = absurd (omega arith)
-unflagged false h = refl
+pub skipped : (left : ℕ) (ks : List ℕ) (k : ℕ) → may (awaiting true ks) (eqb left 1) (token_at k) ≡ false → branch left ks k ≡ []
+skipped left ks k h = ap (collect line) (unmay ks k left h)
 
-pub flag_one : (b : Bool) → eqb (flag b) 1 ≡ b
-flag_one true = refl
-flag_one false = refl
-
-pub skipped : (left : ℕ) (ks : List ℕ) (k : ℕ) (flags : List ℕ) → flags ≡ nexts (awaiting true ks) (eqb left 1) → k < 20 → get_or flags k 0 ≡ 0
-    → branch left ks k ≡ []
+-- those that may come have all lines
+pub kept_lines : (left : ℕ) (ks ts : List ℕ) → ts ≡ nexts (awaiting true ks) (eqb left 1) → collect (branch left ks) (below 20) ≡ collect (branch left ks) ts
 unfolding nexts
-skipped left ks k flags e h z =
-    let f : ℕ → ℕ = λ n. flag (may (awaiting true ks) (eqb left 1) (token_at n)) in
-    ap (collect line)
-    (unmay ks k left (unflagged (may (awaiting true ks) (eqb left 1) (token_at k)) (sym (flag_at f k h) ∙ ap (λ (l : List ℕ). get_or l k 0) (sym e) ∙ z)))
+kept_lines left ks ts e =
+    collect_kept (branch left ks) (λ k. may (awaiting true ks) (eqb left 1) (token_at k)) (skipped left ks) (below 20)
+    ∙ ap (collect (branch left ks)) (sym e)
 
 -- ---- the last token
 
@@ -228,29 +223,31 @@ last_awaits : (b : Bool) (ks : List ℕ) (k : ℕ) → awaiting b (ks ++ k ∷ [
 last_awaits b [] k = refl
 last_awaits b (x ∷ ks) k = last_awaits (awaits (token_at x)) ks k
 
-pub awaits_first : (ks : List ℕ) (n : ℕ) → n ≡ 0 → true ≡ awaiting true (take n ks)
-awaits_first [] n e = ap (λ (m : ℕ). awaiting true (take m [])) (sym e)
-awaits_first (k ∷ ks) n e = ap (λ (m : ℕ). awaiting true (take m (k ∷ ks))) (sym e)
+pub awaits_first : (ks : List ℕ) → length ks ≡ 0 → true ≡ awaiting true ks
+awaits_first [] e = refl
+awaits_first (k ∷ ks) e = absurd (omega arith)
 
-pub awaits_behind : (ks : List ℕ) (n : ℕ) → (n ≡ 0 → ⊥) → n ≤ length ks → awaits (token_at (get_or ks (n - 1) 0)) ≡ awaiting true (take n ks)
-awaits_behind ks n z h =
+pub awaits_behind : (ks : List ℕ) → (length ks ≡ 0 → ⊥) → awaits (token_at (get_or ks (length ks - 1) 0)) ≡ awaiting true ks
+awaits_behind ks z =
+    let n : ℕ = length ks in
     let e : n - 1 + 1 ≡ n = omega (arith, z) in
-    sym (ap (awaiting true) (ap (λ (m : ℕ). take m ks) (sym e) ∙ take_next ks (n - 1) 0 (omega (arith, z))) ∙ last_awaits true (take (n - 1) ks) (get_or ks (n - 1) 0))
+    let all : take (n - 1) ks ++ get_or ks (n - 1) 0 ∷ [] ≡ ks = sym (take_next ks (n - 1) 0 (omega (arith, z))) ∙ ap (λ (m : ℕ). take m ks) e ∙ take_all n ks (omega arith) in
+    sym (last_awaits true (take (n - 1) ks) (get_or ks (n - 1) 0)) ∙ ap (awaiting true) all
 
 -- ---- the code's tables
 
-pub values : (1 ∷ 1 ∷ 1 ∷ 1 ∷ 1 ∷ 1 ∷ 1 ∷ 1 ∷ 0 ∷ 0 ∷ 0 ∷ 0 ∷ 1 ∷ 0 ∷ 0 ∷ 1 ∷ 1 ∷ 0 ∷ 0 ∷ 0 ∷ []) ≡ nexts true false
+pub values : (0 ∷ 1 ∷ 2 ∷ 3 ∷ 4 ∷ 5 ∷ 6 ∷ 7 ∷ 12 ∷ 15 ∷ 16 ∷ []) ≡ nexts true false
 unfolding nexts entry table
 values = refl
 
-pub last_values : (1 ∷ 1 ∷ 0 ∷ 0 ∷ 0 ∷ 0 ∷ 0 ∷ 0 ∷ 0 ∷ 0 ∷ 0 ∷ 0 ∷ 0 ∷ 0 ∷ 0 ∷ 0 ∷ 0 ∷ 0 ∷ 0 ∷ 0 ∷ []) ≡ nexts true true
+pub last_values : (0 ∷ 1 ∷ []) ≡ nexts true true
 unfolding nexts entry table
 last_values = refl
 
-pub signs : (0 ∷ 0 ∷ 0 ∷ 0 ∷ 0 ∷ 0 ∷ 0 ∷ 0 ∷ 1 ∷ 1 ∷ 1 ∷ 1 ∷ 0 ∷ 1 ∷ 1 ∷ 0 ∷ 0 ∷ 1 ∷ 1 ∷ 1 ∷ []) ≡ nexts false false
+pub signs : (8 ∷ 9 ∷ 10 ∷ 11 ∷ 13 ∷ 14 ∷ 17 ∷ 18 ∷ 19 ∷ []) ≡ nexts false false
 unfolding nexts entry table
 signs = refl
 
-pub last_signs : (0 ∷ 0 ∷ 0 ∷ 0 ∷ 0 ∷ 0 ∷ 0 ∷ 0 ∷ 1 ∷ 0 ∷ 0 ∷ 0 ∷ 0 ∷ 0 ∷ 0 ∷ 0 ∷ 0 ∷ 1 ∷ 0 ∷ 0 ∷ []) ≡ nexts false true
+pub last_signs : (8 ∷ 17 ∷ []) ≡ nexts false true
 unfolding nexts entry table
 last_signs = refl

@@ -1,7 +1,7 @@
 -- For proofs: which tokens may come behind a string, as far as its last token and whether another is to come tell. Assumes nothing.
-use Rattle.std.specs.Prelude.{Bool, true, false, not, ◌&&◌, ◌||◌, cond, List, [], ◌∷◌, map, ℕ}
+use Rattle.std.specs.Prelude.{Bool, true, false, not, ◌&&◌, ◌||◌, List, [], ◌∷◌, ℕ}
 use Rattle.std.specs.Bool.{beq}
-use Rattle.lists.specs.Search.{below}
+use Rattle.lists.specs.Search.{keep, below}
 use Rattle.syntax.specs.Symbol.{leaf, minus, tilde, opening, closing, comma, is_zero, binary, constant, relation}
 use Rattle.syntax.specs.Machine.{Sym}
 use Rattle.exercises.specs.Tokens.{count, token_at}
@@ -54,9 +54,6 @@ awaiting b (k ∷ ks) = awaiting (awaits (token_at k)) ks
 abbrev pub may : Bool → Bool → Sym → Bool
 may awaited last x = beq awaited (begins x) && (not last || ends x)
 
-abbrev pub flag : Bool → ℕ
-flag b = cond b 1 0
-
--- for each token whether it may
+-- the tokens that may
 unfoldable pub nexts : Bool → Bool → List ℕ
-nexts awaited last = map (λ k. flag (may awaited last (token_at k))) (below count)
+nexts awaited last = keep (λ k. may awaited last (token_at k)) (below count)

@@ -4,8 +4,7 @@
 // the place after it. A string is the numbers of its tokens, in their order. Assumes nothing.
 #![tactic(auto)]
 
-ghost use Rattle.std.specs.Prelude.{◌≡◌, true, [], ◌∷◌, ◌++◌, ◌+◌, ◌≤◌, ◌<◌, eqb, length, replicate, take, get_or};
-ghost use Rattle.lists.specs.Padded.{pad};
+ghost use Rattle.std.specs.Prelude.{◌≡◌, true, [], ◌∷◌, ◌++◌, ◌+◌, ◌≤◌, ◌<◌, eqb, length, replicate, take};
 ghost use Rattle.lists.specs.Search.{collect};
 ghost use Rattle.lists.specs.Putting.{Puts};
 ghost use Rattle.syntax.specs.Machine.{reading};
@@ -13,20 +12,18 @@ ghost use Rattle.syntax.specs.Reader.{code, without_order};
 ghost use Rattle.exercises.specs.Tokens.{entry, token_at, tokens_at, spelling};
 ghost use Rattle.exercises.specs.Lines.{parted, line};
 ghost use Rattle.exercises.specs.Book.{whole, begun, walk, gap, text};
-ghost use Rattle.exercises.specs.Next.{awaits, awaiting, flag, nexts};
+ghost use Rattle.exercises.specs.Next.{awaits, awaiting, nexts};
 ghost use Rattle.exercises.specs.Answer.{Gives};
 
-use syntax::Judged;
+use lexer::{
+    AND, CLOSE, COMMA, CONTACT, FALSITY, IFF, IMPLIES, IS_ZERO, MINUS, NAME, ONE, OPEN, OR, PART,
+    PLUS, TILDE, TIMES, TRUTH, ZERO,
+};
+use lists::ShortBuffer;
+use syntax::NotAFormula;
 
 // The bytes of the book.
 const ROOM: usize = 56520;
-
-// What is answered: the book, of so many bytes, or that it needs so many.
-#[derive(Clone, Copy)]
-pub enum BookAnswer {
-    Text(usize),
-    ShortBuffer(usize),
-}
 
 // Room for the book.
 pub fn no_text() -> [u8; ROOM]
@@ -37,31 +34,55 @@ pub fn no_text() -> [u8; ROOM]
 }
 
 // The kind of each token: T F C 0 1 a b ( ) , * + - & | ~ <= =0 -> <->.
-const KINDS: [u8; 20] = [
-    12, 13, 14, 16, 17, 18, 18, 8, 9, 11, 5, 4, 6, 3, 2, 7, 15, 10, 0, 1,
+static KINDS: [u8; 20] = [
+    TRUTH, FALSITY, CONTACT, ZERO, ONE, NAME, NAME, OPEN, CLOSE, COMMA, TIMES, PLUS, MINUS, AND,
+    OR, TILDE, PART, IS_ZERO, IMPLIES, IFF,
 ];
 
 // Whether behind each a value comes.
-const AWAITS: [u8; 20] = [0, 0, 1, 0, 0, 0, 0, 1, 0, 1, 1, 1, 1, 1, 1, 1, 1, 0, 1, 1];
-
-// Which may come where a value does, and as the last token; and where none does.
-const VALUES: [u8; 20] = [1, 1, 1, 1, 1, 1, 1, 1, 0, 0, 0, 0, 1, 0, 0, 1, 1, 0, 0, 0];
-
-const LAST_VALUES: [u8; 20] = [1, 1, 0, 0, 0, 0, 0, 0, 0, 0, 0, 0, 0, 0, 0, 0, 0, 0, 0, 0];
-
-const SIGNS: [u8; 20] = [0, 0, 0, 0, 0, 0, 0, 0, 1, 1, 1, 1, 0, 1, 1, 0, 0, 1, 1, 1];
-
-const LAST_SIGNS: [u8; 20] = [0, 0, 0, 0, 0, 0, 0, 0, 1, 0, 0, 0, 0, 0, 0, 0, 0, 1, 0, 0];
-
-// How many bytes each has.
-const LENGTHS: [u8; 20] = [1, 1, 1, 1, 1, 1, 1, 1, 1, 1, 1, 1, 1, 1, 1, 1, 2, 2, 2, 3];
-
-// And which, at three places for each: what is past them is 0.
-const BYTES: [u8; 60] = [
-    84, 0, 0, 70, 0, 0, 67, 0, 0, 48, 0, 0, 49, 0, 0, 97, 0, 0, 98, 0, 0, 40, 0, 0, 41, 0, 0, 44,
-    0, 0, 42, 0, 0, 43, 0, 0, 45, 0, 0, 38, 0, 0, 124, 0, 0, 126, 0, 0, 60, 61, 0, 61, 48, 0, 45,
-    62, 0, 60, 45, 62,
+static AWAITS: [bool; 20] = [
+    false, false, true, false, false, false, false, true, false, true, true, true, true, true,
+    true, true, true, false, true, true,
 ];
+
+// The tokens that may come where a value does, and those of them that may be the last; and where none does.
+static VALUES: [u8; 11] = [0, 1, 2, 3, 4, 5, 6, 7, 12, 15, 16];
+
+static LAST_VALUES: [u8; 2] = [0, 1];
+
+static SIGNS: [u8; 9] = [8, 9, 10, 11, 13, 14, 17, 18, 19];
+
+static LAST_SIGNS: [u8; 2] = [8, 17];
+
+// How a token is written.
+#[tactic(auto, unfolding(crate::specs::Tokens::entry, crate::specs::Tokens::table))]
+fn spelling(k: u8) -> &'static [u8]
+    ensures { result.now ≡ spelling k }
+{
+    match k {
+        0 => b"T",
+        1 => b"F",
+        2 => b"C",
+        3 => b"0",
+        4 => b"1",
+        5 => b"a",
+        6 => b"b",
+        7 => b"(",
+        8 => b")",
+        9 => b",",
+        10 => b"*",
+        11 => b"+",
+        12 => b"-",
+        13 => b"&",
+        14 => b"|",
+        15 => b"~",
+        16 => b"<=",
+        17 => b"=0",
+        18 => b"->",
+        19 => b"<->",
+        _ => b"T",
+    }
+}
 
 // The place of a token in these tables. A number that is none stands for the first, as in the definition.
 fn place(k: u8) -> usize
@@ -74,65 +95,33 @@ fn place(k: u8) -> usize
 fn kind(k: u8) -> u8
     ensures { result ≡ code (token_at k) }
 {
-    let kinds = KINDS;
-    let i = place(k);
-    kinds[i]
+    KINDS[place(k)]
 }
 
 // Whether behind a token a value comes.
-fn awaits(k: u8) -> u8
-    ensures { result ≡ flag (awaits (token_at k)) }
+fn awaits(k: u8) -> bool
+    ensures { result ≡ awaits (token_at k) }
 {
-    let table = AWAITS;
-    let i = place(k);
-    table[i]
+    AWAITS[place(k)]
 }
 
 // Whether a value comes behind a string.
-fn awaiting(ks: [u8; 6], n: usize) -> bool
-    requires { n ≤ 6 }
-    ensures { result ≡ awaiting true (take n ks) }
+fn awaiting(ks: &[u8]) -> bool
+    ensures { result ≡ awaiting true ks.now }
 {
-    if n == 0 {
-        return true;
-    }
-    let a = awaits(ks[n - 1]);
-    a == 1
+    let n = ks.len();
+    if n == 0 { true } else { awaits(ks[n - 1]) }
 }
 
-// Which tokens may come behind a string, with so many to come: 1 for each of them. The others lead nowhere, so that nothing need be read.
-fn next_tokens(awaited: bool, left: usize) -> [u8; 20]
-    ensures { result ≡ nexts awaited (eqb left 1) }
+// Which tokens may come behind a string, with so many to come. The others lead nowhere, so that nothing need be read.
+fn next_tokens(awaited: bool, left: usize) -> &'static [u8]
+    ensures { result.now ≡ nexts awaited (eqb left 1) }
 {
     if awaited {
-        if left == 1 {
-            return LAST_VALUES;
-        }
-        return VALUES;
+        if left == 1 { &LAST_VALUES } else { &VALUES }
+    } else {
+        if left == 1 { &LAST_SIGNS } else { &SIGNS }
     }
-    if left == 1 {
-        return LAST_SIGNS;
-    }
-    SIGNS
-}
-
-// How many bytes a token has.
-fn size(k: u8) -> u8
-    ensures { result ≡ length (spelling k) }
-{
-    let lengths = LENGTHS;
-    let i = place(k);
-    lengths[i]
-}
-
-// One of a token's bytes.
-fn byte(k: u8, j: u8) -> u8
-    requires { j < 3 }
-    ensures { result ≡ get_or (spelling k) j 0 }
-{
-    let bytes = BYTES;
-    let i = place(k) * 3 + j as usize;
-    bytes[i]
 }
 
 // A token's bytes.
@@ -140,14 +129,9 @@ fn put_token(k: u8, out: &mut [u8], at: usize) -> usize
     requires { at + length (spelling k) ≤ length out.old }
     ensures { Puts at (spelling k) out.old out.new result }
 {
-    let n = size(k);
-    let mut end = at;
-    let mut j: u8 = 0;
-    while j < n {
-        out[end] = byte(k, j);
-        end += 1;
-        j += 1;
-    }
+    let bytes = spelling(k);
+    let end = at + bytes.len();
+    out[at..end].copy_from_slice(bytes);
     end
 }
 
@@ -173,121 +157,100 @@ fn put_next(i: usize, k: u8, out: &mut [u8], at: usize) -> usize
 }
 
 // The tokens of a string.
-fn put_parted(ks: [u8; 6], n: usize, out: &mut [u8], at: usize) -> usize
-    requires { (n ≤ 6) × (at + length (parted (take n ks)) ≤ length out.old) }
-    ensures { Puts at (parted (take n ks)) out.old out.new result }
+fn put_parted(ks: &[u8], out: &mut [u8], at: usize) -> usize
+    requires { at + length (parted ks.now) ≤ length out.old }
+    ensures { Puts at (parted ks.now) out.old out.new result }
 {
     let mut end = at;
-    let mut i: usize = 0;
-    while i < n {
-        end = put_next(i, ks[i], out, end);
-        i += 1;
+    for (i, k) in ks.iter().enumerate() {
+        end = put_next(i, *k, out, end);
     }
     end
 }
 
 // The line of a string.
-fn put_line(ks: [u8; 6], n: usize, out: &mut [u8], at: usize) -> usize
-    requires { (n ≤ 6) × (at + length (line (take n ks)) ≤ length out.old) }
-    ensures { Puts at (line (take n ks)) out.old out.new result }
+fn put_line(ks: &[u8], out: &mut [u8], at: usize) -> usize
+    requires { at + length (line ks.now) ≤ length out.old }
+    ensures { Puts at (line ks.now) out.old out.new result }
 {
-    let end = put_parted(ks, n, out, at);
+    let end = put_parted(ks, out, at);
     out[end] = b'\n';
     end + 1
 }
 
-// No kinds yet.
-fn no_kinds() -> [u8; 6]
-    ensures { result ≡ pad 6 [] }
-{
-    [0u8; 6]
-}
-
 // What the tokens of a string are.
-fn judged(ks: [u8; 6], n: usize) -> Judged
-    requires { n ≤ 6 }
-    ensures { result ≡ without_order (reading (tokens_at (take n ks))) }
+fn judged(ks: &[u8]) -> Result<(), NotAFormula>
+    requires { length ks.now ≤ 6 }
+    ensures { result ≡ without_order (reading (tokens_at ks.now)) }
 {
-    let mut kinds = no_kinds();
-    let mut i: usize = 0;
-    while i < n {
-        kinds[i] = kind(ks[i]);
-        i += 1;
+    let mut kinds = [0u8; 6];
+    for (i, k) in ks.iter().enumerate() {
+        kinds[i] = kind(*k);
     }
-    syntax::judge(&kinds[..n])
+    syntax::judge(&kinds[..ks.len()])
 }
 
 // Whether a string is a formula.
-fn is_whole(ks: [u8; 6], n: usize) -> bool
-    requires { n ≤ 6 }
-    ensures { result ≡ whole (take n ks) }
+fn is_whole(ks: &[u8]) -> bool
+    requires { length ks.now ≤ 6 }
+    ensures { result ≡ whole ks.now }
 {
-    let j = judged(ks, n);
-    match j {
-        Judged::Formula => true,
-        Judged::RefusedAt(_) => false,
-        Judged::TooMany => false,
-    }
+    judged(ks).is_ok()
 }
 
 // Whether a string begins a formula.
-fn is_begun(ks: [u8; 6], n: usize) -> bool
-    requires { n ≤ 6 }
-    ensures { result ≡ begun (take n ks) }
+fn is_begun(ks: &[u8]) -> bool
+    requires { length ks.now ≤ 6 }
+    ensures { result ≡ begun ks.now }
 {
-    let j = judged(ks, n);
-    match j {
-        Judged::Formula => true,
-        Judged::RefusedAt(i) => i == n,
-        Judged::TooMany => false,
+    match judged(ks) {
+        Ok(()) => true,
+        Err(NotAFormula::At(i)) => i == ks.len(),
+        Err(NotAFormula::TooMany) => false,
     }
 }
 
 // A string with one token more.
-fn longer(ks: [u8; 6], n: usize, k: u8) -> [u8; 6]
-    requires { n < 6 }
-    ensures { take (n + 1) result ≡ take n ks ++ k ∷ [] }
+fn longer(ks: &[u8], k: u8) -> [u8; 6]
+    requires { length ks.now < 6 }
+    ensures { take (length ks.now + 1) result ≡ ks.now ++ k ∷ [] }
 {
-    let mut next = ks;
+    let n = ks.len();
+    let mut next = [0u8; 6];
+    next[..n].copy_from_slice(ks);
     next[n] = k;
     next
 }
 
 // The line of a string, if it is a formula.
-fn put_whole(ks: [u8; 6], n: usize, out: &mut [u8], at: usize) -> usize
-    requires { (n ≤ 6) × (at + length (collect line (walk 0 (take n ks))) ≤ length out.old) }
-    ensures { Puts at (collect line (walk 0 (take n ks))) out.old out.new result }
+fn put_whole(ks: &[u8], out: &mut [u8], at: usize) -> usize
+    requires { (length ks.now ≤ 6) × (at + length (collect line (walk 0 ks.now)) ≤ length out.old) }
+    ensures { Puts at (collect line (walk 0 ks.now)) out.old out.new result }
 {
-    if is_whole(ks, n) {
-        return put_line(ks, n, out, at);
+    if is_whole(ks) {
+        return put_line(ks, out, at);
     }
     at
 }
 
 // The lines of the strings with so many tokens more.
-fn put_walk(left: usize, ks: [u8; 6], n: usize, out: &mut [u8], at: usize) -> usize
-    requires { (n + left ≤ 6) × (at + length (collect line (walk left (take n ks))) ≤ length out.old) }
-    ensures { Puts at (collect line (walk left (take n ks))) out.old out.new result }
+fn put_walk(left: usize, ks: &[u8], out: &mut [u8], at: usize) -> usize
+    requires { (length ks.now + left ≤ 6) × (at + length (collect line (walk left ks.now)) ≤ length out.old) }
+    ensures { Puts at (collect line (walk left ks.now)) out.old out.new result }
 {
     if left == 0 {
-        return put_whole(ks, n, out, at);
+        return put_whole(ks, out, at);
     }
-    if is_begun(ks, n) {
-        let nexts = next_tokens(awaiting(ks, n), left);
-        let mut end = at;
-        let mut k: u8 = 0;
-        while k < 20 {
-            if nexts[k as usize] == 0 {
-                k += 1;
-                continue;
-            }
-            let next = longer(ks, n, k);
-            end = put_walk(left - 1, next, n + 1, out, end);
-            k += 1;
-        }
-        return end;
+    if !is_begun(ks) {
+        return at;
     }
-    at
+    let nexts = next_tokens(awaiting(ks), left);
+    let mut end = at;
+    for k in nexts {
+        let next = longer(ks, *k);
+        end = put_walk(left - 1, &next[..ks.len() + 1], out, end);
+    }
+    end
 }
 
 // The book, length by length.
@@ -295,24 +258,21 @@ fn put_book(out: &mut [u8]) -> usize
     requires { 56520 ≤ length out.old }
     ensures { Puts 0 (text 6) out.old out.new result }
 {
-    let ks = no_kinds();
     let mut end: usize = 0;
-    let mut m: usize = 0;
-    while m < 6 {
-        end = put_walk(m + 1, ks, 0, out, end);
-        m += 1;
+    for m in 0..6 {
+        end = put_walk(m + 1, &[], out, end);
     }
     end
 }
 
 // The book, over the first bytes of the buffer, and its length: the other bytes keep their values. Where the buffer is too
 // short, the bytes needed: then all keep their values.
-pub fn book(out: &mut [u8]) -> BookAnswer
+pub fn book(out: &mut [u8]) -> Result<usize, ShortBuffer>
     ensures { Gives (text 6) out.old result out.new }
 {
     if out.len() < ROOM {
-        return BookAnswer::ShortBuffer(ROOM);
+        return Err(ShortBuffer { needed: ROOM });
     }
     let len = put_book(out);
-    BookAnswer::Text(len)
+    Ok(len)
 }

@@ -1,20 +1,22 @@
 -- A node is closed by the first rule that is false there, as its block's words have it, and else by its bit. Assumes nothing.
 use mathlib.Core.Bool.{Bool, true, false, not, cond}
-use mathlib.Core.Path.{◌≡◌, refl, sym, ap, ap₂, ◌∙◌, subst}
+use mathlib.Core.Path.{◌≡◌, refl, sym, ap, ap₂, ◌∙◌}
 use mathlib.Core.Logic.{⊎_elim}
 use mathlib.Core.List.{List, [], ◌∷◌, map}
 use Prim.Native.Nat.{ℕ, zero, suc, ◌+◌, ◌≤◌, ◌<◌}
 use native.Mathlib.Omega.{arith}
 use lib.ListN.{length, get_or}
+use Rattle.std.specs.Prelude.{Option, Some, None}
 use Rattle.formula.specs.Formula.{Form}
-use Rattle.lists.specs.Search.{In, here, first, from, or_else}
-use Rattle.lists.proofs.Search.{first_in, first_none, none_intro, from_elim}
+use Rattle.lists.specs.Search.{first, from, or_else}
+use Rattle.lists.proofs.Search.{first_none, none_intro, from_elim}
 use Rattle.lists.proofs.Truth.{clash, side}
 use Rattle.evalset.specs.Bit.{bit}
+use Rattle.evalset.specs.Sets.{found_of}
 use Rattle.contact.specs.Row.{PartialRow}
 use Rattle.trees.specs.Trees.{Tree, rule, floorless, rule_word, floorless_word, words_of}
 use Rattle.trees.specs.Checker.{false_there, refuting, closing}
-use Rattle.explaining.specs.Nodes.{false_at, number_or, head_word, ClosingSays}
+use Rattle.explaining.specs.Nodes.{false_at, head_word, ClosingSays}
 
 -- ---- the first
 
@@ -52,65 +54,61 @@ false_first words n j rules part e f =
     each zero l m = absurd (omega arith)
     each (suc i) l m = f i (omega arith)
 
-refuting_none : (rules : List (Form ℕ)) (part : PartialRow) → number_or (refuting rules part) ≡ 0 → refuting rules part ≡ []
-refuting_none rules part e = go (refuting rules part) refl e
-  where
-    go : (ks : List ℕ) → refuting rules part ≡ ks → number_or ks ≡ 0 → ks ≡ []
-    go [] q z = refl
-    go (k ∷ ks) q z =
-        let i = first_in (false_there rules part) (from 1 (length rules)) {x = k} (subst (In k) (sym q) here) in
-        absurd (omega (arith, from_elim 1 (length rules) k i.0))
+-- where none is found there is none
+none_found : (ks : List ℕ) → None ≡ found_of ks → ks ≡ []
+none_found [] e = refl
+none_found (k ∷ ks) e = absurd (let z : ◌≡◌ {A = ℕ} 0 1 = cc in omega arith)
 
 -- ---- the word that closes a node
 
 module _ (rules : List (Form ℕ)) (no_plan_said : PartialRow → Bool) (part : PartialRow) where
-  rule_closes : (k : ℕ) → k ≡ number_or (refuting rules part) → 0 < k → head_word (closing rules no_plan_said part) ≡ rule_word k
+  rule_closes : (k : ℕ) → Some k ≡ found_of (refuting rules part) → head_word (closing rules no_plan_said part) ≡ Some (rule_word k)
   unfolding closing
-  rule_closes k e l = go (refuting rules part) e
+  rule_closes k e = go (refuting rules part) e
     where
-      go : (ks : List ℕ) → k ≡ number_or ks → head_word (or_else (map rule ks) (cond (no_plan_said part) (floorless ∷ []) [])) ≡ rule_word k
-      go [] q = absurd (omega arith)
-      go (j ∷ ks) q = ap rule_word (sym q)
+      go : (ks : List ℕ) → Some k ≡ found_of ks → head_word (or_else (map rule ks) (cond (no_plan_said part) (floorless ∷ []) [])) ≡ Some (rule_word k)
+      go [] q = absurd (let z : ◌≡◌ {A = ℕ} 0 1 = cc in omega arith)
+      go (j ∷ ks) q = let z : j ≡ k = cc in ap (λ (x : ℕ). Some (rule_word x)) z
 
-  else_closes : (k : ℕ) → k ≡ number_or (refuting rules part) → k ≡ 0 → closing rules no_plan_said part ≡ cond (no_plan_said part) (floorless ∷ []) []
+  else_closes : None ≡ found_of (refuting rules part) → closing rules no_plan_said part ≡ cond (no_plan_said part) (floorless ∷ []) []
   unfolding closing
-  else_closes k e z =
-      ap (λ (ks : List ℕ). or_else (map rule ks) (cond (no_plan_said part) (floorless ∷ []) [])) (refuting_none rules part (sym e ∙ z))
+  else_closes e =
+      ap (λ (ks : List ℕ). or_else (map rule ks) (cond (no_plan_said part) (floorless ∷ []) [])) (none_found (refuting rules part) e)
 
-  -- nothing, or a tree of one word that is not 0
+  -- nothing, or a tree of one word
   pub data Leaf (ts : List Tree) : Type 0 where
     none : ts ≡ [] → Leaf ts
-    one : (t : Tree) (rest : List Tree) → ts ≡ t ∷ rest → 0 < head_word ts → words_of t ≡ head_word ts ∷ [] → Leaf ts
+    one : (t : Tree) (rest : List Tree) (w : ℕ) → ts ≡ t ∷ rest → head_word ts ≡ Some w → words_of t ≡ w ∷ [] → Leaf ts
 
   pub leaf : Leaf (closing rules no_plan_said part)
   unfolding closing
   leaf = go (refuting rules part) (no_plan_said part)
     where
       go : (ks : List ℕ) (b : Bool) → Leaf (or_else (map rule ks) (cond b (floorless ∷ []) []))
-      go [] true = one floorless [] refl (omega arith) refl
+      go [] true = one floorless [] floorless_word refl refl refl
       go [] false = none refl
-      go (k ∷ ks) b = one (rule k) (map rule ks) refl (omega arith) refl
+      go (k ∷ ks) b = one (rule k) (map rule ks) (rule_word k) refl refl refl
 
-  pub stays : head_word (closing rules no_plan_said part) ≡ 0 → closing rules no_plan_said part ≡ []
+  pub stays : head_word (closing rules no_plan_said part) ≡ None → closing rules no_plan_said part ≡ []
   stays z = go leaf
     where
       go : Leaf (closing rules no_plan_said part) → closing rules no_plan_said part ≡ []
       go (none e) = e
-      go (one t rest e h s) = absurd (omega arith)
+      go (one t rest w e h s) = absurd (let q : None ≡ Some w = sym z ∙ h in let y : ◌≡◌ {A = ℕ} 0 1 = cc in omega arith)
 
-module _ (words : List ℕ) (n j : ℕ) (some : Bool) (k : ℕ) (is : k ≡ number_or (first (false_at words j) (from 1 n))) where
-  pub word_rule : 0 < k → ClosingSays words n j some (rule_word k)
+module _ (words : List ℕ) (n j : ℕ) (some : Bool) where
+  pub word_rule : (k : ℕ) → Some k ≡ found_of (first (false_at words j) (from 1 n)) → ClosingSays words n j some (Some (rule_word k))
   unfolding ClosingSays
-  word_rule l rules no_plan_said part e f q =
-      sym (rule_closes rules no_plan_said part k (is ∙ ap number_or (false_first words n j rules part e f)) l)
+  word_rule k is rules no_plan_said part e f q =
+      sym (rule_closes rules no_plan_said part k (is ∙ ap found_of (false_first words n j rules part e f)))
 
-  module _ (z : k ≡ 0) where
-    by_floor : (b : Bool) → some ≡ not b → (r : ℕ) → r ≡ head_word (cond b (floorless ∷ []) []) → ClosingSays words n j some r
+  module _ (is : None ≡ found_of (first (false_at words j) (from 1 n))) where
+    by_floor : (b : Bool) → some ≡ not b → (r : Option ℕ) → r ≡ head_word (cond b (floorless ∷ []) []) → ClosingSays words n j some r
     unfolding ClosingSays
     by_floor b h r w rules no_plan_said part e f q =
         let same : b ≡ no_plan_said part = not_same b (no_plan_said part) (sym h ∙ q) in
         w ∙ ap (λ (x : Bool). head_word (cond x (floorless ∷ []) [])) same
-        ∙ sym (ap head_word (else_closes rules no_plan_said part k (is ∙ ap number_or (false_first words n j rules part e f)) z))
+        ∙ sym (ap head_word (else_closes rules no_plan_said part (is ∙ ap found_of (false_first words n j rules part e f))))
       where
         not_same : (x y : Bool) → not x ≡ not y → x ≡ y
         not_same true true h = refl
@@ -118,8 +116,8 @@ module _ (words : List ℕ) (n j : ℕ) (some : Bool) (k : ℕ) (is : k ≡ numb
         not_same false true h = sym h
         not_same false false h = refl
 
-    pub word_floor : some ≡ false → ClosingSays words n j some floorless_word
-    word_floor h = by_floor true h floorless_word refl
+    pub word_floor : some ≡ false → ClosingSays words n j some (Some floorless_word)
+    word_floor h = by_floor true h (Some floorless_word) refl
 
-    pub word_none : some ≡ true → ClosingSays words n j some 0
-    word_none h = by_floor false h 0 refl
+    pub word_none : some ≡ true → ClosingSays words n j some None
+    word_none h = by_floor false h None refl

@@ -9,8 +9,10 @@ use native.Mathlib.Omega.{arith}
 use lib.ListN.{length, set, length-append}
 use lib.Pow.{pow_mono, pow_pos}
 use lib.Seq.{sets}
+use Rattle.std.specs.Prelude.{Option, Some, None, is_some, Result, Ok, Err}
 use Rattle.formula.specs.Formula.{Atom, Form}
 use Rattle.lists.specs.Search.{or_else}
+use Rattle.lists.proofs.Truth.{clash}
 use Rattle.contact.specs.Question.{plain}
 use Rattle.contact.specs.Numbering.{AtomsBelow}
 use Rattle.contact.specs.Row.{Row, is, PartialRow}
@@ -18,11 +20,9 @@ use Rattle.contact.specs.Check.{first_row}
 use Rattle.kleene.specs.Rails.{word_rows}
 use Rattle.search.specs.declared.Chart.{Chart}
 use Rattle.pairing.specs.Listed.{seen_at}
-use Rattle.solver.specs.declared.RowAnswer.{RowAnswer}
-use Rattle.solver.specs.declared.RowAnswer.TheVariants.{At, Nothing}
 use Rattle.solver.specs.Coded.{SafeFrom, Coded}
 use Rattle.solver.specs.Tree.{ComesFrom, FirstRowSays, answer_for}
-use Rattle.solver.proofs.Claims.{answer_is, answer_none}
+use Rattle.solver.proofs.Claims.{answer_is}
 use Rattle.solver.proofs.Codes.{coded_numbers}
 use Rattle.prefixes.specs.Heap.{child, place_under, Checks, ChecksSay}
 use Rattle.prefixes.proofs.Filling.{next_power}
@@ -30,8 +30,8 @@ use Rattle.trees.specs.Trees.{Tree, split, split_word, words_of}
 use Rattle.trees.specs.Checker.{false_there, no_floor, closing, joined, write}
 use Rattle.trees.proofs.Rules.{coded_length}
 use Rattle.trees.proofs.Telling.{Writes, writes}
-use Rattle.explaining.specs.declared.Explanation.{Explanation}
-use Rattle.explaining.specs.declared.Explanation.TheVariants.{Tells, PlanExists, Short}
+use Rattle.explaining.specs.declared.NoTree.{NoTree}
+use Rattle.explaining.specs.declared.NoTree.TheVariants.{PlanExists, Short}
 use Rattle.explaining.specs.Nodes.{FalseUnder, FalsesSay, head_word, ClosingSays, Node, PutSays}
 use Rattle.explaining.specs.Explained.{Explained, WriteSays, TellSays, ExplainSays}
 use Rattle.explaining.proofs.Closings.{Leaf, leaf, stays}
@@ -48,28 +48,27 @@ sets_both (x ∷ xs) ys buf at =
 
 module _ (rules : List (Form ℕ)) (no_plan_said : PartialRow → Bool) where
   -- closed by its word
-  shut_list : (part : PartialRow) (more : List Tree) (t : Tree) (rest : List Tree) → 0 < head_word (closing rules no_plan_said part)
-      → or_else (closing rules no_plan_said part) more ≡ t ∷ rest → words_of t ≡ head_word (closing rules no_plan_said part) ∷ []
-  shut_list part more t rest l e = go (leaf rules no_plan_said part)
+  shut_list : (part : PartialRow) (more : List Tree) (t : Tree) (rest : List Tree) (w : ℕ) → Some w ≡ head_word (closing rules no_plan_said part)
+      → or_else (closing rules no_plan_said part) more ≡ t ∷ rest → words_of t ≡ w ∷ []
+  shut_list part more t rest w l e = go (leaf rules no_plan_said part)
     where
-      go : Leaf rules no_plan_said part (closing rules no_plan_said part) → words_of t ≡ head_word (closing rules no_plan_said part) ∷ []
-      go (Leaf.none q) = absurd (let z : head_word (closing rules no_plan_said part) ≡ 0 = ap head_word q in omega arith)
-      go (Leaf.one u us q h s) =
-          ap words_of (head-eq_of_cons-eq (sym e ∙ ap (λ (ts : List Tree). or_else ts more) q)) ∙ s
+      go : Leaf rules no_plan_said part (closing rules no_plan_said part) → words_of t ≡ w ∷ []
+      go (Leaf.none q) =
+          absurd (let z : Some w ≡ None = l ∙ ap head_word q in let y : ◌≡◌ {A = ℕ} 0 1 = cc in omega arith)
+      go (Leaf.one u us v q h s) =
+          let z : Some v ≡ Some w = sym h ∙ sym l in
+          let y : v ≡ w = cc in
+          ap words_of (head-eq_of_cons-eq (sym e ∙ ap (λ (ts : List Tree). or_else ts more) q)) ∙ s ∙ ap (λ (x : ℕ). x ∷ []) y
 
-  shut_alone : (part : PartialRow) (t : Tree) (rest : List Tree) → closing rules no_plan_said part ≡ t ∷ rest
-      → words_of t ≡ head_word (closing rules no_plan_said part) ∷ []
-  shut_alone part t rest e = go (leaf rules no_plan_said part)
-    where
-      go : Leaf rules no_plan_said part (closing rules no_plan_said part) → words_of t ≡ head_word (closing rules no_plan_said part) ∷ []
-      go (Leaf.none q) = absurd (nil≢cons (sym q ∙ e))
-      go (Leaf.one u us q h s) = ap words_of (head-eq_of_cons-eq (sym e ∙ q)) ∙ s
+  or_none : (ts : List Tree) → or_else ts [] ≡ ts
+  or_none [] = refl
+  or_none (t ∷ ts) = refl
 
-  shut_word : (d : ℕ) (row : Row) (t : Tree) (rest : List Tree) → 0 < head_word (closing rules no_plan_said (map is row))
-      → write rules no_plan_said d row ≡ t ∷ rest → words_of t ≡ head_word (closing rules no_plan_said (map is row)) ∷ []
-  shut_word zero row t rest l e = shut_alone (map is row) t rest e
-  shut_word (suc d) row t rest l e =
-      shut_list (map is row) (joined (length row) (write rules no_plan_said d (row ++ true ∷ [])) (write rules no_plan_said d (row ++ false ∷ []))) t rest l e
+  shut_word : (d : ℕ) (row : Row) (t : Tree) (rest : List Tree) (w : ℕ) → Some w ≡ head_word (closing rules no_plan_said (map is row))
+      → write rules no_plan_said d row ≡ t ∷ rest → words_of t ≡ w ∷ []
+  shut_word zero row t rest w l e = shut_list (map is row) [] t rest w l (or_none (closing rules no_plan_said (map is row)) ∙ e)
+  shut_word (suc d) row t rest w l e =
+      shut_list (map is row) (joined (length row) (write rules no_plan_said d (row ++ true ∷ [])) (write rules no_plan_said d (row ++ false ∷ []))) t rest w l e
 
   -- split: the trees of its branches
   record Parts (d : ℕ) (row : Row) (t : Tree) : Type 0 where
@@ -81,7 +80,7 @@ module _ (rules : List (Form ℕ)) (no_plan_said : PartialRow → Bool) where
     pub second_is : write rules no_plan_said d (row ++ false ∷ []) ≡ second ∷ seconds
     pub tree_is : t ≡ split (length row) first second
 
-  parts : (d : ℕ) (row : Row) (t : Tree) (rest : List Tree) → head_word (closing rules no_plan_said (map is row)) ≡ 0
+  parts : (d : ℕ) (row : Row) (t : Tree) (rest : List Tree) → head_word (closing rules no_plan_said (map is row)) ≡ None
       → write rules no_plan_said (suc d) row ≡ t ∷ rest → Parts d row t
   parts d row t rest z e =
       go (write rules no_plan_said d (row ++ true ∷ [])) (write rules no_plan_said d (row ++ false ∷ [])) refl refl
@@ -142,25 +141,23 @@ module _ {code ends bits words : List ℕ} {n h k j names : ℕ} {atoms : List (
 
 -- ---- as the code puts them
 
-module _ (code ends bits words : List ℕ) (n h k j at : ℕ) (buf : List ℕ) (fits : k ≤ n) (short : j < word_rows) (w : ℕ)
-    (says : ClosingSays words (length ends) j (seen_at bits h) w) where
+module _ (code ends bits words : List ℕ) (n h k j at : ℕ) (buf : List ℕ) (fits : k ≤ n) (short : j < word_rows) (closed : Option ℕ)
+    (says : ClosingSays words (length ends) j (seen_at bits h) closed) where
   word_is : (names : ℕ) (atoms : List (Atom ℕ)) (rules : List (Form ℕ)) (row : Row) → Node code ends bits words n h k j names atoms rules row
-      → w ≡ head_word (closing rules (no_floor plain names atoms) (map is row))
+      → closed ≡ head_word (closing rules (no_floor plain names atoms) (map is row))
   unfolding ClosingSays no_floor Checks place_under
   word_is names atoms rules row node =
       says rules (no_floor plain names atoms) (map is row) (sym (coded_length n code 0 ends rules node.coded))
       (λ i l. node.falses.are [] short i l ∙ ap (λ (r : Row). false_there rules (map is r) (suc i)) (append-nil row))
       (ap (seen_at bits) (sym node.place) ∙ node.checks row (omega (arith, node.long, node.counted)) ∙ sym (not-not _))
 
-  pub put_shut : (after : List ℕ) → after ≡ set buf at w → 0 < w → PutSays code ends bits words n h k j at buf after (at + 1)
+  pub put_shut : (w : ℕ) (after : List ℕ) → after ≡ set buf at w → Some w ≡ closed → PutSays code ends bits words n h k j at buf after (at + 1)
   unfolding PutSays
-  put_shut after q l names atoms rules row node t rest e =
-      let z = word_is names atoms rules row node in
-      let s : words_of t ≡ w ∷ [] =
-      shut_word rules (no_floor plain names atoms) (n - k) row t rest (omega (arith, z)) e ∙ ap (λ (x : ℕ). x ∷ []) (sym z) in
+  put_shut w after q l names atoms rules row node t rest e =
+      let s : words_of t ≡ w ∷ [] = shut_word rules (no_floor plain names atoms) (n - k) row t rest w (l ∙ word_is names atoms rules row node) e in
       (q ∙ sym (ap (sets buf at) s), sym (ap (λ (ws : List ℕ). at + length ws) s))
 
-  pub put_left : w ≡ 0 → k ≡ n → (r : ℕ) → PutSays code ends bits words n h k j at buf buf r
+  pub put_left : closed ≡ None → k ≡ n → (r : ℕ) → PutSays code ends bits words n h k j at buf buf r
   unfolding PutSays
   put_left z f r names atoms rules row node t rest e =
       let none : n - k ≡ 0 = omega arith in
@@ -168,7 +165,7 @@ module _ (code ends bits words : List ℕ) (n h k j at : ℕ) (buf : List ℕ) (
       (sym (ap (λ (d : ℕ). write rules (no_floor plain names atoms) d row) none
       ∙ stays rules (no_floor plain names atoms) (map is row) (sym (word_is names atoms rules row node) ∙ z)) ∙ e))
 
-  module _ (z : w ≡ 0) (open_at : k ≡ n → ⊥) (first second : List ℕ) (g i : ℕ) (begun middle-buf last-buf : List ℕ) (middle r : ℕ)
+  module _ (z : closed ≡ None) (open_at : k ≡ n → ⊥) (first second : List ℕ) (g i : ℕ) (begun middle-buf last-buf : List ℕ) (middle r : ℕ)
       (begins : begun ≡ set buf at (split_word k))
       (first_says : PutSays code ends bits first n (child h true) (k + 1) g (at + 1) begun middle-buf middle)
       (second-says : PutSays code ends bits second n (child h false) (k + 1) i middle middle-buf last-buf r)
@@ -266,28 +263,28 @@ module _ (code ends bits words : List ℕ) (n : ℕ) (few : n ≤ 16) (falses : 
       (p.0, omega (arith, p.1))
 
   pub writes_tells : (buf after : List ℕ) (r : ℕ) → PutSays code ends bits words n 1 0 1 0 buf after r → r ≤ length buf
-      → WriteSays code ends bits n buf after (Tells r)
+      → WriteSays code ends bits n buf after (Ok r)
   unfolding WriteSays
   writes_tells buf after r says l names atoms rules counted coded checks t rest e =
       let p = rooted buf after r says names atoms rules counted coded checks t rest e in
-      ((λ m. (ap Tells p.1, p.0)), (λ m. absurd (omega (arith, p.1))))
+      ((λ m. (ap Ok p.1, p.0)), (λ m. absurd (omega (arith, p.1))))
 
   module _ (spare spare' : List ℕ) (needed : ℕ) (counts : PutSays code ends bits words n 1 0 1 0 spare spare' needed) where
-    pub writes_short : (buf : List ℕ) → length buf < needed → WriteSays code ends bits n buf buf (Short needed)
+    pub writes_short : (buf : List ℕ) → length buf < needed → WriteSays code ends bits n buf buf (Err (Short needed))
     unfolding WriteSays
     writes_short buf l names atoms rules counted coded checks t rest e =
         let p = rooted spare spare' needed counts names atoms rules counted coded checks t rest e in
-        ((λ m. absurd (omega (arith, p.1))), (λ m. (ap Short p.1, refl)))
+        ((λ m. absurd (omega (arith, p.1))), (λ m. (ap (λ (x : ℕ). Err (Short x)) p.1, refl)))
 
     pub writes_counted : (buf after : List ℕ) (r : ℕ) → PutSays code ends bits words n 1 0 1 0 buf after r → needed ≤ length buf
-        → WriteSays code ends bits n buf after (Tells needed)
+        → WriteSays code ends bits n buf after (Ok needed)
     unfolding WriteSays
     writes_counted buf after r says l names atoms rules counted coded checks t rest e =
         let q = rooted spare spare' needed counts names atoms rules counted coded checks t rest e in
         let p = rooted buf after r says names atoms rules counted coded checks t rest e in
-        ((λ m. (ap Tells q.1, p.0)), (λ m. absurd (omega (arith, q.1))))
+        ((λ m. (ap Ok q.1, p.0)), (λ m. absurd (omega (arith, q.1))))
 
-pub tells : (code ends bits : List ℕ) (chart : Chart) (before after : List ℕ) (r : Explanation) → ChecksSay chart bits
+pub tells : (code ends bits : List ℕ) (chart : Chart) (before after : List ℕ) (r : Result ℕ NoTree) → ChecksSay chart bits
     → WriteSays code ends bits chart.atoms before after r → TellSays code ends chart before after r
 unfolding ChecksSay WriteSays TellSays
 tells code ends bits chart before after r checks says atoms rules h t rest e =
@@ -296,7 +293,7 @@ tells code ends bits chart before after r checks says atoms rules h t rest e =
 
 -- ---- where no row is found there is a tree, and where one is there is none
 
-module _ (code ends : List ℕ) (chart : Chart) (found : RowAnswer) (says : FirstRowSays plain code ends chart found) where
+module _ (code ends : List ℕ) (chart : Chart) (found : Option ℕ) (says : FirstRowSays plain code ends chart found) where
   module _ (atoms : List (Atom ℕ)) (rules : List (Form ℕ)) (h : ComesFrom code ends chart atoms rules) (below : AtomsBelow chart.names atoms) where
     answer : found ≡ answer_for (first_row plain chart.names atoms rules)
     answer = answer_is plain code ends chart found says atoms rules h
@@ -304,19 +301,19 @@ module _ (code ends : List ℕ) (chart : Chart) (found : RowAnswer) (says : Firs
     known : Writes plain chart.names atoms rules
     known = writes plain chart.names atoms rules below (λ i k. omega (arith, coded_numbers chart.atoms code 0 ends rules h.coded i k, h.compiled.counted))
 
-  pub explains_plan : (i : ℕ) → found ≡ At i → (buf : List ℕ) → ExplainSays code ends chart buf buf PlanExists
+  pub explains_plan : is_some found ≡ true → (buf : List ℕ) → ExplainSays code ends chart buf buf (Err PlanExists)
   unfolding ExplainSays
-  explains_plan i q buf atoms rules h below = go (known atoms rules h below)
+  explains_plan q buf atoms rules h below = go (known atoms rules h below)
     where
-      go : Writes plain chart.names atoms rules → Explained (write rules (no_floor plain chart.names atoms) (length atoms) []) buf buf PlanExists
-      go (Writes.told t w f) = absurd (let y : Nothing ≡ At i = sym (answer atoms rules h below ∙ ap answer_for f) ∙ q in let z : ◌≡◌ {A = ℕ} 0 1 = cc in omega arith)
-      go (Writes.exists row w f) = subst (λ (ts : List Tree). Explained ts buf buf PlanExists) (sym w) (refl, refl)
+      go : Writes plain chart.names atoms rules → Explained (write rules (no_floor plain chart.names atoms) (length atoms) []) buf buf (Err PlanExists)
+      go (Writes.told t w f) = clash q (ap is_some (answer atoms rules h below ∙ ap answer_for f))
+      go (Writes.exists row w f) = subst (λ (ts : List Tree). Explained ts buf buf (Err PlanExists)) (sym w) (refl, refl)
 
-  pub explains_tree : found ≡ Nothing → (before after : List ℕ) (r : Explanation) → TellSays code ends chart before after r
+  pub explains_tree : is_some found ≡ false → (before after : List ℕ) (r : Result ℕ NoTree) → TellSays code ends chart before after r
       → ExplainSays code ends chart before after r
   unfolding ExplainSays TellSays
   explains_tree e before after r tell atoms rules h below = go (known atoms rules h below)
     where
       go : Writes plain chart.names atoms rules → Explained (write rules (no_floor plain chart.names atoms) (length atoms) []) before after r
       go (Writes.told t w f) = subst (λ (ts : List Tree). Explained ts before after r) (sym w) (tell atoms rules h t [] w)
-      go (Writes.exists row w f) = absurd (nil≢cons (sym (answer_none plain chart.names atoms rules (sym (answer atoms rules h below) ∙ e)) ∙ f))
+      go (Writes.exists row w f) = clash (ap is_some (answer atoms rules h below ∙ ap answer_for f)) e

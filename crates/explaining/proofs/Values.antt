@@ -42,28 +42,28 @@ short ext l =
 -- ---- masks
 
 -- a test of all rows of at most d atoms
-unfoldable pub all_under_lem : ℕ → (Row → Bool) → Bool
-all_under_lem zero p = p []
-all_under_lem (suc d) p = p [] && (all_under_lem d (λ r. p (true ∷ r)) && all_under_lem d (λ r. p (false ∷ r)))
+unfoldable pub all_under : ℕ → (Row → Bool) → Bool
+all_under zero p = p []
+all_under (suc d) p = p [] && (all_under d (λ r. p (true ∷ r)) && all_under d (λ r. p (false ∷ r)))
 
-all_under : (d : ℕ) (p : Row → Bool) (ext : Row) → length ext ≤ d → all_under_lem d p ≡ true → p ext ≡ true
-unfolding all_under_lem
-all_under zero p [] l h = h
-all_under zero p (b ∷ ext) l h = absurd (omega arith)
-all_under (suc d) p [] l h = ((and-eq-true_iff (p []) _).0 h).0
-all_under (suc d) p (true ∷ ext) l h =
-    all_under d (λ r. p (true ∷ r)) ext (omega arith) ((and-eq-true_iff (all_under_lem d (λ r. p (true ∷ r))) _).0 ((and-eq-true_iff (p []) _).0 h).1).0
-all_under (suc d) p (false ∷ ext) l h =
-    all_under d (λ r. p (false ∷ r)) ext (omega arith) ((and-eq-true_iff (all_under_lem d (λ r. p (true ∷ r))) _).0 ((and-eq-true_iff (p []) _).0 h).1).1
+all_under_lem : (d : ℕ) (p : Row → Bool) (ext : Row) → length ext ≤ d → all_under d p ≡ true → p ext ≡ true
+unfolding all_under
+all_under_lem zero p [] l h = h
+all_under_lem zero p (b ∷ ext) l h = absurd (omega arith)
+all_under_lem (suc d) p [] l h = ((and-eq-true_iff (p []) _).0 h).0
+all_under_lem (suc d) p (true ∷ ext) l h =
+    all_under_lem d (λ r. p (true ∷ r)) ext (omega arith) ((and-eq-true_iff (all_under d (λ r. p (true ∷ r))) _).0 ((and-eq-true_iff (p []) _).0 h).1).0
+all_under_lem (suc d) p (false ∷ ext) l h =
+    all_under_lem d (λ r. p (false ∷ r)) ext (omega arith) ((and-eq-true_iff (all_under d (λ r. p (true ∷ r))) _).0 ((and-eq-true_iff (p []) _).0 h).1).1
 
 -- the mask has the atom's rail at a node
 unfoldable pub right : (Duo → Bool) → ℕ → ℕ → Row → Bool
 right rail u w ext = beq (bit w (place_of ext)) (rail (duo_of (value_in (map is ext) u)))
 
-pub mask_says : (rail : Duo → Bool) (u v w : ℕ) → u ≡ v → all_under_lem 5 (right rail v w) ≡ true → MaskSays rail u w
+pub mask_says : (rail : Duo → Bool) (u v w : ℕ) → u ≡ v → all_under 5 (right rail v w) ≡ true → MaskSays rail u w
 unfolding MaskSays right
 mask_says rail u v w e h ext l =
-    beq_same (bit w (place_of ext)) (rail (duo_of (value_in (map is ext) v))) (all_under 5 (right rail v w) ext (short ext l) h)
+    beq_same (bit w (place_of ext)) (rail (duo_of (value_in (map is ext) v))) (all_under_lem 5 (right rail v w) ext (short ext l) h)
     ∙ ap (λ (x : ℕ). rail (duo_of (value_in (map is ext) x))) (sym e)
 
 pub mask_none : (rail : Duo → Bool) (u : ℕ) → rail (duo false false) ≡ false → 5 ≤ u → MaskSays rail u 0

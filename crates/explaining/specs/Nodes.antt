@@ -1,6 +1,6 @@
 -- For proofs: what the writer's private functions ensure. A node is a row of the first atoms, by its place (crate prefixes). A block has the 63
 -- nodes from a node down to five atoms more, by their places under it; a word has a bit for each of them. Assumes nothing.
-use Rattle.std.specs.Prelude.{Bool, false, not, ◌≡◌, List, [], ◌∷◌, ◌++◌, map, ℕ, zero, suc, ◌+◌, ◌-◌, ◌≤◌, ◌<◌, length, get_or}
+use Rattle.std.specs.Prelude.{Bool, false, not, ◌≡◌, List, [], ◌∷◌, ◌++◌, map, ℕ, zero, suc, ◌+◌, ◌-◌, ◌≤◌, ◌<◌, length, get_or, Option, Some, None}
 use Rattle.std.proofs.lemmas.List.Edits.{sets}
 use Rattle.formula.specs.Formula.{Atom, Form}
 use Rattle.evalset.specs.Bit.{bit}
@@ -48,20 +48,15 @@ FalsesSay code ends h k n words =
 
 -- ---- a node closed
 
--- the first rule that is false, or 0
-abbrev pub number_or : List ℕ → ℕ
-number_or [] = 0
-number_or (k ∷ ks) = k
+-- the word that closes a branch, if one does
+abbrev pub head_word : List Tree → Option ℕ
+head_word [] = None
+head_word (split a t f ∷ ts) = Some (split_word a)
+head_word (rule k ∷ ts) = Some (rule_word k)
+head_word (floorless ∷ ts) = Some floorless_word
+head_word (missing ∷ ts) = None
 
--- the word that closes a branch, or 0
-abbrev pub head_word : List Tree → ℕ
-head_word [] = 0
-head_word (split a t f ∷ ts) = split_word a
-head_word (rule k ∷ ts) = rule_word k
-head_word (floorless ∷ ts) = floorless_word
-head_word (missing ∷ ts) = 0
-
-unfoldable pub ClosingSays : List ℕ → ℕ → ℕ → Bool → ℕ → Type 0
+unfoldable pub ClosingSays : List ℕ → ℕ → ℕ → Bool → Option ℕ → Type 0
 ClosingSays words n j some r =
     (rules : List (Form ℕ)) (no_plan_said : PartialRow → Bool) (part : PartialRow) → length rules ≡ n
     → ((i : ℕ) → i < n → bit (get_or words i 0) j ≡ false_there rules part (suc i)) → some ≡ not (no_plan_said part) → r ≡ head_word (closing rules no_plan_said part)

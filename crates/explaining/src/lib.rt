@@ -6,112 +6,100 @@
 // crates alone call these functions. Assumes nothing.
 #![tactic(auto)]
 
-ghost use Rattle.std.specs.Prelude.{◌≡◌, false, ℕ, ◌+◌, ◌-◌, ◌*◌, ◌/◌, ◌^◌, ◌≤◌, ◌<◌, length, set};
+ghost use Rattle.std.specs.Prelude.{◌≡◌, false, ℕ, ◌+◌, ◌-◌, ◌*◌, ◌/◌, ◌^◌, ◌≤◌, ◌<◌, length, set, IfSome};
 ghost use Rattle.lists.specs.Search.{first, from};
+ghost use Rattle.evalset.specs.Sets.{found_of};
 ghost use Rattle.kleene.specs.Rails.{yes_of, no_of, word_rows};
 ghost use Rattle.search.specs.Compiled.{limit};
 ghost use Rattle.pairing.specs.Listed.{seen_at};
 ghost use Rattle.solver.specs.Coded.{SafeFrom};
 ghost use Rattle.solver.specs.Tree.{Unseen, Runnable};
 ghost use Rattle.prefixes.specs.Heap.{ChecksSay};
-ghost use Rattle.explaining.specs.Nodes.{MaskSays, LeafSays, LeavesSay, false_at, FalsesSay, number_or, ClosingSays, PutSays};
+ghost use Rattle.explaining.specs.Nodes.{MaskSays, LeafSays, LeavesSay, false_at, FalsesSay, ClosingSays, PutSays};
 ghost use Rattle.explaining.specs.Explained.{WriteSays, TellSays, ExplainSays};
 
+use kleene::Words;
 use search::{ATOMS, Asked, Chart};
-use solver::RowAnswer;
 
-// What the writer answers: a tree of so many words, that a plan exists, or the words needed.
+// Why no tree is written: a plan exists, or the buffer is too short for the words needed.
 #[derive(Clone, Copy)]
-pub enum Explanation {
-    Tells(usize),
+pub enum NoTree {
     PlanExists,
     Short(usize),
 }
 
+// The nodes of a block where each atom is true, and those where it is false: two arrays, since `kleene::run_rails` takes them apart.
+#[derive(Clone, Copy)]
+struct AtomWords {
+    yes: [u64; ATOMS],
+    no: [u64; ATOMS],
+}
+
 // ---- the atoms' values in a block
 
-// The nodes of a block where the atom that comes u after its first is true.
-fn yes_mask(u: usize) -> u64
-    ensures { MaskSays yes_of u result }
+// The nodes of a block where the atom that comes u after its first is true, and those where it is false.
+fn mask(u: usize) -> Words
+    ensures { MaskSays yes_of u result.yes × MaskSays no_of u result.no }
 {
     match u {
-        0 => 0x0000_FFFF_00FF_0F34,
-        1 => 0x00FF_00FF_0F0F_3350,
-        2 => 0x0F0F_0F0F_3333_5500,
-        3 => 0x3333_3333_5555_0000,
-        4 => 0x5555_5555_0000_0000,
-        _ => 0,
+        0 => Words {
+            yes: 0x0000_FFFF_00FF_0F34,
+            no: 0xFFFF_0000_FF00_F0C8,
+        },
+        1 => Words {
+            yes: 0x00FF_00FF_0F0F_3350,
+            no: 0xFF00_FF00_F0F0_CCA0,
+        },
+        2 => Words {
+            yes: 0x0F0F_0F0F_3333_5500,
+            no: 0xF0F0_F0F0_CCCC_AA00,
+        },
+        3 => Words {
+            yes: 0x3333_3333_5555_0000,
+            no: 0xCCCC_CCCC_AAAA_0000,
+        },
+        4 => Words {
+            yes: 0x5555_5555_0000_0000,
+            no: 0xAAAA_AAAA_0000_0000,
+        },
+        _ => Words { yes: 0, no: 0 },
     }
 }
 
-// Those where it is false.
-fn no_mask(u: usize) -> u64
-    ensures { MaskSays no_of u result }
-{
-    match u {
-        0 => 0xFFFF_0000_FF00_F0C8,
-        1 => 0xFF00_FF00_F0F0_CCA0,
-        2 => 0xF0F0_F0F0_CCCC_AA00,
-        3 => 0xCCCC_CCCC_AAAA_0000,
-        4 => 0xAAAA_AAAA_0000_0000,
-        _ => 0,
-    }
-}
-
-// The nodes of the block under the node with k atoms at place h where atom i is true.
-fn yes_leaf(h: usize, k: usize, i: usize) -> u64
+// The nodes of the block under the node with k atoms at place h where atom i is true, and those where it is false.
+fn leaf(h: usize, k: usize, i: usize) -> Words
     requires { k ≤ limit }
-    ensures { LeafSays yes_of h k i result }
+    ensures { LeafSays yes_of h k i result.yes × LeafSays no_of h k i result.no }
 {
     if i >= k {
-        return yes_mask(i - k);
+        return mask(i - k);
     }
     if search::value_in(h, k, i) {
-        0xFFFF_FFFF_FFFF_FFFF
+        Words {
+            yes: 0xFFFF_FFFF_FFFF_FFFF,
+            no: 0,
+        }
     } else {
-        0
+        Words {
+            yes: 0,
+            no: 0xFFFF_FFFF_FFFF_FFFF,
+        }
     }
 }
 
-// Those where it is false.
-fn no_leaf(h: usize, k: usize, i: usize) -> u64
+// The nodes where each atom is true, and those where it is false.
+fn leaves(h: usize, k: usize) -> AtomWords
     requires { k ≤ limit }
-    ensures { LeafSays no_of h k i result }
+    ensures { LeavesSay yes_of h k 16 result.yes × LeavesSay no_of h k 16 result.no }
 {
-    if i >= k {
-        return no_mask(i - k);
-    }
-    if search::value_in(h, k, i) {
-        0
-    } else {
-        0xFFFF_FFFF_FFFF_FFFF
-    }
-}
-
-// The nodes where each atom is true.
-fn yes_leaves(h: usize, k: usize) -> [u64; ATOMS]
-    requires { k ≤ limit }
-    ensures { LeavesSay yes_of h k 16 result }
-{
-    let mut out = [0u64; ATOMS];
-    let mut i: usize = 0;
-    while i < ATOMS {
-        out[i] = yes_leaf(h, k, i);
-        i += 1;
-    }
-    out
-}
-
-// And where it is false.
-fn no_leaves(h: usize, k: usize) -> [u64; ATOMS]
-    requires { k ≤ limit }
-    ensures { LeavesSay no_of h k 16 result }
-{
-    let mut out = [0u64; ATOMS];
-    let mut i: usize = 0;
-    while i < ATOMS {
-        out[i] = no_leaf(h, k, i);
-        i += 1;
+    let mut out = AtomWords {
+        yes: [0; ATOMS],
+        no: [0; ATOMS],
+    };
+    for i in 0..ATOMS {
+        let both = leaf(h, k, i);
+        out.yes[i] = both.yes;
+        out.no[i] = both.no;
     }
     out
 }
@@ -123,37 +111,31 @@ fn falses(code: &[u8], ends: &[usize], h: usize, k: usize) -> [u64; ATOMS]
     requires { SafeFrom code.now 0 ends.now × (length ends.now ≤ limit) × (k ≤ limit) }
     ensures { (length result ≡ 16) × FalsesSay code.now ends.now h k (length ends.now) result }
 {
-    let yes = yes_leaves(h, k);
-    let no = no_leaves(h, k);
+    let atoms = leaves(h, k);
     let mut ys = [0u64; 128];
     let mut ns = [0u64; 128];
     let mut out = [0u64; ATOMS];
     let mut from: usize = 0;
-    let mut i: usize = 0;
-    while i < ends.len() {
+    for i in 0..ends.len() {
         let end = ends[i];
-        let found = kleene::run_rails(&code[from..end], &yes, &no, &mut ys, &mut ns);
+        let found = kleene::run_rails(&code[from..end], &atoms.yes, &atoms.no, &mut ys, &mut ns);
         out[i] = found.no;
         from = end;
-        i += 1;
     }
     out
 }
 
-// The first of so many rules, counted from 1, that is false at the node with the place j in its block, or 0.
-fn first_false(words: &[u64; ATOMS], count: usize, j: usize) -> usize
+// The first of so many rules, counted from 1, that is false at the node with the place j in its block.
+fn first_false(words: &[u64; ATOMS], count: usize, j: usize) -> Option<usize>
     requires { (count ≤ limit) × (j < word_rows) }
-    ensures { (result ≤ count) × (result ≡ number_or (first (false_at words.now j) (from 1 count))) }
+    ensures { IfSome result (λ k. k ≤ count) × (result ≡ found_of (first (false_at words.now j) (from 1 count))) }
 {
-    let mut i: usize = 0;
-    while i < count {
-        let word = words[i];
-        i += 1;
-        if (word >> j) % 2 == 1 {
-            return i;
+    for i in 0..count {
+        if (words[i] >> j) % 2 == 1 {
+            return Some(i + 1);
         }
     }
-    0
+    None
 }
 
 // Whether some floor gives the decided atoms of the node at place h their values.
@@ -164,17 +146,19 @@ fn some_floor(bits: &[u64], h: usize) -> bool
     (bits[h / 64] >> (h % 64)) % 2 == 1
 }
 
-// The word that closes a node, or 0: kind 6 before kind 7.
-fn closing_word(words: &[u64; ATOMS], count: usize, bits: &[u64], h: usize, j: usize) -> u32
+// The word that closes a node, if one does: kind 6 before kind 7.
+fn closing_word(words: &[u64; ATOMS], count: usize, bits: &[u64], h: usize, j: usize) -> Option<u32>
     requires { (count ≤ limit) × (j < word_rows) × (h / 64 < length bits.now) }
     ensures { ClosingSays words.now count j (seen_at bits.now h) result }
 {
-    let k = first_false(words, count, j);
-    let some = some_floor(bits, h);
-    if k > 0 {
-        return 0x6000_0000 + k as u32;
+    if let Some(k) = first_false(words, count, j) {
+        return Some(0x6000_0000 + k as u32);
     }
-    if some { 0 } else { 0x7000_0000 }
+    if some_floor(bits, h) {
+        None
+    } else {
+        Some(0x7000_0000)
+    }
 }
 
 // ---- the tree
@@ -185,7 +169,6 @@ fn write_word(buf: &mut [u32], at: usize, w: u32)
 {
     if at < buf.len() {
         buf[at] = w;
-        return;
     }
 }
 
@@ -206,8 +189,7 @@ fn put(
     requires { SafeFrom code.now 0 ends.now × (length ends.now ≤ limit) × (n ≤ limit) × (k ≤ n) × (j < word_rows) × (h < 2 * 2 ^ k) × (2 * 2 ^ n ≤ 64 * length bits.now) × (at + 2 * 2 ^ (n - k) ≤ 262144) }
     ensures { (length buf.new ≡ length buf.old) × (result < at + 2 * 2 ^ (n - k)) × PutSays code.now ends.now bits.now words.now n h k j at buf.old buf.new result }
 {
-    let w = closing_word(words, ends.len(), bits, h, j);
-    if w > 0 {
+    if let Some(w) = closing_word(words, ends.len(), bits, h, j) {
         write_word(buf, at, w);
         return at + 1;
     }
@@ -231,7 +213,13 @@ fn put(
 }
 
 // The whole tree, which has fewer than 2^(n + 1) words: where the buffer may be too short, the words needed are counted first, so that a short buffer keeps its contents.
-fn write_tree(buf: &mut [u32], code: &[u8], ends: &[usize], bits: &[u64], n: usize) -> Explanation
+fn write_tree(
+    buf: &mut [u32],
+    code: &[u8],
+    ends: &[usize],
+    bits: &[u64],
+    n: usize,
+) -> Result<usize, NoTree>
     requires { SafeFrom code.now 0 ends.now × (length ends.now ≤ limit) × (n ≤ limit) × (2 * 2 ^ n ≤ 64 * length bits.now) }
     ensures { WriteSays code.now ends.now bits.now n buf.old buf.new result }
 {
@@ -239,15 +227,15 @@ fn write_tree(buf: &mut [u32], code: &[u8], ends: &[usize], bits: &[u64], n: usi
     let one: usize = 1;
     if buf.len() >= (one << (n + 1)) - 1 {
         let end = put(buf, 0, code, ends, bits, &words, n, 1, 0, 1);
-        return Explanation::Tells(end);
+        return Ok(end);
     }
     let mut none = [0u32; 1];
     let needed = put(&mut none, 0, code, ends, bits, &words, n, 1, 0, 1);
     if needed > buf.len() {
-        return Explanation::Short(needed);
+        return Err(NoTree::Short(needed));
     }
     put(buf, 0, code, ends, bits, &words, n, 1, 0, 1);
-    Explanation::Tells(needed)
+    Ok(needed)
 }
 
 // Which rows of the first atoms are realisable, with room for the list of words by the number of names.
@@ -270,7 +258,7 @@ fn check_rows(chart: Chart, seen: &mut [u64], bits: &mut [u64])
 }
 
 // The tree, with room by the number of atoms: sheets of few atoms do not clear more than they need.
-fn tell(buf: &mut [u32], code: &[u8], ends: &[usize], chart: Chart) -> Explanation
+fn tell(buf: &mut [u32], code: &[u8], ends: &[usize], chart: Chart) -> Result<usize, NoTree>
     requires { Runnable code.now ends.now chart × (length ends.now ≤ limit) }
     ensures { TellSays code.now ends.now chart buf.old buf.new result }
 {
@@ -287,13 +275,12 @@ fn tell(buf: &mut [u32], code: &[u8], ends: &[usize], chart: Chart) -> Explanati
 }
 
 // "A new call writes a closed tree as words", where no plan exists.
-pub fn explain(buf: &mut [u32], code: &[u8], ends: &[usize], chart: Chart) -> Explanation
+pub fn explain(buf: &mut [u32], code: &[u8], ends: &[usize], chart: Chart) -> Result<usize, NoTree>
     requires { Runnable code.now ends.now chart × (length ends.now ≤ limit) }
     ensures { ExplainSays code.now ends.now chart buf.old buf.new result }
 {
-    let found = solver::first_row(code, ends, chart, Asked::Plain);
-    let RowAnswer::Nothing = found else {
-        return Explanation::PlanExists;
-    };
+    if solver::first_row(code, ends, chart, Asked::Plain).is_some() {
+        return Err(NoTree::PlanExists);
+    }
     tell(buf, code, ends, chart)
 }

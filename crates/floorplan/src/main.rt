@@ -2,12 +2,10 @@
 // A read that fails, or a standard output that does not take the text, is said on standard error and never as an answer.
 #![tactic(auto)]
 
-use reading::Got;
-
 fn main(rt: HostRuntime) {
     let mut sheet = reading::no_bytes();
     let got = reading::read_sheet(&mut rt.stdin(), &mut sheet);
-    let Got::Bytes(n) = got else {
+    let Ok(n) = got else {
         let _ = rt.eprintln("floorplan: the sheet cannot be read");
         return;
     };

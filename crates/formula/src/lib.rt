@@ -35,12 +35,5 @@ pub fn level(s: Sign) -> u8
 pub fn joins_terms(s: Sign) -> bool
     ensures { result ≡ joins_terms s }
 {
-    match s {
-        Sign::Implies => false,
-        Sign::Iff => false,
-        Sign::Or => false,
-        Sign::And => false,
-        Sign::Plus => true,
-        Sign::Times => true,
-    }
+    matches!(s, Sign::Plus | Sign::Times)
 }

@@ -5,10 +5,8 @@
 // requires that they can be run, as the charts and the codes of rules can (`runnable` of solver/proofs/Claims.antt). Assumes nothing.
 #![tactic(auto)]
 
-ghost use Rattle.std.specs.Prelude.{◌≡◌, ℕ, ◌≤◌, ◌<◌};
-ghost use Rattle.evalset.specs.Bit.{bit};
+ghost use Rattle.std.specs.Prelude.{◌≡◌, ◌≤◌};
 ghost use Rattle.squares.specs.Square.{Square, square_at};
-ghost use Rattle.kleene.specs.Rails.{word_rows};
 ghost use Rattle.search.specs.Compiled.{limit};
 ghost use Rattle.solver.specs.Coded.{PartSafe, SafeFrom};
 ghost use Rattle.solver.specs.Tree.{Runnable};
@@ -20,18 +18,12 @@ use plan::{PlanArrays, PlanPoints};
 use search::{ATOMS, Chart};
 
 // What judging a plan answers: it meets every rule, or the number of the lowest rule that it does not meet, from 1, or it is uncovered.
+// An enum of its own: each of the three is an answer, and none a failure.
 #[derive(Clone, Copy)]
 pub enum Judged {
     Yes,
     Unmet(usize),
     Uncovered,
-}
-
-// A value in every row of a word.
-fn settled(value: bool) -> u64
-    ensures { (e : ℕ) → e < word_rows → bit result e ≡ value }
-{
-    if value { 0xFFFF_FFFF_FFFF_FFFF } else { 0 }
 }
 
 // The values of the chart's atoms on the plan. Of a zero atom x has the zero term. The rows are lent: by value they would be copied for each
@@ -40,19 +32,16 @@ fn leaves(plan: PlanPoints, square: &[u64], chart: Chart) -> [u64; ATOMS]
     requires { (chart.atoms ≤ limit) × Square square.now }
     ensures { LeavesSay plan (square_at square.now) chart result }
 {
-    let n = chart.atoms;
     let mut out = [0u64; ATOMS];
-    let mut i: usize = 0;
-    while i < n {
+    for i in 0..chart.atoms {
         let x = chart.xs[i];
         let y = chart.ys[i];
-        if chart.contact[i] {
-            out[i] = settled(plan::touches(plan, square, x, y));
-            i += 1;
-            continue;
-        }
-        out[i] = settled(plan::is_vacant(plan, x));
-        i += 1;
+        let value = if chart.contact[i] {
+            plan::touches(plan, square, x, y)
+        } else {
+            plan::is_vacant(plan, x)
+        };
+        out[i] = evalset::all_bits(value);
     }
     out
 }
@@ -72,15 +61,12 @@ fn first_unmet(code: &[u8], ends: &[usize], atoms: [u64; ATOMS]) -> Judged
     requires { SafeFrom code.now 0 ends.now }
     ensures { UnmetSays code.now ends.now atoms result }
 {
-    let mut from: usize = 0;
-    let mut i: usize = 0;
-    while i < ends.len() {
-        let end = ends[i];
-        if !rule_value(code, from, end, atoms) {
+    let mut from = 0;
+    for (i, end) in ends.iter().enumerate() {
+        if !rule_value(code, from, *end, atoms) {
             return Judged::Unmet(i + 1);
         }
-        from = end;
-        i += 1;
+        from = *end;
     }
     Judged::Yes
 }
@@ -89,10 +75,7 @@ fn first_unmet(code: &[u8], ends: &[usize], atoms: [u64; ATOMS]) -> Judged
 fn uncovered(plan: PlanPoints) -> bool
     ensures { result ≡ uncovered_of plan }
 {
-    if plan.names == 0 {
-        return false;
-    }
-    plan.points[0] == 0
+    plan.names != 0 && plan.points[0] == 0
 }
 
 // Judges the plan by the rules of this code, whose atoms the chart has. Only our own crates call it: `Runnable` asks that the chart has at
@@ -101,11 +84,10 @@ pub fn judge_plan(plan: PlanArrays, chart: Chart, code: &[u8], ends: &[usize]) -
     requires { Runnable code.now ends.now chart }
     ensures { JudgesSay plan chart code.now ends.now result }
 {
-    let evaluations = plan.points;
     let points = PlanPoints {
         names: plan.names,
         count: plan.count,
-        points: evaluations,
+        points: plan.points,
     };
     if uncovered(points) {
         return Judged::Uncovered;

@@ -45,10 +45,7 @@ pub fn run_whole(code: &[u8], leaves: &[u64; 16], stack: &mut [u64; 128]) -> u64
 {
     let mut top: u64 = 0;
     let mut height: usize = 0;
-    let mut i: usize = 0;
-    while i < code.len() {
-        let c = code[i];
-        i += 1;
+    for &c in code {
         match c {
             0 => top = flipped(top),
             1 => {
@@ -106,10 +103,7 @@ pub fn run_rails(
     let mut y: u64 = 0;
     let mut n: u64 = 0;
     let mut height: usize = 0;
-    let mut i: usize = 0;
-    while i < code.len() {
-        let c = code[i];
-        i += 1;
+    for &c in code {
         match c {
             0 => {
                 let z = y;

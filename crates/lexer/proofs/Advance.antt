@@ -1,25 +1,24 @@
 -- How the cutting goes on from a place: past a blank byte or a token the rest is cut from there, and a token filled into the arrays or
 -- still to come gives the same answer. Assumes nothing.
-use mathlib.Core.Path.{◌≡◌, refl, sym, ap, ap₂, subst, ◌∙◌}
+use Rattle.std.specs.Prelude.{Result, Err}
+use mathlib.Core.Path.{◌≡◌, refl, sym, ap, subst, ◌∙◌}
 use mathlib.Core.List.{List, [], ◌∷◌}
 use Prim.Native.Nat.{ℕ, suc, ◌+◌, ◌-◌, ◌≤◌, ◌<◌}
 use native.Mathlib.Omega.{arith}
 use native.Mathlib.Nat.{add-zero}
-use lib.ListN.{length, get_or, drop, set, replicate, drop_of_length-le}
+use lib.ListN.{length, get_or, drop, drop_of_length-le}
 use lib.Seq.{drop-drop}
-use Rattle.lists.specs.Padded.{pad}
 use Rattle.lexer.specs.Token.{token_of}
 use Rattle.lexer.specs.Cutting.{Cutting, tokens, refused, with_token}
 use Rattle.lexer.specs.Cutter.{piece_of, more, put, cut_from}
-use Rattle.lexer.specs.Arrays.{code_of, tokens_of}
-use Rattle.lexer.specs.Steps.{arrays, push, fill, refusal, finish, resume}
+use Rattle.lexer.specs.Steps.{push, fill, finish, resume}
 use Rattle.lexer.specs.declared.Kind.{Kind}
 use Rattle.lexer.specs.declared.Piece.{Piece}
-use Rattle.lexer.specs.declared.LexAnswer.TheVariants as LexAnswer
+use Rattle.lexer.specs.declared.LexError.{LexError}
 use Rattle.lexer.specs.declared.Tokens.{Tokens}
-use Rattle.lexer.specs.declared.Lexed.{Lexed}
 use Rattle.lists.proofs.Lists.{rest}
-use Rattle.lexer.proofs.Pieces.{Sized, sized}
+use Rattle.lexer.specs.Arrays.{tokens_of}
+use Rattle.lexer.proofs.Pieces.{Sized, sized, token_sized}
 
 -- the bytes of the token before are skipped
 skip : (k i : ℕ) (s : List ℕ) → k ≤ length s → cut_from i k s ≡ cut_from (i + k) 0 (drop k s)
@@ -27,10 +26,6 @@ unfolding cut_from
 skip ℕ.zero i s h = ap (λ (j : ℕ). cut_from j 0 s) (sym (add-zero i))
 skip (suc k) i [] h = absurd (omega arith)
 skip (suc k) i (b ∷ s) h = skip k (i + 1) s (omega arith) ∙ ap (λ (j : ℕ). cut_from j 0 (drop k s)) (omega arith)
-
-pub none_made : (k s l : List ℕ) → k ≡ replicate 256 0 → s ≡ replicate 256 0 → l ≡ replicate 256 0 → arrays k s l 0 ≡ tokens_of []
-unfolding tokens_of pad
-none_made k s l e f g = cc
 
 -- ---- one piece at the start of a text
 
@@ -64,7 +59,7 @@ resume_first t k i n (refused a) = refl
 
 module _ (s : List ℕ) (i : ℕ) where
   -- the answer where t is filled already and the text is cut from place i on
-  abbrev answer_from : Tokens → Lexed
+  abbrev answer_from : Tokens → Result Tokens LexError
   answer_from t = resume t (cut_from i 0 (drop i s))
 
   pub at_end : length s ≤ i → (t : Tokens) → finish t ≡ answer_from t
@@ -80,15 +75,15 @@ module _ (s : List ℕ) (i : ℕ) where
     pub at_blank : (t : Tokens) → Piece.Blank ≡ piece_of (drop i s) → resume t (cut_from (i + 1) 0 (drop (i + 1) s)) ≡ answer_from t
     at_blank t e = sym (ap (resume t) (here Piece.Blank e))
 
-    pub at_foreign : (t : Tokens) → Piece.Foreign ≡ piece_of (drop i s) → refusal (LexAnswer.ForeignByte i) ≡ answer_from t
+    pub at_foreign : (t : Tokens) → Piece.Foreign ≡ piece_of (drop i s) → Err (LexError.ForeignByte i) ≡ answer_from t
     unfolding resume
     at_foreign t e = sym (ap (resume t) (here Piece.Foreign e))
 
-    pub at_long : (t : Tokens) → Piece.LongName ≡ piece_of (drop i s) → refusal (LexAnswer.LongName i) ≡ answer_from t
+    pub at_long : (t : Tokens) → Piece.LongName ≡ piece_of (drop i s) → Err (LexError.LongName i) ≡ answer_from t
     unfolding resume
     at_long t e = sym (ap (resume t) (here Piece.LongName e))
 
-    pub at_measured : (t : Tokens) → Piece.Measured ≡ piece_of (drop i s) → refusal (LexAnswer.Measured i) ≡ answer_from t
+    pub at_measured : (t : Tokens) → Piece.Measured ≡ piece_of (drop i s) → Err (LexError.Measured i) ≡ answer_from t
     unfolding resume
     at_measured t e = sym (ap (resume t) (here Piece.Measured e))
 
@@ -99,10 +94,12 @@ module _ (s : List ℕ) (i : ℕ) where
         ∙ sym (by_token i (get_or s i 0) (drop (i + 1) s) k n (cut_from (i + n) 0 (drop (i + n) s)) (sym (e ∙ ap piece_of d))
         (ap (cut_from (i + n) 0) (sym (ap (drop n) (sym d) ∙ drop-drop n i s))))
 
-    pub at_token : (kinds starts lens : List ℕ) (m : ℕ) (k : Kind) (n code wide : ℕ) → code ≡ code_of k → wide ≡ n → Piece.Token k n ≡ piece_of (drop i s)
-        → resume (arrays (set kinds m code) (set starts m i) (set lens m n) (m + 1)) (cut_from (i + wide) 0 (drop (i + wide) s)) ≡ answer_from (arrays kinds starts lens m)
-    unfolding push
-    at_token kinds starts lens m k n code wide f g e =
-        ap₂ (λ (x y : ℕ). resume (arrays (set kinds m x) (set starts m i) (set lens m n) (m + 1)) (cut_from (i + y) 0 (drop (i + y) s))) f g
-        ∙ sym (resume_first (arrays kinds starts lens m) k i n (cut_from (i + n) 0 (drop (i + n) s)))
-        ∙ sym (ap (resume (arrays kinds starts lens m)) (after_token k n e))
+    pub at_token : (t : Tokens) (k : Kind) (n : ℕ) → Piece.Token k n ≡ piece_of (drop i s) → resume (push t k i n) (cut_from (i + n) 0 (drop (i + n) s)) ≡ answer_from t
+    at_token t k n e = sym (resume_first t k i n (cut_from (i + n) 0 (drop (i + n) s))) ∙ sym (ap (resume t) (after_token k n e))
+
+-- ---- what the cutter starts with, and what it meets at a place of a text
+pub none_yet : (tokens_of []).n ≡ 0
+unfolding tokens_of
+none_yet = refl
+
+pub ruleset steps = (none_yet, at_end, at_blank, at_foreign, at_long, at_measured, at_token, token_sized)

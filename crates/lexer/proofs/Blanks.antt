@@ -1,16 +1,13 @@
--- A byte is blank exactly if its class is, and a text if each of its bytes is, found one after the other. Assumes nothing.
-use mathlib.Core.Path.{◌≡◌, refl, sym, ap, ◌∙◌}
-use mathlib.Core.Bool.{Bool, true, false, cond}
+-- A byte is blank exactly if its class is. Assumes nothing.
+use mathlib.Core.Path.{◌≡◌, refl, sym}
+use mathlib.Core.Bool.{Bool, true, false, cond, ◌&&◌}
 use mathlib.Core.List.{List}
-use Prim.Native.Nat.{ℕ, ◌+◌, ◌≤◌, ◌<◌}
-use lib.Dec.{eqb}
-use lib.ListN.{length, drop, get_or, drop_of_length-le}
-use denote.Enum.Declared.{tag_of}
+use Prim.Native.Nat.{ℕ}
+use Rattle.std.specs.List.{list_all}
+use Rattle.std.proofs.lemmas.List.Recursion.{same_from_clauses}
 use Rattle.lists.specs.Search.{all}
-use Rattle.lists.proofs.Lists.{rest}
 use Rattle.lexer.specs.Class.{is_blank, is_alphanumeric, is_sign, class_of}
 use Rattle.lexer.specs.declared.Class.{Class}
-use Rattle.lexer.specs.contracts.Class.{the_type}
 
 -- a test of classes that blanks alone pass
 module _ (f : Class → Bool) (blank : f Class.Blank ≡ true) (alphanumeric : f Class.Alphanumeric ≡ false) (sign : f Class.Sign ≡ false) (foreign : f Class.Foreign ≡ false) where
@@ -24,22 +21,15 @@ module _ (f : Class → Bool) (blank : f Class.Blank ≡ true) (alphanumeric : f
       go false false true = sym sign
       go false false false = sym foreign
 
-by_tag : (b : ℕ) (k : Class) → k ≡ class_of b → is_blank b ≡ eqb (tag_of the_type k) 0
-by_tag b k e = blank_by (λ k. eqb (tag_of the_type k) 0) refl refl refl refl b ∙ ap (λ (k : Class). eqb (tag_of the_type k) 0) (sym e)
+abbrev pub of_blanks : Class → Bool
+of_blanks Class.Blank = true
+of_blanks Class.Alphanumeric = false
+of_blanks Class.Sign = false
+of_blanks Class.Foreign = false
 
-not_first : (k : Class) → (k ≡ Class.Blank → ⊥) → eqb (tag_of the_type k) 0 ≡ false
-not_first Class.Blank h = absurd (h refl)
-not_first Class.Alphanumeric h = refl
-not_first Class.Sign h = refl
-not_first Class.Foreign h = refl
+pub blank_class : (b : ℕ) → of_blanks (class_of b) ≡ is_blank b
+blank_class b = sym (blank_by of_blanks refl refl refl refl b)
 
-module _ (s : List ℕ) (i : ℕ) where
-  module _ (h : i < length s) (k : Class) (e : k ≡ class_of (get_or s i 0)) where
-    pub blank_next : k ≡ Class.Blank → all is_blank (drop i s) ≡ all is_blank (drop (i + 1) s)
-    blank_next q = rw (rest s i 0 h, by_tag (get_or s i 0) k e, q)
-
-    pub blank_not : (k ≡ Class.Blank → ⊥) → all is_blank (drop i s) ≡ false
-    blank_not o = rw (rest s i 0 h, by_tag (get_or s i 0) k e, not_first k o)
-
-  pub blank_end : length s ≤ i → all is_blank (drop i s) ≡ true
-  blank_end h = rw (drop_of_length-le s h)
+-- the library's word for a test that every element passes
+pub all_is : {A : Type 0} (p : A → Bool) (xs : List A) → list_all p xs ≡ all p xs
+all_is p xs = same_from_clauses (list_all p) (all p) (λ x r. p x && r) refl (λ x ys. refl) (λ x ys. refl) xs

@@ -1,5 +1,6 @@
 -- What is proved of the cutting of a text, for whoever builds on it: the cutter computes the one cutting that is meant, and its tokens lie
 -- in the text, apart and in rising order. Each claim cites the file that proves it. Assumes nothing.
+use Rattle.std.specs.Prelude.{Err}
 use mathlib.Core.Path.{◌≡◌, refl, sym, ◌∙◌}
 use mathlib.Core.List.{List, []}
 use Prim.Native.Nat.{ℕ, ◌+◌, ◌≤◌, ◌<◌}
@@ -11,7 +12,7 @@ use Rattle.lexer.specs.Placement.{TokenIn, Placed}
 use Rattle.lexer.specs.Cutter.{cutting}
 use Rattle.lexer.specs.Arrays.{code_of, tokens_of, lexed_of, lexed}
 use Rattle.lexer.specs.declared.Kind.TheVariants as Kind
-use Rattle.lexer.specs.declared.LexAnswer.TheVariants as LexAnswer
+use Rattle.lexer.specs.declared.LexError.{LexError}
 use Rattle.lexer.proofs.Sound.{sound}
 use Rattle.lexer.proofs.Unique.{determined}
 use Rattle.lexer.proofs.Placement.{placed_from, blank_cut, cut_blank, placed_at, rising_at, few}
@@ -31,7 +32,7 @@ meant_is_unique s q r c d = determined c ∙ sym (determined d)
 -- ---- the answer for a text
 
 -- refusal 2: "more than 256 bytes"
-pub lexed_too_long : (s : List ℕ) → 256 < length s → lexed s ≡ record { answer = LexAnswer.TooLong; tokens = tokens_of [] }
+pub lexed_too_long : (s : List ℕ) → 256 < length s → lexed s ≡ Err LexError.TooLong
 lexed_too_long s h = lexed_long s h
 
 pub lexed_cutting : (s : List ℕ) → length s ≤ 256 → lexed s ≡ lexed_of (cutting s)

@@ -1,4 +1,5 @@
 -- The examples of document 01 and cases at the edges of its rules, by computation: one claim. Assumes nothing.
+use Rattle.std.specs.Prelude.{Err}
 use mathlib.Core.Path.{◌≡◌, refl}
 use mathlib.Core.List.{List, [], ◌∷◌, ◌++◌, map}
 use Prim.Native.Nat.{ℕ}
@@ -11,24 +12,24 @@ use Rattle.lexer.specs.Cutting.{tokens}
 use Rattle.lexer.specs.Cutter.{longest, sign_piece, run_length, run_piece, piece_of, cut_from, cutting}
 use Rattle.lexer.specs.Arrays.{tokens_of, lexed}
 use Rattle.lexer.specs.declared.Kind.TheVariants.{Or, Minus, Implies, Iff, IsZero, Truth, Falsity, Contact, Part, Zero, One, Name}
-use Rattle.lexer.specs.declared.LexAnswer.{LexAnswer}
-use Rattle.lexer.specs.declared.LexAnswer.TheVariants.{TooLong, NoToken, ForeignByte, LongName, Measured}
+use Rattle.lexer.specs.declared.LexError.{LexError}
+use Rattle.lexer.specs.declared.LexError.TheVariants.{TooLong, NoToken, ForeignByte, LongName, Measured}
 
 -- a text that is cut, with its tokens
 pub record Cuts : Type 0 where
   pub text : List ℕ
   pub gives : List Token
 
--- a text that is refused, with its answer
+-- a text that is refused, and why
 pub record Refuses : Type 0 where
   pub text : List ℕ
-  pub answer : LexAnswer
+  pub why : LexError
 
 abbrev cuts : List ℕ → List Token → Cuts
 cuts s ts = record { text = s; gives = ts }
 
-abbrev refuses : List ℕ → LexAnswer → Refuses
-refuses s a = record { text = s; answer = a }
+abbrev refuses : List ℕ → LexError → Refuses
+refuses s a = record { text = s; why = a }
 
 abbrev pub cut_texts : List Cuts
 cut_texts =
@@ -66,6 +67,6 @@ refused_texts =
     ∷ []
 
 pub examples : (map (λ (c : Cuts). cutting c.text) cut_texts ≡ map (λ (c : Cuts). tokens c.gives) cut_texts)
-    × (map (λ (r : Refuses). (lexed r.text).answer) refused_texts ≡ map (λ (r : Refuses). r.answer) refused_texts)
+    × (map (λ (r : Refuses). lexed r.text) refused_texts ≡ map (λ (r : Refuses). Err r.why) refused_texts)
 unfolding class_of is_blank is_alphanumeric is_sign signs starts constant_kind longest sign_piece run_length run_piece piece_of cut_from tokens_of lexed
 examples = (refl, refl)

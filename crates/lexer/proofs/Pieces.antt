@@ -28,8 +28,8 @@ unfolding piece_of
 class_decides b s c e = ap (λ (d : Class). by_class d (b ∷ s)) e
 
 -- the same at a place of a text
-pub by_class_lem : (s : List ℕ) (i : ℕ) → i < length s → (k : Class) → k ≡ class_of (get_or s i 0) → by_class k (drop i s) ≡ piece_of (drop i s)
-by_class_lem s i h k e = rw (rest s i 0 h) (sym (class_decides (get_or s i 0) (drop (i + 1) s) k (sym e)))
+pub piece_here : (s : List ℕ) (i : ℕ) → i < length s → piece_of (drop i s) ≡ by_class (class_of (get_or s i 0)) (drop i s)
+piece_here s i h = rw (rest s i 0 h) (class_decides (get_or s i 0) (drop (i + 1) s) (class_of (get_or s i 0)) refl)
 
 pub sign_here : (s : List ℕ) (i : ℕ) → i < length s → sign_of (get_or s i 0) (get_or s (i + 1) 0) (get_or s (i + 2) 0) ≡ sign_piece (drop i s)
 sign_here s i h =

@@ -12,7 +12,7 @@ use Rattle.lexer.specs.Cutting.{Cutting, tokens, refused, with_token, match, Lon
 use Rattle.lexer.specs.Placement.{TokenIn, Placed}
 use Rattle.lexer.specs.Arrays.{code_of}
 use Rattle.lexer.specs.declared.Kind.{Kind}
-use Rattle.lexer.specs.declared.LexAnswer.{LexAnswer}
+use Rattle.lexer.specs.declared.LexError.{LexError}
 use Rattle.lexer.proofs.Longest.{every_at}
 use Rattle.lexer.proofs.Pieces.{NoName, Shape, signs_shape, starts_fits}
 
@@ -22,7 +22,7 @@ after_first t (tokens us) ts e = (us, refl, cc)
 after_first t (refused a) ts e = let z : ◌≡◌ {A = ℕ} 0 1 = cc in absurd (omega arith)
 
 -- a refusal is no tokens
-pub no_tokens : (a : LexAnswer) (ts : List Token) → refused a ≡ tokens ts → ⊥
+pub no_tokens : (a : LexError) (ts : List Token) → refused a ≡ tokens ts → ⊥
 no_tokens a ts e = let z : ◌≡◌ {A = ℕ} 0 1 = cc in omega arith
 
 lower : (text : List ℕ) (i j : ℕ) (ts : List Token) → i ≤ j → Placed text j ts → Placed text i ts

@@ -77,3 +77,8 @@ alone s i l n e o k f =
 -- a run whose first byte is known goes on at the next place
 pub run_here : (s : List ℕ) (i : ℕ) → i < length s → class_of (get_or s i 0) ≡ Class.Alphanumeric → (e : ℕ) → e ≡ i + 1 + run_length (drop (i + 1) s) → e - i ≡ run_length (drop i s)
 run_here s i h k e f = omega (arith, run_more s i h (ap in_run k))
+
+-- ---- what the loop over a run meets, and what a run is cut as
+pub ruleset steps = (run_more, run_stop, run_end)
+
+pub ruleset pieces = (run_here, long, name, alone)

@@ -1,9 +1,9 @@
 -- No sign has more than three bytes, so the first three decide the longest with which the text starts: each byte is the one that a sign
 -- has there, or another. Assumes nothing.
-use mathlib.Core.Path.{◌≡◌, refl, sym, ap, subst}
+use mathlib.Core.Path.{◌≡◌, refl, sym, subst}
 use mathlib.Core.Bool.{Bool, true, false}
 use mathlib.Core.List.{List, [], ◌∷◌}
-use Prim.Native.Nat.{ℕ, ◌+◌}
+use Prim.Native.Nat.{ℕ}
 use lib.Dec.{eqb}
 use lib.ListN.{get_or}
 use borrow.Author.Tests.{eqb-true}
@@ -49,7 +49,3 @@ sign_right a s =
     on 43 a (Right s) refl λ e5. on 38 a (Right s) refl λ e6. on 124 a (Right s) refl λ e7. on 126 a (Right s) refl λ e8.
     on 45 a (Right s) (minus_right s) λ e9. on 60 a (Right s) (less_right s) λ e10. on 61 a (Right s) (equals_right s) λ e11.
     simp (e1, e2, e3, e4, e5, e6, e7, e8, e9, e10, e11)
-
--- the sign at place i by the byte that opens it
-pub opened : (s : List ℕ) (i a k : ℕ) → a ≡ k → sign_of k (get_or s (i + 1) 0) (get_or s (i + 2) 0) ≡ sign_of a (get_or s (i + 1) 0) (get_or s (i + 2) 0)
-opened s i a k e = ap (λ (x : ℕ). sign_of x (get_or s (i + 1) 0) (get_or s (i + 2) 0)) (sym e)

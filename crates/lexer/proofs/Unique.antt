@@ -17,7 +17,7 @@ use Rattle.lexer.specs.Cutting.{Cutting, refused, with_token, Match, nothing, ma
 use Rattle.lexer.specs.Cutter.{meaning_piece, match_piece, longest, sign_piece, in_run, run_length, run_piece, piece_of, cut_from}
 use Rattle.lexer.specs.declared.Class.{Class}
 use Rattle.lexer.specs.declared.Piece.{Piece}
-use Rattle.lexer.specs.declared.LexAnswer.TheVariants as LexAnswer
+use Rattle.lexer.specs.declared.LexError.TheVariants as LexError
 use Rattle.lexer.proofs.Longest.{longest_is, every_at}
 use Rattle.lexer.proofs.Pieces.{class_decides}
 use Rattle.lexer.proofs.Advance.{by_piece, by_token}
@@ -109,7 +109,7 @@ on_run i (b ∷ w) s t r h l e =
     (e ∙ ap (cut_from (i + length (b ∷ w)) 0) (sym (drop-append_seam (b ∷ w) s)))
     ∙ ap (cut_from i 0) (sym h.split)
 
-on_long : (i : ℕ) (w s t : List ℕ) → Run w s t → 16 < length w → refused (LexAnswer.LongName i) ≡ cut_from i 0 t
+on_long : (i : ℕ) (w s t : List ℕ) → Run w s t → 16 < length w → refused (LexError.LongName i) ≡ cut_from i 0 t
 on_long i [] s t h l = absurd (omega arith)
 on_long i (b ∷ w) s t h l = sym (by_piece i b (w ++ s) Piece.LongName (long_at b w s h.all h.ends l)) ∙ ap (cut_from i 0) (sym h.split)
 

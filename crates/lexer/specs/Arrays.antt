@@ -1,13 +1,12 @@
 -- What is computed: the answer for a text, with its tokens as arrays. Assumes nothing.
-use Rattle.std.specs.Prelude.{cond, List, [], ◌∷◌, map, ℕ, ltb, length}
+use Rattle.std.specs.Prelude.{Result, Ok, Err, cond, List, [], ◌∷◌, map, ℕ, ltb, length}
 use Rattle.lists.specs.Padded.{pad}
 use Rattle.lexer.specs.Token.{Token}
 use Rattle.lexer.specs.Cutting.{Cutting, tokens, refused}
 use Rattle.lexer.specs.Cutter.{cutting}
 use Rattle.lexer.specs.declared.Kind.{Kind}
-use Rattle.lexer.specs.declared.LexAnswer.{LexAnswer}
+use Rattle.lexer.specs.declared.LexError.{LexError}
 use Rattle.lexer.specs.declared.Tokens.{Tokens}
-use Rattle.lexer.specs.declared.Lexed.{Lexed}
 
 -- the number of a kind; 0 to 5 are the binary signs
 abbrev pub code_of : Kind → ℕ
@@ -42,15 +41,15 @@ tokens_of ts =
     }
 
 -- refusal 1: "no token and no foreign byte"
-abbrev pub answer_of : List Token → LexAnswer
-answer_of [] = LexAnswer.NoToken
-answer_of (t ∷ ts) = LexAnswer.Tokens
+abbrev pub answer_of : List Token → Result Tokens LexError
+answer_of [] = Err LexError.NoToken
+answer_of (t ∷ ts) = Ok (tokens_of (t ∷ ts))
 
--- the answer for what was cut; a refusal comes with no token
-abbrev pub lexed_of : Cutting → Lexed
-lexed_of (tokens ts) = record { answer = answer_of ts; tokens = tokens_of ts }
-lexed_of (refused a) = record { answer = a; tokens = tokens_of [] }
+-- the answer for what was cut
+abbrev pub lexed_of : Cutting → Result Tokens LexError
+lexed_of (tokens ts) = answer_of ts
+lexed_of (refused a) = Err a
 
 -- refusal 2, "more than 256 bytes", comes before the others
-unfoldable pub lexed : List ℕ → Lexed
-lexed s = cond (ltb 256 (length s)) (record { answer = LexAnswer.TooLong; tokens = tokens_of [] }) (lexed_of (cutting s))
+unfoldable pub lexed : List ℕ → Result Tokens LexError
+lexed s = cond (ltb 256 (length s)) (Err LexError.TooLong) (lexed_of (cutting s))

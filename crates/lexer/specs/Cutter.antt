@@ -6,7 +6,7 @@ use Rattle.lexer.specs.Spelling.{Meaning, token, measured, Spelling, signs, star
 use Rattle.lexer.specs.Cutting.{Cutting, tokens, refused, with_token, Match, nothing, match}
 use Rattle.lexer.specs.declared.Class.{Class}
 use Rattle.lexer.specs.declared.Piece.{Piece}
-use Rattle.lexer.specs.declared.LexAnswer.TheVariants as LexAnswer
+use Rattle.lexer.specs.declared.LexError.TheVariants as LexError
 
 -- ---- signs
 
@@ -73,9 +73,9 @@ more Piece.Measured = 0
 abbrev pub put : Piece → ℕ → Cutting → Cutting
 put Piece.Blank i r = r
 put (Piece.Token k n) i r = with_token (token_of k i n) r
-put Piece.Foreign i r = refused (LexAnswer.ForeignByte i)
-put Piece.LongName i r = refused (LexAnswer.LongName i)
-put Piece.Measured i r = refused (LexAnswer.Measured i)
+put Piece.Foreign i r = refused (LexError.ForeignByte i)
+put Piece.LongName i r = refused (LexError.LongName i)
+put Piece.Measured i r = refused (LexError.Measured i)
 
 -- the text from place i on, whose first k bytes belong to the token before it
 unfoldable pub cut_from : ℕ → ℕ → List ℕ → Cutting

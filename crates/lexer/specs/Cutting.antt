@@ -7,12 +7,12 @@ use Rattle.lexer.specs.Token.{Token, token_of}
 use Rattle.lexer.specs.Spelling.{Spelling, token, measured, signs, starts, run_kind}
 use Rattle.lexer.specs.declared.Class.TheVariants as Class
 use Rattle.lexer.specs.declared.Kind.{Kind}
-use Rattle.lexer.specs.declared.LexAnswer.{LexAnswer}
+use Rattle.lexer.specs.declared.LexError.{LexError}
 
 -- the tokens of a text, or its first refusal
 pub data Cutting : Type 0 where
   tokens : List Token → Cutting
-  refused : LexAnswer → Cutting
+  refused : LexError → Cutting
 
 -- a token before what follows it; a later refusal refuses the whole text
 abbrev pub with_token : Token → Cutting → Cutting
@@ -59,13 +59,13 @@ pub data Cut : ℕ → List ℕ → Cutting → Type 0 where
   -- "A run of letters and digits is one token."
   run : {i : ℕ} {w s t : List ℕ} {r : Cutting} → Run w s t → length w ≤ 16 → Cut (i + length w) s r → Cut i t (with_token (token_of (run_kind w) i (length w)) r)
   -- refusal 4: "name over 16 bytes", "its first byte"
-  long_name : {i : ℕ} {w s t : List ℕ} → Run w s t → 16 < length w → Cut i t (refused (LexAnswer.LongName i))
+  long_name : {i : ℕ} {w s t : List ℕ} → Run w s t → 16 < length w → Cut i t (refused (LexError.LongName i))
   sign : {i b : ℕ} {s : List ℕ} {x : Spelling} {k : Kind} {r : Cutting} → class_of b ≡ Class.Sign → Longest signs (b ∷ s) (match x) → x.means ≡ token k
       → Cut (i + length x.bytes) (drop (length x.bytes) (b ∷ s)) r → Cut i (b ∷ s) (with_token (token_of k i (length x.bytes)) r)
   -- refusal 5: ""<=m"", "its first byte"
   measured_sign : {i b : ℕ} {s : List ℕ} {x : Spelling} → class_of b ≡ Class.Sign → Longest signs (b ∷ s) (match x) → x.means ≡ measured
-      → Cut i (b ∷ s) (refused (LexAnswer.Measured i))
+      → Cut i (b ∷ s) (refused (LexError.Measured i))
   -- "A "<", "=" or ">" that opens no such sign is foreign there."
-  no_sign : {i b : ℕ} {s : List ℕ} → class_of b ≡ Class.Sign → Longest signs (b ∷ s) nothing → Cut i (b ∷ s) (refused (LexAnswer.ForeignByte i))
+  no_sign : {i b : ℕ} {s : List ℕ} → class_of b ≡ Class.Sign → Longest signs (b ∷ s) nothing → Cut i (b ∷ s) (refused (LexError.ForeignByte i))
   -- refusal 3: "foreign byte", "its place"
-  foreign : {i b : ℕ} {s : List ℕ} → class_of b ≡ Class.Foreign → Cut i (b ∷ s) (refused (LexAnswer.ForeignByte i))
+  foreign : {i b : ℕ} {s : List ℕ} → class_of b ≡ Class.Foreign → Cut i (b ∷ s) (refused (LexError.ForeignByte i))

@@ -1,15 +1,14 @@
 -- For proofs: what the private functions compute, step by step: the sign by its first three bytes, and the arrays filled token by token.
 -- Assumes nothing.
-use Rattle.std.specs.Prelude.{cond, List, [], ◌∷◌, ℕ, ◌+◌, eqb, set}
+use Rattle.std.specs.Prelude.{Result, Ok, Err, cond, List, [], ◌∷◌, ℕ, ◌+◌, eqb, set}
 use Rattle.lexer.specs.Text.{byte}
 use Rattle.lexer.specs.Token.{Token}
 use Rattle.lexer.specs.Cutting.{Cutting, tokens, refused}
-use Rattle.lexer.specs.Arrays.{code_of, tokens_of}
+use Rattle.lexer.specs.Arrays.{code_of}
 use Rattle.lexer.specs.declared.Kind.{Kind}
 use Rattle.lexer.specs.declared.Piece.{Piece}
-use Rattle.lexer.specs.declared.LexAnswer.{LexAnswer}
+use Rattle.lexer.specs.declared.LexError.{LexError}
 use Rattle.lexer.specs.declared.Tokens.{Tokens}
-use Rattle.lexer.specs.declared.Lexed.{Lexed}
 
 -- ---- the sign that opens with a byte a, where b and c stand after it
 
@@ -54,16 +53,10 @@ unfoldable pub fill : Tokens → List Token → Tokens
 fill t [] = t
 fill t (x ∷ xs) = fill (push t x.kind x.start x.len) xs
 
-abbrev pub answered : LexAnswer → Tokens → Lexed
-answered a t = record { answer = a; tokens = t }
-
-unfoldable pub refusal : LexAnswer → Lexed
-refusal a = answered a (tokens_of [])
-
-unfoldable pub finish : Tokens → Lexed
-finish t = answered (cond (eqb t.n 0) LexAnswer.NoToken LexAnswer.Tokens) t
+unfoldable pub finish : Tokens → Result Tokens LexError
+finish t = cond (eqb t.n 0) (Err LexError.NoToken) (Ok t)
 
 -- the answer where t is filled already and the rest of the text is cut as r
-unfoldable pub resume : Tokens → Cutting → Lexed
+unfoldable pub resume : Tokens → Cutting → Result Tokens LexError
 resume t (tokens ts) = finish (fill t ts)
-resume t (refused a) = refusal a
+resume t (refused a) = Err a

@@ -1,20 +1,19 @@
 // The token cutter of rule text: document 01, 'Rule text', first paragraph, and refusals 1 to 5
 // of the table of calls. A text is cut from the left; its tokens come back by value, as arrays of
-// kinds, first bytes and lengths beside the answer. No public function has a requires. What a
-// cutting is meant to be is in specs/Cutting.antt, and proofs/Claims.antt has what is proved of it.
+// kinds, first bytes and lengths. No public function has a requires. What a cutting is meant to be
+// is in specs/Cutting.antt, and proofs/Claims.antt has what is proved of it.
 #![tactic(auto)]
 
 ghost use Rattle.std.specs.Prelude.{◌≡◌, [], ◌+◌, ◌≤◌, ◌<◌, length, get_or, drop, replicate};
 ghost use Rattle.lists.specs.Search.{all};
 ghost use Rattle.lexer.specs.Class.{is_blank, class_of};
 ghost use Rattle.lexer.specs.Spelling.{constant_kind};
-ghost use Rattle.lexer.specs.ClassTable.{ClassTable};
 ghost use Rattle.lexer.specs.Cutter.{in_run, run_length, run_piece, piece_of, cutting};
 ghost use Rattle.lexer.specs.Arrays.{code_of, tokens_of, lexed};
-ghost use Rattle.lexer.specs.Steps.{sign_of, minus_sign, less_sign, equals_sign, resume, refusal, finish};
+ghost use Rattle.lexer.specs.Steps.{sign_of, minus_sign, less_sign, equals_sign, push, resume};
 
 // The class of a byte.
-#[derive(Clone, Copy)]
+#[derive(Clone, Copy, PartialEq, Eq)]
 pub enum Class {
     Blank,
     Alphanumeric,
@@ -56,11 +55,10 @@ enum Piece {
     Measured,
 }
 
-// How a text is answered. What is refused carries its place; a text that is too long, or has no
+// Why a text is refused. What stands at a place carries it; a text that is too long, or has no
 // token, has none.
-#[derive(Clone, Copy)]
-pub enum LexAnswer {
-    Tokens,
+#[derive(Clone, Copy, PartialEq, Eq, Debug)]
+pub enum LexError {
     TooLong,
     NoToken,
     ForeignByte(usize),
@@ -78,126 +76,119 @@ pub struct Tokens {
     pub n: usize,
 }
 
-// The answer, and the tokens beside it: none for a refusal.
-#[derive(Clone, Copy)]
-pub struct Lexed {
-    pub answer: LexAnswer,
-    pub tokens: Tokens,
+impl Tokens {
+    // No token.
+    #[tactic(auto, unfolding(crate::specs::Arrays::tokens_of, lists::specs::Padded::pad))]
+    pub fn none() -> Tokens
+        ensures { result ≡ tokens_of [] }
+    {
+        Tokens {
+            kinds: [0; 256],
+            starts: [0; 256],
+            lens: [0; 256],
+            n: 0,
+        }
+    }
+
+    // One token more.
+    #[tactic(auto, unfolding(crate::specs::Steps::push))]
+    fn push(&mut self, kind: Kind, start: u8, len: u8)
+        requires { self.old.n < 256 }
+        ensures { self.new ≡ push self.old kind start len }
+    {
+        self.kinds[self.n] = code_of(kind);
+        self.starts[self.n] = start;
+        self.lens[self.n] = len;
+        self.n += 1;
+    }
 }
 
-// The classes of the byte values below 128: 0 blank, 1 letter or digit, 2 sign, 3 foreign.
-const CLASS: [u8; 128] = [
-    3, 3, 3, 3, 3, 3, 3, 3, 3, 0, 3, 3, 3, 0, 3, 3, 3, 3, 3, 3, 3, 3, 3, 3, 3, 3, 3, 3, 3, 3, 3, 3,
-    0, 3, 3, 3, 3, 3, 2, 3, 2, 2, 2, 2, 2, 2, 3, 3, 1, 1, 1, 1, 1, 1, 1, 1, 1, 1, 3, 3, 2, 2, 2, 3,
-    3, 1, 1, 1, 1, 1, 1, 1, 1, 1, 1, 1, 1, 1, 1, 1, 1, 1, 1, 1, 1, 1, 1, 1, 1, 1, 1, 3, 3, 3, 3, 3,
-    3, 1, 1, 1, 1, 1, 1, 1, 1, 1, 1, 1, 1, 1, 1, 1, 1, 1, 1, 1, 1, 1, 1, 1, 1, 1, 1, 3, 2, 3, 2, 3,
+// The classes by one letter each, so that the table below shows them as a map.
+const B: Class = Class::Blank;
+
+const A: Class = Class::Alphanumeric;
+
+const S: Class = Class::Sign;
+
+const F: Class = Class::Foreign;
+
+// The classes of the byte values below 128.
+static CLASSES: [Class; 128] = [
+    F, F, F, F, F, F, F, F, F, B, F, F, F, B, F, F, F, F, F, F, F, F, F, F, F, F, F, F, F, F, F, F,
+    B, F, F, F, F, F, S, F, S, S, S, S, S, S, F, F, A, A, A, A, A, A, A, A, A, A, F, F, S, S, S, F,
+    F, A, A, A, A, A, A, A, A, A, A, A, A, A, A, A, A, A, A, A, A, A, A, A, A, A, A, F, F, F, F, F,
+    F, A, A, A, A, A, A, A, A, A, A, A, A, A, A, A, A, A, A, A, A, A, A, A, A, A, A, F, S, F, S, F,
 ];
 
-// The constant table as a value: each use of the constant lays it out anew, so that a function
-// that classes many bytes takes it once and lends it.
-fn class_table() -> [u8; 128]
-    ensures { ClassTable result }
-{
-    CLASS
-}
-
 // The class of a byte: foreign from 128 on, and by the table below.
-fn class_in(table: &[u8; 128], b: u8) -> Class
-    requires { ClassTable table.now }
+fn class_of(b: u8) -> Class
     ensures { result ≡ class_of b }
 {
-    if 128 <= b {
-        return Class::Foreign;
+    if b < 128 {
+        CLASSES[b as usize]
+    } else {
+        Class::Foreign
     }
-    let i = b as usize;
-    match table[i] {
-        0 => Class::Blank,
-        1 => Class::Alphanumeric,
-        2 => Class::Sign,
-        _ => Class::Foreign,
-    }
+}
+
+// Whether a byte is blank.
+fn is_blank(b: u8) -> bool
+    ensures { result ≡ is_blank b }
+{
+    class_of(b) == Class::Blank
 }
 
 // Whether every byte of a text is blank.
 pub fn all_blank(text: &[u8]) -> bool
     ensures { result ≡ all is_blank text.now }
 {
-    let table = class_table();
-    let mut i: usize = 0;
-    while i < text.len() {
-        let k = class_in(&table, text[i]);
-        let Class::Blank = k else {
-            return false;
-        };
-        i += 1;
-    }
-    true
+    text.iter().all(|&b| is_blank(b))
 }
 
-// The numbers of the kinds of tokens, as `code_of` has them.
-pub const IMPLIES: u8 = 0;
+// The numbers of the kinds of tokens.
+pub const IMPLIES: u8 = Kind::Implies as u8;
 
-pub const IFF: u8 = 1;
+pub const IFF: u8 = Kind::Iff as u8;
 
-pub const OR: u8 = 2;
+pub const OR: u8 = Kind::Or as u8;
 
-pub const AND: u8 = 3;
+pub const AND: u8 = Kind::And as u8;
 
-pub const PLUS: u8 = 4;
+pub const PLUS: u8 = Kind::Plus as u8;
 
-pub const TIMES: u8 = 5;
+pub const TIMES: u8 = Kind::Times as u8;
 
-pub const MINUS: u8 = 6;
+pub const MINUS: u8 = Kind::Minus as u8;
 
-pub const TILDE: u8 = 7;
+pub const TILDE: u8 = Kind::Not as u8;
 
-pub const OPEN: u8 = 8;
+pub const OPEN: u8 = Kind::Open as u8;
 
-pub const CLOSE: u8 = 9;
+pub const CLOSE: u8 = Kind::Close as u8;
 
-pub const IS_ZERO: u8 = 10;
+pub const IS_ZERO: u8 = Kind::IsZero as u8;
 
-pub const COMMA: u8 = 11;
+pub const COMMA: u8 = Kind::Comma as u8;
 
-pub const TRUTH: u8 = 12;
+pub const TRUTH: u8 = Kind::Truth as u8;
 
-pub const FALSITY: u8 = 13;
+pub const FALSITY: u8 = Kind::Falsity as u8;
 
-pub const CONTACT: u8 = 14;
+pub const CONTACT: u8 = Kind::Contact as u8;
 
-pub const PART: u8 = 15;
+pub const PART: u8 = Kind::Part as u8;
 
-pub const ZERO: u8 = 16;
+pub const ZERO: u8 = Kind::Zero as u8;
 
-pub const ONE: u8 = 17;
+pub const ONE: u8 = Kind::One as u8;
 
-pub const NAME: u8 = 18;
+pub const NAME: u8 = Kind::Name as u8;
 
 // The number that stands for a kind in the array `kinds`.
 pub fn code_of(k: Kind) -> u8
     ensures { result ≡ code_of k }
 {
-    match k {
-        Kind::Implies => IMPLIES,
-        Kind::Iff => IFF,
-        Kind::Or => OR,
-        Kind::And => AND,
-        Kind::Plus => PLUS,
-        Kind::Times => TIMES,
-        Kind::Minus => MINUS,
-        Kind::Not => TILDE,
-        Kind::Open => OPEN,
-        Kind::Close => CLOSE,
-        Kind::IsZero => IS_ZERO,
-        Kind::Comma => COMMA,
-        Kind::Truth => TRUTH,
-        Kind::Falsity => FALSITY,
-        Kind::Contact => CONTACT,
-        Kind::Part => PART,
-        Kind::Zero => ZERO,
-        Kind::One => ONE,
-        Kind::Name => NAME,
-    }
+    k as u8
 }
 
 // The byte at a place, 0 past the end: no sign has the byte 0.
@@ -258,6 +249,7 @@ fn equals_sign(b: u8, c: u8) -> Piece
 
 // The sign that stands at a place, whose byte is a. Only the signs that may be longer than a byte
 // look at what follows.
+#[tactic(auto, unfolding(crate::specs::Steps::sign_of))]
 fn sign(text: &[u8], at: usize, a: u8) -> Piece
     requires { at < length text.now }
     ensures { result ≡ sign_of a (get_or text.now (at + 1) 0) (get_or text.now (at + 2) 0) }
@@ -290,6 +282,7 @@ fn sign(text: &[u8], at: usize, a: u8) -> Piece
 }
 
 // The kind of a run that is one byte.
+#[tactic(auto, unfolding(crate::specs::Spelling::constant_kind))]
 fn constant(b: u8) -> Kind
     ensures { result ≡ constant_kind b }
 {
@@ -304,41 +297,33 @@ fn constant(b: u8) -> Kind
 }
 
 // Whether a byte belongs to a run: its class alone decides.
-fn in_run(table: &[u8; 128], b: u8) -> bool
-    requires { ClassTable table.now }
+fn in_run(b: u8) -> bool
     ensures { result ≡ in_run (class_of b) }
 {
-    let k = class_in(table, b);
-    match k {
-        Class::Blank => false,
-        Class::Alphanumeric => true,
-        Class::Sign => false,
-        Class::Foreign => false,
-    }
+    class_of(b) == Class::Alphanumeric
 }
 
 // The place where the run of letters and digits ends that goes on, or not, at a place.
-fn run_end(text: &[u8], table: &[u8; 128], at: usize) -> usize
-    requires { (at ≤ length text.now) × ClassTable table.now }
+#[tactic(auto, using(crate::proofs::Runs::steps))]
+fn run_end(text: &[u8], at: usize) -> usize
+    requires { at ≤ length text.now }
     ensures { result ≡ at + run_length (drop at text.now) }
 {
-    let mut e: usize = at;
-    while e < text.len() {
-        if in_run(table, text[e]) {
-            e += 1;
-        } else {
+    for e in at..text.len() {
+        if !in_run(text[e]) {
             return e;
         }
     }
-    e
+    text.len()
 }
 
 // The name or constant that stands at a place, whose byte a is a letter or digit.
-fn run(text: &[u8], table: &[u8; 128], at: usize, a: u8) -> Piece
-    requires { (at < length text.now) × ClassTable table.now × (a ≡ get_or text.now at 0) × (class_of a ≡ Class.Alphanumeric) }
+#[tactic(auto, using(crate::proofs::Runs::pieces))]
+fn run(text: &[u8], at: usize, a: u8) -> Piece
+    requires { (at < length text.now) × (a ≡ get_or text.now at 0) × (class_of a ≡ Class.Alphanumeric) }
     ensures { result ≡ run_piece (drop at text.now) }
 {
-    let n = run_end(text, table, at + 1) - at;
+    let n = run_end(text, at + 1) - at;
     if 16 < n {
         return Piece::LongName;
     }
@@ -350,15 +335,15 @@ fn run(text: &[u8], table: &[u8; 128], at: usize, a: u8) -> Piece
 }
 
 // What stands first from a place on.
-fn piece_at(text: &[u8], table: &[u8; 128], at: usize) -> Piece
-    requires { (at < length text.now) × ClassTable table.now }
+#[tactic(auto, using(crate::proofs::Pieces::piece_here, crate::proofs::Pieces::sign_here))]
+fn piece_at(text: &[u8], at: usize) -> Piece
+    requires { at < length text.now }
     ensures { result ≡ piece_of (drop at text.now) }
 {
     let a = text[at];
-    let k = class_in(table, a);
-    match k {
+    match class_of(a) {
         Class::Blank => Piece::Blank,
-        Class::Alphanumeric => run(text, table, at, a),
+        Class::Alphanumeric => run(text, at, a),
         Class::Sign => sign(text, at, a),
         Class::Foreign => Piece::Foreign,
     }
@@ -371,38 +356,6 @@ pub fn zeros() -> [u8; 256]
     [0u8; 256]
 }
 
-// A refusal, which comes with no token.
-fn refused(answer: LexAnswer) -> Lexed
-    ensures { result ≡ refusal answer }
-{
-    Lexed {
-        answer,
-        tokens: Tokens {
-            kinds: zeros(),
-            starts: zeros(),
-            lens: zeros(),
-            n: 0,
-        },
-    }
-}
-
-// The answer for a text that is cut to its end.
-fn finished(tokens: Tokens) -> Lexed
-    ensures { result ≡ finish tokens }
-{
-    let n = tokens.n;
-    if n == 0 {
-        return Lexed {
-            answer: LexAnswer::NoToken,
-            tokens,
-        };
-    }
-    Lexed {
-        answer: LexAnswer::Tokens,
-        tokens,
-    }
-}
-
 // A byte as an index or a distance in a text.
 pub fn wide(n: u8) -> usize
     ensures { result ≡ n }
@@ -410,51 +363,42 @@ pub fn wide(n: u8) -> usize
     n as usize
 }
 
-// The answer for a text of at most 256 bytes. The arrays are filled in place, one token after the
-// other.
-fn cut(text: &[u8]) -> Lexed
+// The tokens of a text of at most 256 bytes, or why it is refused. The arrays are filled in place,
+// one token after the other.
+#[tactic(auto, using(crate::proofs::Advance::steps), unfolding(crate::specs::Steps::finish, crate::specs::Steps::push))]
+fn cut(text: &[u8]) -> Result<Tokens, LexError>
     requires { length text.now ≤ 256 }
     ensures { result ≡ resume (tokens_of []) (cutting text.now) }
 {
-    let table = class_table();
-    let mut kinds = zeros();
-    let mut starts = zeros();
-    let mut lens = zeros();
-    let mut n: usize = 0;
+    let mut tokens = Tokens::none();
     let mut at: usize = 0;
+    // By place: a token moves it by its length.
     while at < text.len() {
-        let p = piece_at(text, &table, at);
-        match p {
-            Piece::Blank => {
-                at += 1;
-            }
+        match piece_at(text, at) {
+            Piece::Blank => at += 1,
             Piece::Token(kind, len) => {
-                kinds[n] = code_of(kind);
-                starts[n] = at as u8;
-                lens[n] = len;
-                n += 1;
-                at += wide(len);
+                tokens.push(kind, at as u8, len);
+                at += usize::from(len);
             }
-            Piece::Foreign => return refused(LexAnswer::ForeignByte(at)),
-            Piece::LongName => return refused(LexAnswer::LongName(at)),
-            Piece::Measured => return refused(LexAnswer::Measured(at)),
+            Piece::Foreign => return Err(LexError::ForeignByte(at)),
+            Piece::LongName => return Err(LexError::LongName(at)),
+            Piece::Measured => return Err(LexError::Measured(at)),
         }
     }
-    finished(Tokens {
-        kinds,
-        starts,
-        lens,
-        n,
-    })
+    if tokens.n == 0 {
+        return Err(LexError::NoToken);
+    }
+    Ok(tokens)
 }
 
 // The tokens of a text of any length, or the first reason to refuse it: more than 256 bytes; then,
 // from the left, a foreign byte, a name over 16 bytes or "<=m"; and a text with blank bytes only.
-pub fn lex(text: &[u8]) -> Lexed
+#[tactic(auto, using(crate::proofs::Filling::lexed_long, crate::proofs::Filling::not_too_long))]
+pub fn lex(text: &[u8]) -> Result<Tokens, LexError>
     ensures { result ≡ lexed text.now }
 {
     if 256 < text.len() {
-        return refused(LexAnswer::TooLong);
+        return Err(LexError::TooLong);
     }
     cut(text)
 }

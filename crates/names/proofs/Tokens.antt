@@ -1,5 +1,6 @@
 -- The tokens that a rule is handed back with are those of its text, or none: a text that is read was cut, and what was cut lies in it.
 -- Assumes nothing.
+use Rattle.std.specs.Prelude.{Result as Answer, Ok, Err}
 use mathlib.Core.Bool.{Bool, cond}
 use mathlib.Core.Path.{◌≡◌, refl, sym, ap, ap₂, subst, ◌∙◌}
 use mathlib.Core.List.{List, [], ◌∷◌, ◌++◌, map}
@@ -15,7 +16,8 @@ use Rattle.lexer.specs.Cutter.{cutting}
 use Rattle.lexer.specs.Arrays.{code_of, tokens_of, lexed}
 use Rattle.lexer.specs.Placement.{Placed}
 use Rattle.lexer.specs.declared.Kind.{Kind}
-use Rattle.lexer.specs.declared.LexAnswer.{LexAnswer}
+use Rattle.lexer.specs.declared.LexError.{LexError}
+use Rattle.lexer.specs.declared.Tokens.{Tokens}
 use Rattle.lexer.proofs.Claims.{meant_is_computed, placed, at_most}
 use Rattle.lexer.proofs.Placement.{placed_at}
 use Rattle.lists.proofs.Lists.{rest}
@@ -37,18 +39,18 @@ unfolding refusal_of
 by_reading s ts (accepted o) = refl
 by_reading s ts (refusedAt i) = refl
 
-by_answer_lem : (a : LexAnswer) (s : List ℕ) (ts : List Token) → (by_answer a s ts).tokens ≡ tokens_of (if_read (by_answer a s ts).answer ts)
+by_answer_lem : (a : Answer Tokens LexError) (s : List ℕ) (ts : List Token) → (by_answer a s ts).tokens ≡ tokens_of (if_read (by_answer a s ts).answer ts)
 unfolding refusal_of
-by_answer_lem LexAnswer.Tokens s ts = by_reading s ts (reading (symbols_of s ts))
-by_answer_lem LexAnswer.TooLong s ts = refl
-by_answer_lem LexAnswer.NoToken s ts = refl
-by_answer_lem (LexAnswer.ForeignByte i) s ts = refl
-by_answer_lem (LexAnswer.LongName i) s ts = refl
-by_answer_lem (LexAnswer.Measured i) s ts = refl
+by_answer_lem (Ok t) s ts = by_reading s ts (reading (symbols_of s ts))
+by_answer_lem (Err LexError.TooLong) s ts = refl
+by_answer_lem (Err LexError.NoToken) s ts = refl
+by_answer_lem (Err (LexError.ForeignByte i)) s ts = refl
+by_answer_lem (Err (LexError.LongName i)) s ts = refl
+by_answer_lem (Err (LexError.Measured i)) s ts = refl
 
 pub rule_tokens_lem : (s : List ℕ) → (rule_of s).tokens ≡ tokens_of (rule_tokens s)
 unfolding rule_of rule_tokens
-rule_tokens_lem s = by_answer_lem (lexed s).answer s (tokens_in (cutting s))
+rule_tokens_lem s = by_answer_lem (lexed s) s (tokens_in (cutting s))
 
 -- a rule's tokens are those that it is derived from
 pub tokens_of_rule : (s : List ℕ) (f : Formula Name) (h : IsRule s f) → rule_tokens s ≡ h.cut_tokens

@@ -60,19 +60,7 @@ fn same(k: KeptName, w: &[u8]) -> bool
     requires { length w.now ≤ 16 }
     ensures { result ≡ same_kept k w.now }
 {
-    let n = lexer::wide(k.len);
-    if n != w.len() {
-        return false;
-    }
-    let bytes = k.bytes;
-    let mut i: usize = 0;
-    while i < w.len() {
-        if bytes[i] != w[i] {
-            return false;
-        }
-        i += 1;
-    }
-    true
+    usize::from(k.len) == w.len() && &k.bytes[..w.len()] == w
 }
 
 // The number of the name with these bytes; how many names there are where it is none of them.
@@ -80,17 +68,12 @@ fn number_of(names: Names, w: &[u8]) -> usize
     requires { (names.count ≤ most) × (length w.now ≤ 16) }
     ensures { result ≡ place_in w.now (take names.count names.list) }
 {
-    let list = names.list;
-    let count = names.count;
-    let mut i: usize = 0;
-    while i < count {
-        let k = list[i];
-        if same(k, w) {
+    for i in 0..names.count {
+        if same(names.list[i], w) {
             return i;
         }
-        i += 1;
     }
-    i
+    names.count
 }
 
 // A name as it is kept.
@@ -99,13 +82,11 @@ fn name_of(w: &[u8]) -> KeptName
     ensures { result ≡ kept_name w.now }
 {
     let mut bytes = [0u8; 16];
-    let mut i: usize = 0;
-    while i < w.len() {
-        bytes[i] = w[i];
-        i += 1;
+    bytes[..w.len()].copy_from_slice(w);
+    KeptName {
+        bytes,
+        len: w.len() as u8,
     }
-    let len = w.len() as u8;
-    KeptName { bytes, len }
 }
 
 // The names with the one of these bytes and this number put last, if it is not among them.
@@ -130,22 +111,15 @@ pub fn gather(text: &[u8], rule: Rule, names: Names) -> Gathered
     requires { Gathers text.now rule names }
     ensures { result ≡ gathered text.now (known_of names) }
 {
-    let t = rule.tokens;
-    let kinds = t.kinds;
-    let starts = t.starts;
-    let lens = t.lens;
-    let n = t.n;
     let mut known = names;
-    let mut numbers = lexer::zeros();
+    let mut numbers = [0u8; 256];
     let mut m: usize = 0;
-    let mut i: usize = 0;
-    while i < n {
-        if kinds[i] != NAME {
-            i += 1;
+    for i in 0..rule.tokens.n {
+        if rule.tokens.kinds[i] != NAME {
             continue;
         }
-        let start = lexer::wide(starts[i]);
-        let end = start + lexer::wide(lens[i]);
+        let start = usize::from(rule.tokens.starts[i]);
+        let end = start + usize::from(rule.tokens.lens[i]);
         let number = number_of(known, &text[start..end]);
         if number == NAMES {
             return Gathered {
@@ -157,7 +131,6 @@ pub fn gather(text: &[u8], rule: Rule, names: Names) -> Gathered
         known = with_name(known, &text[start..end], number);
         numbers[m] = number as u8;
         m += 1;
-        i += 1;
     }
     Gathered {
         names: known,

@@ -4,5 +4,6 @@ pub mod Masking
 pub mod Serving
 pub mod Listing
 pub mod Testing
+pub mod Walking
 pub mod Judging
 pub mod Claims

@@ -15,7 +15,7 @@ ghost use Rattle.pairing.specs.Words.{Spelt, lone, row_test, Judges};
 ghost use Rattle.pairing.specs.Masks.{digit, Spare, Marked, MarkedIn, MarkedTo, MasksAre, lowest_of, Kept, PairsIn};
 ghost use Rattle.pairing.specs.Listed.{Small, Noted, entries_of, Listable, ListSays, Takes, puts, puts_all};
 
-use evalset::{EvalSet, Found, ROOM};
+use evalset::{EvalSet, ROOM};
 use search::Chart;
 
 // The places of a table: 2 ^ 10.
@@ -36,13 +36,9 @@ pub fn contacts_of(chart: Chart) -> u32
     requires { chart.atoms ≤ limit }
     ensures { Spelt chart.atoms (contact_at chart) result }
 {
-    let n = chart.atoms;
     let mut k: u32 = 0;
-    let mut i: usize = 0;
-    while i < n {
-        let contact = chart.contact[i];
-        k = pushed(k, contact);
-        i += 1;
+    for i in 0..chart.atoms {
+        k = pushed(k, chart.contact[i]);
     }
     k
 }
@@ -61,19 +57,10 @@ fn mark_word(masks: &mut [u32; ROOM], from: usize, n: usize, x: u64, y: u64)
     requires { (from + n ≤ room) × (n ≤ word_bits) × (length masks.old ≡ 256) × ((e : ℕ) → e < n → Spare (entry masks.old (from + e))) }
     ensures { MarkedIn x y from n masks.old masks.new }
 {
-    let mut e: usize = 0;
-    while e < n {
+    for e in 0..n {
         let at = from + e;
         masks[at] = marked(masks[at], (x >> e) % 2 == 1, (y >> e) % 2 == 1);
-        e += 1;
     }
-}
-
-// The bits of a word that are wanted: all where there are more.
-fn at_most_word(n: usize) -> usize
-    ensures { result ≡ min n word_bits }
-{
-    if n < 64 { n } else { 64 }
 }
 
 // The masks of the first `top` evaluations with one atom more, whose terms are x and y. They are marked word by word, so that a word is
@@ -82,13 +69,12 @@ fn mark_each(masks: &mut [u32; ROOM], x: EvalSet, y: EvalSet, top: usize)
     requires { (top ≤ room) × (length masks.old ≡ 256) × ((e : ℕ) → e < top → Spare (entry masks.old e)) }
     ensures { MarkedTo x y top masks.old masks.new }
 {
-    let mut k: usize = 0;
-    while k < 4 {
+    for k in 0..4 {
         let from = 64 * k;
         if top <= from {
             return;
         }
-        let n = at_most_word(top - from);
+        let n = (top - from).min(64);
         mark_word(
             masks,
             from,
@@ -96,7 +82,6 @@ fn mark_each(masks: &mut [u32; ROOM], x: EvalSet, y: EvalSet, top: usize)
             evalset::word_of(x, k),
             evalset::word_of(y, k),
         );
-        k += 1;
     }
 }
 
@@ -106,12 +91,8 @@ fn masks_of(xs: [EvalSet; 16], ys: [EvalSet; 16], n: usize, top: usize) -> [u32;
     ensures { (length result ≡ 256) × MasksAre xs ys n top result }
 {
     let mut masks = [0u32; ROOM];
-    let mut i: usize = 0;
-    while i < n {
-        let x = xs[i];
-        let y = ys[i];
-        mark_each(&mut masks, x, y, top);
-        i += 1;
+    for i in 0..n {
+        mark_each(&mut masks, xs[i], ys[i], top);
     }
     masks
 }
@@ -124,10 +105,8 @@ fn among(masks: &[u32; ROOM], count: usize, m: u32) -> bool
     ensures { result ≡ elem m (take count masks.now) }
 {
     let mut there = false;
-    let mut i: usize = 0;
-    while i < count {
-        there = there | (m == masks[i]);
-        i += 1;
+    for i in 0..count {
+        there |= m == masks[i];
     }
     there
 }
@@ -146,10 +125,8 @@ fn keep_different(masks: &mut [u32; ROOM], names: usize, top: usize) -> usize
     ensures { Kept (lowest_of names) top masks.old masks.new result }
 {
     let mut count: usize = 0;
-    let mut e = lowest(names);
-    while e < top {
+    for e in lowest(names)..top {
         let m = masks[e];
-        e += 1;
         if among(masks, count, m) {
             continue;
         }
@@ -184,11 +161,9 @@ fn pair_words(words: &mut [u32; ROOM], masks: &[u32; ROOM], zeros: u32, e: usize
     ensures { PairsIn zeros masks.now e (e + 1) words.new }
 {
     let m = masks[e] | zeros;
-    let mut f: usize = 0;
-    while f <= e {
+    for f in 0..e + 1 {
         let k = m | masks[f];
         words[f] = (k >> 16) & k;
-        f += 1;
     }
 }
 
@@ -204,10 +179,8 @@ fn note_words(
     ensures { Noted (entries_of words.now (e + 1)) seen.old list.old count seen.new list.new result }
 {
     let mut noted = count;
-    let mut f: usize = 0;
-    while f <= e {
+    for f in 0..e + 1 {
         noted = note(seen, list, noted, words[f]);
-        f += 1;
     }
     noted
 }
@@ -231,20 +204,11 @@ pub fn words_of(
     let zeros = 65535 - contacts;
     let mut words = [0u32; ROOM];
     let mut count: usize = 0;
-    let mut e: usize = 0;
-    while e < classes {
+    for e in 0..classes {
         pair_words(&mut words, &masks, zeros, e);
         count = note_words(seen, list, count, &words, e);
-        e += 1;
     }
     count
-}
-
-// A word of the list.
-fn wide(w: u16) -> u32
-    ensures { result ≡ w }
-{
-    w as u32
 }
 
 // Whether some word has none of the atoms before its last s.
@@ -252,14 +216,7 @@ pub fn some_without(list: &[u16], s: usize) -> bool
     requires { s ≤ limit }
     ensures { result ≡ lone s list.now }
 {
-    let mut i: usize = 0;
-    while i < list.len() {
-        if wide(list[i]) >> s == 0 {
-            return true;
-        }
-        i += 1;
-    }
-    false
+    list.iter().any(|w| u32::from(*w) >> s == 0)
 }
 
 // ---- the table
@@ -273,7 +230,7 @@ fn put(table: &mut [u16; PLACES], k: u32, left: u32, low: u32)
         return;
     }
     let at = (k & low) as usize;
-    table[at] = table[at] | (k as u16);
+    table[at] |= k as u16;
 }
 
 // The words of the list, without their last s atoms, are put.
@@ -281,14 +238,16 @@ fn put_all(table: &mut [u16; PLACES], list: &[u16], s: usize, left: u32, low: u3
     requires { (length table.old ≡ 1024) × (low < 1024) × (s ≤ limit) }
     ensures { Takes (puts_all s left low list.now) table.old table.new }
 {
-    let mut i: usize = 0;
-    while i < list.len() {
-        put(table, wide(list[i]) >> s, left, low);
-        i += 1;
+    for &word in list {
+        put(table, u32::from(word) >> s, left, low);
     }
 }
 
 // ---- sums over subsets
+
+// A function for each number of words, for speed. In two small programs a trait of blocks of twice the words took 1.18 times the instructions
+// of these ten; as C, by the same compiler's back end, a function for each stride by a constant took 1.6 times, a loop over the strides 4.5
+// times and a recursion over d 7 times.
 
 // Each of the h words after the h words from `from` on takes in the one h before it.
 fn half(table: &mut [u16; PLACES], from: usize, h: usize)
@@ -296,10 +255,8 @@ fn half(table: &mut [u16; PLACES], from: usize, h: usize)
     ensures { Joined (from + h) (from + h + h) h table.old table.new }
 {
     let end = from + h;
-    let mut j = from;
-    while j < end {
-        table[j + h] = table[j + h] | table[j];
-        j += 1;
+    for j in from..end {
+        table[j + h] |= table[j];
     }
 }
 
@@ -459,7 +416,7 @@ pub fn passes(table: &[u16; PLACES], lone: bool, contacts: u32, low: u32, row: u
 {
     let t = row as u32 ^ contacts;
     let at = (t & low) as usize;
-    if wide(table[at]) == t {
+    if u32::from(table[at]) == t {
         lone || t != 0
     } else {
         false
@@ -487,14 +444,9 @@ pub fn tested(
 {
     let mut out = set;
     let mut rest = set;
-    let mut at: usize = 0;
-    while at < 64 {
-        let Found::At(e) = evalset::word_least(rest) else {
-            return out;
-        };
+    while let Some(e) = evalset::word_least(rest) {
         out = unless_kept(passes(table, lone, contacts, low, start + e), out, e);
         rest = evalset::word_without(rest, e);
-        at = e + 1;
     }
     out
 }

@@ -1,10 +1,11 @@
 -- What this crate promises, claim by claim; each holds by the file named in its comment. Assumes nothing.
-use mathlib.Core.Path.{◌≡◌, ap, ◌∙◌, subst}
+use mathlib.Core.Path.{◌≡◌, refl, sym, ◌∙◌, subst}
 use mathlib.Core.Bool.{Bool, true, false}
 use mathlib.Core.Logic.{◌↔◌, ◌⊎◌}
 use mathlib.Core.List.{List, [], ◌∷◌}
 use Prim.Native.Nat.{ℕ, ◌^◌, ◌≤◌, ◌<◌}
 use lib.ListN.{length}
+use Rattle.std.specs.Prelude.{Result, Ok, Err}
 use Rattle.formula.specs.Formula.{Term, Atom, Formula, Name}
 use Rattle.evalset.specs.declared.EvalSet.{EvalSet}
 use Rattle.evalset.specs.Sets.{room, mem}
@@ -17,21 +18,21 @@ use Rattle.lists.specs.Search.{In, keep, below}
 use Rattle.contact.specs.Plan.{Means}
 use Rattle.contact.specs.Check.{first_row_of}
 use Rattle.plan.specs.declared.PlanPoints.{PlanPoints}
-use Rattle.plan.specs.declared.PlanAnswer.TheVariants as answer_is
-use Rattle.plan.specs.declared.PlanRead.{PlanRead}
+use Rattle.plan.specs.declared.PlanArrays.{PlanArrays}
+use Rattle.plan.specs.declared.NotAPlan.{NotAPlan}
 use Rattle.plan.specs.Words.{Plan, IsPlan, short_first, long_first, words_of, Refusal}
 use Rattle.plan.specs.Short.{short_words}
 use Rattle.plan.specs.Floor.{touching, lies_in, plan_floor, named_floor}
 use Rattle.plan.specs.Judging.{yes, unmet, judge, uncovered}
-use Rattle.plan.specs.Reader.{Reading, plan, refused, read_of, ReadingSays}
-use Rattle.plan.specs.Arrays.{answer_of, plan_in, Reads, points_plan, touches_of, vacant_of}
+use Rattle.plan.specs.Reader.{plan, refused, read_of, ReadingSays}
+use Rattle.plan.specs.Arrays.{Reads, points_plan, touches_of, vacant_of}
 use Rattle.plan.specs.Stored.{Holds, Stored}
 use Rattle.plan.specs.Given.{IsRowPlan}
 use Rattle.plan.specs.Plans.{row_plan, plans_of}
 use Rattle.plan.proofs.Exact.{exact, plan_read, refusal_read}
 use Rattle.plan.proofs.Kept
 use Rattle.plan.proofs.SamePlan
-use Rattle.plan.proofs.SameArrays.{InRange, reads_once}
+use Rattle.plan.proofs.SameArrays.{InRangeIf, told_apart, reads_once}
 use Rattle.plan.proofs.Judged
 use Rattle.plan.proofs.Given
 use Rattle.plan.proofs.Unmet.{yes_exactly, unmet_exactly}
@@ -68,10 +69,12 @@ pub long_other : (n c : ℕ) (ws : List ℕ) → (n ≤ 6) ⊎ (8 < n) → n < 4
 long_other n c ws names top small = (refused_exactly (long_first n c ∷ ws) 0).0 (Kept.long_other n c ws names top small)
 
 -- what was written of a plan is read into arrays that hold it (Exact)
-pub written_read : (p : Plan) → IsPlan p → (q : PlanRead) → Reads (words_of p) q → (q.answer ≡ answer_is.Plan) × Stored q.plan p
-written_read p h q s =
-    let e : read_of (words_of p) ≡ plan p = plan_read p h in
-    (s.answer ∙ ap answer_of e, subst (λ (x : Reading). Stored q.plan (plan_in x)) e s.plan)
+pub written_read : (p : Plan) → IsPlan p → (q : Result PlanArrays NotAPlan) → Reads (words_of p) q → (r : PlanArrays) × (q ≡ Ok r) × Stored r p
+written_read p h (Ok r) s =
+    let z : plan s.0 ≡ plan p = sym s.1 ∙ plan_read p h in
+    let e : s.0 ≡ p = cc in
+    (r, refl, subst (Stored r) e s.2)
+written_read p h (Err e) s = absurd (told_apart (words_of p) p e.at (plan_read p h) s)
 
 -- and no other plan, whether the rows are in the arrays or lent (SamePlan)
 pub one_plan : (r : PlanPoints) (rows : ℕ → ℕ → Bool) (p q : Plan) → IsPlan p → IsPlan q → Holds r rows p → Holds r rows q → p ≡ q
@@ -88,7 +91,7 @@ pub rows_are_contact : (p : Plan) → IsPlan p → (r : PlanPoints) (rows : ℕ 
 rows_are_contact = Judged.row_is
 
 -- reading is one function of the words: what it gives is determined to the last bit (SameArrays)
-pub read_once : (ws : List ℕ) (r s : PlanRead) → InRange r.plan → InRange s.plan → Reads ws r → Reads ws s → r ≡ s
+pub read_once : (ws : List ℕ) (r s : Result PlanArrays NotAPlan) → InRangeIf r → InRangeIf s → Reads ws r → Reads ws s → r ≡ s
 read_once ws r s v w a b = reads_once ws r s v w a b
 
 -- a contact judged on points and rows has its value on the floor of the plan that they hold, `plan_floor` (Judged)

@@ -14,6 +14,7 @@ use lib.Pow.{pow_mono}
 use types.Run.{OneOf, miss}
 use denote.Enum.Declared.{tag_of}
 use borrow.Author.Tests.{leb-true, ltb-true, le-leb, lt-leb, le-ltb, lt-ltb, eq-eqb, ne_eqb}
+use Rattle.std.specs.Prelude.{Some, Result, Ok, Err}
 use Rattle.lists.specs.Padded.{pad}
 use Rattle.lists.proofs.Padded.{pad_set}
 use Rattle.evalset.specs.Most.{most}
@@ -22,22 +23,12 @@ use Rattle.plan.specs.contracts.Word as word-type
 use Rattle.plan.specs.declared.Word.{Word}
 use Rattle.plan.specs.declared.Word.TheVariants.{First, Point, Contact, Last, Other}
 use Rattle.plan.specs.declared.Opening.{Opening}
-use Rattle.plan.specs.declared.Opening.TheVariants as opening
-use Rattle.plan.specs.declared.Pointing.{Pointing}
-use Rattle.plan.specs.declared.Pointing.TheVariants as pointing-is
-use Rattle.plan.specs.declared.PointsAnswer.{PointsAnswer}
-use Rattle.plan.specs.declared.PointsAnswer.TheVariants as points_are
-use Rattle.plan.specs.declared.Linking.{Linking}
-use Rattle.plan.specs.declared.Linking.TheVariants as linking-is
-use Rattle.plan.specs.declared.PlanAnswer.{PlanAnswer}
-use Rattle.plan.specs.declared.PlanAnswer.TheVariants as answer_is
-use Rattle.plan.specs.declared.PlanArrays.{PlanArrays}
-use Rattle.plan.specs.declared.PlanRead.{PlanRead}
+use Rattle.plan.specs.declared.Pair.{Pair}
+use Rattle.plan.specs.declared.NotAPlan.{NotAPlan}
 use Rattle.plan.specs.Words.{most_points}
-use Rattle.plan.specs.Reader.{kind_of, State, start, pointing, linking, whole, dead, opened, went, pointed, linked, step, Reading, refused, ended, unless, read_from, read_of}
-use Rattle.plan.specs.Arrays.{answer_of, plan_in, Reads}
-use Rattle.plan.specs.Stored.{Stored}
-use Rattle.plan.specs.Private.{plan_of, joined_of, self_of, wanting, OpensTo, pointing_of, PointsCome, PointsHeld, PointsSay, last_of, linking_of, LinksCome, LinksHeld, LinksSay}
+use Rattle.plan.specs.Reader.{kind_of, State, start, pointing, linking, whole, dead, opened, went, pointed, linked, step, refused, ended, unless, read_from, read_of}
+use Rattle.plan.specs.Arrays.{Reads}
+use Rattle.plan.specs.Private.{plan_of, joined_of, self_of, wanting, OpensTo, not_at, pointing_of, PointsCome, PointsHeld, PointsSay, last_of, over_by, pair_at, linking_of, LinksCome, LinksHeld, LinksSay}
 use Rattle.plan.proofs.Exact.{IsDead}
 use Rattle.plan.proofs.Complete.{open_by, link_by, last_by}
 use Rattle.plan.proofs.Squares.{self_square, square_link}
@@ -76,6 +67,10 @@ unfolding read_of
 from_start [] = refl
 from_start (w ∷ ws) = refl
 
+-- what is refused is refused at that index
+err_at : {A : Type 0} (e : NotAPlan) (at : ℕ) → ◌≡◌ {A = Result A NotAPlan} (Err e) (not_at at) → e.at ≡ at
+err_at e at q = let z : e ≡ record { at = at } = cc in ap (λ (x : NotAPlan). x.at) z
+
 pub words_none : (ws : List ℕ) → 0 ≡ length ws → read_of ws ≡ refused 0
 words_none ws e = sym (words_end ws 0 start (from_start ws) e)
 
@@ -97,7 +92,7 @@ module _ (w : Word) (n c : ℕ) (e : w ≡ First n c) where
   pub open_over : n ≤ most → 1 ≤ c → 2 ^ n < c → opened w ≡ dead
   open_over h k l = ap opened e ∙ rw (le-leb n most h, le-leb 1 c k, lt-leb c (2 ^ n) l)
 
-  pub open_good : n ≤ most → 1 ≤ c → c ≤ 2 ^ n → OpensTo w (opening.Plan n c)
+  pub open_good : n ≤ most → 1 ≤ c → c ≤ 2 ^ n → OpensTo w (Ok (record { names = n; count = c }))
   open_good h k l = (h, k, l, ap opened e ∙ open_by n c h k l ∙ go c k)
     where
       go : (c : ℕ) → 1 ≤ c → pointing n (c - 1) [] 0 ≡ wanting n c [] 0
@@ -106,83 +101,93 @@ module _ (w : Word) (n c : ℕ) (e : w ≡ First n c) where
 
 -- the points come after a good first word
 module _ (ws : List ℕ) (w : Word) (said : w ≡ kind_of (get_or ws 0 0)) (h : 0 < length ws) where
-  pub opens_wrong : (r : Opening) → OpensTo w r → r ≡ opening.Wrong → read_of ws ≡ refused 0
-  opens_wrong r o e =
-      word_dead ws 0 start (from_start ws) h (sym (ap opened said) ∙ subst (OpensTo w) e o)
+  pub opens_wrong : (e : NotAPlan) → OpensTo w (Err e) → read_of ws ≡ refused e.at
+  opens_wrong e o = word_dead ws 0 start (from_start ws) h (sym (ap opened said) ∙ o.0) ∙ ap refused (sym o.1)
 
-  pub opens_points : (r : Opening) → OpensTo w r → (n c : ℕ) → r ≡ opening.Plan n c → PointsCome ws n c
-  opens_points r o n c e =
-      let t = subst (OpensTo w) e o in
+  pub opens_points : (r : Opening) → OpensTo w (Ok r) → PointsCome ws r.names r.count
+  opens_points r t =
       record {
         few = t.0;
         some = t.1;
         room = t.2;
         within = h;
-        rest = word_live ws 0 start (from_start ws) h (wanting n c [] 0) (live c) (sym (ap opened said) ∙ t.3);
+        rest = word_live ws 0 start (from_start ws) h (wanting r.names r.count [] 0) (live r.count) (sym (ap opened said) ∙ t.3);
       }
     where
-      live : (c : ℕ) → IsDead (wanting n c [] 0) → ⊥
+      live : (c : ℕ) → IsDead (wanting r.names c [] 0) → ⊥
       live zero d = d
       live (suc m) d = d
 
 -- ---- a point
-pub not_point : (low left top : ℕ) (w : Word) → OneOf (0 ∷ 2 ∷ 3 ∷ 4 ∷ []) (tag_of word-type.the_type w)
-    → pointing-is.Wrong ≡ pointing_of low left top w
-not_point low left top (First i c) h = refl
-not_point low left top (Point e) h = absurd (miss (0 ∷ 2 ∷ 3 ∷ 4 ∷ []) 1 tt h)
-not_point low left top (Contact i j) h = refl
-not_point low left top (Last c) h = refl
-not_point low left top Other h = refl
+pub not_point : (low left top at : ℕ) (w : Word) → OneOf (0 ∷ 2 ∷ 3 ∷ 4 ∷ []) (tag_of word-type.the_type w)
+    → not_at at ≡ pointing_of low left top at w
+not_point low left top at (First i c) h = refl
+not_point low left top at (Point e) h = absurd (miss (0 ∷ 2 ∷ 3 ∷ 4 ∷ []) 1 tt h)
+not_point low left top at (Contact i j) h = refl
+not_point low left top at (Last c) h = refl
+not_point low left top at Other h = refl
 
-module _ (low left top : ℕ) (w : Word) (e : ℕ) (q : w ≡ Point e) where
-  pub point_low : e < low → pointing-is.Wrong ≡ pointing_of low left top w
-  point_low l = sym (ap (pointing_of low left top) q ∙ rw (lt-leb low e l))
+module _ (low left top at : ℕ) (w : Word) (e : ℕ) (q : w ≡ Point e) where
+  pub point_low : e < low → not_at at ≡ pointing_of low left top at w
+  point_low l = sym (ap (pointing_of low left top at) q ∙ rw (lt-leb low e l))
 
-  pub point_room : top ≤ e + left → pointing-is.Wrong ≡ pointing_of low left top w
-  point_room l = sym (ap (pointing_of low left top) q ∙ rw (le-ltb (e + left) top l) (go (leb low e)))
+  pub point_room : top ≤ e + left → not_at at ≡ pointing_of low left top at w
+  point_room l = sym (ap (pointing_of low left top at) q ∙ rw (le-ltb (e + left) top l) (go (leb low e)))
     where
-      go : (b : Bool) → cond (b && false) (pointing-is.Evaluation e) pointing-is.Wrong ≡ pointing-is.Wrong
+      go : (b : Bool) → cond (b && false) (Ok e) (not_at at) ≡ not_at at
       go true = refl
       go false = refl
 
-  pub point_taken : low ≤ e → e + left < top → pointing-is.Evaluation e ≡ pointing_of low left top w
-  point_taken l m = sym (ap (pointing_of low left top) q ∙ rw (le-leb low e l, lt-ltb (e + left) top m))
+  pub point_taken : low ≤ e → e + left < top → Ok e ≡ pointing_of low left top at w
+  point_taken l m = sym (ap (pointing_of low left top at) q ∙ rw (le-leb low e l, lt-ltb (e + left) top m))
 
 -- an evaluation that is taken leaves room
-pub taken_room : (low left top e : ℕ) (w : Word) → pointing-is.Evaluation e ≡ pointing_of low left top w → e + left < top
-taken_room low left top e (First i c) q = absurd (let z : ◌≡◌ {A = ℕ} 0 1 = cc in omega arith)
-taken_room low left top e (Point x) q = go (leb low x && ltb (x + left) top) refl q
+pub taken_room : (low left top at e : ℕ) (w : Word) → Ok e ≡ pointing_of low left top at w → e + left < top
+taken_room low left top at e (First i c) q = absurd (let z : ◌≡◌ {A = ℕ} 0 1 = cc in omega arith)
+taken_room low left top at e (Point x) q = go (leb low x && ltb (x + left) top) refl q
   where
     go : (b : Bool) → (leb low x && ltb (x + left) top) ≡ b
-        → pointing-is.Evaluation e ≡ cond b (pointing-is.Evaluation x) pointing-is.Wrong → e + left < top
+        → Ok e ≡ cond b (Ok x) (not_at at) → e + left < top
     go true h q =
         let z : e ≡ x = cc in
         let l : x + left < top = ltb-true (x + left) top ((and-eq-true_iff (leb low x) (ltb (x + left) top)).0 h).1 in
         omega arith
     go false h q = absurd (let z : ◌≡◌ {A = ℕ} 0 1 = cc in omega arith)
-taken_room low left top e (Contact i j) q = absurd (let z : ◌≡◌ {A = ℕ} 0 1 = cc in omega arith)
-taken_room low left top e (Last c) q = absurd (let z : ◌≡◌ {A = ℕ} 0 1 = cc in omega arith)
-taken_room low left top e Other q = absurd (let z : ◌≡◌ {A = ℕ} 0 1 = cc in omega arith)
+taken_room low left top at e (Contact i j) q = absurd (let z : ◌≡◌ {A = ℕ} 0 1 = cc in omega arith)
+taken_room low left top at e (Last c) q = absurd (let z : ◌≡◌ {A = ℕ} 0 1 = cc in omega arith)
+taken_room low left top at e Other q = absurd (let z : ◌≡◌ {A = ℕ} 0 1 = cc in omega arith)
+
+-- one that is refused is refused where it stands
+point_at : (low left top at : ℕ) (w : Word) (x : NotAPlan) → Err x ≡ pointing_of low left top at w → x.at ≡ at
+point_at low left top at (First i c) x q = err_at x at q
+point_at low left top at (Point e) x q = go (leb low e && ltb (e + left) top) q
+  where
+    go : (b : Bool) → Err x ≡ cond b (Ok e) (not_at at) → x.at ≡ at
+    go true q = absurd (let z : ◌≡◌ {A = ℕ} 0 1 = cc in omega arith)
+    go false q = err_at x at q
+point_at low left top at (Contact i j) x q = err_at x at q
+point_at low left top at (Last c) x q = err_at x at q
+point_at low left top at Other x q = err_at x at q
 
 -- what the machine does by it
-abbrev pointed_by : ℕ → ℕ → List ℕ → Pointing → State
-pointed_by n m pts (pointing-is.Evaluation e) = wanting n m (pts ++ (e ∷ [])) (suc e)
-pointed_by n m pts pointing-is.Wrong = dead
+abbrev pointed_by : ℕ → ℕ → List ℕ → Result ℕ NotAPlan → State
+pointed_by n m pts (Ok e) = wanting n m (pts ++ (e ∷ [])) (suc e)
+pointed_by n m pts (Err x) = dead
 
 went_on : (n m : ℕ) (pts : List ℕ) (e : ℕ) → went n m pts e ≡ wanting n m pts (suc e)
 went_on n zero pts e = refl
 went_on n (suc m) pts e = refl
 
-pointed_by_lem : (n m : ℕ) (pts : List ℕ) (low : ℕ) (w : Word) → pointed n m pts low w ≡ pointed_by n m pts (pointing_of low m (2 ^ n) w)
-pointed_by_lem n m pts low (First i c) = refl
-pointed_by_lem n m pts low (Point e) = go (leb low e && ltb (e + m) (2 ^ n))
+pointed_by_lem : (n m : ℕ) (pts : List ℕ) (low at : ℕ) (w : Word) → pointed n m pts low w ≡ pointed_by n m pts (pointing_of low m (2 ^ n) at w)
+pointed_by_lem n m pts low at (First i c) = refl
+pointed_by_lem n m pts low at (Point e) = go (leb low e && ltb (e + m) (2 ^ n))
   where
-    go : (b : Bool) → cond b (went n m (pts ++ (e ∷ [])) e) dead ≡ pointed_by n m pts (cond b (pointing-is.Evaluation e) pointing-is.Wrong)
+    go : (b : Bool) → cond b (went n m (pts ++ (e ∷ [])) e) dead ≡ pointed_by n m pts (cond b (Ok e) (not_at at))
     go true = went_on n m (pts ++ (e ∷ [])) e
     go false = refl
-pointed_by_lem n m pts low (Contact i j) = refl
-pointed_by_lem n m pts low (Last c) = refl
-pointed_by_lem n m pts low Other = refl
+pointed_by_lem n m pts low at (Contact i j) = refl
+pointed_by_lem n m pts low at (Last c) = refl
+pointed_by_lem n m pts low at Other = refl
 
 pub points_start : (ws : List ℕ) (n c : ℕ) (points : List ℕ) → PointsCome ws n c → points ≡ pad most_points [] → PointsHeld ws n c 0 0 points
 points_start ws n c points h e =
@@ -213,22 +218,23 @@ module _ (ws : List ℕ) (n c i low : ℕ) (points : List ℕ) (h : PointsHeld w
   points_short l = let w = h.within in
       sym (words_end ws (1 + i) (pointing n (c - (1 + i)) h.pts low) before_point (omega arith))
 
-  module _ (l : 1 + i < length ws) (top : ℕ) (t : top ≡ 2 ^ n) (w : Word) (k : w ≡ kind_of (get_or ws (1 + i) 0)) (said : Pointing)
-      (q : said ≡ pointing_of low (c - (1 + i)) top w) where
+  module _ (l : 1 + i < length ws) (top : ℕ) (t : top ≡ 2 ^ n) (w : Word) (k : w ≡ kind_of (get_or ws (1 + i) 0)) (said : Result ℕ NotAPlan)
+      (q : said ≡ pointing_of low (c - (1 + i)) top (1 + i) w) where
     steps : step (pointing n (c - (1 + i)) h.pts low) (kind_of (get_or ws (1 + i) 0)) ≡ pointed_by n (c - (1 + i)) h.pts said
     steps =
         ap (pointed n (c - (1 + i)) h.pts low) (sym k)
-        ∙ pointed_by_lem n (c - (1 + i)) h.pts low w
-        ∙ ap (pointed_by n (c - (1 + i)) h.pts) (ap (λ (x : ℕ). pointing_of low (c - (1 + i)) x w) (sym t) ∙ sym q)
+        ∙ pointed_by_lem n (c - (1 + i)) h.pts low (1 + i) w
+        ∙ ap (pointed_by n (c - (1 + i)) h.pts) (ap (λ (x : ℕ). pointing_of low (c - (1 + i)) x (1 + i) w) (sym t) ∙ sym q)
 
-    pub points_wrong : said ≡ pointing-is.Wrong → read_of ws ≡ refused (1 + i)
-    points_wrong e =
+    pub points_wrong : (x : NotAPlan) → said ≡ Err x → read_of ws ≡ refused x.at
+    points_wrong x e =
         word_dead ws (1 + i) (pointing n (c - (1 + i)) h.pts low) before_point l
         (steps ∙ ap (pointed_by n (c - (1 + i)) h.pts) e)
+        ∙ ap refused (sym (point_at low (c - (1 + i)) top (1 + i) w x (sym e ∙ q)))
 
-    pub points_next : (e : ℕ) → said ≡ pointing-is.Evaluation e → n ≤ most → i < most_points → PointsHeld ws n c (i + 1) (e + 1) (set points i e)
+    pub points_next : (e : ℕ) → said ≡ Ok e → n ≤ most → i < most_points → PointsHeld ws n c (i + 1) (e + 1) (set points i e)
     points_next e s few fits =
-        let room : e + (c - (1 + i)) < top = taken_room low (c - (1 + i)) top e w (sym s ∙ q) in
+        let room : e + (c - (1 + i)) < top = taken_room low (c - (1 + i)) top (1 + i) e w (sym s ∙ q) in
         let high : top ≤ most_points = omega (arith, t, pow_mono few) in
         let left : c - (1 + i) ≡ c - (i + 1) = omega arith in
         let place : 1 + i + 1 ≡ 1 + (i + 1) = omega arith in
@@ -252,19 +258,11 @@ module _ (ws : List ℕ) (n c i low : ℕ) (points : List ℕ) (h : PointsHeld w
 
 -- all points are there
 pub points_all : (ws : List ℕ) (n c i low : ℕ) (points : List ℕ) → PointsHeld ws n c i low points → c ≤ i
-    → PointsSay ws n c points_are.All points
+    → PointsSay ws n c (Ok points)
 points_all ws n c i low points h l =
     let d = h.done in
     let e : i ≡ c = omega arith in
     (low, subst (λ (x : ℕ). PointsHeld ws n c x low points) e h)
-
-pub points_passed : (ws : List ℕ) (n c : ℕ) (a : PointsAnswer) (points : List ℕ) → PointsSay ws n c a points → a ≡ points_are.All
-    → PointsSay ws n c points_are.All points
-points_passed ws n c a points s e = subst (λ (x : PointsAnswer). PointsSay ws n c x points) e s
-
-pub points_refused : (ws : List ℕ) (n c : ℕ) (a : PointsAnswer) (points : List ℕ) → PointsSay ws n c a points
-    → (at : ℕ) → a ≡ points_are.Refused at → read_of ws ≡ refused at
-points_refused ws n c a points s at e = subst (λ (x : PointsAnswer). PointsSay ws n c x points) e s
 
 -- the contacts come after the points, each of which is in contact with itself
 pub links_come : (ws : List ℕ) (n c low : ℕ) (points : List ℕ) (h : PointsHeld ws n c c low points) (words : List ℕ)
@@ -279,7 +277,7 @@ links_come ws n c low points h words e =
 
 -- ---- a contact, and the last word
 pub not_link : (count low at len : ℕ) (w : Word) → OneOf (0 ∷ 1 ∷ 4 ∷ []) (tag_of word-type.the_type w)
-    → linking-is.Over (answer_is.Refused at) ≡ linking_of count low at len w
+    → not_at at ≡ linking_of count low at len w
 not_link count low at len (First i c) h = refl
 not_link count low at len (Point e) h = refl
 not_link count low at len (Contact i j) h = absurd (miss (0 ∷ 1 ∷ 4 ∷ []) 2 tt h)
@@ -289,25 +287,30 @@ not_link count low at len Other h = refl
 module _ (count low at len : ℕ) (w : Word) (i j : ℕ) (q : w ≡ Contact i j) where
   -- one test that fails is enough
   refuses : (a b c : Bool) → (a && (b && c)) ≡ false
-      → cond (a && (b && c)) (linking-is.Pair i j) (linking-is.Over (answer_is.Refused at)) ≡ linking-is.Over (answer_is.Refused at)
-  refuses a b c e = ap (λ (t : Bool). cond t (linking-is.Pair i j) (linking-is.Over (answer_is.Refused at))) e
+      → cond (a && (b && c)) (pair_at i j) (not_at at) ≡ not_at at
+  refuses a b c e = ap (λ (t : Bool). cond t (pair_at i j) (not_at at)) e
 
-  pub link_equal : j ≤ i → linking-is.Over (answer_is.Refused at) ≡ linking_of count low at len w
+  pub link_equal : j ≤ i → not_at at ≡ linking_of count low at len w
   link_equal l = sym (ap (linking_of count low at len) q
       ∙ refuses (leb low (i * 256 + j)) (ltb i j) (ltb j count)
       (ap (λ (t : Bool). leb low (i * 256 + j) && (t && ltb j count)) (le-ltb i j l) ∙ and-false (leb low (i * 256 + j))))
 
-  pub link_far : count ≤ j → linking-is.Over (answer_is.Refused at) ≡ linking_of count low at len w
+  pub link_far : count ≤ j → not_at at ≡ linking_of count low at len w
   link_far l = sym (ap (linking_of count low at len) q
       ∙ refuses (leb low (i * 256 + j)) (ltb i j) (ltb j count)
       (ap (λ (t : Bool). leb low (i * 256 + j) && (ltb i j && t)) (le-ltb j count l)
       ∙ ap (λ (t : Bool). leb low (i * 256 + j) && t) (and-false (ltb i j)) ∙ and-false (leb low (i * 256 + j))))
 
-  pub link_late : i * 256 + j < low → linking-is.Over (answer_is.Refused at) ≡ linking_of count low at len w
+  pub link_late : i * 256 + j < low → not_at at ≡ linking_of count low at len w
   link_late l = sym (ap (linking_of count low at len) q ∙ rw (lt-leb low (i * 256 + j) l))
 
-  pub link_taken : i < j → j < count → low ≤ i * 256 + j → linking-is.Pair i j ≡ linking_of count low at len w
+  pub link_taken : i < j → j < count → low ≤ i * 256 + j → pair_at i j ≡ linking_of count low at len w
   link_taken a b l = sym (ap (linking_of count low at len) q ∙ rw (le-leb low (i * 256 + j) l, lt-ltb i j a, lt-ltb j count b))
+
+-- what ends the contacts is no contact
+not_pair : (r : Result Unit NotAPlan) (p : Pair) → over_by r ≡ Ok (Some p) → ⊥
+not_pair (Ok u) p q = let z : ◌≡◌ {A = ℕ} 0 1 = cc in omega arith
+not_pair (Err e) p q = let z : ◌≡◌ {A = ℕ} 0 1 = cc in omega arith
 
 -- a contact that is taken
 pub record Pairs (count low i j : ℕ) (w : Word) : Type 0 where
@@ -316,17 +319,17 @@ pub record Pairs (count low i j : ℕ) (w : Word) : Type 0 where
   pub within : j < count
   pub least : low ≤ i * 256 + j
 
-pub taken_pair : (count low at len i j : ℕ) (w : Word) → linking-is.Pair i j ≡ linking_of count low at len w → Pairs count low i j w
-taken_pair count low at len i j (First n c) q = absurd (let z : ◌≡◌ {A = ℕ} 0 1 = cc in omega arith)
-taken_pair count low at len i j (Point e) q = absurd (let z : ◌≡◌ {A = ℕ} 0 1 = cc in omega arith)
-taken_pair count low at len i j (Contact a b) q = go (leb low (a * 256 + b) && (ltb a b && ltb b count)) refl q
+pub taken_pair : (count low at len : ℕ) (p : Pair) (w : Word) → Ok (Some p) ≡ linking_of count low at len w → Pairs count low p.smaller p.larger w
+taken_pair count low at len p (First n c) q = absurd (let z : ◌≡◌ {A = ℕ} 0 1 = cc in omega arith)
+taken_pair count low at len p (Point e) q = absurd (let z : ◌≡◌ {A = ℕ} 0 1 = cc in omega arith)
+taken_pair count low at len p (Contact a b) q = go (leb low (a * 256 + b) && (ltb a b && ltb b count)) refl q
   where
-    go : (t : Bool) → (leb low (a * 256 + b) && (ltb a b && ltb b count)) ≡ t
-        → linking-is.Pair i j ≡ cond t (linking-is.Pair a b) (linking-is.Over (answer_is.Refused at))
-        → Pairs count low i j (Contact a b)
+    go : (t : Bool) → (leb low (a * 256 + b) && (ltb a b && ltb b count)) ≡ t → Ok (Some p) ≡ cond t (pair_at a b) (not_at at)
+        → Pairs count low p.smaller p.larger (Contact a b)
     go true h q =
-        let y : i ≡ a = cc in
-        let z : j ≡ b = cc in
+        let s : p ≡ record { smaller = a; larger = b } = cc in
+        let y : p.smaller ≡ a = ap (λ (x : Pair). x.smaller) s in
+        let z : p.larger ≡ b = ap (λ (x : Pair). x.larger) s in
         let u = (and-eq-true_iff (leb low (a * 256 + b)) (ltb a b && ltb b count)).0 h in
         let v = (and-eq-true_iff (ltb a b) (ltb b count)).0 u.1 in
         let l : low ≤ a * 256 + b = leb-true low (a * 256 + b) u.0 in
@@ -334,15 +337,15 @@ taken_pair count low at len i j (Contact a b) q = go (leb low (a * 256 + b) && (
         let o : b < count = ltb-true b count v.1 in
         record { is = ap₂ Contact (sym y) (sym z); later = omega arith; within = omega arith; least = omega arith }
     go false h q = absurd (let z : ◌≡◌ {A = ℕ} 0 1 = cc in omega arith)
-taken_pair count low at len i j (Last c) q = absurd (let z : ◌≡◌ {A = ℕ} 0 1 = cc in omega arith)
-taken_pair count low at len i j Other q = absurd (let z : ◌≡◌ {A = ℕ} 0 1 = cc in omega arith)
+taken_pair count low at len p (Last c) q = absurd (not_pair (last_of c at len) p (sym q))
+taken_pair count low at len p Other q = absurd (let z : ◌≡◌ {A = ℕ} 0 1 = cc in omega arith)
 
-pub pair_within : (count low at len i j : ℕ) (w : Word) (said : Linking) → said ≡ linking-is.Pair i j
-    → said ≡ linking_of count low at len w → (high : ℕ) → count ≤ high → (i < high) × (j < high)
-pair_within count low at len i j w said s q high h =
-    let p = taken_pair count low at len i j w (sym s ∙ q) in
-    let a = p.later in
-    let b = p.within in
+pub pair_within : (count low at len : ℕ) (p : Pair) (w : Word) → Ok (Some p) ≡ linking_of count low at len w
+    → (high : ℕ) → count ≤ high → (p.smaller < high) × (p.larger < high)
+pair_within count low at len p w q high h =
+    let t = taken_pair count low at len p w q in
+    let a = t.later in
+    let b = t.within in
     (omega arith, omega arith)
 
 pub links_start : (ws : List ℕ) (count : ℕ) (words : List ℕ) (n : ℕ) (pts : List ℕ) → LinksCome ws count words n pts
@@ -353,15 +356,16 @@ links_start ws count words n pts h =
 
 module _ (ws : List ℕ) (count : ℕ) (n : ℕ) (pts : List ℕ) (size : length pts ≡ count) (at low : ℕ) (words : List ℕ)
     (h : LinksHeld ws n pts at low words) where
-  pub links_short : at ≡ length ws → read_of ws ≡ refused at
-  links_short e = sym (words_end ws at (linking n pts h.ks low) h.rest e)
+  pub links_short : at ≡ length ws → read_of ws ≡ refused (length ws)
+  links_short e = sym (words_end ws at (linking n pts h.ks low) h.rest e) ∙ ap refused e
 
-  module _ (l : at < length ws) (w : Word) (k : w ≡ kind_of (get_or ws at 0)) (said : Linking)
-      (q : said ≡ linking_of count low at (length ws) w) where
-    pub links_next : (i j : ℕ) → said ≡ linking-is.Pair i j → count ≤ 256 → (more : List ℕ)
-        → square_at more ≡ joined_of (square_at words) i j → LinksHeld ws n pts (at + 1) (i * 256 + j + 1) more
-    links_next i j s few more e =
-        let p = taken_pair count low at (length ws) i j w (sym s ∙ q) in
+  module _ (l : at < length ws) (w : Word) (k : w ≡ kind_of (get_or ws at 0)) where
+    pub links_next : (r : Pair) → Ok (Some r) ≡ linking_of count low at (length ws) w → count ≤ 256 → (more : List ℕ)
+        → square_at more ≡ joined_of (square_at words) r.smaller r.larger → LinksHeld ws n pts (at + 1) (r.smaller * 256 + r.larger + 1) more
+    links_next r q few more e =
+        let i = r.smaller in
+        let j = r.larger in
+        let p = taken_pair count low at (length ws) r w q in
         let a = p.later in
         let b = p.within in
         let x = h.before in
@@ -394,56 +398,47 @@ module _ (ws : List ℕ) (count : ℕ) (n : ℕ) (pts : List ℕ) (size : length
 
         go : Dec (c ≡ at) → Dec (at + 1 ≡ length ws) → LinksSay ws n pts (last_of c at (length ws)) words
         go (yes e) (yes f) =
-            let z : last_of c at (length ws) ≡ answer_is.Plan = rw (eq-eqb c at e, eq-eqb (at + 1) (length ws) f) in
-            subst (λ (a : PlanAnswer). LinksSay ws n pts a words) (sym z)
+            let z : last_of c at (length ws) ≡ Ok tt = rw (eq-eqb c at e, eq-eqb (at + 1) (length ws) f) in
+            subst (λ (a : Result Unit NotAPlan). LinksSay ws n pts a words) (sym z)
             (h.ks, sym (words_end ws (at + 1) (whole (plan_of n pts h.ks)) (all e) f), h.joined)
         go (yes e) (no f) =
-            let z : last_of c at (length ws) ≡ answer_is.Refused (at + 1) = rw (eq-eqb c at e, ne_eqb (at + 1) (length ws) f) in
-            subst (λ (a : PlanAnswer). LinksSay ws n pts a words) (sym z)
+            let z : last_of c at (length ws) ≡ not_at (at + 1) = rw (eq-eqb c at e, ne_eqb (at + 1) (length ws) f) in
+            subst (λ (a : Result Unit NotAPlan). LinksSay ws n pts a words) (sym z)
             (word_dead ws (at + 1) (whole (plan_of n pts h.ks)) (all e) (omega (arith, f)) refl)
         go (no e) f =
-            let r : last_of c at (length ws) ≡ answer_is.Refused at = rw (ne_eqb c at e) in
-            subst (λ (a : PlanAnswer). LinksSay ws n pts a words) (sym r)
+            let r : last_of c at (length ws) ≡ not_at at = rw (ne_eqb c at e) in
+            subst (λ (a : Result Unit NotAPlan). LinksSay ws n pts a words) (sym r)
             (wrong (ap (linked n pts h.ks low) z ∙ rw (ne_eqb c (1 + (length pts + length h.ks)) (λ y. e (y ∙ sym x)))))
 
-    pub links_over : (r : PlanAnswer) → said ≡ linking-is.Over r → LinksSay ws n pts r words
-    links_over r s = go w refl (sym s ∙ q)
-      where
-        say : (x : PlanAnswer) → linking-is.Over r ≡ linking-is.Over x → LinksSay ws n pts x words → LinksSay ws n pts r words
-        say x e t = let z : x ≡ r = cc in subst (λ (a : PlanAnswer). LinksSay ws n pts a words) z t
+    -- what is said, when it is no contact more
+    said_so : (r x : Result Unit NotAPlan) → over_by r ≡ over_by x → LinksSay ws n pts x words → LinksSay ws n pts r words
+    said_so (Ok u) (Ok v) q t = t
+    said_so (Ok u) (Err y) q t = absurd (let z : ◌≡◌ {A = ℕ} 0 1 = cc in omega arith)
+    said_so (Err x) (Ok v) q t = absurd (let z : ◌≡◌ {A = ℕ} 0 1 = cc in omega arith)
+    said_so (Err x) (Err y) q t = let z : y ≡ x = cc in t ∙ ap (λ (e : NotAPlan). refused e.at) z
 
-        go : (v : Word) → w ≡ v → linking-is.Over r ≡ linking_of count low at (length ws) v → LinksSay ws n pts r words
-        go (First i c) z e = say (answer_is.Refused at) e (wrong (ap (linked n pts h.ks low) z))
-        go (Point x) z e = say (answer_is.Refused at) e (wrong (ap (linked n pts h.ks low) z))
+    pub links_over : (r : Result Unit NotAPlan) → over_by r ≡ linking_of count low at (length ws) w → LinksSay ws n pts r words
+    links_over r q = go w refl q
+      where
+        go : (v : Word) → w ≡ v → over_by r ≡ linking_of count low at (length ws) v → LinksSay ws n pts r words
+        go (First i c) z e = said_so r (not_at at) e (wrong (ap (linked n pts h.ks low) z))
+        go (Point x) z e = said_so r (not_at at) e (wrong (ap (linked n pts h.ks low) z))
         go (Contact i j) z e = pick (leb low (i * 256 + j) && (ltb i j && ltb j count)) refl e
           where
             same : (leb low (i * 256 + j) && (ltb i j && ltb j count)) ≡ (leb low (i * 256 + j) && (ltb i j && ltb j (length pts)))
             same = ap (λ (x : ℕ). leb low (i * 256 + j) && (ltb i j && ltb j x)) (sym size)
 
             pick : (t : Bool) → (leb low (i * 256 + j) && (ltb i j && ltb j count)) ≡ t
-                → linking-is.Over r ≡ cond t (linking-is.Pair i j) (linking-is.Over (answer_is.Refused at)) → LinksSay ws n pts r words
-            pick true b e = absurd (let z : ◌≡◌ {A = ℕ} 0 1 = cc in omega arith)
-            pick false b e = say (answer_is.Refused at) e
+                → over_by r ≡ cond t (pair_at i j) (not_at at) → LinksSay ws n pts r words
+            pick true b e = absurd (not_pair r _ e)
+            pick false b e = said_so r (not_at at) e
                 (wrong (ap (linked n pts h.ks low) z
                 ∙ ap (λ (t : Bool). cond t (linking n pts (h.ks ++ ((i * 256 + j) ∷ [])) (suc (i * 256 + j))) dead) (sym same ∙ b)))
-        go (Last c) z e = say (last_of c at (length ws)) e (ends c z)
-        go Other z e = say (answer_is.Refused at) e (wrong (ap (linked n pts h.ks low) z))
-
-pub links_refused : (ws : List ℕ) (n : ℕ) (pts : List ℕ) (a : PlanAnswer) (words : List ℕ) → LinksSay ws n pts a words
-    → (at : ℕ) → a ≡ answer_is.Refused at → read_of ws ≡ refused at
-links_refused ws n pts a words s at e = subst (λ (x : PlanAnswer). LinksSay ws n pts x words) e s
+        go (Last c) z e = said_so r (last_of c at (length ws)) e (ends c z)
+        go Other z e = said_so r (not_at at) e (wrong (ap (linked n pts h.ks low) z))
 
 -- ---- what is read
-pub reads_refused : (ws : List ℕ) (at : ℕ) (r : PlanRead) → read_of ws ≡ refused at
-    → (r.answer ≡ answer_is.Refused at) × Stored r.plan (plan_of 0 [] []) → Reads ws r
-reads_refused ws at r e h =
-    record { answer = h.0 ∙ ap answer_of (sym e); plan = subst (λ (x : Reading). Stored r.plan (plan_in x)) (sym e) h.1 }
-
-pub reads_plan : (ws : List ℕ) (n c low : ℕ) (points : List ℕ) (h : PointsHeld ws n c c low points) (a : PlanAnswer) (rows : List ℕ)
-    → LinksSay ws n h.pts a rows → a ≡ answer_is.Plan
-    → Reads ws (record { answer = answer_is.Plan; plan = record { names = n; count = c; points = points; rows = rows } })
-reads_plan ws n c low points h a rows s e =
-    let t = subst (λ (x : PlanAnswer). LinksSay ws n h.pts x rows) e s in
-    let r : PlanArrays = record { names = n; count = c; points = points; rows = rows } in
-    let stored : Stored r (plan_of n h.pts t.0) = record { names = refl; count = sym h.size; points = h.stored; rows = t.2 } in
-    record { answer = ap answer_of (sym t.1); plan = subst (λ (x : Reading). Stored r (plan_in x)) (sym t.1) stored }
+pub reads_plan : (ws : List ℕ) (n c low : ℕ) (points : List ℕ) (h : PointsHeld ws n c c low points) (rows : List ℕ)
+    → LinksSay ws n h.pts (Ok tt) rows → Reads ws (Ok (record { names = n; count = c; points = points; rows = rows }))
+reads_plan ws n c low points h rows t =
+    (plan_of n h.pts t.0, t.1, record { names = refl; count = sym h.size; points = h.stored; rows = t.2 })

@@ -1,22 +1,22 @@
 -- Arrays that hold a plan are determined by it: rows with the same positions are the same words. So reading is one function of the
 -- words. Assumes nothing.
-use mathlib.Core.Path.{◌≡◌, sym, ap, ap₂, ◌∙◌}
+use mathlib.Core.Path.{◌≡◌, sym, ap, ap₂, ◌∙◌, subst}
 use mathlib.Core.Bool.{Bool}
 use mathlib.Core.List.{List}
 use Prim.Native.Nat.{ℕ, ◌+◌, ◌*◌, ◌/◌, ◌%◌, ◌^◌, ◌<◌}
 use native.Mathlib.Omega.{arith}
 use lib.ListN.{length, get_or}
 use lib.Seq.{ext_get_or}
+use Rattle.std.specs.Prelude.{Result, Ok, Err}
 use Rattle.evalset.specs.Bit.{word_bits, bit}
 use Rattle.evalset.proofs.Bits.{same_bits}
 use Rattle.squares.specs.Square.{wide, square_at}
 use Rattle.squares.proofs.Rows.{wide_is, word_in}
 use Rattle.plan.specs.declared.PlanArrays.{PlanArrays}
-use Rattle.plan.specs.declared.PlanAnswer.{PlanAnswer}
-use Rattle.plan.specs.declared.PlanRead.{PlanRead}
+use Rattle.plan.specs.declared.NotAPlan.{NotAPlan}
 use Rattle.plan.specs.Words.{Plan}
-use Rattle.plan.specs.Reader.{read_of}
-use Rattle.plan.specs.Arrays.{plan_in, Reads}
+use Rattle.plan.specs.Reader.{Reading, plan, refused, read_of}
+use Rattle.plan.specs.Arrays.{Reads}
 use Rattle.plan.specs.Stored.{Stored}
 
 -- what the type says of each value of it: so many words, each of 64 bits
@@ -45,7 +45,27 @@ stored_once p r s v w a b =
     arrays : ℕ → ℕ → List ℕ → List ℕ → PlanArrays
     arrays x y z u = record { names = x; count = y; points = z; rows = u }
 
-pub reads_once : (ws : List ℕ) (r s : PlanRead) → InRange r.plan → InRange s.plan → Reads ws r → Reads ws s → r ≡ s
-reads_once ws r s v w a b =
-    ap₂ (λ (x : PlanAnswer) (y : PlanArrays). record { answer = x; plan = y }) (a.answer ∙ sym b.answer)
-    (stored_once (plan_in (read_of ws)) r.plan s.plan v w a.plan b.plan)
+-- the same of arrays that were read, where there are any
+abbrev pub InRangeIf : Result PlanArrays NotAPlan → Type 0
+InRangeIf (Ok r) = InRange r
+InRangeIf (Err e) = Unit {0}
+
+-- a plan is no refusal
+pub told_apart : (ws : List ℕ) (p : Plan) (i : ℕ) → read_of ws ≡ plan p → read_of ws ≡ refused i → ⊥
+told_apart ws p i a b = subst IsPlanRead (sym a ∙ b) tt
+  where
+    IsPlanRead : Reading → Type 0
+    IsPlanRead (plan p) = Unit {0}
+    IsPlanRead (refused i) = ⊥
+
+pub reads_once : (ws : List ℕ) (r s : Result PlanArrays NotAPlan) → InRangeIf r → InRangeIf s → Reads ws r → Reads ws s → r ≡ s
+reads_once ws (Ok r) (Ok s) v w a b =
+    let z : plan a.0 ≡ plan b.0 = sym a.1 ∙ b.1 in
+    let e : a.0 ≡ b.0 = cc in
+    ap Ok (stored_once b.0 r s v w (subst (Stored r) e a.2) b.2)
+reads_once ws (Ok r) (Err f) v w a b = absurd (told_apart ws a.0 f.at a.1 b)
+reads_once ws (Err e) (Ok s) v w a b = absurd (told_apart ws b.0 e.at b.1 a)
+reads_once ws (Err e) (Err f) v w a b =
+    let z : refused e.at ≡ refused f.at = sym a ∙ b in
+    let q : e.at ≡ f.at = cc in
+    ap (λ (x : ℕ). Err (record { at = x })) q

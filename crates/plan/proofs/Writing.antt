@@ -10,6 +10,7 @@ use native.Mathlib.Nat.{zero-add, mul-suc}
 use lib.Dec.{leb}
 use lib.ListN.{length, get_or, take, set, length-append, length-map, length-set}
 use borrow.Author.Tests.{le-leb, lt-leb}
+use Rattle.std.specs.Prelude.{Result, Ok, Err}
 use Rattle.lists.specs.Padded.{pad}
 use Rattle.lists.specs.Search.{keep, collect, below}
 use Rattle.lists.proofs.Below.{keep_length}
@@ -21,11 +22,11 @@ use Rattle.lists.specs.Putting.{written}
 use Rattle.lists.proofs.Buffer.{written_none, written_length, written_set, written_more, written_over}
 use Rattle.evalset.specs.Sets.{room, minus_of}
 use Rattle.evalset.proofs.Arrays.{inside}
-use Rattle.plan.specs.declared.Written.TheVariants.{Words, Needs}
+use Rattle.lists.specs.declared.ShortBuffer.{ShortBuffer}
 use Rattle.plan.specs.Words.{Plan, first_word, point_word, contact_word, last_word, before, words_of, most_points}
 use Rattle.plan.specs.Arrays.{in_contact, points_plan, Writes}
 use Rattle.plan.specs.Links.{row_to, links_to}
-use Rattle.plan.specs.Private.{rows_by, lacking_of, Wrote}
+use Rattle.plan.specs.Private.{rows_by, room_of, Wrote}
 use Rattle.plan.proofs.Complete.{before_length}
 use Rattle.plan.proofs.Contacts.{row_one, row_within, links_small, links_same}
 use Rattle.plan.proofs.Given.{links_count}
@@ -67,19 +68,23 @@ links_most n t =
         rw (y, z) (omega (arith, mul-suc (suc m) (suc m), mul-suc (suc m) m))
 
 -- ---- whether the words fit
-pub lacks_none : (size len : ℕ) → size ≤ len → 0 ≡ lacking_of size len
-lacks_none size len h = sym (ap (λ (b : Bool). cond b 0 size) (le-leb size len h))
+pub room_enough : (size len : ℕ) → size ≤ len → Ok tt ≡ room_of size len
+room_enough size len h = sym (rw (le-leb size len h))
 
-pub lacks_all : (size len : ℕ) → len < size → size ≡ lacking_of size len
-lacks_all size len h = sym (ap (λ (b : Bool). cond b 0 size) (lt-leb size len h))
+pub room_short : (size len : ℕ) → len < size → Err (record { needed = size }) ≡ room_of size len
+room_short size len h = sym (rw (lt-leb size len h))
 
--- what is lacking says which it is, where any word is needed
-pub fits_by : (size len r : ℕ) → 0 < size → r ≡ lacking_of size len → r ≡ 0 → size ≤ len
-fits_by size len r some e z = ⊎_elim (λ l. absurd (omega (arith, e, lacks_all size len l))) (λ l. l) (side len size)
+-- the answer says which it is
+pub fits_by : (size len : ℕ) → Ok tt ≡ room_of size len → size ≤ len
+fits_by size len e =
+    ⊎_elim (λ l. absurd (let q : ◌≡◌ {A = Result Unit ShortBuffer} (Ok tt) (Err (record { needed = size })) = e ∙ sym (room_short size len l) in let z : ◌≡◌ {A = ℕ} 0 1 = cc in omega arith))
+    (λ l. l) (side len size)
 
-pub lacks_by : (size len r : ℕ) → r ≡ lacking_of size len → (r ≡ 0 → ⊥) → (len < size) × (r ≡ size)
-lacks_by size len r e z =
-    ⊎_elim (λ l. (l, e ∙ sym (lacks_all size len l))) (λ l. absurd (z (e ∙ sym (lacks_none size len l)))) (side len size)
+pub lacks_by : (size len : ℕ) (x : ShortBuffer) → Err x ≡ room_of size len → (len < size) × (x ≡ record { needed = size })
+lacks_by size len x e =
+    ⊎_elim (λ l. (l, let q : ◌≡◌ {A = Result Unit ShortBuffer} (Err x) (Err (record { needed = size })) = e ∙ sym (room_short size len l) in (cc)))
+    (λ l. absurd (let q : ◌≡◌ {A = Result Unit ShortBuffer} (Err x) (Ok tt) = e ∙ sym (room_enough size len l) in let z : ◌≡◌ {A = ℕ} 0 1 = cc in omega arith))
+    (side len size)
 
 -- ---- the pieces of a plan, as they are found: its names, the number of points, the points, the contacts
 pub record Pieces (p : Plan) (names n : ℕ) (pts ks : List ℕ) : Type 0 where
@@ -129,11 +134,11 @@ module _ (p : Plan) (names n : ℕ) (pts ks : List ℕ) (h : Pieces p names n pt
   unfolding words_of
   size_is = omega (arith, before_size, length-append (before p) (last_word (length (before p)) ∷ []))
 
-  pub needs_more : (buf : List ℕ) → length buf < 2 + n + length ks → Writes p buf (Needs (2 + n + length ks)) buf
+  pub needs_more : (buf : List ℕ) → length buf < 2 + n + length ks → Writes p buf (Err (record { needed = 2 + n + length ks })) buf
   needs_more buf l =
       let z : leb (length (words_of p)) (length buf) ≡ false = lt-leb (length (words_of p)) (length buf) (omega (arith, size_is)) in
       record {
-        answer = ap Needs size_is ∙ sym (ap (λ (b : Bool). cond b (Words (length (words_of p))) (Needs (length (words_of p)))) z);
+        answer = ap (λ (x : ℕ). Err (record { needed = x })) size_is ∙ sym (rw z);
         words = sym (ap (λ (b : Bool). cond b (over (words_of p) buf) buf) z);
       }
 
@@ -178,11 +183,11 @@ module _ (p : Plan) (names n : ℕ) (pts ks : List ℕ) (h : Pieces p names n pt
           ∙ written_set 0 ws buf (last_word (length ws)) (omega (arith, before_size))
           ∙ written_over (ws ++ (last_word (length ws) ∷ [])) buf
 
-      pub writes_all : Writes p buf (Words (end + 1)) (set late end (last_word end))
+      pub writes_all : Writes p buf (Ok (end + 1)) (set late end (last_word end))
       writes_all =
           let z : leb (length (words_of p)) (length buf) ≡ true = le-leb (length (words_of p)) (length buf) (omega (arith, size_is)) in
           let size : end + 1 ≡ length (words_of p) = omega (arith, size_is, b.place) in
           record {
-            answer = ap Words size ∙ sym (ap (λ (b : Bool). cond b (Words (length (words_of p))) (Needs (length (words_of p)))) z);
+            answer = ap Ok size ∙ sym (rw z);
             words = all_is ∙ sym (ap (λ (b : Bool). cond b (over (words_of p) buf) buf) z);
           }

@@ -1,35 +1,23 @@
 -- What is computed: what the public functions answer: what reading words gives, the plan of a set of points and what writing a plan gives,
 -- and the two kinds of atoms judged on points and their rows. Assumes nothing.
-use Rattle.std.specs.Prelude.{◌≡◌, Bool, not, ◌&&◌, cond, List, [], ℕ, min, leb, length, get_or}
+use Rattle.std.specs.Prelude.{◌≡◌, Bool, not, ◌&&◌, cond, List, ℕ, min, leb, length, get_or, Result, Ok, Err}
+use Rattle.lists.specs.declared.ShortBuffer.{ShortBuffer}
 use Rattle.lists.specs.Search.{any, keep, below}
 use Rattle.lists.specs.Buffer.{over}
 use Rattle.evalset.specs.Sets.{room}
 use Rattle.plan.specs.declared.PlanPoints.{PlanPoints}
-use Rattle.plan.specs.declared.PlanAnswer.{PlanAnswer}
-use Rattle.plan.specs.declared.PlanAnswer.TheVariants as answer_is
-use Rattle.plan.specs.declared.PlanRead.{PlanRead}
-use Rattle.plan.specs.declared.Written.{Written}
-use Rattle.plan.specs.declared.Written.TheVariants.{Words, Needs}
+use Rattle.plan.specs.declared.PlanArrays.{PlanArrays}
+use Rattle.plan.specs.declared.NotAPlan.{NotAPlan}
 use Rattle.plan.specs.Words.{Plan, most_points, words_of}
 use Rattle.plan.specs.Stored.{Stored}
 use Rattle.plan.specs.Links.{links_to}
-use Rattle.plan.specs.Reader.{Reading, plan, refused, read_of}
+use Rattle.plan.specs.Reader.{plan, refused, read_of}
 
 -- ---- reading
--- the answer: a plan, or refusal 13 and its index
-abbrev pub answer_of : Reading → PlanAnswer
-answer_of (plan p) = answer_is.Plan
-answer_of (refused i) = answer_is.Refused i
-
--- the plan beside the answer: the blank one where the words are refused
-abbrev pub plan_in : Reading → Plan
-plan_in (plan p) = p
-plan_in (refused i) = record { names = 0; points = []; contacts = [] }
-
--- what reading the words gives
-pub record Reads (ws : List ℕ) (r : PlanRead) : Type 0 where
-  pub answer : r.answer ≡ answer_of (read_of ws)
-  pub plan : Stored r.plan (plan_in (read_of ws))
+-- what reading the words gives: arrays that hold the plan which they are, or refusal 13 and its index
+abbrev pub Reads : List ℕ → Result PlanArrays NotAPlan → Type 0
+Reads ws (Ok r) = (p : Plan) × (read_of ws ≡ plan p) × Stored r p
+Reads ws (Err e) = read_of ws ≡ refused e.at
 
 -- ---- writing
 -- two points are in contact unless they are apart, by their evaluations
@@ -47,8 +35,8 @@ abbrev pub fits : Plan → List ℕ → Bool
 fits p buf = leb (length (words_of p)) (length buf)
 
 -- what writing the plan gives: the answer, and the buffer after it
-pub record Writes (p : Plan) (buf : List ℕ) (result : Written) (exit : List ℕ) : Type 0 where
-  pub answer : result ≡ cond (fits p buf) (Words (length (words_of p))) (Needs (length (words_of p)))
+pub record Writes (p : Plan) (buf : List ℕ) (result : Result ℕ ShortBuffer) (exit : List ℕ) : Type 0 where
+  pub answer : result ≡ cond (fits p buf) (Ok (length (words_of p))) (Err (record { needed = length (words_of p) }))
   pub words : exit ≡ cond (fits p buf) (over (words_of p) buf) buf
 
 -- ---- judging

@@ -1,6 +1,7 @@
 -- For proofs: what the private functions' values hold: what a word says where it stands, what has been read when the points and when the
 -- contacts are, what has been written over a buffer so far, and what has been found of a row. Assumes nothing.
-use Rattle.std.specs.Prelude.{◌≡◌, Bool, true, false, ◌&&◌, ◌||◌, cond, List, [], map, ℕ, zero, suc, ◌+◌, ◌-◌, ◌*◌, ◌^◌, ◌≤◌, ◌<◌, eqb, ltb, leb, length, get_or, drop}
+use Rattle.std.specs.Prelude.{◌≡◌, Bool, true, false, ◌&&◌, ◌||◌, cond, List, [], map, ℕ, zero, suc, ◌+◌, ◌-◌, ◌*◌, ◌^◌, ◌≤◌, ◌<◌, eqb, ltb, leb, length, get_or, drop, Option, Some, None, Result, Ok, Err}
+use Rattle.lists.specs.declared.ShortBuffer.{ShortBuffer}
 use Rattle.lists.specs.Padded.{pad}
 use Rattle.lists.specs.Search.{any, below}
 use Rattle.lists.specs.Putting.{written}
@@ -8,18 +9,11 @@ use Rattle.evalset.specs.Sets.{room, meet_of, minus_of}
 use Rattle.evalset.specs.Arrays.{positions_of}
 use Rattle.evalset.specs.Most.{most}
 use Rattle.squares.specs.Square.{square_at}
-use Rattle.plan.specs.declared.PlanAnswer.{PlanAnswer}
-use Rattle.plan.specs.declared.PlanAnswer.TheVariants as answer_is
+use Rattle.plan.specs.declared.NotAPlan.{NotAPlan}
 use Rattle.plan.specs.declared.Word.{Word}
 use Rattle.plan.specs.declared.Word.TheVariants.{First, Point, Contact, Last, Other}
 use Rattle.plan.specs.declared.Opening.{Opening}
-use Rattle.plan.specs.declared.Opening.TheVariants as opening
-use Rattle.plan.specs.declared.Pointing.{Pointing}
-use Rattle.plan.specs.declared.Pointing.TheVariants as pointing-is
-use Rattle.plan.specs.declared.PointsAnswer.{PointsAnswer}
-use Rattle.plan.specs.declared.PointsAnswer.TheVariants as points_are
-use Rattle.plan.specs.declared.Linking.{Linking}
-use Rattle.plan.specs.declared.Linking.TheVariants as linking-is
+use Rattle.plan.specs.declared.Pair.{Pair}
 use Rattle.plan.specs.Words.{Plan, most_points, contact_word}
 use Rattle.plan.specs.Reader.{State, pointing, linking, dead, opened, plan, refused, read_from, read_of}
 use Rattle.plan.specs.Stored.{square}
@@ -50,21 +44,25 @@ abbrev pub wanting : ℕ → ℕ → List ℕ → ℕ → State
 wanting n zero pts low = linking n pts [] 0
 wanting n (suc m) pts low = pointing n m pts low
 
--- what the first word leads to
-abbrev pub OpensTo : Word → Opening → Type 0
-OpensTo w (opening.Plan n c) = (n ≤ most) × (0 < c) × (c ≤ 2 ^ n) × (opened w ≡ wanting n c [] 0)
-OpensTo w opening.Wrong = opened w ≡ dead
+-- what the first word leads to; it stands at index 0
+abbrev pub OpensTo : Word → Result Opening NotAPlan → Type 0
+OpensTo w (Ok r) = (r.names ≤ most) × (0 < r.count) × (r.count ≤ 2 ^ r.names) × (opened w ≡ wanting r.names r.count [] 0)
+OpensTo w (Err e) = (opened w ≡ dead) × (e.at ≡ 0)
 
-pub record Opens (w : Word) (r : Opening) : Type 0 where
+pub record Opens (w : Word) (r : Result Opening NotAPlan) : Type 0 where
   pub to : OpensTo w r
 
+-- refusal 13 at this index
+abbrev pub not_at : {A : Type 0} → ℕ → Result A NotAPlan
+not_at at = Err (record { at = at })
+
 -- what a word says where a point is wanted
-abbrev pub pointing_of : ℕ → ℕ → ℕ → Word → Pointing
-pointing_of low left top (First n c) = pointing-is.Wrong
-pointing_of low left top (Point e) = cond (leb low e && ltb (e + left) top) (pointing-is.Evaluation e) pointing-is.Wrong
-pointing_of low left top (Contact i j) = pointing-is.Wrong
-pointing_of low left top (Last c) = pointing-is.Wrong
-pointing_of low left top Other = pointing-is.Wrong
+abbrev pub pointing_of : ℕ → ℕ → ℕ → ℕ → Word → Result ℕ NotAPlan
+pointing_of low left top at (First n c) = not_at at
+pointing_of low left top at (Point e) = cond (leb low e && ltb (e + left) top) (Ok e) (not_at at)
+pointing_of low left top at (Contact i j) = not_at at
+pointing_of low left top at (Last c) = not_at at
+pointing_of low left top at Other = not_at at
 
 -- the first word has been read, and the points come
 pub record PointsCome (ws : List ℕ) (n c : ℕ) : Type 0 where
@@ -85,22 +83,31 @@ pub record PointsHeld (ws : List ℕ) (n c i low : ℕ) (points : List ℕ) : Ty
   pub rest : read_from (1 + i) (wanting n (c - i) pts low) (drop (1 + i) ws) ≡ read_of ws
 
 -- all points have been read, or the words are refused
-abbrev pub PointsSay : List ℕ → ℕ → ℕ → PointsAnswer → List ℕ → Type 0
-PointsSay ws n c points_are.All points = (low : ℕ) × PointsHeld ws n c c low points
-PointsSay ws n c (points_are.Refused at) points = read_of ws ≡ refused at
+abbrev pub PointsSay : List ℕ → ℕ → ℕ → Result (List ℕ) NotAPlan → Type 0
+PointsSay ws n c (Ok points) = (low : ℕ) × PointsHeld ws n c c low points
+PointsSay ws n c (Err e) = read_of ws ≡ refused e.at
 
 -- what all words are by one of kind 4
-abbrev pub last_of : ℕ → ℕ → ℕ → PlanAnswer
-last_of before at len = cond (eqb before at) (cond (eqb (at + 1) len) answer_is.Plan (answer_is.Refused (at + 1))) (answer_is.Refused at)
+abbrev pub last_of : ℕ → ℕ → ℕ → Result Unit NotAPlan
+last_of before at len = cond (eqb before at) (cond (eqb (at + 1) len) (Ok tt) (not_at (at + 1))) (not_at at)
 
--- what a word says after the points
-abbrev pub linking_of : ℕ → ℕ → ℕ → ℕ → Word → Linking
-linking_of count low at len (First n c) = linking-is.Over (answer_is.Refused at)
-linking_of count low at len (Point e) = linking-is.Over (answer_is.Refused at)
+-- no contact more, where the words are a plan
+abbrev pub over_by : Result Unit NotAPlan → Result (Option Pair) NotAPlan
+over_by (Ok u) = Ok None
+over_by (Err e) = Err e
+
+-- one contact more
+abbrev pub pair_at : ℕ → ℕ → Result (Option Pair) NotAPlan
+pair_at i j = Ok (Some (record { smaller = i; larger = j }))
+
+-- what a word says after the points: a contact more, or none
+abbrev pub linking_of : ℕ → ℕ → ℕ → ℕ → Word → Result (Option Pair) NotAPlan
+linking_of count low at len (First n c) = not_at at
+linking_of count low at len (Point e) = not_at at
 linking_of count low at len (Contact i j) =
-    cond (leb low (i * 256 + j) && (ltb i j && ltb j count)) (linking-is.Pair i j) (linking-is.Over (answer_is.Refused at))
-linking_of count low at len (Last c) = linking-is.Over (last_of c at len)
-linking_of count low at len Other = linking-is.Over (answer_is.Refused at)
+    cond (leb low (i * 256 + j) && (ltb i j && ltb j count)) (pair_at i j) (not_at at)
+linking_of count low at len (Last c) = over_by (last_of c at len)
+linking_of count low at len Other = not_at at
 
 -- the points have been read, and the contacts come
 pub record LinksCome (ws : List ℕ) (count : ℕ) (words : List ℕ) (n : ℕ) (pts : List ℕ) : Type 0 where
@@ -116,10 +123,10 @@ pub record LinksHeld (ws : List ℕ) (n : ℕ) (pts : List ℕ) (at low : ℕ) (
   pub rest : read_from at (linking n pts ks low) (drop at ws) ≡ read_of ws
 
 -- the words are a plan of these points, or refused
-abbrev pub LinksSay : List ℕ → ℕ → List ℕ → PlanAnswer → List ℕ → Type 0
-LinksSay ws n pts answer_is.Plan words =
+abbrev pub LinksSay : List ℕ → ℕ → List ℕ → Result Unit NotAPlan → List ℕ → Type 0
+LinksSay ws n pts (Ok u) words =
     (ks : List ℕ) × (read_of ws ≡ plan (plan_of n pts ks)) × (square_at words ≡ square (plan_of n pts ks))
-LinksSay ws n pts (answer_is.Refused at) words = read_of ws ≡ refused at
+LinksSay ws n pts (Err e) words = read_of ws ≡ refused e.at
 
 -- ---- writing
 -- r is the least position from `low` on, below n, that is in the row, or n
@@ -133,9 +140,9 @@ pub record Next (row : ℕ → Bool) (low n r : ℕ) : Type 0 where
 unfoldable pub rows_by : ℕ → List ℕ → (ℕ → Bool) → (ℕ → ℕ → Bool) → ℕ → ℕ → Bool
 rows_by n points given apart i = positions_of n points (minus_of given (apart (get_or points i 0)))
 
--- so many words where the buffer is shorter, else 0
-abbrev pub lacking_of : ℕ → ℕ → ℕ
-lacking_of size len = cond (leb size len) 0 size
+-- there is room for so many words, or the buffer is too short
+abbrev pub room_of : ℕ → ℕ → Result Unit ShortBuffer
+room_of size len = cond (leb size len) (Ok tt) (Err (record { needed = size }))
 
 -- the words of these contacts were written, and where they end
 pub record Wrote (at : ℕ) (ks buf exit : List ℕ) (end : ℕ) : Type 0 where

@@ -6,7 +6,7 @@
 // What a plan is and which words it has is in specs/Words.antt, what is answered in specs/Arrays.antt. Assumes nothing.
 #![tactic(auto)]
 
-ghost use Rattle.std.specs.Prelude.{◌≡◌, ◌&&◌, ◌||◌, List, [], map, ℕ, min, ◌+◌, ◌*◌, ◌<◌, ◌≤◌, ◌^◌, eqb, length, take};
+ghost use Rattle.std.specs.Prelude.{◌≡◌, ◌&&◌, ◌||◌, List, map, ℕ, min, ◌+◌, ◌*◌, ◌<◌, ◌≤◌, ◌^◌, eqb, length, take};
 ghost use Rattle.lists.specs.Padded.{pad};
 ghost use Rattle.lists.specs.Search.{keep, below};
 ghost use Rattle.lists.specs.Putting.{written};
@@ -19,10 +19,10 @@ ghost use Rattle.plan.specs.Words.{most_points, first_word, point_word};
 ghost use Rattle.plan.specs.Reader.{kind_of};
 ghost use Rattle.plan.specs.Arrays.{Reads, points_plan, Writes, touches_of, vacant_of};
 ghost use Rattle.plan.specs.Links.{row_to, links_to};
-ghost use Rattle.plan.specs.Stored.{Stored};
-ghost use Rattle.plan.specs.Private.{plan_of, Opens, pointing_of, PointsCome, PointsSay, add_at, joined_of, self_of, Grown, last_of, linking_of, LinksCome, LinksSay, Next, rows_by, lacking_of, Wrote, reaches_of, reached_of};
+ghost use Rattle.plan.specs.Private.{Opens, pointing_of, PointsCome, PointsSay, add_at, joined_of, self_of, Grown, last_of, linking_of, LinksCome, LinksSay, Next, rows_by, room_of, Wrote, reaches_of, reached_of};
 
-use evalset::{EvalSet, Found, ROOM};
+use evalset::{EvalSet, ROOM};
+use lists::ShortBuffer;
 
 // A plan: the evaluations of its points, ascending, and the square of contacts, one row for each point, four words a row.
 #[derive(Clone, Copy)]
@@ -41,53 +41,24 @@ pub struct PlanPoints {
     pub points: [u8; ROOM],
 }
 
-// What reading words answers: a plan, or refusal 13 and its index.
+// The words are no plan: refusal 13 and its index.
 #[derive(Clone, Copy)]
-pub enum PlanAnswer {
-    Plan,
-    Refused(usize),
+pub struct NotAPlan {
+    pub at: usize,
 }
 
-// The answer and the plan beside it: the blank one where the words are refused.
+// What the first word says: the names and the number of points of a plan.
 #[derive(Clone, Copy)]
-pub struct PlanRead {
-    pub answer: PlanAnswer,
-    pub plan: PlanArrays,
+struct Opening {
+    names: u8,
+    count: usize,
 }
 
-// What the first word says: the names and the number of points of a plan, or nothing that a plan starts with.
+// A contact of two points, by their positions.
 #[derive(Clone, Copy)]
-enum Opening {
-    Plan { names: u8, count: usize },
-    Wrong,
-}
-
-// What a word says where a point is wanted.
-#[derive(Clone, Copy)]
-enum Pointing {
-    Evaluation(u8),
-    Wrong,
-}
-
-// Whether all points were read, or refusal 13 and its index.
-#[derive(Clone, Copy)]
-enum PointsAnswer {
-    All,
-    Refused(usize),
-}
-
-// The points, and beside them whether all were read.
-#[derive(Clone, Copy)]
-struct PointsRead {
-    answer: PointsAnswer,
-    points: [u8; ROOM],
-}
-
-// What a word says after the points: one more contact, or what all words are.
-#[derive(Clone, Copy)]
-enum Linking {
-    Pair { smaller: usize, larger: usize },
-    Over(PlanAnswer),
+struct Pair {
+    smaller: usize,
+    larger: usize,
 }
 
 // What a word says; Other is a word of no kind, or one with an unnamed bit set.
@@ -142,25 +113,15 @@ fn evaluations(names: u8) -> usize
     requires { names ≤ most }
     ensures { result ≡ 2 ^ names }
 {
-    match names {
-        0 => 1,
-        1 => 2,
-        2 => 4,
-        3 => 8,
-        4 => 16,
-        5 => 32,
-        6 => 64,
-        7 => 128,
-        _ => 256,
-    }
+    1_usize << names
 }
 
 // The first word: "names (0 to 6)", or 7 or 8, and "points (1 to 2^names)".
-fn open(word: Word) -> Opening
+fn open(word: Word) -> Result<Opening, NotAPlan>
     ensures { Opens word result }
 {
     let Word::First { names, points } = word else {
-        return Opening::Wrong;
+        return Err(NotAPlan { at: 0 });
     };
     match names {
         0..=8 => match points {
@@ -168,86 +129,68 @@ fn open(word: Word) -> Opening
                 let few = names as u8;
                 let count = points as usize;
                 if evaluations(few) < count {
-                    return Opening::Wrong;
+                    return Err(NotAPlan { at: 0 });
                 }
-                Opening::Plan {
-                    names: few,
-                    count: count,
-                }
+                Ok(Opening { names: few, count })
             }
-            _ => Opening::Wrong,
+            _ => Err(NotAPlan { at: 0 }),
         },
-        _ => Opening::Wrong,
+        _ => Err(NotAPlan { at: 0 }),
     }
 }
 
 // A word where a point is wanted: an evaluation that is not below `low`, and leaves room below `top` for those that are left.
-fn point(word: Word, low: usize, left: usize, top: usize) -> Pointing
+fn point(word: Word, low: usize, left: usize, top: usize, at: usize) -> Result<u8, NotAPlan>
     requires { (left < 256) × (top ≤ 256) }
-    ensures { result ≡ pointing_of low left top word }
+    ensures { result ≡ pointing_of low left top at word }
 {
     let Word::Point(bits) = word else {
-        return Pointing::Wrong;
+        return Err(NotAPlan { at });
     };
     match bits {
         0..=0xFF => {
             let e = bits as usize;
             if e < low {
-                return Pointing::Wrong;
+                return Err(NotAPlan { at });
             }
             if top <= e + left {
-                return Pointing::Wrong;
+                return Err(NotAPlan { at });
             }
-            Pointing::Evaluation(e as u8)
+            Ok(e as u8)
         }
-        _ => Pointing::Wrong,
+        _ => Err(NotAPlan { at }),
     }
-}
-
-// No point.
-fn no_points() -> [u8; ROOM]
-    ensures { result ≡ pad most_points [] }
-{
-    [0; ROOM]
 }
 
 // The points of a plan of so many names and points, from word 1 on.
-fn read_points(words: &[u32], names: u8, count: usize) -> PointsRead
+fn read_points(words: &[u32], names: u8, count: usize) -> Result<[u8; ROOM], NotAPlan>
     requires { PointsCome words.now names count }
-    ensures { PointsSay words.now names count result.answer result.points }
+    ensures { PointsSay words.now names count result }
 {
     let top = evaluations(names);
-    let mut points = no_points();
+    let mut points = [0u8; ROOM];
     let mut low: usize = 0;
-    let mut i: usize = 0;
-    while i < count {
+    for i in 0..count {
         let at = 1 + i;
         if words.len() <= at {
-            return PointsRead {
-                answer: PointsAnswer::Refused(at),
-                points: points,
-            };
+            return Err(NotAPlan { at });
         }
-        let said = point(kind_of(words[at]), low, count - at, top);
-        let Pointing::Evaluation(e) = said else {
-            return PointsRead {
-                answer: PointsAnswer::Refused(at),
-                points: points,
-            };
-        };
+        let e = point(kind_of(words[at]), low, count - at, top, at)?;
         points[i] = e;
         low = e as usize + 1;
-        i += 1;
     }
-    PointsRead {
-        answer: PointsAnswer::All,
-        points: points,
-    }
+    Ok(points)
 }
 
 // A word after the points: "the smaller position .. the larger, from 0, in strictly rising order", so not below `low`; or the last
-// word, which counts those before it.
-fn contact(word: Word, count: usize, low: usize, at: usize, len: usize) -> Linking
+// word, which counts those before it, and then there is no more contact.
+fn contact(
+    word: Word,
+    count: usize,
+    low: usize,
+    at: usize,
+    len: usize,
+) -> Result<Option<Pair>, NotAPlan>
     requires { (count ≤ 256) × (at < len) }
     ensures { result ≡ linking_of count low at len word }
 {
@@ -256,39 +199,40 @@ fn contact(word: Word, count: usize, low: usize, at: usize, len: usize) -> Linki
             let i = smaller as usize;
             let j = larger as usize;
             if j <= i {
-                return Linking::Over(PlanAnswer::Refused(at));
+                return Err(NotAPlan { at });
             }
             if count <= j {
-                return Linking::Over(PlanAnswer::Refused(at));
+                return Err(NotAPlan { at });
             }
             let key = i * 256 + j;
             if key < low {
-                return Linking::Over(PlanAnswer::Refused(at));
+                return Err(NotAPlan { at });
             }
-            Linking::Pair {
+            Ok(Some(Pair {
                 smaller: i,
                 larger: j,
-            }
+            }))
         }
-        Word::Last(before) => Linking::Over(last(before as usize, at, len)),
-        _ => Linking::Over(PlanAnswer::Refused(at)),
+        Word::Last(before) => {
+            last(before as usize, at, len)?;
+            Ok(None)
+        }
+        _ => Err(NotAPlan { at }),
     }
 }
 
 // What all words are where one of kind 4 stands at an index: it counts the words before it, and no word follows it.
-fn last(before: usize, at: usize, len: usize) -> PlanAnswer
+fn last(before: usize, at: usize, len: usize) -> Result<(), NotAPlan>
     requires { at < len }
     ensures { result ≡ last_of before at len }
 {
-    if before == at {
-        if at + 1 == len {
-            PlanAnswer::Plan
-        } else {
-            PlanAnswer::Refused(at + 1)
-        }
-    } else {
-        PlanAnswer::Refused(at)
+    if before != at {
+        return Err(NotAPlan { at });
     }
+    if at + 1 != len {
+        return Err(NotAPlan { at: at + 1 });
+    }
+    Ok(())
 }
 
 // The word and bit e, of which it has 64.
@@ -296,15 +240,7 @@ fn with_bit(word: u64, e: usize) -> u64
     requires { e < word_bits }
     ensures { (i : ℕ) → bit result i ≡ (bit word i || eqb i e) }
 {
-    let one: u64 = 1;
-    word | (one << e)
-}
-
-// The rows of no point.
-fn no_rows() -> [u64; 1024]
-    ensures { (length result ≡ 1024) × (square_at result ≡ self_of 0) }
-{
-    [0; 1024]
+    word | (1_u64 << e)
 }
 
 // Row i has position j too. The bit is set in place, where a set of a row would be copied.
@@ -330,105 +266,47 @@ fn alone(square: &mut [u64], count: usize)
     requires { (length square.old ≡ 1024) × (count ≤ most_points) × (square_at square.old ≡ self_of 0) }
     ensures { Grown (self_of count) square.old square.new }
 {
-    let mut i: usize = 0;
-    while i < count {
+    for i in 0..count {
         set_bit(square, i, i);
-        i += 1;
     }
 }
 
 // The contacts and the last word, after so many points. The square comes with each point in contact with itself.
-fn read_contacts(words: &[u32], count: usize, square: &mut [u64]) -> PlanAnswer
+fn read_contacts(words: &[u32], count: usize, square: &mut [u64]) -> Result<(), NotAPlan>
     requires { (length square.old ≡ 1024) × (count ≤ most_points) × (1 + count ≤ length words.now) }
     ensures { ((n : ℕ) (pts : List ℕ) → LinksCome words.now count square.old n pts → LinksSay words.now n pts result square.new) × (length square.new ≡ length square.old) }
 {
     let mut low: usize = 0;
-    let mut at: usize = 1 + count;
-    while at < words.len() {
-        let said = contact(kind_of(words[at]), count, low, at, words.len());
-        match said {
-            Linking::Pair { smaller, larger } => {
-                link(square, smaller, larger);
-                low = smaller * 256 + larger + 1;
-                at += 1;
-            }
-            Linking::Over(answer) => {
-                return answer;
-            }
-        }
+    for at in 1 + count..words.len() {
+        let said = contact(kind_of(words[at]), count, low, at, words.len())?;
+        let Some(pair) = said else {
+            return Ok(());
+        };
+        link(square, pair.smaller, pair.larger);
+        low = pair.smaller * 256 + pair.larger + 1;
     }
-    PlanAnswer::Refused(at)
-}
-
-// Refusal 13 at this index, and a plan with no name and no point.
-fn refused(at: usize) -> PlanRead
-    ensures { (result.answer ≡ PlanAnswer.Refused at) × Stored result.plan (plan_of 0 [] []) }
-{
-    PlanRead {
-        answer: PlanAnswer::Refused(at),
-        plan: PlanArrays {
-            names: 0,
-            count: 0,
-            points: no_points(),
-            rows: no_rows(),
-        },
-    }
+    Err(NotAPlan { at: words.len() })
 }
 
 // Reads plan words: the plan that they are, or refusal 13 with "word index, or the length": the index of the word up to which they
 // begin no plan, or their number where they end early. Words of any number and any values are answered.
-pub fn read_plan(words: &[u32]) -> PlanRead
+pub fn read_plan(words: &[u32]) -> Result<PlanArrays, NotAPlan>
     ensures { Reads words.now result }
 {
     if words.len() == 0 {
-        return refused(0);
+        return Err(NotAPlan { at: 0 });
     }
-    let opening = open(kind_of(words[0]));
-    let Opening::Plan { names, count } = opening else {
-        return refused(0);
-    };
-    let first = read_points(words, names, count);
-    let passed = first.answer;
-    if let PointsAnswer::Refused(at) = passed {
-        return refused(at);
-    }
-    let points = first.points;
-    let mut rows = no_rows();
-    alone(&mut rows, count);
-    let answer = read_contacts(words, count, &mut rows);
-    if let PlanAnswer::Refused(at) = answer {
-        return refused(at);
-    }
-    PlanRead {
-        answer: PlanAnswer::Plan,
-        plan: PlanArrays {
-            names: names,
-            count: count,
-            points: points,
-            rows: rows,
-        },
-    }
-}
-
-// A set as a list.
-#[derive(Clone, Copy)]
-struct Listed {
-    count: usize,
-    points: [u8; ROOM],
-}
-
-// What writing a plan answers: its number of words, or, where the buffer is too short, the number needed.
-#[derive(Clone, Copy)]
-pub enum Written {
-    Words(usize),
-    Needs(usize),
-}
-
-// A plan has at most as many points as there are evaluations.
-fn clamped(count: usize) -> usize
-    ensures { result ≡ min count most_points }
-{
-    least_of(count, ROOM)
+    let opening = open(kind_of(words[0]))?;
+    let points = read_points(words, opening.names, opening.count)?;
+    let mut rows = [0u64; 1024];
+    alone(&mut rows, opening.count);
+    read_contacts(words, opening.count, &mut rows)?;
+    Ok(PlanArrays {
+        names: opening.names,
+        count: opening.count,
+        points,
+        rows,
+    })
 }
 
 // The next position from `from` on and below n that is in the row, or n: the lowest set bit of what is left of a word, word after word.
@@ -437,22 +315,15 @@ fn next(row: EvalSet, from: usize, n: usize) -> usize
     ensures { Next (mem row) from n result }
 {
     let mut j = from;
+    // By index: the place moves to the start of the next word.
     while j < n {
         let word = evalset::word_of(row, j / 64);
-        let found = evalset::word_least(word >> (j % 64));
-        if let Found::At(x) = found {
-            return least_of(j + x, n);
+        if let Some(x) = evalset::word_least(word >> (j % 64)) {
+            return (j + x).min(n);
         }
         j = (j / 64 + 1) * 64;
     }
     n
-}
-
-// The lesser of two numbers.
-fn least_of(a: usize, b: usize) -> usize
-    ensures { result ≡ min a b }
-{
-    if a < b { a } else { b }
 }
 
 // How many of the positions after i, below n, are in the row.
@@ -462,6 +333,7 @@ fn row_size(row: EvalSet, i: usize, n: usize) -> usize
 {
     let mut size: usize = 0;
     let mut j = next(row, i + 1, n);
+    // By index: the place moves to the next position that is in the row.
     while j < n {
         size += 1;
         j = next(row, j + 1, n);
@@ -486,26 +358,33 @@ fn contact_count(points: [u8; ROOM], n: usize, given: EvalSet, apart: &[u64]) ->
     ensures { result ≡ length (links_to n n (rows_by n points (mem given) (square_at apart.now))) }
 {
     let mut size: usize = 0;
-    let mut i: usize = 0;
-    while i < n {
+    for i in 0..n {
         let row = contact_row(points, n, given, apart, i);
         size += row_size(row, i, n);
-        i += 1;
     }
     size
 }
 
-// How many words the plan of n points needs, where a buffer of so many is too short, else 0. Two points each give n * (n - 1) / 2
-// contacts at most: where there is room for all of them, none is counted.
-fn lacking(points: [u8; ROOM], n: usize, given: EvalSet, apart: &[u64], len: usize) -> usize
+// Whether a buffer of so many words has room for the plan of n points. Two points each give n * (n - 1) / 2 contacts at most: where there
+// is room for all of them, none is counted.
+fn check_room(
+    points: [u8; ROOM],
+    n: usize,
+    given: EvalSet,
+    apart: &[u64],
+    len: usize,
+) -> Result<(), ShortBuffer>
     requires { (n ≤ most_points) × Square apart.now }
-    ensures { result ≡ lacking_of (2 + n + length (links_to n n (rows_by n points (mem given) (square_at apart.now)))) len }
+    ensures { result ≡ room_of (2 + n + length (links_to n n (rows_by n points (mem given) (square_at apart.now)))) len }
 {
     if 2 + n * (n + 1) / 2 <= len {
-        return 0;
+        return Ok(());
     }
-    let size = 2 + n + contact_count(points, n, given, apart);
-    if len < size { size } else { 0 }
+    let needed = 2 + n + contact_count(points, n, given, apart);
+    if len < needed {
+        return Err(ShortBuffer { needed });
+    }
+    Ok(())
 }
 
 // The first word: of kind 1 for up to six names, of kind 8 for more.
@@ -531,10 +410,8 @@ fn put_points(points: [u8; ROOM], n: usize, buffer: &mut [u32])
     requires { (n ≤ most_points) × (1 + n ≤ length buffer.old) }
     ensures { buffer.new ≡ written 1 (map point_word (take n points)) buffer.old }
 {
-    let mut i: usize = 0;
-    while i < n {
+    for i in 0..n {
         buffer[1 + i] = point_word(points[i]);
-        i += 1;
     }
 }
 
@@ -545,6 +422,7 @@ fn put_row(row: EvalSet, i: usize, n: usize, buffer: &mut [u32], at: usize) -> u
 {
     let mut end = at;
     let mut j = next(row, i + 1, n);
+    // By index: the place moves to the next position that is in the row.
     while j < n {
         buffer[end] = 0x3000_0000 + (i * 256 + j) as u32;
         end += 1;
@@ -566,13 +444,18 @@ fn put_rows(
     ensures { Wrote at (links_to n n (rows_by n points (mem given) (square_at apart.now))) buffer.old buffer.new result }
 {
     let mut end = at;
-    let mut i: usize = 0;
-    while i < n {
+    for i in 0..n {
         let row = contact_row(points, n, given, apart, i);
         end = put_row(row, i, n, buffer, end);
-        i += 1;
     }
     end
+}
+
+// A set as a list.
+#[derive(Clone, Copy)]
+struct Listed {
+    count: usize,
+    points: [u8; ROOM],
 }
 
 // The evaluations of a set, "ascending, each once"; zeros stand after them.
@@ -583,8 +466,9 @@ fn ascending(s: EvalSet) -> Listed
     let mut rest = s;
     let mut from: usize = 0;
     let mut count: usize = 0;
+    // By a bound: the members that are left lie from `from` on, so that the array has a place for each.
     while from < ROOM {
-        let Found::At(e) = evalset::least(rest) else {
+        let Some(e) = evalset::least(rest) else {
             return Listed { count, points };
         };
         points[count] = e as u8;
@@ -598,22 +482,24 @@ fn ascending(s: EvalSet) -> Listed
 // Writes the words of the plan of a set of points, once, over the buffer's first ones and answers how many they are. Two points are in
 // contact unless a square of evaluations (crate squares) has them apart: the larger one's bit in the smaller one's row. A buffer that is
 // too short is left as it is, and the number needed is answered. Words past the plan keep their values.
-pub fn write_plan(names: u8, given: EvalSet, apart: &[u64], buffer: &mut [u32]) -> Written
+pub fn write_plan(
+    names: u8,
+    given: EvalSet,
+    apart: &[u64],
+    buffer: &mut [u32],
+) -> Result<usize, ShortBuffer>
     requires { Square apart.now }
     ensures { Writes (points_plan names (mem given) (square_at apart.now)) buffer.old result buffer.new }
 {
     let listed = ascending(given);
     let n = listed.count;
     let points = listed.points;
-    let need = lacking(points, n, given, apart, buffer.len());
-    if need != 0 {
-        return Written::Needs(need);
-    }
+    check_room(points, n, given, apart, buffer.len())?;
     buffer[0] = first_word(names, n);
     put_points(points, n, buffer);
     let end = put_rows(points, n, given, apart, buffer, 1 + n);
     buffer[end] = 0x4000_0000 + end as u32;
-    Written::Words(end + 1)
+    Ok(end + 1)
 }
 
 // The word with bit e, if it belongs there.
@@ -631,14 +517,9 @@ fn place_word(points: [u8; ROOM], n: usize, x: EvalSet, k: usize) -> u64
 {
     let start = 64 * k;
     let mut word: u64 = 0;
-    let mut j = start;
-    while j < n {
-        if start + 64 <= j {
-            return word;
-        }
+    for j in start..n.min(start + 64) {
         let e = points[j] as usize;
         word = with_place(word, j - start, evalset::contains(x, e));
-        j += 1;
     }
     word
 }
@@ -662,11 +543,7 @@ fn places(points: [u8; ROOM], n: usize, x: EvalSet) -> EvalSet
 fn reaches(row: EvalSet, e: usize, x: EvalSet, ys: EvalSet) -> bool
     ensures { result ≡ reaches_of (mem row) e (mem x) (mem ys) }
 {
-    if evalset::contains(x, e) {
-        !evalset::is_empty(evalset::meet(row, ys))
-    } else {
-        false
-    }
+    evalset::contains(x, e) && !evalset::is_empty(evalset::meet(row, ys))
 }
 
 // Whether some row of a point in x meets the positions ys.
@@ -674,14 +551,12 @@ fn reached(points: [u8; ROOM], square: &[u64], n: usize, x: EvalSet, ys: EvalSet
     requires { (n ≤ most_points) × Square square.now }
     ensures { result ≡ reached_of n points (square_at square.now) (mem x) (mem ys) }
 {
-    let mut a: usize = 0;
-    while a < n {
+    for a in 0..n {
         let e = points[a] as usize;
         let row = squares::row_at(square, a);
         if reaches(row, e, x, ys) {
             return true;
         }
-        a += 1;
     }
     false
 }
@@ -693,7 +568,7 @@ pub fn touches(plan: PlanPoints, square: &[u64], x: EvalSet, y: EvalSet) -> bool
     ensures { result ≡ touches_of plan (square_at square.now) (mem x) (mem y) }
 {
     let points = plan.points;
-    let n = clamped(plan.count);
+    let n = plan.count.min(ROOM);
     let ys = places(points, n, y);
     reached(points, square, n, x, ys)
 }
@@ -704,6 +579,6 @@ pub fn is_vacant(plan: PlanPoints, t: EvalSet) -> bool
     ensures { result ≡ vacant_of plan (mem t) }
 {
     let points = plan.points;
-    let n = clamped(plan.count);
+    let n = plan.count.min(ROOM);
     evalset::is_empty(places(points, n, t))
 }

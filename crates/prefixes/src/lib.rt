@@ -20,11 +20,9 @@ fn mark(bits: &mut [u64], h: usize, value: bool)
     requires { h / 64 < length bits.old }
     ensures { Marked h value bits.old bits.new }
 {
-    if !value {
-        return;
+    if value {
+        bits[h / 64] |= 1u64 << (h % 64);
     }
-    let one: u64 = 1;
-    bits[h / 64] = bits[h / 64] | (one << (h % 64));
 }
 
 // The rows from `start` up to `end` are tested by their table; row p has the place top + p.
@@ -41,11 +39,9 @@ fn mark_rows(
     requires { (low < 1024) × (start ≤ end) × (top ≤ 65536) × (end ≤ 65536) × (top + end ≤ 64 * length bits.old) }
     ensures { Tested (row_test table.now some contacts low) top start end bits.old bits.new }
 {
-    let mut row = start;
-    while row < end {
+    for row in start..end {
         let value = pairing::passes(table, some, contacts, low, row);
         mark(bits, top + row, value);
-        row += 1;
     }
 }
 
@@ -64,10 +60,9 @@ fn mark_block(
     ensures { Fills list.now contacts (k + d + s) (2 ^ (k + d) + row * 2 ^ d) (2 ^ (k + d) + (row + 1) * 2 ^ d) bits.old bits.new }
 {
     let table = pairing::judged(list, contacts, s, d, row);
-    let one: usize = 1;
-    let top = one << (k + d);
+    let top = 1usize << (k + d);
     let start = row << d;
-    let end = start + (one << d);
+    let end = start + (1usize << d);
     let low = pairing::low_bits(d);
     mark_rows(bits, &table, some, contacts >> s, low, top, start, end);
 }
@@ -78,12 +73,8 @@ fn mark_blocks(bits: &mut [u64], list: &[u16], contacts: u32, s: usize, k: usize
     ensures { Fills list.now contacts (k + d + s) (2 ^ (k + d)) (2 * 2 ^ (k + d)) bits.old bits.new }
 {
     let some = pairing::some_without(list, s);
-    let one: usize = 1;
-    let end = one << k;
-    let mut row: usize = 0;
-    while row < end {
+    for row in 0..1usize << k {
         mark_block(bits, list, contacts, some, s, k, d, row);
-        row += 1;
     }
 }
 
@@ -92,11 +83,8 @@ fn mark_level(bits: &mut [u64], list: &[u16], contacts: u32, s: usize, m: usize)
     requires { (m + s ≤ limit) × (contacts < 65536) × (2 * 2 ^ m ≤ 64 * length bits.old) }
     ensures { Fills list.now contacts (m + s) (2 ^ m) (2 * 2 ^ m) bits.old bits.new }
 {
-    if m <= 10 {
-        mark_blocks(bits, list, contacts, s, 0, m);
-        return;
-    }
-    mark_blocks(bits, list, contacts, s, m - 10, 10);
+    let d = m.min(10);
+    mark_blocks(bits, list, contacts, s, m - d, d);
 }
 
 // The rows of all first atoms.
@@ -104,10 +92,8 @@ fn mark_levels(bits: &mut [u64], list: &[u16], contacts: u32, n: usize)
     requires { (n ≤ limit) × (contacts < 65536) × (2 * 2 ^ n ≤ 64 * length bits.old) }
     ensures { Fills list.now contacts n 1 (2 * 2 ^ n) bits.old bits.new }
 {
-    let mut m: usize = 0;
-    while m <= n {
+    for m in 0..n + 1 {
         mark_level(bits, list, contacts, n - m, m);
-        m += 1;
     }
 }
 

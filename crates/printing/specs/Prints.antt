@@ -1,14 +1,13 @@
 -- What is computed: what `print` answers, and every byte of the lent buffer after it. Assumes nothing.
-use Rattle.std.specs.Prelude.{◌≡◌, Bool, cond, List, ℕ, leb, length, get_or}
+use Rattle.std.specs.Prelude.{◌≡◌, Bool, cond, List, ℕ, leb, length, get_or, Result, Ok, Err}
 use Rattle.lists.specs.Buffer.{over}
+use Rattle.lists.specs.declared.ShortBuffer.{ShortBuffer}
 use Rattle.formula.specs.Formula.{Term, Atom, Form, Name}
 use Rattle.formula.specs.Atoms.{atoms_of}
 use Rattle.syntax.specs.Rule.{rule_of, meaning_of}
 use Rattle.syntax.specs.declared.Rule.{Rule}
 use Rattle.syntax.specs.declared.RuleAnswer.TheVariants as RuleAnswer
 use Rattle.printing.specs.Text.{text_of}
-use Rattle.printing.specs.declared.Printed.{Printed}
-use Rattle.printing.specs.declared.Printed.TheVariants.{Text, Needs}
 
 -- the rule was read from the text
 pub record WasRead (s : List ℕ) (rule : Rule) : Type 0 where
@@ -32,8 +31,8 @@ abbrev pub fits : List ℕ → List ℕ → Bool
 fits ws buf = leb (length ws) (length buf)
 
 -- the text ws is printed into a buffer
-pub record Prints (ws buf : List ℕ) (result : Printed) (exit : List ℕ) : Type 0 where
+pub record Prints (ws buf : List ℕ) (result : Result ℕ ShortBuffer) (exit : List ℕ) : Type 0 where
   -- "the answer carries the length written"; 12 "with the bytes needed"
-  pub answer : result ≡ cond (fits ws buf) (Text (length ws)) (Needs (length ws))
+  pub answer : result ≡ cond (fits ws buf) (Ok (length ws)) (Err (record { needed = length ws }))
   -- "what lies past it is kept"; of 12: "the buffer keeps its contents"
   pub bytes : exit ≡ cond (fits ws buf) (over ws buf) buf

@@ -13,6 +13,7 @@ ghost use Rattle.printing.specs.Jobs.{table, jobs_at, row_of};
 ghost use Rattle.printing.specs.Places.{text_to, Ends, Filled, makes_atom, Seekable, Seeking};
 
 use lexer::{CONTACT, IS_ZERO, MINUS, NAME, PART};
+use lists::ShortBuffer;
 use syntax::Rule;
 
 // A job is a byte to write, or one of the numbers 0 to 4, which no text has: an operand at the level 0 to 3, or a name.
@@ -49,13 +50,6 @@ const ROWS: [u8; 200] = *b"\
     \x05(\x02&\x03)..\
     \x05(\x01+\x02)..\
     \x05(\x02*\x03)..";
-
-// How many bytes were written, or how many are needed.
-#[derive(Clone, Copy)]
-pub enum Printed {
-    Text(usize),
-    Needs(usize),
-}
 
 // How many symbols of a rule's order, and how many of its tokens, lead up to the end of a formula.
 #[derive(Clone, Copy)]
@@ -123,6 +117,7 @@ fn fill(text: &[u8], rule: Rule, place: Place, stack: &mut [u8], made: &mut [u8]
     let mut j = place.tokens;
     let mut height: usize = 1;
     let mut at: usize = 256;
+    // By height: a job takes its own place from the stack, and puts others there.
     while height > 0 {
         height -= 1;
         let job = stack[height];
@@ -152,7 +147,7 @@ fn fill(text: &[u8], rule: Rule, place: Place, stack: &mut [u8], made: &mut [u8]
 
 // The text of the formula that ends at the place written into a lent buffer: how many bytes it has, and what lies past them is kept; or
 // how many are needed where the buffer has fewer, and nothing is written.
-fn print_to(text: &[u8], rule: Rule, place: Place, buffer: &mut [u8]) -> Printed
+fn print_to(text: &[u8], rule: Rule, place: Place, buffer: &mut [u8]) -> Result<usize, ShortBuffer>
     requires { WasRead text.now rule × Ends text.now place }
     ensures { Prints (text_to text.now place.order) buffer.old result buffer.new }
 {
@@ -161,14 +156,14 @@ fn print_to(text: &[u8], rule: Rule, place: Place, buffer: &mut [u8]) -> Printed
     let from = fill(text, rule, place, &mut stack, &mut made);
     let n = 256 - from;
     if buffer.len() < n {
-        return Printed::Needs(n);
+        return Err(ShortBuffer { needed: n });
     }
     buffer[..n].copy_from_slice(&made[from..256]);
-    Printed::Text(n)
+    Ok(n)
 }
 
-// The text of the rule's formula, which ends with the order.
-pub fn print(text: &[u8], rule: Rule, buffer: &mut [u8]) -> Printed
+// The text of the rule's formula, which ends with the order, written as `print_to` writes it.
+pub fn print(text: &[u8], rule: Rule, buffer: &mut [u8]) -> Result<usize, ShortBuffer>
     requires { WasRead text.now rule }
     ensures { Prints (printed_text text.now) buffer.old result buffer.new }
 {
@@ -181,14 +176,11 @@ pub fn print(text: &[u8], rule: Rule, buffer: &mut [u8]) -> Printed
 }
 
 // Whether a token makes an atom.
+#[tactic(auto, unfolding(crate::specs::Places::makes_atom))]
 fn is_atom(kind: u8) -> bool
     ensures { result ≡ makes_atom kind }
 {
-    match kind {
-        IS_ZERO => true,
-        CONTACT => true,
-        _ => kind == PART,
-    }
+    matches!(kind, IS_ZERO | CONTACT | PART)
 }
 
 // The place at which the atom with this number ends: the order is passed up to its sign, and with each name of the order the next name
@@ -203,6 +195,7 @@ fn atom_end(rule: Rule, which: usize) -> Place
     let mut left = which + 1;
     let mut k: usize = 0;
     let mut j: usize = 0;
+    // By two places: the order and the tokens are passed each at its own pace.
     while left > 0 {
         let kind = order[k];
         if kind != NAME {
@@ -226,8 +219,13 @@ fn atom_end(rule: Rule, which: usize) -> Place
     }
 }
 
-// The text of the atom with this number, from 0 in written order.
-pub fn print_atom(text: &[u8], rule: Rule, which: usize, buffer: &mut [u8]) -> Printed
+// The text of the atom with this number, from 0 in written order, written as `print_to` writes it.
+pub fn print_atom(
+    text: &[u8],
+    rule: Rule,
+    which: usize,
+    buffer: &mut [u8],
+) -> Result<usize, ShortBuffer>
     requires { WasRead text.now rule × (which < length (atoms_of (meaning_of text.now))) }
     ensures { Prints (atom_text text.now which) buffer.old result buffer.new }
 {

@@ -2,46 +2,29 @@
 // there; what is counted is within the sheet. Assumes nothing.
 #![tactic(auto)]
 
-ghost use Rattle.std.specs.Prelude.{◌≤◌, ◌<◌, ◌≡◌, length, replicate};
+ghost use Rattle.std.specs.Prelude.{◌≡◌, length, replicate};
 ghost use Rattle.reading.specs.Reading.{Within};
 
 use std::io::Read;
 
-// What reading gave: so many bytes, or a read that failed.
+// A read that failed.
 #[derive(Clone, Copy)]
-pub enum Got {
-    Bytes(usize),
-    Failed,
-}
+pub struct ReadFailed;
 
-// One read into the sheet from a place on; no byte comes at the end of the input.
-fn read_on<R: Read>(from: &mut R, sheet: &mut [u8], at: usize) -> Got
-    requires { at ≤ length sheet.old }
-    ensures within { Within at (length sheet.old) result }
-    ensures sheet_len_unchanged { length sheet.new ≡ length sheet.old }
-{
-    match from.read(&mut sheet[at..]) {
-        Ok(n) => Got::Bytes(n),
-        Err(_) => Got::Failed,
-    }
-}
-
-// Reads until the input ends or the sheet is full.
-pub fn read_sheet<R: Read>(from: &mut R, sheet: &mut [u8]) -> Got
+// Reads until the input ends, at the first read that gives no byte, or the sheet is full: how many bytes came.
+pub fn read_sheet<R: Read>(from: &mut R, sheet: &mut [u8]) -> Result<usize, ReadFailed>
     ensures { Within 0 (length sheet.new) result }
 {
     let mut done: usize = 0;
+    // By index: the place moves by as many bytes as came.
     while done < sheet.len() {
-        let got = read_on(from, sheet, done);
-        let Got::Bytes(n) = got else {
-            return got;
-        };
+        let n = from.read(&mut sheet[done..]).map_err(|_| ReadFailed)?;
         if n == 0 {
-            return Got::Bytes(done);
+            return Ok(done);
         }
         done += n;
     }
-    Got::Bytes(done)
+    Ok(done)
 }
 
 // Room for a sheet, and for one byte more: enough to know that there are too many.

@@ -1,6 +1,7 @@
 -- What is proved of the remark on a sheet, `remark_of`, which `remark` and `remark_sheet` give by their contracts: there is none exactly where the
 -- sheet is loaded; the caret stands under the place; what is named as expected can stand there; every remark has room; and the issue's example.
 -- Assumes nothing.
+use Rattle.std.specs.Prelude.{Some}
 use mathlib.Core.Path.{◌≡◌, refl, sym, ap, subst}
 use mathlib.Core.List.{List, [], nil≢cons, map}
 use Prim.Native.Nat.{ℕ, ◌-◌, ◌^◌, ◌≤◌, ◌<◌}
@@ -16,7 +17,7 @@ use Rattle.table.specs.declared.LoadAnswer.{LoadAnswer}
 use Rattle.table.specs.declared.Outcome.{Outcome}
 use Rattle.table.proofs.LoadRows.{load_done}
 use Rattle.table.proofs.Claims.{load_answered, load_line_refused}
-use Rattle.remarks.specs.declared.Expected.TheVariants as Expected
+use Rattle.remarks.specs.declared.Expected.{Expected}
 use Rattle.remarks.specs.Remark.{gone_on, BeginsRule, spelling, expected_at, sentence, said, two_lines, Under, remark_of}
 use Rattle.remarks.proofs.Standing.{stands, expected_stands}
 use Rattle.remarks.proofs.Lines.{under, some_bytes, sentence_few, lines_few}
@@ -30,8 +31,8 @@ pub caret_under : (number : ℕ) (line : Text) (place refusal : ℕ) (words : Li
 caret_under number line place refusal words h = under line place h number refusal words
 
 -- "with what was expected where that is known": the tokens up to the place, and what is named, begin a formula
-pub stands_begins : (text : Text) (place : ℕ) → (expected_at text place ≡ Expected.Nothing → ⊥) → BeginsRule (gone_on text place (spelling (expected_at text place)))
-stands_begins text place some = stands text place (spelling (expected_at text place)) (expected_stands text place some)
+pub stands_begins : (text : Text) (place : ℕ) (e : Expected) → expected_at text place ≡ Some e → BeginsRule (gone_on text place (spelling e))
+stands_begins text place e some = stands text place (spelling e) (expected_stands text place e some)
 
 -- ---- a sheet
 

@@ -1,5 +1,6 @@
 -- The two lines of a remark: the place lies within what is shown of its line, so that the caret is under it; and no remark is long.
 -- Assumes nothing.
+use Rattle.std.specs.Prelude.{Option, Some, None}
 use mathlib.Core.Path.{◌≡◌, refl, sym, ap, ap₂, ◌∙◌}
 use mathlib.Core.Bool.{Bool, true, false, cond}
 use mathlib.Core.List.{List, [], ◌∷◌, ◌++◌, map, append_assoc, map-append, nil≢cons}
@@ -16,7 +17,7 @@ use Rattle.report.specs.Lines.{labelled}
 use Rattle.lexer.specs.Text.{bytes, byte}
 use Rattle.table.specs.Sheet.{Text}
 use Rattle.remarks.specs.declared.Expected.{Expected}
-use Rattle.remarks.specs.Remark.{shown_byte, dots, shown_part, shown_from, leading, about, expected_at, grammar_sentence, Sentence, sentences, sentence, said, two_lines, Under}
+use Rattle.remarks.specs.Remark.{shown_byte, dots, shown_part, shown_from, leading, named, about, expected_at, grammar_sentence, Sentence, sentences, sentence, said, two_lines, Under}
 use Rattle.remarks.proofs.Parts.{digits_few}
 
 -- ---- the caret
@@ -89,15 +90,18 @@ part_few rest = go (ltb 72 (length rest))
     go true = simp length-append (omega (arith, length-map (take 72 rest) shown_byte, length-take 72 rest))
     go false = simp length-append (omega (arith, length-map (take 72 rest) shown_byte, length-take 72 rest))
 
-about_few : (e : Expected) (tail : List ℕ) → length (about e tail) ≤ 24 + length tail
-about_few Expected.Formula tail = omega arith
-about_few Expected.Region tail = omega arith
-about_few Expected.Opening tail = omega arith
-about_few Expected.Comma tail = omega arith
-about_few Expected.Closing tail = omega arith
-about_few Expected.Zero tail = omega arith
-about_few Expected.Sign tail = omega arith
-about_few Expected.Nothing tail = omega arith
+about_few : (o : Option Expected) (tail : List ℕ) → length (about o tail) ≤ 24 + length tail
+about_few None tail = omega arith
+about_few (Some e) tail = omega (arith, length-append (named e) tail, named_few e)
+  where
+    named_few : (x : Expected) → length (named x) ≤ 24
+    named_few Expected.Formula = omega arith
+    named_few Expected.Region = omega arith
+    named_few Expected.Opening = omega arith
+    named_few Expected.Comma = omega arith
+    named_few Expected.Closing = omega arith
+    named_few Expected.Zero = omega arith
+    named_few Expected.Sign = omega arith
 
 grammar_few : (text : Text) (place : ℕ) → length (grammar_sentence text place) ≤ 96
 unfolding grammar_sentence

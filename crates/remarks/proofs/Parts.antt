@@ -1,4 +1,5 @@
 -- Laws of the parts of a remark: a line of a sheet, the part of it that is shown, and a text that is read on. Assumes nothing.
+use Rattle.std.specs.Prelude.{Option}
 use mathlib.Core.Path.{◌≡◌, refl, sym, ap, ap₂, ◌∙◌}
 use mathlib.Core.Bool.{false}
 use mathlib.Core.List.{List, [], ◌∷◌, ◌++◌, map, append-nil, append_assoc}
@@ -138,19 +139,15 @@ read_on text place before next {buffer} {exit} {end} {r} e p read =
 
 -- ---- the sentences
 
--- what is expected is known
-pub about_told : {e x : Expected} (tail : List ℕ) {at : ℕ} {buffer exit : List ℕ} {end : ℕ} → e ≡ x → Puts at (about x tail) buffer exit end → Puts at (about e tail) buffer exit end
-about_told tail e h = puts_text (ap (λ (y : Expected). about y tail) (sym e)) h
-
 -- refusal 6, by its place
-module _ (text : Text) (place : ℕ) {e : Expected} (known : e ≡ expected_at text place) where
+module _ (text : Text) (place : ℕ) {e : Option Expected} (known : e ≡ expected_at text place) where
   pub ends_early : length text ≤ place → bytes "the rule ends too early" ++ about e (bytes " is missing here") ≡ grammar_sentence text place
   unfolding grammar_sentence
-  ends_early h = rw (le-leb (length text) place h) (ap (λ (x : Expected). bytes "the rule ends too early" ++ about x (bytes " is missing here")) known)
+  ends_early h = rw (le-leb (length text) place h) (ap (λ (x : Option Expected). bytes "the rule ends too early" ++ about x (bytes " is missing here")) known)
 
   pub cannot_stand : place < length text → bytes "this cannot stand here" ++ about e (bytes " is expected") ≡ grammar_sentence text place
   unfolding grammar_sentence
-  cannot_stand h = rw (lt-leb (length text) place h) (ap (λ (x : Expected). bytes "this cannot stand here" ++ about x (bytes " is expected")) known)
+  cannot_stand h = rw (lt-leb (length text) place h) (ap (λ (x : Option Expected). bytes "this cannot stand here" ++ about x (bytes " is expected")) known)
 
 -- the number is known
 module _ {refusal : ℕ} (text : Text) (place : ℕ) where

@@ -1,5 +1,6 @@
 -- What is named as expected can stand there: the text that was read begins a formula, since it is one, or is refused at its end alone, where no
 -- token is. Assumes nothing.
+use Rattle.std.specs.Prelude.{Option, Some, None}
 use mathlib.Core.Path.{◌≡◌, refl, sym, ap, subst, ◌∙◌}
 use mathlib.Core.Bool.{Bool, true, true≢false}
 use mathlib.Core.List.{List, [], ◌∷◌, ◌++◌, append-nil}
@@ -26,6 +27,7 @@ use Rattle.syntax.specs.declared.RuleAnswer.{RuleAnswer}
 use Rattle.syntax.proofs.Claims.{text_answered}
 use Rattle.table.specs.Sheet.{Text}
 use Rattle.remarks.specs.declared.Expected.{Expected}
+use Rattle.std.proofs.lemmas.Option.{none-some, same_Some}
 use Rattle.remarks.specs.Remark.{begins, gone_on, BeginsRule, can_stand, spelling, tried, or_nothing, expected_at}
 
 -- a place that is the text's length is behind its last token
@@ -66,13 +68,13 @@ unfolding can_stand
 stands text place next h = begun (gone_on text place next) h
 
 -- the first that can stand can stand
-pub expected_stands : (text : Text) (place : ℕ) → (expected_at text place ≡ Expected.Nothing → ⊥) → can_stand text place (spelling (expected_at text place)) ≡ true
+pub expected_stands : (text : Text) (place : ℕ) (x : Expected) → expected_at text place ≡ Some x → can_stand text place (spelling x) ≡ true
 unfolding expected_at
-expected_stands text place some = go (first p tried) (λ e i. (first_in p tried i).1) some
+expected_stands text place x some = go (first p tried) (λ e i. (first_in p tried i).1) some
   where
     p : Expected → Bool
     p e = can_stand text place (spelling e)
 
-    go : (es : List Expected) → ((e : Expected) → In e es → p e ≡ true) → (or_nothing es ≡ Expected.Nothing → ⊥) → p (or_nothing es) ≡ true
-    go [] all other = absurd (other refl)
-    go (e ∷ es) all other = all e here
+    go : (es : List Expected) → ((e : Expected) → In e es → p e ≡ true) → or_nothing es ≡ Some x → p x ≡ true
+    go [] all e = absurd (none-some x e)
+    go (e ∷ es) all same = subst (λ (y : Expected). p y ≡ true) (same_Some e x same) (all e here)

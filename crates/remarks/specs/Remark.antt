@@ -1,7 +1,7 @@
 -- What is meant: the remark on a refused sheet, which the programs that read sheets write to standard error beside their answer: the line as it
 -- came, a caret under the place, and one sentence in plain words for the number, with what was expected where that is known. Number and place
 -- are those of the table of calls (`add_outcome`). Assumes nothing.
-use Rattle.std.specs.Prelude.{◌≡◌, Bool, true, false, cond, List, [], ◌∷◌, ◌++◌, map, ℕ, ◌+◌, ◌-◌, min, ◌≤◌, ◌<◌, eqb, ltb, leb, length, get_or, take, drop, replicate}
+use Rattle.std.specs.Prelude.{Option, Some, None, ◌≡◌, Bool, true, false, cond, List, [], ◌∷◌, ◌++◌, map, ℕ, ◌+◌, ◌-◌, min, ◌≤◌, ◌<◌, eqb, ltb, leb, length, get_or, take, drop, replicate}
 use Prim.Native.String.{String}
 use Rattle.lists.specs.Search.{collect, first}
 use Rattle.lexer.specs.Text.{bytes, byte}
@@ -76,29 +76,32 @@ spelling Expected.Comma = bytes ","
 spelling Expected.Closing = bytes ")"
 spelling Expected.Zero = bytes "=0"
 spelling Expected.Sign = bytes "&"
-spelling Expected.Nothing = []
 
 abbrev pub tried : List Expected
 tried = Expected.Formula ∷ Expected.Region ∷ Expected.Opening ∷ Expected.Comma ∷ Expected.Closing ∷ Expected.Zero ∷ Expected.Sign ∷ []
 
-abbrev pub or_nothing : List Expected → Expected
-or_nothing [] = Expected.Nothing
-or_nothing (e ∷ es) = e
+abbrev pub or_nothing : List Expected → Option Expected
+or_nothing [] = None
+or_nothing (e ∷ es) = Some e
 
 -- the first that can stand at the place
-unfoldable pub expected_at : Text → ℕ → Expected
+unfoldable pub expected_at : Text → ℕ → Option Expected
 expected_at text place = or_nothing (first (λ e. can_stand text place (spelling e)) tried)
 
--- in words, with a text behind them
-abbrev pub about : Expected → List ℕ → List ℕ
-about Expected.Formula tail = bytes ": a formula or a region" ++ tail
-about Expected.Region tail = bytes ": a region" ++ tail
-about Expected.Opening tail = bytes ": an opening parenthesis" ++ tail
-about Expected.Comma tail = bytes ": a comma" ++ tail
-about Expected.Closing tail = bytes ": a closing parenthesis" ++ tail
-about Expected.Zero tail = bytes ": =0" ++ tail
-about Expected.Sign tail = bytes ": a sign such as & or |" ++ tail
-about Expected.Nothing tail = []
+-- in words
+abbrev pub named : Expected → List ℕ
+named Expected.Formula = bytes ": a formula or a region"
+named Expected.Region = bytes ": a region"
+named Expected.Opening = bytes ": an opening parenthesis"
+named Expected.Comma = bytes ": a comma"
+named Expected.Closing = bytes ": a closing parenthesis"
+named Expected.Zero = bytes ": =0"
+named Expected.Sign = bytes ": a sign such as & or |"
+
+-- and with a text behind them
+abbrev pub about : Option Expected → List ℕ → List ℕ
+about (Some e) tail = named e ++ tail
+about None tail = []
 
 -- ---- the sentences
 

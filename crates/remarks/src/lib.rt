@@ -4,13 +4,13 @@
 // for every remark. Assumes nothing.
 #![tactic(auto)]
 
-ghost use Rattle.std.specs.Prelude.{◌≡◌, [], ◌++◌, map, ◌+◌, ◌-◌, ◌≤◌, min, length, get_or, take, drop, replicate};
+ghost use Rattle.std.specs.Prelude.{◌≡◌, [], map, ◌+◌, ◌-◌, ◌≤◌, min, length, get_or, take, drop, replicate};
 ghost use Rattle.lists.specs.Putting.{Puts};
 ghost use Rattle.report.specs.Putting.{Reports};
 ghost use Rattle.table.specs.Sheet.{lines_of};
 ghost use Rattle.table.specs.Calls.{judge_load};
 ghost use Rattle.table.specs.Numbers.{add_outcome};
-ghost use Rattle.remarks.specs.Remark.{shown_byte, dots, shown_part, shown_from, leading, begins, can_stand, expected_at, about, grammar_sentence, sentence, said, two_lines, line_remark, remark_of};
+ghost use Rattle.remarks.specs.Remark.{shown_byte, dots, shown_part, shown_from, leading, begins, can_stand, spelling, expected_at, named, about, grammar_sentence, sentence, said, two_lines, line_remark, remark_of};
 
 use report::{put_labelled, put_text};
 use syntax::RuleAnswer;
@@ -39,18 +39,24 @@ pub enum Expected {
     Closing,
     Zero,
     Sign,
-    Nothing,
 }
+
+// What is tried, in this order.
+const TRIED: [Expected; 7] = [
+    Expected::Formula,
+    Expected::Region,
+    Expected::Opening,
+    Expected::Comma,
+    Expected::Closing,
+    Expected::Zero,
+    Expected::Sign,
+];
 
 // A place in a text, or its end where it has fewer bytes.
 fn within(text: &[u8], place: usize) -> usize
     ensures { (result ≡ min place (length text.now)) × (result ≤ length text.now) }
 {
-    if place < text.len() {
-        place
-    } else {
-        text.len()
-    }
+    place.min(text.len())
 }
 
 // Room for a remark.
@@ -81,12 +87,10 @@ fn put_shown(bytes: &[u8], out: &mut [u8], at: usize) -> usize
     requires { at + length bytes.now ≤ length out.old }
     ensures { Puts at (map shown_byte bytes.now) out.old out.new result }
 {
-    let mut i: usize = 0;
-    while i < bytes.len() {
+    for i in 0..bytes.len() {
         out[at + i] = shown_byte(bytes[i]);
-        i += 1;
     }
-    at + i
+    at + bytes.len()
 }
 
 // A sign that bytes are left out, where they are.
@@ -166,59 +170,62 @@ fn can_stand(text: &[u8], place: usize, next: &[u8]) -> bool
     is_begun(answer, end)
 }
 
-// The first of these that can stand at the place.
-fn expected_at(text: &[u8], place: usize) -> Expected
+// The bytes by which it is tried: a formula and a region each by one of them.
+fn spelling(expected: Expected) -> &'static [u8]
+    ensures { (result.now ≡ spelling expected) × (length result.now ≤ 2) }
+{
+    match expected {
+        Expected::Formula => b"T",
+        Expected::Region => b"a",
+        Expected::Opening => b"(",
+        Expected::Comma => b",",
+        Expected::Closing => b")",
+        Expected::Zero => b"=0",
+        Expected::Sign => b"&",
+    }
+}
+
+// The first that can stand at the place, if one can.
+fn expected_at(text: &[u8], place: usize) -> Option<Expected>
     ensures { result ≡ expected_at text.now place }
 {
-    if can_stand(text, place, b"T") {
-        return Expected::Formula;
+    for i in 0..TRIED.len() {
+        let expected = TRIED[i];
+        if can_stand(text, place, spelling(expected)) {
+            return Some(expected);
+        }
     }
-    if can_stand(text, place, b"a") {
-        return Expected::Region;
-    }
-    if can_stand(text, place, b"(") {
-        return Expected::Opening;
-    }
-    if can_stand(text, place, b",") {
-        return Expected::Comma;
-    }
-    if can_stand(text, place, b")") {
-        return Expected::Closing;
-    }
-    if can_stand(text, place, b"=0") {
-        return Expected::Zero;
-    }
-    if can_stand(text, place, b"&") {
-        return Expected::Sign;
-    }
-    Expected::Nothing
+    None
 }
 
 // ---- the sentences
 
-// Two texts.
-fn put_both(first: &[u8], second: &[u8], out: &mut [u8], at: usize) -> usize
-    requires { at + length first.now + length second.now ≤ length out.old }
-    ensures { Puts at (first.now ++ second.now) out.old out.new result }
+// What is expected, in words.
+fn named(expected: Expected) -> &'static [u8]
+    ensures { (result.now ≡ named expected) × (length result.now ≤ 24) }
 {
-    let end = put_text(first, out, at);
-    put_text(second, out, end)
+    match expected {
+        Expected::Formula => b": a formula or a region",
+        Expected::Region => b": a region",
+        Expected::Opening => b": an opening parenthesis",
+        Expected::Comma => b": a comma",
+        Expected::Closing => b": a closing parenthesis",
+        Expected::Zero => b": =0",
+        Expected::Sign => b": a sign such as & or |",
+    }
 }
 
-// What is expected, in words, with a text behind them.
-fn put_about(expected: Expected, tail: &[u8], out: &mut [u8], at: usize) -> usize
+// What is expected, if that is known, with a text behind it.
+fn put_about(expected: Option<Expected>, tail: &[u8], out: &mut [u8], at: usize) -> usize
     requires { at + 24 + length tail.now ≤ length out.old }
     ensures { Puts at (about expected tail.now) out.old out.new result × (result ≤ at + 24 + length tail.now) }
 {
     match expected {
-        Expected::Formula => put_both(b": a formula or a region", tail, out, at),
-        Expected::Region => put_both(b": a region", tail, out, at),
-        Expected::Opening => put_both(b": an opening parenthesis", tail, out, at),
-        Expected::Comma => put_both(b": a comma", tail, out, at),
-        Expected::Closing => put_both(b": a closing parenthesis", tail, out, at),
-        Expected::Zero => put_both(b": =0", tail, out, at),
-        Expected::Sign => put_both(b": a sign such as & or |", tail, out, at),
-        Expected::Nothing => at,
+        Some(expected) => {
+            let end = put_text(named(expected), out, at);
+            put_text(tail, out, end)
+        }
+        None => at,
     }
 }
 
@@ -281,12 +288,9 @@ fn put_blanks(n: usize, out: &mut [u8], at: usize) -> usize
     requires { at + n ≤ length out.old }
     ensures { Puts at (replicate n 32) out.old out.new result }
 {
-    let mut i: usize = 0;
-    while i < n {
-        out[at + i] = b' ';
-        i += 1;
-    }
-    at + i
+    let end = at + n;
+    out[at..end].fill(b' ');
+    end
 }
 
 // The caret, and the sentence with the number of the refusal.
@@ -328,29 +332,25 @@ fn line_start(sheet: &[u8], number: usize) -> usize
     ensures { (result ≤ length sheet.now) × (get_or (lines_of (drop result sheet.now)) 0 [] ≡ get_or (lines_of sheet.now) (number - 1) []) }
 {
     let mut left = number;
-    let mut i: usize = 0;
-    while i < sheet.len() {
+    for i in 0..sheet.len() {
         if left <= 1 {
             return i;
         }
         left = if sheet[i] == LINE_END { left - 1 } else { left };
-        i += 1;
     }
-    i
+    sheet.len()
 }
 
 // How many bytes the first line has.
 fn line_length(rest: &[u8]) -> usize
     ensures { (result ≤ length rest.now) × (take result rest.now ≡ get_or (lines_of rest.now) 0 []) }
 {
-    let mut i: usize = 0;
-    while i < rest.len() {
+    for i in 0..rest.len() {
         if rest[i] == LINE_END {
             return i;
         }
-        i += 1;
     }
-    i
+    rest.len()
 }
 
 // A line that is answered so.

@@ -5,7 +5,7 @@
 // words are lent, and a piece has the lines of some of them, from any word on. Assumes nothing.
 #![tactic(auto)]
 
-ghost use Rattle.std.specs.Prelude.{◌≡◌, [], ◌∷◌, ◌+◌, ◌-◌, ◌*◌, ◌≤◌, ◌<◌, length, get_or, replicate, take, drop};
+ghost use Rattle.std.specs.Prelude.{◌≡◌, List, [], ◌∷◌, ℕ, ◌+◌, ◌-◌, ◌*◌, ◌≤◌, ◌<◌, length, get_or, replicate, take, drop};
 ghost use Rattle.contact.specs.Question.{plain, building};
 ghost use Rattle.contact.specs.Numbering.{names_of};
 ghost use Rattle.evalset.specs.Bit.{bit};
@@ -46,6 +46,7 @@ pub const BUILDING: usize = 32642;
 const KIND: u32 = 0x1000_0000;
 
 // What is answered for a sheet: a text of so many bytes, which is in the buffer, or one of so many words, whose lines are given in pieces.
+// Neither is a refusal of the other, so that this is no `Result`.
 #[derive(Clone, Copy)]
 pub enum TextAnswer {
     Text(usize),
@@ -66,17 +67,24 @@ pub struct PlanResult {
     pub names: Names,
 }
 
+// Words whose lines are given in pieces.
+trait WordLines {
+    ghost line: { Self → ℕ → List ℕ };
+
+    // The line of the word at an index.
+    fn put(&self, i: usize, out: &mut [u8], at: usize) -> usize
+        requires { at + 1024 ≤ length out.old }
+        ensures { Puts at (line self.now i) out.old out.new result };
+}
+
 // Some bytes.
 pub fn put_text(text: &[u8], out: &mut [u8], at: usize) -> usize
     requires { at + length text.now ≤ length out.old }
     ensures { Puts at text.now out.old out.new result }
 {
-    let mut i: usize = 0;
-    while i < text.len() {
-        out[at + i] = text[i];
-        i += 1;
-    }
-    at + i
+    let end = at + text.len();
+    out[at..end].copy_from_slice(text);
+    end
 }
 
 // One byte.
@@ -162,8 +170,7 @@ fn put_name_if(names: Names, e: u8, i: usize, out: &mut [u8], at: usize) -> usiz
 fn count_of(names: Names) -> usize
     ensures { (result ≡ length (known_of names)) × (result ≤ 8) }
 {
-    let count = names.count;
-    if count < 8 { count } else { 8 }
+    names.count.min(8)
 }
 
 // The names in which the point with this evaluation lies.
@@ -173,10 +180,8 @@ fn put_names(names: Names, e: u8, out: &mut [u8], at: usize) -> usize
 {
     let count = count_of(names);
     let mut end = at;
-    let mut i: usize = 0;
-    while i < count {
+    for i in 0..count {
         end = put_name_if(names, e, i, out, end);
-        i += 1;
     }
     end
 }
@@ -219,7 +224,7 @@ fn put_contact(i: usize, j: usize, out: &mut [u8], at: usize) -> usize
 fn position_of(i: usize) -> usize
     ensures { result ≡ i - 1 }
 {
-    if 0 < i { i - 1 } else { 0 }
+    i.saturating_sub(1)
 }
 
 // The line of a plan's word at an index, which is one past a point's position: by its kind.
@@ -247,22 +252,38 @@ fn word_at(words: &[u32], i: usize) -> u32
     if i < words.len() { words[i] } else { 0 }
 }
 
-// The next lines of a plan of so many words, from that of the word at an index on, as many as there is room for.
-fn put_words(words: &[u32], count: usize, names: Names, from: usize, out: &mut [u8]) -> Piece
+// The words of a plan, and the names of which their lines speak.
+#[derive(Drop)]
+struct PlanWords<'a> {
+    words: &'a [u32],
+    names: Names,
+}
+
+impl<'a> WordLines for PlanWords<'a> {
+    ghost line = { λ s. plan_line_at (known_of s.names) s.words.now };
+
+    fn put(&self, i: usize, out: &mut [u8], at: usize) -> usize {
+        let word = word_at(self.words, i);
+        put_word(word, i, self.names, out, at)
+    }
+}
+
+// The next lines of so many words, from that of the word at an index on, as many as there is room for.
+fn put_piece<L: WordLines>(lines: &L, count: usize, from: usize, out: &mut [u8]) -> Piece
     requires { 16384 ≤ length out.old }
-    ensures { GivesPiece (plan_line_at (known_of names) words.now) count from out.old result out.new }
+    ensures { GivesPiece (L.line lines.now) count from out.old result out.new }
 {
     let mut end: usize = 0;
-    let mut next = from;
-    while next < count {
+    for next in from..count {
         if ROOM < end + LINE {
             return Piece { len: end, next };
         }
-        let word = word_at(words, next);
-        end = put_word(word, next, names, out, end);
-        next += 1;
+        end = lines.put(next, out, end);
     }
-    Piece { len: end, next }
+    Piece {
+        len: end,
+        next: from.max(count),
+    }
 }
 
 // The line of a refusal: three numbers of at most 20 digits, 79 bytes at most.
@@ -366,8 +387,11 @@ pub fn report(file: &[u8], out: &mut [u8; ROOM]) -> usize
     match answer {
         TextAnswer::Text(len) => len,
         TextAnswer::Lines(count) => {
-            let piece = put_words(&words, count, names, 0, out);
-            piece.len
+            let lines = PlanWords {
+                words: &words,
+                names,
+            };
+            put_piece(&lines, count, 0, out).len
         }
     }
 }
@@ -398,7 +422,7 @@ pub fn building_piece(
 ) -> Piece
     ensures { GivesPiece (plan_line_at (known_of names) words.now) count from out.old result out.new }
 {
-    put_words(words, count, names, from, out)
+    put_piece(&PlanWords { words, names }, count, from, out)
 }
 
 // The line of the rule at place i, from 0, as it was read, if one stands there.
@@ -420,10 +444,8 @@ fn put_lines(table: Table, out: &mut [u8]) -> usize
     ensures { Puts 0 (rule_lines (formulas_of (rules_of table))) out.old out.new result }
 {
     let mut end: usize = 0;
-    let mut i: usize = 0;
-    while i < 16 {
+    for i in 0..16 {
         end = put_line(table, i, out, end);
-        i += 1;
     }
     end
 }
@@ -469,10 +491,8 @@ fn put_margin(depth: u8, out: &mut [u8], at: usize) -> usize
     ensures { Puts at (margin depth) out.old out.new result }
 {
     let mut end = at;
-    let mut level: u8 = 0;
-    while level < depth {
+    for level in 0..depth {
         end = put_text(b"  ", out, end);
-        level += 1;
     }
     end
 }
@@ -540,30 +560,22 @@ fn depth_at(depths: &[u8], i: usize) -> u8
     if i < depths.len() { depths[i] } else { 0 }
 }
 
-// The next lines of a tree of so many words, from that of the word at an index on, as many as there is room for.
-fn put_reasons(
-    words: &[u32],
-    depths: &[u8],
-    count: usize,
+// The words of a tree, their depths and the texts of the atoms.
+#[derive(Drop)]
+struct TreeWords<'a> {
+    words: &'a [u32],
+    depths: &'a [u8],
     atoms: [AtomText; 16],
-    from: usize,
-    out: &mut [u8],
-) -> Piece
-    requires { 16384 ≤ length out.old }
-    ensures { GivesPiece (line_at words.now depths.now atoms) count from out.old result out.new }
-{
-    let mut end: usize = 0;
-    let mut next = from;
-    while next < count {
-        if ROOM < end + LINE {
-            return Piece { len: end, next };
-        }
-        let word = word_at(words, next);
-        let depth = depth_at(depths, next);
-        end = put_reason(word, depth, atoms, out, end);
-        next += 1;
+}
+
+impl<'a> WordLines for TreeWords<'a> {
+    ghost line = { λ s. line_at s.words.now s.depths.now s.atoms };
+
+    fn put(&self, i: usize, out: &mut [u8], at: usize) -> usize {
+        let word = word_at(self.words, i);
+        let depth = depth_at(self.depths, i);
+        put_reason(word, depth, self.atoms, out, at)
     }
-    Piece { len: end, next }
 }
 
 // The depths of the words of the tree whose first word, at this index, has this depth; the index after its last word. A split lies at most
@@ -646,7 +658,12 @@ pub fn why_piece(
 ) -> Piece
     ensures { GivesPiece (line_at words.now depths.now atoms) count from out.old result out.new }
 {
-    put_reasons(words, depths, count, atoms, from, out)
+    let lines = TreeWords {
+        words,
+        depths,
+        atoms,
+    };
+    put_piece(&lines, count, from, out)
 }
 
 // Room for the words of a tree, and for their depths: zeros.

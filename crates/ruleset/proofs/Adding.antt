@@ -36,17 +36,21 @@ use Rattle.solver.specs.Coded.{part, PartIs, Coded}
 use Rattle.kleene.specs.Code.{postfix as postfixCode}
 use Rattle.compile.specs.Chart.{CompiledFrom}
 use Rattle.compile.specs.Machine.{place_in}
-use Rattle.compile.specs.Compiles.{atoms_after, code_after, Given, Asked, Result, Compiles}
+use Rattle.compile.specs.Compiles.{atoms_after, code_after, Given, Asked, Result as Behind, Compiles}
 use Rattle.compile.specs.declared.CompiledRule.{CompiledRule}
 use Rattle.compile.proofs.Claims.{code_short, order_read, order_short}
 use Rattle.spelling.specs.Kept.{Keeps}
 use Rattle.ruleset.specs.declared.Known.{Known}
 use Rattle.ruleset.specs.declared.Grown.{Grown}
-use Rattle.ruleset.specs.declared.RoomAnswer.{RoomAnswer}
+use Rattle.ruleset.specs.declared.NoRoom.{NoRoom}
 use Rattle.ruleset.specs.declared.Compiling.{Compiling}
 use Rattle.ruleset.specs.Ends.{last_end}
 use Rattle.ruleset.specs.Counted.{name_count}
-use Rattle.ruleset.specs.Texts.{Fits, OneMore, room_for, room_answer, code_of, Grows, WithRule, CompiledRules, Another}
+use Rattle.ruleset.specs.Texts.{Fits, OneMore, room_for, room_answer, room_of, code_of, Grows, WithRule, CompiledRules, Another}
+use Rattle.std.specs.Prelude.{Option, Some, IfSome, Result, Ok, Err, MatchResult, IsOk}
+use Rattle.std.specs.Option.{is_some}
+use Rattle.std.proofs.lemmas.Option.{MatchOption-at_some}
+use Rattle.std.proofs.lemmas.Result.{MatchResult-at_ok}
 use Rattle.ruleset.proofs.Numbers.{row_atoms_with, numbers_with}
 use Rattle.ruleset.proofs.Coding.{last_few, coded_with, sets_first, sets_part}
 use Rattle.ruleset.proofs.Counting.{count_few, names_counted}
@@ -109,9 +113,8 @@ module _ (text : List ℕ) (rule : Rule) (k : Known) (kept code : List ℕ) (fro
 
   -- a ninth name
   pub ninth : (g : Gathered) → g ≡ gathered text (known_of k.names) → (p : ℕ) → g.answer ≡ NamesAnswer.TooManyNames p
-      → RoomAnswer.TooManyNames p ≡ room_answer (gathered text (names_of rules)).answer (length (different_atoms every))
-  ninth g e p h =
-      sym (ap (λ (a : NamesAnswer). room_answer a (length (different_atoms every))) (ap (λ (x : Gathered). x.answer) (sym (e ∙ gathered_from)) ∙ h))
+      → room_of text rules f ≡ Err (NoRoom.TooManyNames p)
+  ninth g e p h = ap (λ (a : NamesAnswer). room_answer a (length (different_atoms every))) (ap (λ (x : Gathered). x.answer) (sym (e ∙ gathered_from)) ∙ h)
 
   order_is : take rule.len rule.order ≡ codes (postfix f)
   order_is = ap (λ (r : Rule). take r.len r.order) m.read ∙ order_read text f m.is_rule
@@ -180,35 +183,29 @@ module _ (text : List ℕ) (rule : Rule) (k : Known) (kept code : List ℕ) (fro
             fits = omega (arith, tokens_few, m.fits);
           }
 
-      module _ (r : CompiledRule) (keptOut out : List ℕ) (says : Compiles order numbers k.atoms kept code from r keptOut out) where
-        said : (r.enough ≡ leb (length (atoms_after (number_of every) f (row_atoms rules))) 16) × (r.enough ≡ true → Result f (number_of every) (row_atoms rules) k.atoms code from r keptOut out)
+      module _ (r : Option CompiledRule) (keptOut out : List ℕ) (says : Compiles order numbers k.atoms kept code from r keptOut out) where
+        said : (is_some r ≡ leb (length (atoms_after (number_of every) f (row_atoms rules))) 16)
+            × IfSome r (λ made. Behind f (number_of every) (row_atoms rules) k.atoms code from made keptOut out)
         unfolding Compiles
         said = says f (number_of every) (row_atoms rules) given_is
 
-        enough_is : r.enough ≡ leb (length (different_atoms every)) 16
+        enough_is : is_some r ≡ leb (length (different_atoms every)) 16
         enough_is = said.0 ∙ ap (λ (n : ℕ). leb n 16) (ap length (atoms_after_lem rules f) ∙ atoms_count every)
 
-        answer_for : room_answer (gathered text (names_of rules)).answer (length (different_atoms every)) ≡ room_for r.enough
-        answer_for = ap₃ enough_too enough_is
-          where
-            ap₃ : (gathered text (names_of rules)).answer ≡ NamesAnswer.Enough → r.enough ≡ leb (length (different_atoms every)) 16
-                → room_answer (gathered text (names_of rules)).answer (length (different_atoms every)) ≡ room_for r.enough
-            ap₃ p q = ap (λ (a : _). room_answer a (length (different_atoms every))) p ∙ ap (λ (b : _). cond b RoomAnswer.Room RoomAnswer.ManyAtoms) (sym q)
-
         -- there is room, or it is the seventeenth different atom
-        pub answer_now : room_for r.enough ≡ room_answer (gathered text (names_of rules)).answer (length (different_atoms every))
-        answer_now = sym answer_for
+        pub answer_now : room_of text rules f ≡ room_for (is_some r)
+        answer_now = ap (λ (a : NamesAnswer). room_answer a (length (different_atoms every))) enough_too ∙ ap room_for (sym enough_is)
 
-        module _ (yes : r.enough ≡ true) where
-          result : Result f (number_of every) (row_atoms rules) k.atoms code from r keptOut out
-          result = said.1 yes
+        module _ (made : CompiledRule) (yes : r ≡ Some made) where
+          result : Behind f (number_of every) (row_atoms rules) k.atoms code from made keptOut out
+          result = MatchOption-at_some _ _ made yes said.1
 
           fits_now : Fits every
           fits_now =
               record {
                 rules_fit = omega (arith, length-append rules (f ∷ []), m.few);
                 names_fit = names_fit;
-                atoms_fit = leb-true _ _ (sym enough_is ∙ yes);
+                atoms_fit = leb-true _ _ (sym enough_is ∙ ap is_some yes);
               }
 
           count_now : g.names.count ≡ length (names_of every)
@@ -216,30 +213,24 @@ module _ (text : List ℕ) (rule : Rule) (k : Known) (kept code : List ℕ) (fro
           count_now = ap (λ (h : Gathered). h.names.count) gathered_is
 
           abbrev grown : Chart
-          grown = record { names = g.names.count; atoms = r.atoms.chart.atoms; contact = r.atoms.chart.contact; xs = r.atoms.chart.xs; ys = r.atoms.chart.ys }
+          grown = record { names = g.names.count; atoms = made.atoms.chart.atoms; contact = made.atoms.chart.contact; xs = made.atoms.chart.xs; ys = made.atoms.chart.ys }
 
-          pub grows_now : (answer : RoomAnswer)
-              → Grows text code from rules f
-              (record { known = record { names = g.names; atoms = record { chart = grown; lens = r.atoms.lens }; count = k.count + 1 }; end = r.end; answer = answer }) keptOut out
-          grows_now answer =
+          pub grows_now : Grows text code from rules f
+              (record { known = record { names = g.names; atoms = record { chart = grown; lens = made.atoms.lens }; count = k.count + 1 }; end = made.end }) keptOut out
+          grows_now =
               record {
                 known =
                     record {
                       fits = fits_now;
                       names_are = ap (λ (h : Gathered). h.names) gathered_is;
                       names_counted = count_now;
-                      compiled = subst (CompiledFrom grown) (atoms_after_lem rules f) (renumbered r.atoms.chart g.names.count _ result.compiled);
-                      keeps = subst (Keeps keptOut r.atoms.lens r.atoms.chart.contact) (atoms_after_lem rules f) result.keeps;
+                      compiled = subst (CompiledFrom grown) (atoms_after_lem rules f) (renumbered made.atoms.chart g.names.count _ result.compiled);
+                      keeps = subst (Keeps keptOut made.atoms.lens made.atoms.chart.contact) (atoms_after_lem rules f) result.keeps;
                       counted = omega (arith, m.so_far.counted, length-append rules (f ∷ []));
                     };
                 ends = result.ends ∙ ap (λ (l : List ℕ). from + length l) (code_after_lem rules f);
                 wrote = result.wrote ∙ ap (sets code from) (code_after_lem rules f);
               }
-
--- where the answer is that there is room, the atoms were enough
-pub room_enough : (b : Bool) → room_for b ≡ RoomAnswer.Room → b ≡ true
-room_enough true e = refl
-room_enough false e = absurd (let z : ◌≡◌ {A = ℕ} 0 1 = cc in omega arith)
 
 -- ---- a text behind those that are compiled
 
@@ -275,18 +266,22 @@ module _ (text : List ℕ) (c : Compiling) (kept code : List ℕ) (rules : List 
           fits = omega (arith, starts, start_few);
         }
 
-    module _ (whole : length rule.order ≡ 256) (r : Grown) (keptOut out : List ℕ) (says : WithRule text rule c.known kept code from r keptOut out)
-        (ends-long : length c.ends ≡ 16) where
-      has_room : r.answer ≡ RoomAnswer.Room
-      unfolding WithRule
-      has_room =
-          (says rules f one_more).0
-          ∙ ap (λ (n : _). room_answer n (length (different_atoms (all rules f)))) ((rule_enough rules a.so_far.known.fits.names_fit text f a.is_rule).1 a.room.names_fit)
-          ∙ ap (λ (b : _). cond b RoomAnswer.Room RoomAnswer.ManyAtoms) (le-leb _ _ a.room.atoms_fit)
+    has_room : room_of text rules f ≡ Ok tt
+    has_room =
+        ap (λ (n : NamesAnswer). room_answer n (length (different_atoms (all rules f)))) ((rule_enough rules a.so_far.known.fits.names_fit text f a.is_rule).1 a.room.names_fit)
+        ∙ ap room_for (le-leb _ _ a.room.atoms_fit)
 
+    -- so the answer is what grew
+    pub room_found : (answer : Result Grown NoRoom) (keptOut out : List ℕ) → WithRule text rule c.known kept code from answer keptOut out → IsOk answer
+    unfolding WithRule
+    room_found (Ok r) keptOut out says = refl
+    room_found (Err e) keptOut out says = absurd (let z : ◌≡◌ {A = Result Unit NoRoom} (Ok tt) (Err e) = sym has_room ∙ says rules f one_more in cc)
+
+    module _ (whole : length rule.order ≡ 256) (answer : Result Grown NoRoom) (keptOut out : List ℕ) (says : WithRule text rule c.known kept code from answer keptOut out)
+        (ends-long : length c.ends ≡ 16) (r : Grown) (grew : answer ≡ Ok r) where
       result_now : Grows text code from rules f r keptOut out
       unfolding WithRule
-      result_now = (says rules f one_more).1 has_room
+      result_now = (MatchResult-at_ok _ _ r grew (says rules f one_more)).1
 
       abbrev ws : List ℕ
       ws = code_of rules f

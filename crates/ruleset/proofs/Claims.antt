@@ -15,8 +15,6 @@ use Rattle.lists.proofs.Search.{in_either, uncons, none_in}
 use Rattle.contact.specs.Numbering.{names_of, map_atom, different_atoms, numbered_atoms, row_atoms, number_of, AtomsBelow}
 use Rattle.contact.specs.Question.{Question, plain}
 use Rattle.contact.specs.Check.{points_for, first_row, first_row_of}
-use Rattle.solver.specs.declared.RowAnswer.{RowAnswer}
-use Rattle.solver.specs.declared.RowAnswer.TheVariants.{At, Nothing}
 use Rattle.solver.specs.Tree.{ComesFrom, Runnable, answer_for, FirstRowSays}
 use Rattle.solver.proofs.Claims.{runnable, answer_is, answer_found, answer_none}
 use Rattle.search.specs.declared.Chart.{Chart}
@@ -37,15 +35,16 @@ use Rattle.plan.specs.Plans.{row_plan, plans_of}
 use Rattle.judging.specs.declared.Judged.{Judged}
 use Rattle.judging.specs.Judges.{judged_plan, JudgesSay}
 use Rattle.judging.proofs.Claims as judging
-use Rattle.trees.specs.declared.Verdict.{Verdict}
+use Rattle.trees.specs.declared.NotClosed.{NotClosed}
 use Rattle.trees.specs.Branch.{CheckSays}
 use Rattle.trees.specs.Trees.{Tree}
 use Rattle.trees.specs.Checker.{checked, write, no_floor, checked_of, trees_of}
-use Rattle.explaining.specs.declared.Explanation.{Explanation}
+use Rattle.explaining.specs.declared.NoTree.{NoTree}
 use Rattle.explaining.specs.Explained.{Explained, ExplainSays}
 use Rattle.contact.proofs.Claims.{numbered_below}
 use Rattle.compile.proofs.Searched.{compiled_search}
 use Rattle.kleene.specs.Code.{atom_sign}
+use Rattle.std.specs.Prelude.{Option, Some, None, Result}
 use Rattle.ruleset.specs.declared.AtomPlace.{AtomPlace}
 use Rattle.ruleset.specs.declared.Compiling.{Compiling}
 use Rattle.ruleset.specs.Texts.{Fits, CompiledRules, CompiledTexts, Another, Compilable, WithText, NothingCompiled, FirstRowIs, JudgedIs}
@@ -106,22 +105,23 @@ module _ (rules : List (Formula Name)) (c : Compiling) (kept code : List ℕ) (h
   pub ends_fit : length c.ends ≡ 16 → c.known.count ≤ length c.ends
   ends_fit long = omega (arith, h.known.counted, h.known.fits.rules_fit)
 
-  -- the first place of an atom's sign is where the atom is written first
-  pub answer_writing : (i : ℕ) → i < chart.atoms → (s : ℕ) → s ≡ 7 + i → (r : AtomPlace) → r ≡ place_from s code 0 0 ends → Writing rules i r
+  -- the sign of an atom stands in a part of the code, and its first place is where the atom is written first
+  pub answer_writing : (i : ℕ) → i < chart.atoms → (s : ℕ) → s ≡ 7 + i → (r : Option AtomPlace) → r ≡ place_from s code 0 0 ends → (p : AtomPlace) × (r ≡ Some p) × Writing rules i p
   answer_writing i l s e r says =
-      let sign : atom_sign i ≡ s = omega (arith, e) in
+      let sign : s ≡ atom_sign i = omega (arith, e) in
       let few : i < length (different_atoms rules) = omega (arith, l, h.known.compiled.counted, length-map (different_atoms rules) (map_atom (number_of rules))) in
-      subst (Writing rules i) (ap (λ (n : ℕ). place_from n code 0 0 ends) sign ∙ sym says) (first_writing rules chart.atoms code ends h.coded i few)
+      let found = first_writing rules chart.atoms code ends h.coded i few in
+      (found.0, says ∙ ap (λ (n : ℕ). place_from n code 0 0 ends) sign ∙ found.1, found.2)
 
   -- the answer of `first_row` is the number of the first row of the numbered rules
-  pub answer_first_row : (q : Question) (r : RowAnswer) → FirstRowSays q code ends chart r
+  pub answer_first_row : (q : Question) (r : Option ℕ) → FirstRowSays q code ends chart r
       → r ≡ answer_for (first_row_of q rules)
   answer_first_row q r says =
       answer_is q code ends chart r says (row_atoms rules) (numbered_atoms rules) comes_from
       ∙ ap (λ (n : ℕ). answer_for (first_row q n (row_atoms rules) (numbered_atoms rules))) h.known.names_counted
 
   -- where `row_of` finds none, no plan is given
-  pub none_given : (q : Question) (r : RowAnswer) → FirstRowIs q c code r → r ≡ Nothing → plans_of q rules ≡ []
+  pub none_given : (q : Question) (r : Option ℕ) → FirstRowIs q c code r → r ≡ None → plans_of q rules ≡ []
   unfolding FirstRowIs plans_of
   none_given q r says e =
       ap (map (row_plan q rules))
@@ -143,7 +143,7 @@ module _ (rules : List (Formula Name)) (c : Compiling) (kept code : List ℕ) (h
       ∙ ap (λ (n : ℕ). given_plan n (marks_in chart atoms row) (points_for q n (marks_in chart atoms row))) h.known.names_counted
 
   -- where `row_of` finds a row, its plan is given, and no other
-  pub plan_given : (q : Question) (r : RowAnswer) (row : ℕ) → FirstRowIs q c code r → r ≡ At row
+  pub plan_given : (q : Question) (r : Option ℕ) (row : ℕ) → FirstRowIs q c code r → r ≡ Some row
       → plans_of q rules ≡ row_plan q rules (row_bits chart.atoms row) ∷ []
   unfolding FirstRowIs plans_of
   plan_given q r row says e =
@@ -171,7 +171,7 @@ module _ (rules : List (Formula Name)) (c : Compiling) (kept code : List ℕ) (h
   as_many = length-map (different_atoms rules) (map_atom (number_of rules))
 
   -- what `check_tree` answers is the verdict by the rules as read
-  pub answer_verdict : (words : List ℕ) (r : Verdict) → CheckSays words code ends chart r → r ≡ checked_of rules words
+  pub answer_verdict : (words : List ℕ) (r : Result Unit NotClosed) → CheckSays words code ends chart r → r ≡ checked_of rules words
   unfolding CheckSays checked_of
   answer_verdict words r says =
       says (row_atoms rules) (numbered_atoms rules) comes_from
@@ -185,7 +185,7 @@ module _ (rules : List (Formula Name)) (c : Compiling) (kept code : List ℕ) (h
   few_ends long = omega (arith, length-take-le c.known.count c.ends (ends_fit long), ends_fit long, long)
 
   -- what `explain` answers is by the writer's trees of the rules as read
-  pub answer_explained : (before after : List ℕ) (r : Explanation) → ExplainSays code ends chart before after r → Explained (trees_of rules) before after r
+  pub answer_explained : (before after : List ℕ) (r : Result ℕ NoTree) → ExplainSays code ends chart before after r → Explained (trees_of rules) before after r
   unfolding ExplainSays trees_of
   answer_explained before after r says =
       subst (λ (ts : List Tree). Explained ts before after r)

@@ -24,6 +24,7 @@ use Rattle.contact.proofs.Same.{same_alike}
 use Rattle.contact.proofs.Numbered.{atoms_map}
 use Rattle.kleene.specs.Code.{atom_sign, postfix}
 use Rattle.solver.specs.Coded.{part, CodedFrom, Coded}
+use Rattle.std.specs.Prelude.{Option, Some}
 use Rattle.ruleset.specs.declared.AtomPlace.{AtomPlace}
 use Rattle.ruleset.specs.Places.{atom_at, atoms_in, Writing, atom_signs, signs_to, place_from}
 
@@ -119,6 +120,9 @@ signs_of (Form.equivalence f g) = signs_two f g 4 refl (signs_of f) (signs_of g)
 
 -- ---- the code of rules
 
+abbrev place_at : ℕ → ℕ → Option AtomPlace
+place_at atom rule = Some (record { rule = rule; atom = atom })
+
 module _ (all : List (Atom Name)) (i many : ℕ) (code : List ℕ) where
   abbrev same : Atom Name → Atom Name → Bool
   same = same_atom name_discrete
@@ -170,11 +174,12 @@ module _ (all : List (Atom Name)) (i many : ℕ) (code : List ℕ) where
       (split_first sign (atom_sign i) (atoms_of f) (subst (λ (l : List ℕ). In (atom_sign i) l) (signs_in f from end e) (keep_intro (leb 7) (elem_elim (atom_sign i) (part code from end) q) (le-leb 7 (atom_sign i) (omega arith)))))
 
   -- the place is that of the atom in a rule of these, the first of which has the number k
-  record There (rules : List (Formula Name)) (k : ℕ) (p : AtomPlace) : Type 0 where
+  record There (rules : List (Formula Name)) (k : ℕ) (r : Option AtomPlace) : Type 0 where
     place : ℕ
-    rule_is : p.rule ≡ k + place
+    atom : ℕ
+    found : r ≡ Some (record { rule = k + place; atom = atom })
     few : place < length rules
-    there : IsThere (get_or rules place Form.truth) p.atom
+    there : IsThere (get_or rules place Form.truth) atom
     earlier : NoneOf (all_atoms (take place rules))
 
   placed : (rules : List (Formula Name)) (ends : List ℕ) (from k : ℕ) (pre : List (Atom Name)) → CodedFrom many code from ends (map (map_form num) rules) → pre ++ all_atoms rules ≡ all
@@ -188,11 +193,12 @@ module _ (all : List (Atom Name)) (i many : ℕ) (code : List ℕ) where
       (⊎_elim (λ l. absurd (none x l n)) (λ l. l) (in_either (atoms_of f) (all_atoms rules) j)) n)
     where
       go : (b : Bool) → elem (atom_sign i) (part code from end) ≡ b → (((y : Atom Name) → In y (atoms_of f) → num y ≡ i → ⊥) → There rules (suc k) (place_from (atom_sign i) code end (suc k) ends))
-          → There (f ∷ rules) k (cond b (record { rule = k; atom = signs_to (part code from end) (atom_sign i) }) (place_from (atom_sign i) code end (suc k) ends))
+          → There (f ∷ rules) k (cond b (Some (record { rule = k; atom = signs_to (part code from end) (atom_sign i) })) (place_from (atom_sign i) code end (suc k) ends))
       go true q r =
           record {
             place = 0;
-            rule_is = omega arith;
+            atom = signs_to (part code from end) (atom_sign i);
+            found = ap (place_at (signs_to (part code from end) (atom_sign i))) (omega arith);
             few = omega arith;
             there = in_rule pre (all_atoms rules) f e h (signs_to (part code from end) (atom_sign i)) (stands_in_rule f from end c.0.is_code q);
             earlier = λ y m. none_in m;
@@ -202,7 +208,8 @@ module _ (all : List (Atom Name)) (i many : ℕ) (code : List ℕ) where
           let m = r none in
           record {
             place = suc m.place;
-            rule_is = omega (arith, m.rule_is);
+            atom = m.atom;
+            found = m.found ∙ ap (place_at m.atom) (omega arith);
             few = omega (arith, m.few);
             there = m.there;
             earlier = λ y l. ⊎_elim (none y) (m.earlier y) (in_either (atoms_of f) (all_atoms (take m.place rules)) l);
@@ -215,20 +222,21 @@ some_atom rules i h =
     (subst (λ (l : List ℕ). In i l) (sym (distinct_places (same_atom name_discrete) (same_alike name_discrete) (all_atoms rules))) (below_intro (length (different_atoms rules)) i h)) in
     (r.0, r.1, from_distinct (same_atom name_discrete) (all_atoms rules) r.2)
 
+-- the sign of each number stands in a part, and where it stands first is where the atom is written first
 pub first_writing : (rules : List (Formula Name)) (many : ℕ) (code ends : List ℕ) → Coded many code ends (numbered_atoms rules) → (i : ℕ) → i < length (different_atoms rules)
-    → Writing rules i (place_from (atom_sign i) code 0 0 ends)
+    → (p : AtomPlace) × (place_from (atom_sign i) code 0 0 ends ≡ Some p) × Writing rules i p
 first_writing rules many code ends c i h =
     let x = some_atom rules i h in
     let r = placed (all_atoms rules) i many code rules ends 0 0 [] c refl (λ y j. none_in j) x.0 x.2 (sym x.1) in
-    let k : r.place ≡ (place_from (atom_sign i) code 0 0 ends).rule = omega (arith, r.rule_is) in
-    let there = subst (λ (n : ℕ). IsThere (all_atoms rules) i many code (get_or rules n Form.truth) (place_from (atom_sign i) code 0 0 ends).atom) k r.there in
-    let earlier = subst (λ (n : ℕ). NoneOf (all_atoms rules) i many code (all_atoms (take n rules))) k r.earlier in
-    let p = place_from (atom_sign i) code 0 0 ends in
-    record {
-      rule_there = omega (arith, k, r.few);
-      atom_there = there.0;
-      is_atom = there.1;
-      none_before = λ y j. eq-false_of_not-eq-true
-          (λ e. ⊎_elim (earlier y) (there.3 y) (in_either (all_atoms (take p.rule rules)) (take p.atom (atoms_in rules p.rule)) j)
-          (position_alike (same_atom name_discrete) (same_alike name_discrete) (different_atoms rules) y (atom_at (different_atoms rules) i) e ∙ there.2));
-    }
+    let p : AtomPlace = record { rule = r.place; atom = r.atom } in (
+      p,
+      r.found ∙ ap (place_at r.atom) (let e : 0 + r.place ≡ r.place = omega arith in e),
+      record {
+        rule_there = r.few;
+        atom_there = r.there.0;
+        is_atom = r.there.1;
+        none_before = λ y j. eq-false_of_not-eq-true
+            (λ e. ⊎_elim (r.earlier y) (r.there.3 y) (in_either (all_atoms (take r.place rules)) (take r.atom (atoms_in rules r.place)) j)
+            (position_alike (same_atom name_discrete) (same_alike name_discrete) (different_atoms rules) y (atom_at (different_atoms rules) i) e ∙ r.there.2));
+      },
+    )

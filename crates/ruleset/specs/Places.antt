@@ -1,6 +1,6 @@
 -- For proofs: where an atom is written first among rules, and where its sign stands first in their code; the contract of `first_writing`.
 -- Assumes nothing.
-use Rattle.std.specs.Prelude.{false, cond, ◌≡◌, List, [], ◌∷◌, ◌++◌, ℕ, suc, ◌<◌, eqb, leb, length, get_or, take}
+use Rattle.std.specs.Prelude.{false, cond, ◌≡◌, List, [], ◌∷◌, ◌++◌, ℕ, suc, ◌<◌, eqb, leb, length, get_or, take, Option, Some, None}
 use Rattle.lists.specs.Search.{In, keep, elem}
 use Rattle.formula.specs.Formula.{Term, Atom, Form, Formula, Name}
 use Rattle.formula.specs.Atoms.{atoms_of}
@@ -43,7 +43,7 @@ atom_signs cs = keep (leb 7) cs
 unfoldable pub signs_to : List ℕ → ℕ → ℕ
 signs_to cs s = position eqb (atom_signs cs) s
 
--- where the sign s stands first: in which part, the first having the number k, and after how many signs of atoms there
-unfoldable pub place_from : ℕ → List ℕ → ℕ → ℕ → List ℕ → AtomPlace
-place_from s code from k [] = record { rule = k; atom = 0 }
-place_from s code from k (end ∷ ends) = let r = place_from s code end (suc k) ends in cond (elem s (part code from end)) (record { rule = k; atom = signs_to (part code from end) s }) r
+-- where the sign s stands first, if it stands in a part: in which one, the first having the number k, and after how many signs of atoms there
+unfoldable pub place_from : ℕ → List ℕ → ℕ → ℕ → List ℕ → Option AtomPlace
+place_from s code from k [] = None
+place_from s code from k (end ∷ ends) = let r = place_from s code end (suc k) ends in cond (elem s (part code from end)) (Some (record { rule = k; atom = signs_to (part code from end) s })) r

@@ -1,6 +1,6 @@
 -- For proofs: the contracts of functions that only our own crates call: what is known and what is compiled of a list of rules, what one rule
 -- more is asked and gives, and what the compiled rules answer. Assumes nothing.
-use Rattle.std.specs.Prelude.{Bool, cond, ◌≡◌, List, [], ◌∷◌, ◌++◌, map, ℕ, ◌+◌, ◌*◌, ◌≤◌, ◌<◌, leb, length, take}
+use Rattle.std.specs.Prelude.{Bool, cond, ◌≡◌, List, [], ◌∷◌, ◌++◌, map, ℕ, ◌+◌, ◌*◌, ◌≤◌, ◌<◌, leb, length, take, Option, Result, Ok, Err, MatchResult}
 use Rattle.std.proofs.lemmas.List.Edits.{sets}
 use Rattle.formula.specs.Formula.{Formula, Name}
 use Rattle.syntax.specs.RuleText.{IsRule}
@@ -13,7 +13,6 @@ use Rattle.names.specs.declared.NamesAnswer.{NamesAnswer}
 use Rattle.contact.specs.Question.{Question}
 use Rattle.contact.specs.Check.{first_row_of}
 use Rattle.kleene.specs.Code.{postfix}
-use Rattle.solver.specs.declared.RowAnswer.{RowAnswer}
 use Rattle.solver.specs.Coded.{Coded}
 use Rattle.solver.specs.Tree.{answer_for}
 use Rattle.search.specs.Rows.{row_bits}
@@ -27,14 +26,14 @@ use Rattle.plan.specs.Arrays.{points_plan}
 use Rattle.plan.specs.Plans.{row_plan}
 use Rattle.judging.specs.declared.Judged.{Judged}
 use Rattle.judging.specs.Judges.{judged_plan}
-use Rattle.trees.specs.declared.Verdict.{Verdict}
+use Rattle.trees.specs.declared.NotClosed.{NotClosed}
 use Rattle.trees.specs.Checker.{checked_of, trees_of}
-use Rattle.explaining.specs.declared.Explanation.{Explanation}
+use Rattle.explaining.specs.declared.NoTree.{NoTree}
 use Rattle.explaining.specs.Explained.{Explained}
 use Rattle.spelling.specs.Kept.{Keeps}
 use Rattle.compile.specs.Chart.{CompiledFrom}
 use Rattle.ruleset.specs.declared.Known.{Known}
-use Rattle.ruleset.specs.declared.RoomAnswer.{RoomAnswer}
+use Rattle.ruleset.specs.declared.NoRoom.{NoRoom}
 use Rattle.ruleset.specs.declared.Grown.{Grown}
 use Rattle.ruleset.specs.declared.Compiling.{Compiling}
 
@@ -74,12 +73,12 @@ pub record Ready (text : List ℕ) (rule : Rule) (k : Known) (kept code : List �
   pub one_more : OneMore text rule k kept code from rules formula
 
 -- refusal 7, and then 8: "at the seventeenth different atom"
-abbrev pub room_for : Bool → RoomAnswer
-room_for enough = cond enough RoomAnswer.Room RoomAnswer.ManyAtoms
+abbrev pub room_for : Bool → Result Unit NoRoom
+room_for enough = cond enough (Ok tt) (Err NoRoom.TooManyAtoms)
 
-abbrev pub room_answer : NamesAnswer → ℕ → RoomAnswer
+abbrev pub room_answer : NamesAnswer → ℕ → Result Unit NoRoom
 room_answer NamesAnswer.Enough atoms = room_for (leb atoms 16)
-room_answer (NamesAnswer.TooManyNames p) atoms = RoomAnswer.TooManyNames p
+room_answer (NamesAnswer.TooManyNames p) atoms = Err (NoRoom.TooManyNames p)
 
 -- the code of the rule put last
 abbrev pub code_of : List (Formula Name) → Formula Name → List ℕ
@@ -91,12 +90,15 @@ pub record Grows (text : List ℕ) (code : List ℕ) (from : ℕ) (rules : List 
   pub ends : r.end ≡ from + length (code_of rules f)
   pub wrote : out ≡ sets code from (code_of rules f)
 
+-- whether there is room for the rule behind the rules
+abbrev pub room_of : List ℕ → List (Formula Name) → Formula Name → Result Unit NoRoom
+room_of text rules f = room_answer (gathered text (names_of rules)).answer (length (different_atoms (rules ++ f ∷ [])))
+
 -- there is room for the rule, or why not; of a rule for which there is none no more is said
-unfoldable pub WithRule : List ℕ → Rule → Known → List ℕ → List ℕ → ℕ → Grown → List ℕ → List ℕ → Type 0
+unfoldable pub WithRule : List ℕ → Rule → Known → List ℕ → List ℕ → ℕ → Result Grown NoRoom → List ℕ → List ℕ → Type 0
 WithRule text rule k kept code from r keptOut out =
     (rules : List (Formula Name)) (f : Formula Name) → OneMore text rule k kept code from rules f
-    → (r.answer ≡ room_answer (gathered text (names_of rules)).answer (length (different_atoms (rules ++ f ∷ []))))
-    × (r.answer ≡ RoomAnswer.Room → Grows text code from rules f r keptOut out)
+    → MatchResult r (λ g. (room_of text rules f ≡ Ok tt) × Grows text code from rules f g keptOut out) (λ e. room_of text rules f ≡ Err e)
 
 -- ---- the compiled rules
 
@@ -140,7 +142,7 @@ pub record Whole (c : Compiling) (code : List ℕ) : Type 0 where
 -- ---- what the compiled rules answer
 
 -- the answer is the number of the first row of the rules that are compiled, for the question
-unfoldable pub FirstRowIs : Question → Compiling → List ℕ → RowAnswer → Type 0
+unfoldable pub FirstRowIs : Question → Compiling → List ℕ → Option ℕ → Type 0
 FirstRowIs q c code r = (rules : List (Formula Name)) (kept : List ℕ) → CompiledRules rules c kept code → r ≡ answer_for (first_row_of q rules)
 
 -- the plan of these points, by what the square has apart, is that of a row of the rules that are compiled
@@ -156,9 +158,9 @@ JudgedIs c code arrays r =
     → Stored arrays p → r ≡ judged_plan rules p h
 
 -- the verdict is that of the checker on the words, against the rules that are compiled
-unfoldable pub VerdictIs : Compiling → List ℕ → List ℕ → Verdict → Type 0
+unfoldable pub VerdictIs : Compiling → List ℕ → List ℕ → Result Unit NotClosed → Type 0
 VerdictIs c code words r = (rules : List (Formula Name)) (kept : List ℕ) → CompiledRules rules c kept code → r ≡ checked_of rules words
 
 -- the answer and the buffer are by the writer's trees of the rules that are compiled
-unfoldable pub ExplainedIs : Compiling → List ℕ → List ℕ → List ℕ → Explanation → Type 0
+unfoldable pub ExplainedIs : Compiling → List ℕ → List ℕ → List ℕ → Result ℕ NoTree → Type 0
 ExplainedIs c code before after r = (rules : List (Formula Name)) (kept : List ℕ) → CompiledRules rules c kept code → Explained (trees_of rules) before after r

@@ -11,23 +11,21 @@ ghost use Rattle.search.specs.Asked.{question_of};
 ghost use Rattle.search.specs.Compiled.{limit};
 ghost use Rattle.search.specs.Planned.{Lent};
 ghost use Rattle.squares.specs.Square.{Square};
-ghost use Rattle.lists.specs.Search.{elem};
 ghost use Rattle.solver.specs.Coded.{SafeFrom};
 ghost use Rattle.ruleset.specs.Ends.{last_end};
 ghost use Rattle.ruleset.specs.Places.{WritingIs, signs_to, place_from};
 ghost use Rattle.ruleset.specs.Counted.{name_count};
-ghost use Rattle.ruleset.specs.Texts.{NothingKnown, room_for, Ready, WithRule, NothingCompiled, Compilable, WithText, Whole, FirstRowIs, RowPlanIs, JudgedIs, VerdictIs, ExplainedIs};
+ghost use Rattle.ruleset.specs.Texts.{NothingKnown, Ready, WithRule, NothingCompiled, Compilable, WithText, Whole, FirstRowIs, RowPlanIs, JudgedIs, VerdictIs, ExplainedIs};
 
 use compile::Atoms;
 use evalset::EvalSet;
-use explaining::Explanation;
+use explaining::NoTree;
 use judging::Judged;
 use names::{Names, NamesAnswer};
 use plan::PlanArrays;
 use search::Asked;
-use solver::RowAnswer;
 use syntax::Rule;
-use trees::Verdict;
+use trees::NotClosed;
 
 // What is known of rules, but for the symbols of their atoms' terms, which are lent: their names, their different atoms, and how many
 // rules there are.
@@ -38,21 +36,18 @@ pub struct Known {
     pub count: usize,
 }
 
-// Whether there is room for a rule, or why not: refusals 7, with its place, and 8.
+// Why there is no room for a rule: refusals 7, with its place, and 8.
 #[derive(Clone, Copy)]
-pub enum RoomAnswer {
-    Room,
+pub enum NoRoom {
     TooManyNames(usize),
-    ManyAtoms,
+    TooManyAtoms,
 }
 
-// What is known with a rule put last, where its code ends, and whether there is room for it; where there is none, nothing is said of
-// the rest.
+// What is known with a rule put last, and where its code ends.
 #[derive(Clone, Copy)]
 pub struct Grown {
     pub known: Known,
     pub end: usize,
-    pub answer: RoomAnswer,
 }
 
 // What is compiled so far, but for the code, which is lent: what is known, and where the code of each rule ends.
@@ -96,11 +91,8 @@ fn names_in(order: &[u8]) -> usize
     ensures { result ≡ name_count order.now }
 {
     let mut n: usize = 0;
-    let mut i: usize = 0;
-    while i < order.len() {
-        let kind = order[i];
-        n += compile::names_of_kind(kind);
-        i += 1;
+    for kind in order {
+        n += compile::names_of_kind(*kind);
     }
     n
 }
@@ -116,17 +108,6 @@ fn last_end(ends: [usize; 16], count: usize) -> usize
     ends[count - 1]
 }
 
-// Whether there is room for a rule's atoms, which were enough or not.
-fn room(enough: bool) -> RoomAnswer
-    ensures { result ≡ room_for enough }
-{
-    if enough {
-        RoomAnswer::Room
-    } else {
-        RoomAnswer::ManyAtoms
-    }
-}
-
 // The rule that was read from this text behind those that are known, its code from a place on; or why there is no room for it.
 pub fn with_rule(
     text: &[u8],
@@ -135,7 +116,7 @@ pub fn with_rule(
     kept: &mut [u8; 2048],
     code: &mut [u8],
     from: usize,
-) -> Grown
+) -> Result<Grown, NoRoom>
     requires { Ready text.now rule known kept.old code.old from }
     ensures { WithRule text.now rule known kept.old code.old from result kept.new code.new }
 {
@@ -143,9 +124,7 @@ pub fn with_rule(
     let gathered = names::gather(text, rule, before);
     let enough = gathered.answer;
     if let NamesAnswer::TooManyNames(p) = enough {
-        let answer = RoomAnswer::TooManyNames(p);
-        let end = from;
-        return Grown { known, end, answer };
+        return Err(NoRoom::TooManyNames(p));
     }
     let names = gathered.names;
     let numbers = gathered.numbers;
@@ -154,6 +133,9 @@ pub fn with_rule(
     let used = names_in(&order[..len]);
     let first = known.atoms;
     let compiled = compile::compile_rule(&order[..len], &numbers[..used], first, kept, code, from);
+    let Some(compiled) = compiled else {
+        return Err(NoRoom::TooManyAtoms);
+    };
     let mut atoms = compiled.atoms;
     atoms.chart.names = names.count;
     let count = known.count + 1;
@@ -163,8 +145,7 @@ pub fn with_rule(
         count,
     };
     let end = compiled.end;
-    let answer = room(compiled.enough);
-    Grown { known, end, answer }
+    Ok(Grown { known, end })
 }
 
 // The rule of this text, for which there is room, behind those that are compiled.
@@ -177,14 +158,14 @@ pub fn with_text(text: &[u8], c: Compiling, kept: &mut [u8; 2048], code: &mut [u
     let mut ends = c.ends;
     let count = before.count;
     let from = last_end(ends, count);
-    let grown = with_rule(text, rule, before, kept, code, from);
+    let grown = with_rule(text, rule, before, kept, code, from).unwrap();
     ends[count] = grown.end;
     let known = grown.known;
     Compiling { known, ends }
 }
 
-// The first realisable row that makes the compiled rules true, for what is asked.
-pub fn row_of(c: Compiling, code: &[u8], asked: Asked) -> RowAnswer
+// The number of the first realisable row that makes the compiled rules true, for what is asked, if there is one.
+pub fn row_of(c: Compiling, code: &[u8], asked: Asked) -> Option<usize>
     requires { Whole c code.now }
     ensures { FirstRowIs (question_of asked) c code.now result }
 {
@@ -216,7 +197,7 @@ pub fn judged(c: Compiling, code: &[u8], plan: PlanArrays) -> Judged
 }
 
 // The verdict on the words of a tree, by the compiled rules.
-pub fn tree_checked(c: Compiling, code: &[u8], words: &[u32]) -> Verdict
+pub fn tree_checked(c: Compiling, code: &[u8], words: &[u32]) -> Result<(), NotClosed>
     requires { Whole c code.now }
     ensures { VerdictIs c code.now words.now result }
 {
@@ -227,7 +208,7 @@ pub fn tree_checked(c: Compiling, code: &[u8], words: &[u32]) -> Verdict
 }
 
 // The writer's tree of the compiled rules, its words written over the first ones of the buffer, or why it is not.
-pub fn explained(c: Compiling, code: &[u8], buffer: &mut [u32]) -> Explanation
+pub fn explained(c: Compiling, code: &[u8], buffer: &mut [u32]) -> Result<usize, NoTree>
     requires { Whole c code.now }
     ensures { ExplainedIs c code.now buffer.old buffer.new result }
 {
@@ -240,33 +221,16 @@ pub fn explained(c: Compiling, code: &[u8], buffer: &mut [u32]) -> Explanation
 // The first sign of an atom in a code.
 const FIRST: u8 = 7;
 
-// Whether a sign stands in a part of the code.
-fn stands(part: &[u8], sign: u8) -> bool
-    ensures { result ≡ elem sign part.now }
-{
-    let mut at: usize = 0;
-    while at < part.len() {
-        if sign == part[at] {
-            return true;
-        }
-        at += 1;
-    }
-    false
-}
-
 // How many signs of atoms stand in a part of the code before the first that is this one.
 fn signs_to(part: &[u8], sign: u8) -> usize
     ensures { result ≡ signs_to part.now sign }
 {
     let mut n: usize = 0;
-    let mut at: usize = 0;
-    while at < part.len() {
-        let next = part[at];
-        at += 1;
-        if next < FIRST {
+    for next in part {
+        if *next < FIRST {
             continue;
         }
-        if next == sign {
+        if *next == sign {
             return n;
         }
         n += 1;
@@ -274,23 +238,22 @@ fn signs_to(part: &[u8], sign: u8) -> usize
     n
 }
 
-// The place at which a sign stands first in the parts of the code.
-fn sign_place(code: &[u8], ends: &[usize], sign: u8) -> AtomPlace
+// The place at which a sign stands first in the parts of the code, if it stands in one.
+fn sign_place(code: &[u8], ends: &[usize], sign: u8) -> Option<AtomPlace>
     requires { SafeFrom code.now 0 ends.now }
     ensures { result ≡ place_from sign code.now 0 0 ends.now }
 {
     let mut from: usize = 0;
-    let mut rule: usize = 0;
-    while rule < ends.len() {
+    for rule in 0..ends.len() {
         let end = ends[rule];
-        if stands(&code[from..end], sign) {
-            let atom = signs_to(&code[from..end], sign);
-            return AtomPlace { rule, atom };
+        let part = &code[from..end];
+        if part.contains(&sign) {
+            let atom = signs_to(part, sign);
+            return Some(AtomPlace { rule, atom });
         }
         from = end;
-        rule += 1;
     }
-    AtomPlace { rule, atom: 0 }
+    None
 }
 
 // Where the different atom with this number is written first among the compiled rules.
@@ -300,5 +263,5 @@ pub fn first_writing(c: Compiling, code: &[u8], i: usize) -> AtomPlace
 {
     let ends = c.ends;
     let count = c.known.count;
-    sign_place(code, &ends[..count], FIRST + i as u8)
+    sign_place(code, &ends[..count], FIRST + i as u8).unwrap()
 }

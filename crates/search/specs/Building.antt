@@ -1,16 +1,15 @@
 -- For proofs: what the functions that find the piece of a row ensure, for document 02's one building: of every list of marks that a state is
 -- that of, and of every list of atoms that the chart is compiled from. Assumes nothing.
-use Rattle.std.specs.Prelude.{Bool, true, false, ◌≡◌, List, ℕ, ◌^◌, ◌≤◌, ◌<◌, take}
+use Rattle.std.specs.Prelude.{Bool, true, false, ◌≡◌, Option, None, Some, is_some, List, ℕ, ◌^◌, ◌≤◌, ◌<◌, take}
 use Rattle.formula.specs.Formula.{Atom}
 use Rattle.evalset.specs.declared.EvalSet.{EvalSet}
 use Rattle.lists.specs.Search.{In, any, all, below, elem}
-use Rattle.evalset.specs.Sets.{room, mem, meet_of}
+use Rattle.evalset.specs.Sets.{room, mem, none_of, meet_of}
 use Rattle.evalset.specs.Most.{most}
 use Rattle.squares.specs.Square.{square_at}
 use Rattle.contact.specs.Plan.{Mark, row_marks, separated, allowed, met}
 use Rattle.contact.specs.Pieces.{whole_piece, check_pieces, piece_given}
 use Rattle.search.specs.declared.Chart.{Chart}
-use Rattle.search.specs.declared.FoundPiece.{FoundPiece}
 use Rattle.search.specs.Rows.{row_bits}
 use Rattle.search.specs.Tests.{starts_of}
 use Rattle.search.specs.Compiled.{Compiled, State, Fit}
@@ -40,13 +39,18 @@ MetSays chart rows piece row r =
     → (set : List ℕ) → ((f : ℕ) → mem piece f ≡ elem f set) → ((f : ℕ) → In f set → allowed chart.names ms f ≡ true)
     → r ≡ all (met ms set) (marks_in chart atoms row)
 
--- the first piece that meets the marks: whether there is one, and its evaluations, none where there is none
-pub record FirstPiece (names : ℕ) (ms : List Mark) (r : FoundPiece) : Type 0 where
-  pub checked : r.found ≡ check_pieces names ms
-  pub given : (e : ℕ) → mem r.piece e ≡ elem e (piece_given names ms)
+-- the evaluations of a set that may be there: none where there is none
+abbrev pub mem_of : Option EvalSet → ℕ → Bool
+mem_of None = none_of
+mem_of (Some s) = mem s
+
+-- the first piece that meets the marks: whether there is one, and its evaluations
+pub record FirstPiece (names : ℕ) (ms : List Mark) (r : Option EvalSet) : Type 0 where
+  pub checked : is_some r ≡ check_pieces names ms
+  pub given : (e : ℕ) → mem_of r e ≡ elem e (piece_given names ms)
 
 -- by the state of the row's marks
-unfoldable pub FoundSays : Chart → State → ℕ → FoundPiece → Type 0
+unfoldable pub FoundSays : Chart → State → ℕ → Option EvalSet → Type 0
 FoundSays chart s row r =
     (atoms : List (Atom ℕ)) → Compiled chart atoms → Fit chart.names s (marks_in chart atoms row)
     → FirstPiece chart.names (marks_in chart atoms row) r

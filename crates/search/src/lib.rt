@@ -17,7 +17,7 @@ ghost use Rattle.search.specs.Asked.{question_of};
 ghost use Rattle.search.specs.Planned.{Lent, StateSays, GatheredSays, GivenSays, PointsSay, PlanSays};
 ghost use Rattle.search.specs.Building.{PieceSays, met_of, MetSays, FoundSays, BuildingSays, BuildingIn, PartSays};
 
-use evalset::{EvalSet, Found, ROOM};
+use evalset::EvalSet;
 
 // What is asked: document 01's question, or document 02's of one building.
 #[derive(Clone, Copy)]
@@ -40,13 +40,6 @@ pub struct Chart {
     pub ys: [EvalSet; ATOMS],
 }
 
-// The first piece of a row: whether one meets the row, and its evaluations, none where there is no such piece.
-#[derive(Clone, Copy)]
-struct FoundPiece {
-    found: bool,
-    piece: EvalSet,
-}
-
 // Atom i's value in the row of k atoms.
 pub fn value_in(row: usize, k: usize, i: usize) -> bool
     requires { (i < k) × (k ≤ limit) }
@@ -55,20 +48,16 @@ pub fn value_in(row: usize, k: usize, i: usize) -> bool
     (row >> (k - 1 - i)) % 2 == 0
 }
 
-// The square, once each of `first` is separated from each of `second`. The walk meets the evaluations of `first` alone.
+// The square, once each of `first` is separated from each of `second`. The walk meets the evaluations of `first` alone, and goes on while
+// one is left: a set has no places to count.
 fn separate(rows: &mut [u64], first: EvalSet, second: EvalSet)
     requires { Square rows.old }
     ensures { (length rows.new ≡ length rows.old) × Separates (reach rows.old) (square_at rows.old) (mem first) (mem second) (square_at rows.new) }
 {
     let mut rest = first;
-    let mut from: usize = 0;
-    while from < ROOM {
-        let Found::At(p) = evalset::least(rest) else {
-            return;
-        };
+    while let Some(p) = evalset::least(rest) {
         squares::join_at(rows, p, second);
         rest = evalset::without(rest, p);
-        from = p + 1;
     }
 }
 
@@ -147,10 +136,8 @@ fn state_of(chart: Chart, row: usize, rows: &mut [u64]) -> EvalSet
     let n = chart.atoms;
     let all = evalset::below(chart.names);
     let mut allowed = possible(chart.names);
-    let mut i: usize = 0;
-    while i < n {
+    for i in 0..n {
         allowed = step(chart, allowed, rows, all, i, value_in(row, n, i));
-        i += 1;
     }
     allowed
 }
@@ -159,10 +146,10 @@ fn state_of(chart: Chart, row: usize, rows: &mut [u64]) -> EvalSet
 fn least_of(s: EvalSet) -> EvalSet
     ensures { (e : ℕ) → mem result e ≡ elem e (first (mem s) (below room)) }
 {
-    let Found::At(e) = evalset::least(s) else {
-        return evalset::empty();
-    };
-    evalset::insert(evalset::empty(), e)
+    match evalset::least(s) {
+        Some(e) => evalset::insert(evalset::empty(), e),
+        None => evalset::empty(),
+    }
 }
 
 // "p, the least allowed one in its first term with an allowed, unseparated partner in the second, and then its least partner."
@@ -172,17 +159,12 @@ fn pair_of(first: EvalSet, second: EvalSet, rows: &[u64]) -> EvalSet
 {
     let none = evalset::empty();
     let mut rest = first;
-    let mut from: usize = 0;
-    while from < ROOM {
-        let Found::At(p) = evalset::least(rest) else {
-            return none;
-        };
+    while let Some(p) = evalset::least(rest) {
         let r = squares::row_at(rows, p);
-        if let Found::At(q) = evalset::least(evalset::minus(second, r)) {
+        if let Some(q) = evalset::least(evalset::minus(second, r)) {
             return evalset::insert(evalset::insert(none, q), p);
         }
         rest = evalset::without(rest, p);
-        from = p + 1;
     }
     none
 }
@@ -219,8 +201,7 @@ fn gathered(chart: Chart, allowed: EvalSet, rows: &[u64], row: usize) -> EvalSet
 {
     let n = chart.atoms;
     let mut acc = evalset::empty();
-    let mut i: usize = 0;
-    while i < n {
+    for i in 0..n {
         let contact = chart.contact[i];
         let x = chart.xs[i];
         let y = chart.ys[i];
@@ -228,7 +209,6 @@ fn gathered(chart: Chart, allowed: EvalSet, rows: &[u64], row: usize) -> EvalSet
             acc,
             gives(allowed, rows, contact, x, y, value_in(row, n, i)),
         );
-        i += 1;
     }
     acc
 }
@@ -253,14 +233,12 @@ fn piece(allowed: EvalSet, rows: &[u64], e: usize) -> EvalSet
 {
     let mut looked = evalset::empty();
     let mut piece = evalset::insert(looked, e);
-    loop {
-        let Found::At(p) = evalset::least(evalset::minus(piece, looked)) else {
-            return piece;
-        };
+    while let Some(p) = evalset::least(evalset::minus(piece, looked)) {
         let r = squares::row_at(rows, p);
         piece = evalset::join(piece, evalset::minus(allowed, r));
         looked = evalset::insert(looked, p);
     }
+    piece
 }
 
 // Whether a set meets an atom with its value: a true contact by two of it that are unseparated, a false zero atom by one in its term.
@@ -289,38 +267,31 @@ fn met_by(chart: Chart, rows: &[u64], piece: EvalSet, row: usize) -> bool
     ensures { MetSays chart rows.now piece row result }
 {
     let n = chart.atoms;
-    let mut i: usize = 0;
-    while i < n {
+    for i in 0..n {
         let contact = chart.contact[i];
         let x = chart.xs[i];
         let y = chart.ys[i];
         if !met(piece, rows, contact, x, y, value_in(row, n, i)) {
             return false;
         }
-        i += 1;
     }
     true
 }
 
 // Of the pieces of a state, the one with the least evaluation that meets the row. A piece that does not is out of what is left.
-fn first_piece(chart: Chart, allowed: EvalSet, rows: &[u64], row: usize) -> FoundPiece
+fn first_piece(chart: Chart, allowed: EvalSet, rows: &[u64], row: usize) -> Option<EvalSet>
     requires { (chart.atoms ≤ limit) × Square rows.now }
     ensures { FoundSays chart (state allowed rows.now) row result }
 {
     let mut left = allowed;
-    loop {
-        let Found::At(e) = evalset::least(left) else {
-            return FoundPiece {
-                found: false,
-                piece: evalset::empty(),
-            };
-        };
+    while let Some(e) = evalset::least(left) {
         let piece = piece(allowed, rows, e);
         if met_by(chart, rows, piece, row) {
-            return FoundPiece { found: true, piece };
+            return Some(piece);
         }
         left = evalset::minus(left, piece);
     }
+    None
 }
 
 // Whether some piece meets the row, with a clear square lent.
@@ -329,8 +300,7 @@ fn building_in(chart: Chart, row: usize, rows: &mut [u64]) -> bool
     ensures { BuildingIn chart (reach rows.old) row result }
 {
     let allowed = state_of(chart, row, rows);
-    let first = first_piece(chart, allowed, rows, row);
-    first.found
+    first_piece(chart, allowed, rows, row).is_some()
 }
 
 // Whether some piece meets the row: whether some floor that hangs together gives the atoms its values. With at most six names no more is
@@ -365,10 +335,7 @@ fn points(chart: Chart, allowed: EvalSet, rows: &[u64], row: usize, asked: Asked
 {
     match asked {
         Asked::Plain => given(chart, allowed, rows, row),
-        Asked::Building => {
-            let first = first_piece(chart, allowed, rows, row);
-            first.piece
-        }
+        Asked::Building => first_piece(chart, allowed, rows, row).unwrap_or(evalset::empty()),
     }
 }
 

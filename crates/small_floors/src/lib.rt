@@ -3,10 +3,7 @@
 // function answers: what these functions say is held to the stored outputs of the two programs. No function has a requires. Assumes nothing.
 #![tactic(auto)]
 
-use small_sheets::{
-    ALL, AND, COMMON, CONTACT, EITHER, EMPTY, FALSE, IF, NAME, NOT, NOTHING, Numbers, OR, PART,
-    REST, RULE, SECOND, SPACED_EMPTY, THIRD, TRUE, is_atom, operands,
-};
+use small_sheets::{Numbers, Sign, is_atom, operands};
 
 // ---- floors, and what rules mean on them
 
@@ -51,14 +48,10 @@ pub fn has(set: u8, e: usize) -> bool {
 // How many points stand on evaluations below e: the position of the point on e.
 pub fn position(points: u8, e: usize) -> usize {
     let mut n: usize = 0;
-    let mut f: usize = 0;
-    while f < 8 {
-        if f < e {
-            if has(points, f) {
-                n = n % 8 + 1;
-            }
+    for f in 0..e.min(8) {
+        if has(points, f) {
+            n = n % 8 + 1;
         }
-        f += 1;
     }
     n
 }
@@ -74,10 +67,10 @@ pub fn evaluations(names: usize) -> u8 {
 }
 
 // The evaluations in which a name holds: those with the bit of its number.
-fn name_set(name: u8) -> u8 {
+fn name_set(name: Sign) -> u8 {
     match name {
-        NAME => 0xAA,
-        SECOND => 0xCC,
+        Sign::Name => 0xAA,
+        Sign::Second => 0xCC,
         _ => 0xF0,
     }
 }
@@ -87,9 +80,9 @@ fn name_set(name: u8) -> u8 {
 fn somewhere(names: usize) -> u8 {
     match names {
         0 => 1,
-        1 => name_set(NAME),
-        2 => name_set(NAME) | name_set(SECOND),
-        _ => name_set(NAME) | name_set(SECOND) | name_set(THIRD),
+        1 => name_set(Sign::Name),
+        2 => name_set(Sign::Name) | name_set(Sign::Second),
+        _ => name_set(Sign::Name) | name_set(Sign::Second) | name_set(Sign::Third),
     }
 }
 
@@ -108,11 +101,10 @@ pub fn apart(points: u8) -> Floor {
 
 // A floor on which e and f are in contact too.
 pub fn joined(floor: Floor, e: usize, f: usize) -> Floor {
-    let points = floor.points;
-    let mut touch = floor.touch;
-    touch[e % 8] = touch[e % 8] | bit(f);
-    touch[f % 8] = touch[f % 8] | bit(e);
-    Floor { points, touch }
+    let mut next = floor;
+    next.touch[e % 8] |= bit(f);
+    next.touch[f % 8] |= bit(e);
+    next
 }
 
 // Whether e and f are two points, e the smaller.
@@ -124,15 +116,15 @@ pub fn is_pair(points: u8, e: usize, f: usize) -> bool {
 pub fn floor_of(points: u8, contacts: usize) -> Floor {
     let mut floor = apart(points);
     let mut bits = contacts;
-    let mut i: usize = 0;
-    while i < 64 {
-        if is_pair(points, i / 8, i % 8) {
-            if bits % 2 == 1 {
-                floor = joined(floor, i / 8, i % 8);
+    for e in 0..8 {
+        for f in 0..8 {
+            if is_pair(points, e, f) {
+                if bits % 2 == 1 {
+                    floor = joined(floor, e, f);
+                }
+                bits = bits / 2;
             }
-            bits = bits / 2;
         }
-        i += 1;
     }
     floor
 }
@@ -144,10 +136,9 @@ pub fn weight(number: usize) -> u32 {
 
 // Nothing evaluated yet.
 pub fn start(numbers: Numbers) -> Machine {
-    let values = [0u8; 32];
     let of = numbers.of;
     Machine {
-        values,
+        values: [0u8; 32],
         height: 0,
         numbers: of,
         left: numbers.places,
@@ -159,86 +150,64 @@ pub fn start(numbers: Numbers) -> Machine {
 
 // The value at a depth below the uppermost.
 pub fn operand(m: Machine, depth: usize) -> u8 {
-    let values = m.values;
-    let height = m.height;
-    if depth < height {
-        if height <= 32 {
-            return values[height - 1 - depth];
-        }
+    if depth < m.height && m.height <= 32 {
+        return m.values[m.height - 1 - depth];
     }
     0
 }
 
 // "C(x,y) holds if a point of x is in contact with a point of y."
 pub fn touching(x: u8, y: u8, touch: [u8; 8]) -> bool {
-    let mut e: usize = 0;
-    while e < 8 {
-        if has(x, e) {
-            if touch[e] & y != 0 {
-                return true;
-            }
-        }
-        e += 1;
-    }
-    false
-}
-
-fn one_if(b: bool) -> u8 {
-    if b { 1 } else { 0 }
+    (0..8).any(|e| has(x, e) && touch[e] & y != 0)
 }
 
 // What a term is on a floor, from its operands: "- is complement, * intersection, + union".
-fn term_value(sign: u8, x: u8, y: u8, points: u8) -> u8 {
+fn term_value(sign: Sign, x: u8, y: u8, points: u8) -> u8 {
     match sign {
-        NOTHING => 0,
-        ALL => points,
-        REST => points & (255 - x),
-        COMMON => x & y,
-        EITHER => x | y,
+        Sign::Nothing => 0,
+        Sign::All => points,
+        Sign::Rest => points & (255 - x),
+        Sign::Common => x & y,
+        Sign::Either => x | y,
         _ => points & name_set(sign),
     }
 }
 
-// 1 if a formula holds, else 0, from its operands: "t=0 holds if t is empty. <=(x,y) means x*-y=0."
-fn formula_value(sign: u8, a: u8, b: u8, touch: [u8; 8]) -> u8 {
+// Whether a formula holds, from its operands: "t=0 holds if t is empty. <=(x,y) means x*-y=0."
+fn formula_value(sign: Sign, a: u8, b: u8, touch: [u8; 8]) -> bool {
     match sign {
-        TRUE => 1,
-        FALSE => 0,
-        NOT => one_if(a == 0),
-        EMPTY | SPACED_EMPTY => one_if(a == 0),
-        CONTACT => one_if(touching(a, b, touch)),
-        PART => one_if(a & (255 - b) == 0),
-        AND => a & b,
-        OR => a | b,
-        IF => one_if(a == 0) | b,
-        _ => one_if(a == b),
+        Sign::True => true,
+        Sign::False => false,
+        Sign::Not | Sign::Empty | Sign::SpacedEmpty => a == 0,
+        Sign::Contact => touching(a, b, touch),
+        Sign::Part => a & (255 - b) == 0,
+        Sign::And => a & b != 0,
+        Sign::Or => a | b != 0,
+        Sign::If => a == 0 || b != 0,
+        _ => a == b,
     }
 }
 
-fn is_term(sign: u8) -> bool {
+fn is_term(sign: Sign) -> bool {
     match sign {
-        NOTHING | ALL | REST | COMMON | EITHER => true,
-        _ => NAME <= sign,
+        Sign::Nothing | Sign::All | Sign::Rest | Sign::Common | Sign::Either => true,
+        Sign::Name | Sign::Second | Sign::Third => true,
+        _ => false,
     }
 }
 
-fn value_of(sign: u8, a: u8, b: u8, floor: Floor) -> u8 {
-    let points = floor.points;
-    let touch = floor.touch;
+// The value of a sign: the points of a term; 1 if a formula holds, else 0. So both stand in one list of values.
+fn value_of(sign: Sign, a: u8, b: u8, floor: Floor) -> u8 {
     if is_term(sign) {
-        return term_value(sign, a, b, points);
+        return term_value(sign, a, b, floor.points);
     }
-    formula_value(sign, a, b, touch)
+    formula_value(sign, a, b, floor.touch) as u8
 }
 
 // The number of the atom that comes next.
 pub fn coming(m: Machine) -> usize {
-    let numbers = m.numbers;
-    let left = m.left;
-    if 0 < left {
-        if left <= 32 {
-            return numbers[left - 1] as usize;
-        }
+    if 0 < m.left && m.left <= 32 {
+        return m.numbers[m.left - 1] as usize;
     }
     0
 }
@@ -249,9 +218,7 @@ fn with_atom_value(m: Machine, value: u8) -> Machine {
     if value == 1 {
         next.row = m.row | weight(coming(m));
     }
-    if 0 < m.left {
-        next.left = m.left - 1;
-    }
+    next.left = m.left.saturating_sub(1);
     next
 }
 
@@ -285,10 +252,10 @@ fn with_rule_end(m: Machine, value: u8) -> Machine {
 }
 
 // One sign more.
-pub fn step(m: Machine, sign: u8, floor: Floor) -> Machine {
+pub fn step(m: Machine, sign: Sign, floor: Floor) -> Machine {
     let a = operand(m, 0);
     let b = operand(m, 1);
-    if sign == RULE {
+    if sign == Sign::Rule {
         return with_rule_end(m, a);
     }
     let value = value_of(sign, a, b, floor);
@@ -300,12 +267,10 @@ pub fn step(m: Machine, sign: u8, floor: Floor) -> Machine {
 }
 
 // The rules on a floor.
-pub fn on_floor(code: &[u8], numbers: Numbers, floor: Floor) -> Machine {
+pub fn on_floor(code: &[Sign], numbers: Numbers, floor: Floor) -> Machine {
     let mut m = start(numbers);
-    let mut i: usize = 0;
-    while i < code.len() {
-        m = step(m, code[code.len() - 1 - i], floor);
-        i += 1;
+    for sign in code.iter().rev() {
+        m = step(m, *sign, floor);
     }
     m
 }
@@ -332,8 +297,10 @@ struct Reading {
 
 // No word yet.
 pub fn no_words() -> Words {
-    let words = [UNWRITTEN; 64];
-    Words { words, count: 0 }
+    Words {
+        words: [UNWRITTEN; 64],
+        count: 0,
+    }
 }
 
 // One word more: its kind and what it carries.
@@ -349,12 +316,10 @@ pub fn with_word(w: Words, kind: u32, carried: usize) -> Words {
 
 pub fn with_points(w: Words, points: u8) -> Words {
     let mut next = w;
-    let mut e: usize = 0;
-    while e < 8 {
+    for e in 0..8 {
         if has(points, e) {
             next = with_word(next, 2, e);
         }
-        e += 1;
     }
     next
 }
@@ -365,29 +330,21 @@ pub fn two_bytes(high: usize, low: usize) -> usize {
 }
 
 fn with_read_point(r: Reading, e: usize) -> Reading {
-    let floor = r.floor;
-    let count = r.count;
-    let mut order = r.order;
-    if 8 <= count {
-        return r;
+    let mut next = r;
+    if r.count < 8 {
+        next.order[r.count] = (e % 8) as u8;
+        next.floor = apart(r.floor.points | bit(e));
+        next.count = r.count + 1;
     }
-    order[count] = (e % 8) as u8;
-    Reading {
-        floor: apart(floor.points | bit(e)),
-        order,
-        count: count + 1,
-    }
+    next
 }
 
 fn with_read_contact(r: Reading, i: usize, j: usize) -> Reading {
-    let floor = r.floor;
-    let count = r.count;
-    let order = r.order;
-    Reading {
-        floor: joined(floor, order[i % 8] as usize, order[j % 8] as usize),
-        order,
-        count,
-    }
+    let mut next = r;
+    let e = r.order[i % 8] as usize;
+    let f = r.order[j % 8] as usize;
+    next.floor = joined(r.floor, e, f);
+    next
 }
 
 fn with_read_word(r: Reading, word: u32) -> Reading {
@@ -402,18 +359,13 @@ fn with_read_word(r: Reading, word: u32) -> Reading {
 
 // The floor that the first n words have. Words that are no plan are found out where words are compared.
 pub fn floor_in(words: &[u32; 530], n: usize) -> Floor {
-    let order = [0u8; 8];
     let mut r = Reading {
         floor: apart(0),
-        order,
+        order: [0u8; 8],
         count: 0,
     };
-    let mut i: usize = 0;
-    while i < 530 {
-        if i < n {
-            r = with_read_word(r, words[i]);
-        }
-        i += 1;
+    for word in words.iter().take(n) {
+        r = with_read_word(r, *word);
     }
     r.floor
 }

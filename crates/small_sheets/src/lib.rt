@@ -6,52 +6,37 @@
 // counts of names, signs and atoms a separate program gave. No public function has a requires. Assumes nothing.
 #![tactic(auto)]
 
-ghost use Rattle.std.specs.Prelude.{◌≡◌, true, ◌<◌, ◌≤◌};
+ghost use Rattle.std.specs.Prelude.{◌≡◌, ◌<◌, ◌≤◌, length, MatchOption};
 ghost use Rattle.small_sheets.specs.Bounds.{Bounded, Few};
+ghost use Rattle.small_sheets.specs.Signs.{is_of_atom};
 
 // ---- the signs of a sheet's form
 
-// Each stands before its operands: those with none, with one, with two, then the first and the second name and what stands
-// before each rule. `= 0` is a sign beside `=0`, so that each is counted.
-pub const NOTHING: u8 = 0;
-
-pub const ALL: u8 = 1;
-
-pub const TRUE: u8 = 2;
-
-pub const FALSE: u8 = 3;
-
-pub const REST: u8 = 4;
-
-pub const NOT: u8 = 5;
-
-pub const EMPTY: u8 = 6;
-
-pub const SPACED_EMPTY: u8 = 7;
-
-pub const COMMON: u8 = 8;
-
-pub const EITHER: u8 = 9;
-
-pub const CONTACT: u8 = 10;
-
-pub const PART: u8 = 11;
-
-pub const AND: u8 = 12;
-
-pub const OR: u8 = 13;
-
-pub const IF: u8 = 14;
-
-pub const EXACTLY_IF: u8 = 15;
-
-pub const NAME: u8 = 16;
-
-pub const SECOND: u8 = 17;
-
-pub const THIRD: u8 = 18;
-
-pub const RULE: u8 = 19;
+// Each stands before its operands: those with none, with one, with two, then the three names and what stands before each rule. `= 0` is a
+// sign beside `=0`, so that each is counted.
+#[derive(Clone, Copy, PartialEq, Eq)]
+pub enum Sign {
+    Nothing,
+    All,
+    True,
+    False,
+    Rest,
+    Not,
+    Empty,
+    SpacedEmpty,
+    Common,
+    Either,
+    Contact,
+    Part,
+    And,
+    Or,
+    If,
+    ExactlyIf,
+    Name,
+    Second,
+    Third,
+    Rule,
+}
 
 // ---- the sheets
 
@@ -61,7 +46,7 @@ pub const RULE: u8 = 19;
 pub struct Sheet {
     pub text: [u8; 1100],
     pub end: usize,
-    pub form: [u8; 512],
+    pub form: [Sign; 512],
     pub last: usize,
     pub names: usize,
     pub withdrawn: usize,
@@ -81,21 +66,15 @@ pub fn sheet_at(k: u64) -> Sheet
     generated_sheet(k - WORKED)
 }
 
-fn at_most(n: usize, most: usize) -> usize
-    ensures { result ≤ most }
-{
-    if n <= most { n } else { most }
-}
-
 // The sheet that was made.
-fn sheet_of(m: Maker, text: [u8; 1100], form: [u8; 512], withdrawn: usize) -> Sheet
+fn sheet_of(m: Maker, text: [u8; 1100], form: [Sign; 512], withdrawn: usize) -> Sheet
     ensures { Bounded result }
 {
     Sheet {
         text,
-        end: at_most(m.text, 1100),
+        end: m.text.min(1100),
         form,
-        last: at_most(m.form, 512),
+        last: m.form.min(512),
         names: (m.names % 4) as usize,
         withdrawn,
         whole: m.whole,
@@ -105,33 +84,36 @@ fn sheet_of(m: Maker, text: [u8; 1100], form: [u8; 512], withdrawn: usize) -> Sh
 // ---- the sheets that are generated
 
 // The two sorts.
-const FORMULA: u64 = 0;
+#[derive(Clone, Copy, PartialEq, Eq)]
+enum Sort {
+    Formula,
+    Term,
+}
 
-const TERM: u64 = 1;
-
-// An atom that stands already, once more; the next sign of it; the complement of what follows; what follows begins at the atom's first
-// term; the sheet's first contact once more with its terms exchanged, and with their complements.
-const AGAIN: u8 = 200;
-
-const NEXT_SIGN: u8 = 201;
-
-const OUTSIDE: u8 = 202;
-
-const FIRST_TERM: u8 = 203;
-
-const EXCHANGED: u8 = 204;
-
-const EXCHANGED_OUTSIDE: u8 = 205;
+// What is still to be written: a byte of text; a formula or a term with so many leaves in a place of some level; name k; a sign of the form;
+// an atom that stands already, once more; the next sign of it; the complement of what follows; what follows begins at the atom's first term;
+// the sheet's first contact once more with its terms exchanged, and with their complements. Levels are document 01's, loosest first: 0 -> and
+// <->, 1 | and +, 2 & and *, 3 ~ and -.
+#[derive(Clone, Copy)]
+enum Item {
+    Byte(u8),
+    Grown(Sort, u64, u64),
+    Name(u64),
+    Mark(Sign),
+    Again,
+    NextSign,
+    Outside,
+    FirstTerm,
+    Exchanged,
+    ExchangedOutside,
+}
 
 // What is being made: items still to be written, the next one on top; the seed that numbers are drawn from; the names so far, and how
 // many there may be; the style of spelling; how far text and form have come; where in the form the next sign of an atom stands that is
 // repeated, and its first term; and whether there was room for all of it.
-// An item is a byte of text, a formula or a term with so many leaves in a place of some level (from 128 on), a name (from 192 on), one of
-// the six above, or a sign of the form (from 224 on). Levels are document 01's, loosest first: 0 -> and <->, 1 | and +, 2 & and *,
-// 3 ~ and -.
 #[derive(Clone, Copy)]
 struct Maker {
-    items: [u8; 64],
+    items: [Item; 64],
     height: usize,
     seed: u64,
     names: u64,
@@ -151,9 +133,8 @@ fn next_seed(seed: u64) -> u64 {
 
 // Sheet k is made from its number alone: up to 1 to 3 names, in one of four styles.
 fn sheet_maker(k: u64) -> Maker {
-    let items = [0u8; 64];
     Maker {
-        items,
+        items: [Item::Again; 64],
         height: 0,
         seed: next_seed(next_seed(k)),
         names: 0,
@@ -167,40 +148,51 @@ fn sheet_maker(k: u64) -> Maker {
     }
 }
 
-// A formula or term still to be made, as an item.
-fn item(sort: u64, level: u64, leaves: u64) -> u8 {
-    (128 + sort % 2 * 32 + level % 4 * 8 + leaves % 8) as u8
-}
-
-// A sign of the form, as an item.
-fn mark(sign: u8) -> u8 {
-    224 + sign % 32
-}
-
 // The level of a sign with two operands.
-fn level_of(sign: u8) -> u64
+fn level_of(sign: Sign) -> u64
     ensures { result < 3 }
 {
     match sign {
-        AND | COMMON => 2,
-        OR | EITHER => 1,
+        Sign::And | Sign::Common => 2,
+        Sign::Or | Sign::Either => 1,
         _ => 0,
     }
 }
 
-fn formula_sign(r: u64) -> u8 {
+fn formula_sign(r: u64) -> Sign {
     match r {
-        0 => AND,
-        1 => OR,
-        2 => IF,
-        _ => EXACTLY_IF,
+        0 => Sign::And,
+        1 => Sign::Or,
+        2 => Sign::If,
+        _ => Sign::ExactlyIf,
     }
 }
 
-fn term_sign(r: u64) -> u8 {
+fn term_sign(r: u64) -> Sign {
     match r {
-        0 => COMMON,
-        _ => EITHER,
+        0 => Sign::Common,
+        _ => Sign::Either,
+    }
+}
+
+// The sign of name k.
+fn name_sign(k: u64) -> Sign {
+    match k {
+        0 => Sign::Name,
+        1 => Sign::Second,
+        _ => Sign::Third,
+    }
+}
+
+// How a sign with two operands is spelled.
+fn spelled(sign: Sign) -> &'static str {
+    match sign {
+        Sign::And => "&",
+        Sign::Or => "|",
+        Sign::Common => "*",
+        Sign::Either => "+",
+        Sign::If => "->",
+        _ => "<->",
     }
 }
 
@@ -238,7 +230,7 @@ impl Maker {
         next
     }
 
-    fn push(self, item: u8) -> Maker {
+    fn push(self, item: Item) -> Maker {
         let mut next = self;
         let height = self.height;
         if height < 64 {
@@ -249,15 +241,13 @@ impl Maker {
         self.broken()
     }
 
-    fn top(self) -> u8 {
-        let items = self.items;
+    // The next item; none where all are written.
+    fn top(self) -> Option<Item> {
         let height = self.height;
-        if 0 < height {
-            if height <= 64 {
-                return items[height - 1];
-            }
+        if 0 < height && height <= 64 {
+            return Some(self.items[height - 1]);
         }
-        0
+        None
     }
 
     fn popped(self) -> Maker {
@@ -268,119 +258,128 @@ impl Maker {
         next
     }
 
-    fn push_if(self, is: bool, item: u8) -> Maker {
+    fn push_if(self, is: bool, item: Item) -> Maker {
         if is { self.push(item) } else { self }
     }
 
-    // Two items and three, in the order of the text: the last that is pushed comes first.
-    fn push_two(self, first: u8, second: u8) -> Maker {
-        self.push(second).push(first)
+    // Items in the order of the text: the last is pushed first, so that the first comes first.
+    fn push_all(self, items: &[Item]) -> Maker {
+        let mut next = self;
+        for item in items.iter().rev() {
+            next = next.push(*item);
+        }
+        next
     }
 
-    fn push_three(self, first: u8, second: u8, third: u8) -> Maker {
-        self.push(third).push(second).push(first)
+    // The bytes of a text, in their order.
+    fn push_text(self, text: &str) -> Maker {
+        let mut next = self;
+        for b in text.as_bytes().iter().rev() {
+            next = next.push(Item::Byte(*b));
+        }
+        next
     }
 
     // A blank, where the style has blanks.
     fn push_blank(self) -> Maker {
-        let style = self.style;
-        match style {
-            1 => self.push(b' '),
-            3 => self.push(b'\t'),
+        match self.style {
+            1 => self.push_text(" "),
+            3 => self.push_text("\t"),
             _ => self,
         }
     }
 
-    fn push_sign(self, sign: u8) -> Maker {
-        match sign {
-            AND => self.push(b'&'),
-            OR => self.push(b'|'),
-            COMMON => self.push(b'*'),
-            EITHER => self.push(b'+'),
-            IF => self.push_two(b'-', b'>'),
-            _ => self.push_three(b'<', b'-', b'>'),
-        }
-    }
-
     // Parentheses that need not be there; the loosest level of a formula is 0, of a term 1.
-    fn push_group(self, sort: u64, leaves: u64) -> Maker {
-        self.push_three(b'(', item(sort, sort, leaves), b')')
+    fn push_group(self, sort: Sort, leaves: u64) -> Maker {
+        let level = match sort {
+            Sort::Formula => 0,
+            Sort::Term => 1,
+        };
+        let inner = self.push_text(")").push(Item::Grown(sort, level, leaves));
+        inner.push_text("(")
     }
 
-    fn push_prefix(self, sort: u64, leaves: u64) -> Maker {
-        let operand = item(sort, 3, leaves);
-        if sort == FORMULA {
-            return self.push_three(mark(NOT), b'~', operand);
+    fn push_prefix(self, sort: Sort, leaves: u64) -> Maker {
+        let operand = self.push(Item::Grown(sort, 3, leaves));
+        match sort {
+            Sort::Formula => operand.push_text("~").push(Item::Mark(Sign::Not)),
+            Sort::Term => operand.push_text("-").push(Item::Mark(Sign::Rest)),
         }
-        self.push_three(mark(REST), b'-', operand)
     }
 
     // Two operands, in parentheses where the place asks for a tighter sign. Signs group to the left.
-    fn push_infix(self, sort: u64, level: u64, sign: u8, left: u64, right: u64) -> Maker {
+    fn push_infix(self, sort: Sort, level: u64, sign: Sign, left: u64, right: u64) -> Maker {
         let own = level_of(sign);
-        let closed = self.push_if(own < level, b')');
-        let second = closed.push(item(sort, own + 1, right));
-        let between = second.push_blank().push_sign(sign).push_blank();
-        let first = between.push(item(sort, own, left));
-        first.push_if(own < level, b'(').push(mark(sign))
+        let closed = self.push_if(own < level, Item::Byte(b')'));
+        let second = closed.push(Item::Grown(sort, own + 1, right));
+        let between = second.push_blank().push_text(spelled(sign)).push_blank();
+        let first = between.push(Item::Grown(sort, own, left));
+        first
+            .push_if(own < level, Item::Byte(b'('))
+            .push(Item::Mark(sign))
     }
 
     // A sign with two operands, which share the leaves.
-    fn push_binary(self, sort: u64, level: u64, leaves: u64) -> Maker
+    fn push_binary(self, sort: Sort, level: u64, leaves: u64) -> Maker
         requires { 1 < leaves }
     {
         let chosen = self.advanced();
         let parted = chosen.advanced();
         let left = parted.drawn(leaves - 1) + 1;
         let right = leaves - left;
-        if sort == FORMULA {
-            return parted.push_infix(sort, level, formula_sign(chosen.drawn(4)), left, right);
-        }
-        parted.push_infix(sort, level, term_sign(chosen.drawn(2)), left, right)
+        let sign = match sort {
+            Sort::Formula => formula_sign(chosen.drawn(4)),
+            Sort::Term => term_sign(chosen.drawn(2)),
+        };
+        parted.push_infix(sort, level, sign, left, right)
+    }
+
+    // A term of one to three leaves.
+    fn push_term(self) -> Maker {
+        self.push(Item::Grown(Sort::Term, 1, self.drawn(3) + 1))
     }
 
     // Two terms in parentheses.
     fn push_arguments(self) -> Maker {
         let one = self.advanced();
         let two = one.advanced();
-        let second = two.push_two(item(TERM, 1, two.drawn(3) + 1), b')');
-        let first = item(TERM, 1, one.drawn(3) + 1);
-        second.push_blank().push_three(b'(', first, b',')
+        let second = two.push_text(")").push_term();
+        let between = second.push_blank().push_text(",");
+        let first = between.push(Item::Grown(Sort::Term, 1, one.drawn(3) + 1));
+        first.push_text("(")
     }
 
     fn push_empty(self, spaced: bool) -> Maker {
         let next = self.advanced();
-        let term = item(TERM, 1, next.drawn(3) + 1);
-        next.push(b'0').push_if(spaced, b' ').push_two(term, b'=')
+        let zero = next.push_text("0").push_if(spaced, Item::Byte(b' '));
+        zero.push_text("=").push_term()
     }
 
     // An atom by its sign.
     fn push_atom(self, r: u64) -> Maker {
-        if r < 7 {
-            return self.push_arguments().push_two(mark(CONTACT), b'C');
+        match r {
+            0..=6 => self
+                .push_arguments()
+                .push_text("C")
+                .push(Item::Mark(Sign::Contact)),
+            7..=9 => self
+                .push_arguments()
+                .push_text("<=")
+                .push(Item::Mark(Sign::Part)),
+            10..=11 => self.push_empty(true).push(Item::Mark(Sign::SpacedEmpty)),
+            _ => self.push_empty(false).push(Item::Mark(Sign::Empty)),
         }
-        if r < 10 {
-            return self.push_arguments().push_three(mark(PART), b'<', b'=');
-        }
-        if r < 12 {
-            return self.push_empty(true).push(mark(SPACED_EMPTY));
-        }
-        self.push_empty(false).push(mark(EMPTY))
     }
 
     fn push_formula_leaf(self) -> Maker {
         let next = self.advanced();
         let r = next.drawn(20);
-        if r < 1 {
-            return next.push_two(mark(TRUE), b'T');
+        match r {
+            0 => next.push_text("T").push(Item::Mark(Sign::True)),
+            1 => next.push_text("F").push(Item::Mark(Sign::False)),
+            2..=15 => next.push_atom(r),
+            _ => next.push(Item::Again),
         }
-        if r < 2 {
-            return next.push_two(mark(FALSE), b'F');
-        }
-        if r < 16 {
-            return next.push_atom(r);
-        }
-        next.push(AGAIN)
     }
 
     // A name that occurs already, or a new one: names are numbered as they come.
@@ -391,30 +390,20 @@ impl Maker {
         if k == names {
             next.names = k + 1;
         }
-        next.push_two(mark(NAME + k as u8), 192 + k as u8)
+        next.push_all(&[Item::Mark(name_sign(k)), Item::Name(k)])
     }
 
     fn push_term_leaf(self) -> Maker {
         let next = self.advanced();
-        let r = next.drawn(16);
-        if r < 1 {
-            return next.push_two(mark(NOTHING), b'0');
+        match next.drawn(16) {
+            0 => next.push_text("0").push(Item::Mark(Sign::Nothing)),
+            1 => next.push_text("1").push(Item::Mark(Sign::All)),
+            _ => next.push_name(),
         }
-        if r < 2 {
-            return next.push_two(mark(ALL), b'1');
-        }
-        next.push_name()
-    }
-
-    fn push_leaf(self, sort: u64) -> Maker {
-        if sort == FORMULA {
-            return self.push_formula_leaf();
-        }
-        self.push_term_leaf()
     }
 
     // A formula or a term, by its first sign: what is in it is pushed.
-    fn grown(self, sort: u64, level: u64, leaves: u64) -> Maker {
+    fn grown(self, sort: Sort, level: u64, leaves: u64) -> Maker {
         let next = self.advanced();
         let r = next.drawn(16);
         if r < 3 {
@@ -426,13 +415,10 @@ impl Maker {
         if 1 < leaves {
             return next.push_binary(sort, level, leaves);
         }
-        next.push_leaf(sort)
-    }
-
-    // The formula or term that an item stands for.
-    fn push_grown(self, item: u8) -> Maker {
-        let n = (item % 64) as u64;
-        self.grown(n / 32, n / 8 % 4, n % 8)
+        match sort {
+            Sort::Formula => next.push_formula_leaf(),
+            Sort::Term => next.push_term_leaf(),
+        }
     }
 
     // The signs from a place of the form on are next to be repeated.
@@ -450,47 +436,53 @@ impl Maker {
     }
 
     // What a sign that is repeated has in the text: parentheses that need not be there, and no blanks.
-    fn push_copy(self, sign: u8) -> Maker {
+    fn push_copy(self, sign: Sign) -> Maker {
         match sign {
-            NOTHING => self.push(b'0'),
-            ALL => self.push(b'1'),
-            REST => self.push_two(b'-', NEXT_SIGN),
-            EMPTY => self.push_three(NEXT_SIGN, b'=', b'0'),
-            SPACED_EMPTY => self.push(b'0').push_three(NEXT_SIGN, b'=', b' '),
-            COMMON | EITHER => self.push_both(sign),
-            CONTACT => self.push_terms().push(b'C'),
-            PART => self.push_terms().push_two(b'<', b'='),
-            _ => self.push(192 + sign % 4),
+            Sign::Nothing => self.push_text("0"),
+            Sign::All => self.push_text("1"),
+            Sign::Rest => self.push(Item::NextSign).push_text("-"),
+            Sign::Empty => self.push_text("=0").push(Item::NextSign),
+            Sign::SpacedEmpty => self.push_text("= 0").push(Item::NextSign),
+            Sign::Common | Sign::Either => self.push_between("(", spelled(sign)),
+            Sign::Contact => self.push_between("C(", ","),
+            Sign::Part => self.push_between("<=(", ","),
+            Sign::Second => self.push(Item::Name(1)),
+            Sign::Third => self.push(Item::Name(2)),
+            _ => self.push(Item::Name(0)),
         }
     }
 
-    // A sign between the next two terms.
-    fn push_both(self, sign: u8) -> Maker {
-        let second = self.push_two(NEXT_SIGN, b')');
-        second.push_sign(sign).push_two(b'(', NEXT_SIGN)
-    }
-
-    // The next two terms in parentheses.
-    fn push_terms(self) -> Maker {
-        self.push_two(NEXT_SIGN, b')')
-            .push_three(b'(', NEXT_SIGN, b',')
+    // The next two terms in parentheses, with what stands before them and between them.
+    fn push_between(self, before: &str, between: &str) -> Maker {
+        let second = self.push_text(")").push(Item::NextSign);
+        let first = second.push_text(between).push(Item::NextSign);
+        first.push_text(before)
     }
 
     // A contact of the next term with the one that is the first of the contact that is repeated, or of their complements.
     fn push_exchanged(self, outside: bool) -> Maker {
-        let first = self.push_three(FIRST_TERM, NEXT_SIGN, b')');
-        let second = first.push_if(outside, OUTSIDE).push_two(NEXT_SIGN, b',');
-        let terms = second.push_if(outside, OUTSIDE);
-        terms.push_three(mark(CONTACT), b'C', b'(')
+        let first = self.push_all(&[Item::FirstTerm, Item::NextSign, Item::Byte(b')')]);
+        let second = first
+            .push_if(outside, Item::Outside)
+            .push_all(&[Item::NextSign, Item::Byte(b',')]);
+        let terms = second.push_if(outside, Item::Outside);
+        terms.push_text("C(").push(Item::Mark(Sign::Contact))
     }
 
     // A contact, the same with its terms exchanged, and none between their complements, so that the plan tells which was written first.
     fn push_contact_rules(self) -> Maker {
-        let denied = self.push_three(b'~', EXCHANGED_OUTSIDE, b'\n');
-        let third = denied.push_two(mark(RULE), mark(NOT));
-        let second = third.push_three(mark(RULE), EXCHANGED, b'\n').push(b'\n');
-        let first = second.push_arguments();
-        first.push_three(mark(RULE), mark(CONTACT), b'C')
+        let denied = self.push_text("\n").push(Item::ExchangedOutside);
+        let third = denied
+            .push_text("~")
+            .push_all(&[Item::Mark(Sign::Rule), Item::Mark(Sign::Not)]);
+        let second = third.push_text("\n").push(Item::Exchanged);
+        let first = second
+            .push(Item::Mark(Sign::Rule))
+            .push_text("\n")
+            .push_arguments();
+        first
+            .push_text("C")
+            .push_all(&[Item::Mark(Sign::Rule), Item::Mark(Sign::Contact)])
     }
 }
 
@@ -505,33 +497,31 @@ fn put_byte(m: Maker, text: &mut [u8; 1100], b: u8) -> Maker {
     m.broken()
 }
 
-// Byte i of the spelling of a name; the four styles have three names each.
-fn letter(name: usize, i: usize) -> u8 {
-    let spellings = b"a     b     c     raw   cookeddry   Ta    01    C1    x     Fx    10    ";
-    spellings[name % 12 * 6 + i % 6]
-}
-
-fn put_letter(m: Maker, text: &mut [u8; 1100], b: u8) -> Maker {
-    if b == b' ' {
-        return m;
-    }
-    put_byte(m, text, b)
-}
-
-// The spelling of name k, by the style.
-fn put_name(m: Maker, text: &mut [u8; 1100], k: u8) -> Maker {
-    let name = (m.style % 4 * 3) as usize + (k % 3) as usize;
+// Bytes of text, as they are.
+fn put_lines(m: Maker, text: &mut [u8; 1100], lines: &[u8]) -> Maker {
     let mut next = m;
-    let mut i: usize = 0;
-    while i < 6 {
-        next = put_letter(next, text, letter(name, i));
-        i += 1;
+    for b in lines {
+        next = put_byte(next, text, *b);
     }
     next
 }
 
-// A sign at the form's end.
-fn put_sign(m: Maker, form: &mut [u8; 512], sign: u8) -> Maker {
+// The spellings of the three names, in each of the four styles.
+const SPELLINGS: [[&str; 3]; 4] = [
+    ["a", "b", "c"],
+    ["raw", "cooked", "dry"],
+    ["Ta", "01", "C1"],
+    ["x", "Fx", "10"],
+];
+
+// The spelling of name k, by the style.
+fn put_name(m: Maker, text: &mut [u8; 1100], k: u64) -> Maker {
+    let name = SPELLINGS[(m.style % 4) as usize][(k % 3) as usize];
+    put_lines(m, text, name.as_bytes())
+}
+
+// A sign at the form's end. This is put_byte with the other array and the other count of the maker: a function of both would be lent both.
+fn put_sign(m: Maker, form: &mut [Sign; 512], sign: Sign) -> Maker {
     let mut next = m;
     let at = m.form;
     if at < 512 {
@@ -543,41 +533,33 @@ fn put_sign(m: Maker, form: &mut [u8; 512], sign: u8) -> Maker {
 }
 
 // `=0` is repeated as `= 0`, and the other way round: they are one sign.
-fn repeated_sign(sign: u8) -> u8 {
+fn repeated_sign(sign: Sign) -> Sign {
     match sign {
-        EMPTY => SPACED_EMPTY,
-        SPACED_EMPTY => EMPTY,
+        Sign::Empty => Sign::SpacedEmpty,
+        Sign::SpacedEmpty => Sign::Empty,
         _ => sign,
     }
 }
 
 // One sign more of the atom that is repeated.
-fn with_copy(m: Maker, form: &[u8; 512]) -> Maker {
+fn with_copy(m: Maker, form: &[Sign; 512]) -> Maker {
     let at = m.source;
     if at < 511 {
         let sign = repeated_sign(form[at]);
-        return m.copying(at + 1).push_copy(sign).push(mark(sign));
+        return m.copying(at + 1).push_copy(sign).push(Item::Mark(sign));
     }
     m.broken()
 }
 
-// The last atom that a form has before a place; 512 where there is none.
-fn last_atom(form: &[u8; 512], before: usize) -> usize {
-    let mut found: usize = 512;
-    let mut i: usize = 0;
-    while i < 512 {
-        if i < before {
-            if is_atom(form[i]) {
-                found = i;
-            }
-        }
-        i += 1;
-    }
-    found
+// The place of the last atom that a form has.
+fn last_atom(form: &[Sign]) -> Option<usize>
+    ensures { MatchOption result (Unit {0}) (λ i. i < length form.now) }
+{
+    form.iter().rposition(|sign| is_atom(*sign))
 }
 
 // A contact with its terms exchanged, or with their complements.
-fn with_exchanged(m: Maker, form: &[u8; 512], contact: usize, outside: bool) -> Maker {
+fn with_exchanged(m: Maker, form: &[Sign; 512], contact: usize, outside: bool) -> Maker {
     if contact < 511 {
         let first = contact + 1;
         let second = after_term(form, first);
@@ -587,76 +569,61 @@ fn with_exchanged(m: Maker, form: &[u8; 512], contact: usize, outside: bool) -> 
 }
 
 // An atom of the form once more, a contact half the time with its terms exchanged; where there is none yet, another formula.
-fn again(m: Maker, form: &[u8; 512]) -> Maker {
+fn again(m: Maker, form: &[Sign; 512]) -> Maker {
     let chosen = m.advanced();
     let turned = chosen.advanced();
-    let place = chosen.drawn((m.form % 512) as u64 + 1);
-    let atom = last_atom(form, place as usize);
-    if 512 <= atom {
-        return chosen.push(item(FORMULA, 3, 1));
+    let place = chosen.drawn((m.form % 512) as u64 + 1) as usize;
+    let Some(atom) = last_atom(&form[..place]) else {
+        return chosen.push(Item::Grown(Sort::Formula, 3, 1));
+    };
+    if form[atom] == Sign::Contact && turned.drawn(2) == 0 {
+        return with_exchanged(turned, form, atom, false);
     }
-    if form[atom] == CONTACT {
-        if turned.drawn(2) == 0 {
-            return with_exchanged(turned, form, atom, false);
-        }
-    }
-    turned.copying(atom).push(NEXT_SIGN)
+    turned.copying(atom).push(Item::NextSign)
 }
 
-// What an item that is neither a byte nor a name nor a sign has in it: what is larger is grown, an atom is repeated sign by sign.
-fn expanded(m: Maker, form: &[u8; 512], item: u8) -> Maker {
+// An item: a byte, a name or a sign is written, any other gives way to what is in it.
+fn with_item(m: Maker, item: Item, text: &mut [u8; 1100], form: &mut [Sign; 512]) -> Maker {
     match item {
-        AGAIN => again(m, form),
-        NEXT_SIGN => with_copy(m, form),
-        OUTSIDE => m.push_two(mark(REST), b'-'),
-        FIRST_TERM => m.copying(m.first),
-        EXCHANGED => with_exchanged(m, form, 1, false),
-        EXCHANGED_OUTSIDE => with_exchanged(m, form, 1, true),
-        _ => m.push_grown(item),
-    }
-}
-
-// The item on top: a byte, a name or a sign is written, any other gives way to what is in it.
-fn with_item(m: Maker, text: &mut [u8; 1100], form: &mut [u8; 512]) -> Maker {
-    let item = m.top();
-    let next = m.popped();
-    match item {
-        0..=127 => put_byte(next, text, item),
-        192..=199 => put_name(next, text, item),
-        224..=255 => put_sign(next, form, item % 32),
-        _ => expanded(next, form, item),
+        Item::Byte(b) => put_byte(m, text, b),
+        Item::Name(k) => put_name(m, text, k),
+        Item::Mark(sign) => put_sign(m, form, sign),
+        Item::Grown(sort, level, leaves) => m.grown(sort, level, leaves),
+        Item::Again => again(m, form),
+        Item::NextSign => with_copy(m, form),
+        Item::Outside => m.push_text("-").push(Item::Mark(Sign::Rest)),
+        Item::FirstTerm => m.copying(m.first),
+        Item::Exchanged => with_exchanged(m, form, 1, false),
+        Item::ExchangedOutside => with_exchanged(m, form, 1, true),
     }
 }
 
 // All items, of which there are never so many that the turns run out.
-fn with_items(m: Maker, text: &mut [u8; 1100], form: &mut [u8; 512]) -> Maker {
+fn with_items(m: Maker, text: &mut [u8; 1100], form: &mut [Sign; 512]) -> Maker {
     let mut next = m;
-    let mut turns: usize = 0;
-    while turns < 4000 {
-        if next.height == 0 {
+    for _i in 0..4000 {
+        let Some(item) = next.top() else {
             return next;
-        }
-        next = with_item(next, text, form);
-        turns += 1;
+        };
+        next = with_item(next.popped(), item, text, form);
     }
     next.broken()
 }
 
 // A rule of one to four leaves: atoms, T or F.
-fn with_rule(m: Maker, text: &mut [u8; 1100], form: &mut [u8; 512]) -> Maker {
+fn with_rule(m: Maker, text: &mut [u8; 1100], form: &mut [Sign; 512]) -> Maker {
     let begun = m.advanced();
-    let rule = item(FORMULA, 0, begun.drawn(4) + 1);
-    with_items(begun.push_three(mark(RULE), rule, b'\n'), text, form)
+    let rule = Item::Grown(Sort::Formula, 0, begun.drawn(4) + 1);
+    let items = [Item::Mark(Sign::Rule), rule, Item::Byte(b'\n')];
+    with_items(begun.push_all(&items), text, form)
 }
 
 // So many rules at least, and at most three more.
-fn with_rules(m: Maker, fewest: u64, text: &mut [u8; 1100], form: &mut [u8; 512]) -> Maker {
+fn with_rules(m: Maker, fewest: u64, text: &mut [u8; 1100], form: &mut [Sign; 512]) -> Maker {
     let mut next = m.advanced();
     let rules = next.drawn(4) + fewest % 8;
-    let mut i: u64 = 0;
-    while i < rules {
+    for _i in 0..rules {
         next = with_rule(next, text, form);
-        i += 1;
     }
     next
 }
@@ -683,7 +650,7 @@ fn generated_sheet(k: u64) -> Sheet
     ensures { Bounded result }
 {
     let mut text = [0u8; 1100];
-    let mut form = [0u8; 512];
+    let mut form = [Sign::Rule; 512];
     let begun = with_items(begun_sheet(k), &mut text, &mut form);
     let m = with_rules(begun, fewest_rules(k), &mut text, &mut form);
     sheet_of(m, text, form, 0)
@@ -691,34 +658,21 @@ fn generated_sheet(k: u64) -> Sheet
 
 // ---- document 01's sheets
 
-// Bytes of text, as they are.
-fn put_lines(m: Maker, text: &mut [u8; 1100], lines: &[u8]) -> Maker {
-    let mut next = m;
-    let mut i: usize = 0;
-    while i < lines.len() {
-        next = put_byte(next, text, lines[i]);
-        i += 1;
-    }
-    next
-}
-
 // Signs of the form, as they are.
-fn put_signs(m: Maker, form: &mut [u8; 512], signs: &[u8]) -> Maker {
+fn put_signs(m: Maker, form: &mut [Sign; 512], signs: &[Sign]) -> Maker {
     let mut next = m;
-    let mut i: usize = 0;
-    while i < signs.len() {
-        next = put_sign(next, form, signs[i]);
-        i += 1;
+    for sign in signs {
+        next = put_sign(next, form, *sign);
     }
     next
 }
 
 // A sheet with so many names that is written out.
-fn written(lines: &[u8], signs: &[u8], names: u64, withdrawn: usize) -> Sheet
+fn written(lines: &[u8], signs: &[Sign], names: u64, withdrawn: usize) -> Sheet
     ensures { Bounded result }
 {
     let mut text = [0u8; 1100];
-    let mut form = [0u8; 512];
+    let mut form = [Sign::Rule; 512];
     let lined = put_lines(sheet_maker(0), &mut text, lines);
     let mut m = put_signs(lined, &mut form, signs);
     m.names = names;
@@ -732,8 +686,23 @@ fn apart_sheet(k: u64) -> Sheet
     let three = b"~C(raw,cooked)\n~raw=0\n~cooked=0\n";
     let four = b"~C(raw,cooked)\n~raw=0\n~cooked=0\n<=(raw,cooked)\n";
     let form = [
-        RULE, NOT, CONTACT, NAME, SECOND, RULE, NOT, EMPTY, NAME, RULE, NOT, EMPTY, SECOND, RULE,
-        PART, NAME, SECOND,
+        Sign::Rule,
+        Sign::Not,
+        Sign::Contact,
+        Sign::Name,
+        Sign::Second,
+        Sign::Rule,
+        Sign::Not,
+        Sign::Empty,
+        Sign::Name,
+        Sign::Rule,
+        Sign::Not,
+        Sign::Empty,
+        Sign::Second,
+        Sign::Rule,
+        Sign::Part,
+        Sign::Name,
+        Sign::Second,
     ];
     match k {
         2 => written(three, &form[0..13], 2, 0),
@@ -747,25 +716,72 @@ fn named_sheet(k: u64) -> Sheet
     ensures { Bounded result }
 {
     match k {
-        1 => written(b"C(raw,cooked)\n", &[RULE, CONTACT, NAME, SECOND], 2, 0),
-        5 => written(
-            b"C(a,a) & a=0\n",
-            &[RULE, AND, CONTACT, NAME, NAME, EMPTY, NAME],
-            1,
-            0,
-        ),
-        8 => written(
-            b"a=0 | ~a=0\n",
-            &[RULE, OR, EMPTY, NAME, NOT, EMPTY, NAME],
-            1,
+        1 | 9 => contact_sheet(k),
+        _ => region_sheet(k),
+    }
+}
+
+// P2 and P10, of contacts alone.
+fn contact_sheet(k: u64) -> Sheet
+    ensures { Bounded result }
+{
+    match k {
+        1 => written(
+            b"C(raw,cooked)\n",
+            &[Sign::Rule, Sign::Contact, Sign::Name, Sign::Second],
+            2,
             0,
         ),
         _ => written(
             b"~(C(a,b) <-> C(b,a))\n",
             &[
-                RULE, NOT, EXACTLY_IF, CONTACT, NAME, SECOND, CONTACT, SECOND, NAME,
+                Sign::Rule,
+                Sign::Not,
+                Sign::ExactlyIf,
+                Sign::Contact,
+                Sign::Name,
+                Sign::Second,
+                Sign::Contact,
+                Sign::Second,
+                Sign::Name,
             ],
             2,
+            0,
+        ),
+    }
+}
+
+// P6 and P9, of one region.
+fn region_sheet(k: u64) -> Sheet
+    ensures { Bounded result }
+{
+    match k {
+        5 => written(
+            b"C(a,a) & a=0\n",
+            &[
+                Sign::Rule,
+                Sign::And,
+                Sign::Contact,
+                Sign::Name,
+                Sign::Name,
+                Sign::Empty,
+                Sign::Name,
+            ],
+            1,
+            0,
+        ),
+        _ => written(
+            b"a=0 | ~a=0\n",
+            &[
+                Sign::Rule,
+                Sign::Or,
+                Sign::Empty,
+                Sign::Name,
+                Sign::Not,
+                Sign::Empty,
+                Sign::Name,
+            ],
+            1,
             0,
         ),
     }
@@ -776,11 +792,40 @@ fn nameless_sheet(k: u64) -> Sheet
     ensures { Bounded result }
 {
     match k {
-        0 => written(b"T\n", &[RULE, TRUE], 0, 0),
-        6 => written(b"1=0\n", &[RULE, EMPTY, ALL], 0, 0),
-        7 => written(b"C(1,1)\n", &[RULE, CONTACT, ALL, ALL], 0, 0),
-        10 => written(b"F -> F -> F\n", &[RULE, IF, IF, FALSE, FALSE, FALSE], 0, 0),
-        _ => written(b"T | F & F\n", &[RULE, OR, TRUE, AND, FALSE, FALSE], 0, 0),
+        0 => written(b"T\n", &[Sign::Rule, Sign::True], 0, 0),
+        6 => written(b"1=0\n", &[Sign::Rule, Sign::Empty, Sign::All], 0, 0),
+        7 => written(
+            b"C(1,1)\n",
+            &[Sign::Rule, Sign::Contact, Sign::All, Sign::All],
+            0,
+            0,
+        ),
+        10 => written(
+            b"F -> F -> F\n",
+            &[
+                Sign::Rule,
+                Sign::If,
+                Sign::If,
+                Sign::False,
+                Sign::False,
+                Sign::False,
+            ],
+            0,
+            0,
+        ),
+        _ => written(
+            b"T | F & F\n",
+            &[
+                Sign::Rule,
+                Sign::Or,
+                Sign::True,
+                Sign::And,
+                Sign::False,
+                Sign::False,
+            ],
+            0,
+            0,
+        ),
     }
 }
 
@@ -812,91 +857,71 @@ pub struct Numbers {
 }
 
 // How many operands a sign has.
-pub fn operands(sign: u8) -> usize
+pub fn operands(sign: Sign) -> usize
     ensures { result < 3 }
 {
-    if sign < REST {
-        return 0;
+    match sign {
+        Sign::Rest | Sign::Not | Sign::Empty | Sign::SpacedEmpty => 1,
+        Sign::Common | Sign::Either | Sign::Contact | Sign::Part => 2,
+        Sign::And | Sign::Or | Sign::If | Sign::ExactlyIf => 2,
+        _ => 0,
     }
-    if sign < COMMON {
-        return 1;
-    }
-    if sign < NAME {
-        return 2;
-    }
-    0
 }
 
 // Whether a sign is an atom's.
-pub fn is_atom(sign: u8) -> bool
-    ensures { result ≡ true → (5 < sign) × (sign < 12) }
+pub fn is_atom(sign: Sign) -> bool
+    ensures { result ≡ is_of_atom sign }
 {
-    match sign {
-        CONTACT | PART | EMPTY | SPACED_EMPTY => true,
-        _ => false,
-    }
-}
-
-// The sign so many places after a place; past the form's end that of a rule.
-fn sign_after(code: &[u8], p: usize, i: usize) -> u8 {
-    if p < code.len() {
-        if i < code.len() - p {
-            return code[p + i];
-        }
-    }
-    RULE
+    matches!(
+        sign,
+        Sign::Contact | Sign::Part | Sign::Empty | Sign::SpacedEmpty
+    )
 }
 
 // How many terms are still to come after a sign of them.
-fn still_wanted(wanted: usize, sign: u8) -> usize {
+fn still_wanted(wanted: usize, sign: Sign) -> usize {
     match operands(sign) {
-        0 => {
-            if 0 < wanted {
-                return wanted - 1;
-            }
-            0
-        }
+        0 => wanted.saturating_sub(1),
         1 => wanted,
         _ => wanted % 512 + 1,
     }
 }
 
 // The place after the term at a place.
-fn after_term(code: &[u8], p: usize) -> usize {
+fn after_term(code: &[Sign], p: usize) -> usize
+    ensures within { result ≤ length code.now }
+    ensures after { p ≤ length code.now → p ≤ result }
+{
     let mut wanted: usize = 1;
-    let mut i = p;
-    while i < code.len() {
+    for i in p..code.len() {
         if wanted == 0 {
             return i;
         }
         wanted = still_wanted(wanted, code[i]);
-        i += 1;
     }
-    i
+    code.len()
 }
 
-// Whether the terms at two places are the same.
-fn same_term(code: &[u8], p: usize, q: usize) -> bool {
-    let mut wanted: usize = 1;
-    let mut i: usize = 0;
-    while i < code.len() {
-        if wanted == 0 {
-            return true;
-        }
-        let sign = sign_after(code, p, i);
-        if sign != sign_after(code, q, i) {
-            return false;
-        }
-        wanted = still_wanted(wanted, sign);
-        i += 1;
-    }
-    false
+// The signs of the term at a place.
+fn term_at(code: &[Sign], p: usize) -> &[Sign] {
+    let start = p.min(code.len());
+    &code[start..after_term(code, start)]
+}
+
+// The signs of the term after that one.
+fn term_after(code: &[Sign], p: usize) -> &[Sign] {
+    term_at(code, after_term(code, p))
 }
 
 // The sign of an atom: `= 0` is `=0`.
-fn atom_sign(code: &[u8], p: usize) -> u8 {
-    let sign = sign_after(code, p, 0);
-    if sign == SPACED_EMPTY { EMPTY } else { sign }
+fn atom_sign(code: &[Sign], p: usize) -> Sign {
+    if code.len() <= p {
+        return Sign::Rule;
+    }
+    match code[p] {
+        Sign::SpacedEmpty => Sign::Empty,
+        sign => sign,
+    }
 }
 
 // The place after another.
@@ -905,48 +930,33 @@ fn next_place(p: usize) -> usize {
 }
 
 // Whether two atoms with one sign have the same terms in the same order.
-fn alike(code: &[u8], p: usize, q: usize) -> bool {
+fn alike(code: &[Sign], p: usize, q: usize) -> bool {
     let first = next_place(p);
     let other = next_place(q);
-    if !same_term(code, first, other) {
-        return false;
-    }
-    if atom_sign(code, p) == EMPTY {
-        return true;
-    }
-    same_term(code, after_term(code, first), after_term(code, other))
+    term_at(code, first) == term_at(code, other)
+        && (atom_sign(code, p) == Sign::Empty || term_after(code, first) == term_after(code, other))
 }
 
 // Whether two atoms with one sign are contacts whose terms are exchanged.
-fn exchanged(code: &[u8], p: usize, q: usize) -> bool {
+fn exchanged(code: &[Sign], p: usize, q: usize) -> bool {
     let first = next_place(p);
     let other = next_place(q);
-    atom_sign(code, p) == CONTACT
-        && same_term(code, first, after_term(code, other))
-        && same_term(code, after_term(code, first), other)
+    atom_sign(code, p) == Sign::Contact
+        && term_at(code, first) == term_after(code, other)
+        && term_after(code, first) == term_at(code, other)
 }
 
 // Whether the atoms at two places are the same.
-fn same_atom(code: &[u8], p: usize, q: usize) -> bool {
-    if atom_sign(code, p) != atom_sign(code, q) {
-        return false;
-    }
-    alike(code, p, q) || exchanged(code, p, q)
+fn same_atom(code: &[Sign], p: usize, q: usize) -> bool {
+    atom_sign(code, p) == atom_sign(code, q) && (alike(code, p, q) || exchanged(code, p, q))
 }
 
-// The number of the first atom that is the same as the one at a place; where there is none, how many there are.
-fn number_of(code: &[u8], numbers: Numbers, p: usize) -> usize {
-    let firsts = numbers.firsts;
-    let mut j: usize = 0;
-    while j < 32 {
-        if j < numbers.count {
-            if same_atom(code, firsts[j], p) {
-                return j;
-            }
-        }
-        j += 1;
-    }
-    numbers.count
+// The number of the first atom that is the same as the one at a place.
+fn number_of(code: &[Sign], numbers: Numbers, p: usize) -> Option<usize>
+    requires { Few numbers }
+{
+    let firsts = &numbers.firsts[..numbers.count];
+    firsts.iter().position(|first| same_atom(code, *first, p))
 }
 
 // One number more, for the atom at a place.
@@ -978,41 +988,35 @@ fn with_place(numbers: Numbers, number: usize) -> Numbers
 }
 
 // One atom more, that at a place.
-fn with_numbered(code: &[u8], numbers: Numbers, p: usize) -> Numbers
+fn with_numbered(code: &[Sign], numbers: Numbers, p: usize) -> Numbers
     requires { Few numbers }
     ensures { Few result }
 {
-    let number = number_of(code, numbers, p);
-    let firsts = numbers.firsts;
+    let Some(number) = number_of(code, numbers, p) else {
+        return with_first_atom(with_place(numbers, numbers.count), p);
+    };
     let mut next = with_place(numbers, number);
-    if number == numbers.count {
-        return with_first_atom(next, p);
-    }
-    if !alike(code, firsts[number % 32], p) {
+    if !alike(code, numbers.firsts[number % 32], p) {
         next.exchanged = true;
     }
     next
 }
 
 // The numbers of a form's atoms.
-pub fn numbers_of(code: &[u8]) -> Numbers
+pub fn numbers_of(code: &[Sign]) -> Numbers
     ensures { Few result }
 {
-    let of = [0u8; 32];
-    let firsts = [0usize; 32];
     let mut numbers = Numbers {
-        of,
+        of: [0u8; 32],
         places: 0,
-        firsts,
+        firsts: [0usize; 32],
         count: 0,
         exchanged: false,
     };
-    let mut p: usize = 0;
-    while p < code.len() {
-        if is_atom(code[p]) {
+    for (p, sign) in code.iter().enumerate() {
+        if is_atom(*sign) {
             numbers = with_numbered(code, numbers, p);
         }
-        p += 1;
     }
     numbers
 }

@@ -6,13 +6,13 @@ use mathlib.Core.Path.{◌≡◌, sym, ap, ap₂, ◌∙◌}
 use mathlib.Core.List.{List}
 use Prim.Native.Nat.{ℕ, ◌+◌, ◌≤◌, ◌<◌}
 use native.Mathlib.Omega.{arith}
+use Rattle.std.specs.Prelude.{None, Some}
 use Rattle.lists.specs.Search.{first, below}
 use Rattle.lists.proofs.Below.{first_at, first_none_below}
 use Rattle.lists.proofs.Truth.{side}
 use Rattle.evalset.specs.Bit.{bit}
 use Rattle.kleene.specs.Rails.{word_rows}
 use Rattle.formula.specs.Formula.{Atom}
-use Rattle.evalset.specs.declared.Found.TheVariants.{Nothing as NoneFound}
 use Rattle.evalset.specs.Sets.{drop_of, from_of, found_of}
 use Rattle.evalset.proofs.Walk.{from_zero, Step, stop}
 use Rattle.contact.specs.Question.{building}
@@ -21,7 +21,6 @@ use Rattle.search.specs.Compiled.{Compiled}
 use Rattle.search.specs.Planned.{marks_in}
 use Rattle.search.specs.Building.{BuildingSays}
 use Rattle.search.proofs.Claims.{building_is}
-use Rattle.solver.specs.declared.RowAnswer.TheVariants.{At, Nothing}
 use Rattle.solver.specs.Tree.{answer_of, counts, ChosenSays}
 
 module _ (chart : Chart) (set : ℕ) (start : ℕ) where
@@ -39,14 +38,14 @@ module _ (chart : Chart) (set : ℕ) (start : ℕ) where
 
   module _ (rest : ℕ) (at : ℕ) (t : Tried rest at) where
     -- none is left
-    pub none_met : ((e : ℕ) → at ≤ e → e < word_rows → bit set e ≡ false) → ChosenSays building chart (bit set) start Nothing
+    pub none_met : ((e : ℕ) → at ≤ e → e < word_rows → bit set e ≡ false) → ChosenSays building chart (bit set) start None
     unfolding ChosenSays
     none_met out = λ atoms h.
         sym (ap (answer_of start) (first_none_below (met atoms) word_rows
         (λ e l. ⊎_elim (t.none atoms h e)
         (λ m. ap (λ (b : Bool). b && counts building chart.names (marks_in chart atoms (start + e))) (out e m l)) (side e at))))
 
-    pub none_left : found_of (first (bit rest) (below word_rows)) ≡ NoneFound → ChosenSays building chart (bit set) start Nothing
+    pub none_left : found_of (first (bit rest) (below word_rows)) ≡ None → ChosenSays building chart (bit set) start None
     none_left f = none_met (stop word_rows at (bit set) (bit rest) t.rest_is f)
 
     module _ (e : ℕ) (s : Step word_rows at e (bit set) (bit rest)) (r : Bool) (says : BuildingSays chart (start + e) r) where
@@ -59,7 +58,7 @@ module _ (chart : Chart) (set : ℕ) (start : ℕ) where
       here atoms h = ap₂ ◌&&◌ s.passes (sym (building_is chart atoms h r (start + e) says))
 
       -- the row that is taken is met: it is the first
-      pub met_first : r ≡ true → ChosenSays building chart (bit set) start (At (start + e))
+      pub met_first : r ≡ true → ChosenSays building chart (bit set) start (Some (start + e))
       unfolding ChosenSays
       met_first q = λ atoms h.
           sym (ap (answer_of start) (first_at (met atoms) word_rows e (record { within = s.within; passes = here atoms h ∙ q; before = before atoms h })))

@@ -9,6 +9,7 @@ use lib.ListN.{length, replicate, take, length-replicate}
 use lib.Pow.{pow_mono, pow_pos}
 use Rattle.formula.specs.Atoms.{is_contact}
 use Rattle.formula.specs.Formula.{Atom}
+use Rattle.std.specs.Prelude.{Option}
 use Rattle.lists.specs.Search.{first}
 use Rattle.lists.proofs.Lists.{repeated_at}
 use Rattle.evalset.specs.Bit.{bit}
@@ -25,7 +26,6 @@ use Rattle.search.specs.Compiled.{limit, AtomIs, atom_at, contact_at, Compiled}
 use Rattle.pairing.specs.Words.{Spelt, Contacts, Serving}
 use Rattle.pairing.specs.Listed.{pair_count, Listable, ListSays}
 use Rattle.solver.specs.declared.Cut.{Cut}
-use Rattle.solver.specs.declared.RowAnswer.{RowAnswer}
 use Rattle.solver.specs.Coded.{part, Coded}
 use Rattle.solver.specs.Tree.{answer_for, CutOf, Given, Finds, evaluation_count, Unseen, Roomy, SearchSays}
 
@@ -86,7 +86,7 @@ contacts_compiled chart atoms contacts h s =
 
 -- ---- the answer
 
-pub root_first : (code ends : List ℕ) (chart : Chart) (asked : Asked) (contacts : ℕ) (list list' : List ℕ) (count : ℕ) (cut : Cut) (r : RowAnswer)
+pub root_first : (code ends : List ℕ) (chart : Chart) (asked : Asked) (contacts : ℕ) (list list' : List ℕ) (count : ℕ) (cut : Cut) (r : Option ℕ)
     → Spelt chart.atoms (contact_at chart) contacts → ListSays chart list list' count → CutOf (part list' 0 count) contacts chart.atoms asked cut
     → ((g : Given code ends chart cut) → Serving chart.names g.atoms (part list' 0 count) → Finds g 0 0 (cut.k + (cut.w + cut.r)) r)
     → SearchSays (question_of asked) code ends chart r

@@ -32,7 +32,7 @@ use Rattle.search.specs.Planned.{marks_in}
 use Rattle.search.proofs.Rows.{row_length, number_back}
 use Rattle.pairing.specs.Words.{Serving, lone, row_test, Judges}
 use Rattle.solver.specs.declared.Cut.{Cut}
-use Rattle.solver.specs.declared.RowAnswer.TheVariants.{At}
+use Rattle.std.specs.Prelude.{Some}
 use Rattle.solver.specs.Tree.{UnrefutedSays, WholeSays, answer_for, answer_of, CutFor, Given, Tested, RowsTested, WordsTested, Left, good_for, Finds, counts}
 use Rattle.solver.proofs.Codes.{coded_numbers}
 use Rattle.solver.proofs.Blocks.{RowsAre}
@@ -185,6 +185,6 @@ module _ {code ends : List ℕ} {chart : Chart} {cut : Cut} (g : Given code ends
             go (x ∷ xs) s =
                 let t : bit left x ≡ true = ((and-eq-true_iff (bit left x) (counts (question_of cut.asked) chart.names (marks_in chart g.atoms (start + x)))).0 s.2).0 in
                 let l : x < 2 ^ d = says.low x ((and-eq-true_iff (bit set x) (row_test table one contacts low (start + x))).0 (sym (are x) ∙ t)).0 in
-                ap At (ap (λ (y : ℕ). y + x) z ∙ sym (number_back (k + d) (row * 2 ^ d + x) (under_fits k d row x fits l)))
+                ap Some (ap (λ (y : ℕ). y + x) z ∙ sym (number_back (k + d) (row * 2 ^ d + x) (under_fits k d row x fits l)))
                 ∙ ap answer_for (sym (walk_at (good_for g) k row d 0 x l (λ e b m. at_row e m false (s.3 e (omega arith) b)) (row_bits (k + d) (row * 2 ^ d + x)) []
                 (at_row x l true s.2)))

@@ -1,6 +1,6 @@
 -- What is computed, and for proofs what the private functions ensure: sets of rows under a row, how a search cuts the atoms, what it leaves
 -- out and what it finds. `FirstRowSays` is the contract of `first_row`, which only our own crates call. Assumes nothing.
-use Rattle.std.specs.Prelude.{Bool, true, false, not, ◌&&◌, ◌≡◌, List, [], ◌∷◌, ◌++◌, map, ℕ, ◌+◌, ◌-◌, ◌*◌, ◌/◌, ◌^◌, ◌≤◌, ◌<◌, min, length, get_or}
+use Rattle.std.specs.Prelude.{Bool, true, false, not, ◌&&◌, ◌≡◌, List, [], ◌∷◌, ◌++◌, map, ℕ, ◌+◌, ◌-◌, ◌*◌, ◌/◌, ◌^◌, ◌≤◌, ◌<◌, min, length, get_or, Option, None, Some}
 use Rattle.formula.specs.Formula.{Atom, Form}
 use Rattle.lists.specs.Search.{first, below}
 use Rattle.evalset.specs.Bit.{word_levels, bit}
@@ -21,8 +21,6 @@ use Rattle.search.specs.Building.{BuildingSays}
 use Rattle.pairing.specs.Words.{Contacts, lone, row_test}
 use Rattle.pairing.specs.Listed.{seen_at, pair_count}
 use Rattle.solver.specs.declared.Cut.{Cut}
-use Rattle.solver.specs.declared.RowAnswer.{RowAnswer}
-use Rattle.solver.specs.declared.RowAnswer.TheVariants.{At, Nothing}
 use Rattle.solver.specs.Coded.{SafeFrom, Coded}
 
 -- ---- rows under a row
@@ -87,14 +85,14 @@ pub record Runnable (code ends : List ℕ) (chart : Chart) : Type 0 where
   pub atoms_fit : chart.atoms ≤ limit
 
 -- the answer for the row that is found, a list of none or one: its number
-abbrev pub answer_for : List Row → RowAnswer
-answer_for [] = Nothing
-answer_for (row ∷ rows) = At (row_number row)
+abbrev pub answer_for : List Row → Option ℕ
+answer_for [] = None
+answer_for (row ∷ rows) = Some (row_number row)
 
 -- the first of a set of rows, counted from `start`
-abbrev pub answer_of : ℕ → List ℕ → RowAnswer
-answer_of start [] = Nothing
-answer_of start (e ∷ es) = At (start + e)
+abbrev pub answer_of : ℕ → List ℕ → Option ℕ
+answer_of start [] = None
+answer_of start (e ∷ es) = Some (start + e)
 
 -- ---- the search
 
@@ -157,7 +155,7 @@ module _ {code ends : List ℕ} {chart : Chart} {cut : Cut} (g : Given code ends
   good_for = good (question_of cut.asked) chart.names g.atoms g.rules
 
   -- the answer is the first good row under the row of k atoms, s atoms more
-  abbrev pub Finds : ℕ → ℕ → ℕ → RowAnswer → Type 0
+  abbrev pub Finds : ℕ → ℕ → ℕ → Option ℕ → Type 0
   Finds k row s r = r ≡ answer_for (first good_for (under (row_bits k row) s))
 
 -- ---- of rows that pass the plain check, those that count
@@ -168,12 +166,12 @@ counts plain names ms = true
 counts building names ms = passes building names ms
 
 -- the first of a set of rows, counted from `start`, that counts
-unfoldable pub ChosenSays : Question → Chart → (ℕ → Bool) → ℕ → RowAnswer → Type 0
+unfoldable pub ChosenSays : Question → Chart → (ℕ → Bool) → ℕ → Option ℕ → Type 0
 ChosenSays q chart set start r =
     (atoms : List (Atom ℕ)) → Compiled chart atoms → r ≡ answer_of start (first (λ e. set e && counts q chart.names (marks_in chart atoms (start + e))) (below word_rows))
 
 -- for one building
-abbrev pub BuildingsSay : Chart → (ℕ → Bool) → ℕ → RowAnswer → Type 0
+abbrev pub BuildingsSay : Chart → (ℕ → Bool) → ℕ → Option ℕ → Type 0
 BuildingsSay = ChosenSays building
 
 -- ---- rows that no piece meets
@@ -208,13 +206,13 @@ pub record Roomy (chart : Chart) (seen list : List ℕ) : Type 0 where
 -- ---- the answer
 
 -- what is found is the first good row under the row of no atoms, for all atoms and rules that the code and the chart come from
-unfoldable pub SearchSays : Question → List ℕ → List ℕ → Chart → RowAnswer → Type 0
+unfoldable pub SearchSays : Question → List ℕ → List ℕ → Chart → Option ℕ → Type 0
 SearchSays q code ends chart r =
     (atoms : List (Atom ℕ)) (rules : List (Form ℕ)) → ComesFrom code ends chart atoms rules
     → r ≡ answer_for (first (good q chart.names atoms rules) (under [] (length atoms)))
 
 -- so the answer is the number of the first row for the question, or that there is none
-unfoldable pub FirstRowSays : Question → List ℕ → List ℕ → Chart → RowAnswer → Type 0
+unfoldable pub FirstRowSays : Question → List ℕ → List ℕ → Chart → Option ℕ → Type 0
 FirstRowSays q code ends chart r =
     (atoms : List (Atom ℕ)) (rules : List (Form ℕ)) → ComesFrom code ends chart atoms rules
     → r ≡ answer_for (first_row q chart.names atoms rules)

@@ -20,16 +20,9 @@ ghost use Rattle.pairing.specs.Words.{Serving};
 ghost use Rattle.solver.specs.Coded.{SafeFrom, RefutedSays, TrueSays};
 ghost use Rattle.solver.specs.Tree.{decided_at, Low, YesLeaves, NoLeaves, RowLeaves, WordLeaves, WholeSays, UnrefutedSays, answer_of, Fits, CutFor, Lent, Given, RowsTested, WordsTested, Left, Finds, BuildingsSay, ChosenSays, Shut, ShutTo, CutOf, evaluation_count, Unseen, Roomy, Runnable, SearchSays, FirstRowSays};
 
-use evalset::{Found, NAMES};
+use evalset::NAMES;
 use pairing::PLACES;
 use search::{ATOMS, Asked, Chart};
-
-// What the search answers: a row by its number, or none.
-#[derive(Clone, Copy)]
-pub enum RowAnswer {
-    At(usize),
-    Nothing,
-}
 
 // How a search cuts the atoms: the first k number the blocks, the next w the words of a block, the last r the rows of a word. With
 // the contacts, and whether some pair serves no atom (`lone`), or none above the last r (`above`); and what is asked.
@@ -82,11 +75,8 @@ fn yes_leaves(row: usize, k: usize, d: usize) -> [u64; ATOMS]
     ensures { YesLeaves row k d result }
 {
     let mut out = [0u64; ATOMS];
-    let n = k + d;
-    let mut i: usize = 0;
-    while i < n {
+    for i in 0..k + d {
         out[i] = leaf(row, k, d, i);
-        i += 1;
     }
     out
 }
@@ -97,10 +87,8 @@ fn no_leaves(yes: &[u64; ATOMS], n: usize) -> [u64; ATOMS]
     ensures { NoLeaves n yes.now result }
 {
     let mut out = [0u64; ATOMS];
-    let mut i: usize = 0;
-    while i < n {
+    for i in 0..n {
         out[i] = kleene::flipped(yes[i]);
-        i += 1;
     }
     out
 }
@@ -114,13 +102,10 @@ fn some_refuted(code: &[u8], ends: &[usize], yes: &[u64; ATOMS], no: &[u64; ATOM
     let mut ns = [0u64; 128];
     let mut acc: u64 = 0;
     let mut from: usize = 0;
-    let mut i: usize = 0;
-    while i < ends.len() {
-        let end = ends[i];
+    for &end in ends {
         let found = kleene::run_rails(&code[from..end], yes, no, &mut ys, &mut ns);
-        acc = acc | found.no;
+        acc |= found.no;
         from = end;
-        i += 1;
     }
     acc
 }
@@ -144,10 +129,8 @@ fn row_leaves(row: usize, k: usize, leaves: &mut [u64; ATOMS])
     requires { (k ≤ limit) × (length leaves.old ≡ 16) }
     ensures { RowLeaves row k leaves.old leaves.new }
 {
-    let mut i: usize = 0;
-    while i < k {
+    for i in 0..k {
         leaves[i] = row_leaf(row, k, i);
-        i += 1;
     }
 }
 
@@ -158,10 +141,8 @@ fn word_leaves(k: usize, d: usize) -> [u64; ATOMS]
 {
     let mut out = [0u64; ATOMS];
     let n = k + d;
-    let mut i = k;
-    while i < n {
+    for i in k..n {
         out[i] = word_leaf(n - 1 - i);
-        i += 1;
     }
     out
 }
@@ -173,15 +154,12 @@ fn all_true(code: &[u8], ends: &[usize], leaves: &[u64; ATOMS], stack: &mut [u64
 {
     let mut left: u64 = 0xFFFF_FFFF_FFFF_FFFF;
     let mut from: usize = 0;
-    let mut i: usize = 0;
-    while i < ends.len() {
+    for &end in ends {
         if left == 0 {
             return 0;
         }
-        let end = ends[i];
-        left = left & kleene::run_whole(&code[from..end], leaves, stack);
+        left &= kleene::run_whole(&code[from..end], leaves, stack);
         from = end;
-        i += 1;
     }
     left
 }
@@ -206,14 +184,12 @@ fn whole_candidates(
 }
 
 // The first of a set of rows, counted from `start`.
-fn answer(set: u64, start: usize) -> RowAnswer
+fn answer(set: u64, start: usize) -> Option<usize>
     requires { start < 4294967232 }
     ensures { result ≡ answer_of start (first (bit set) (below word_rows)) }
 {
-    let Found::At(e) = evalset::word_least(set) else {
-        return RowAnswer::Nothing;
-    };
-    RowAnswer::At(start + e)
+    let e = evalset::word_least(set)?;
+    Some(start + e)
 }
 
 // How many of the last atoms the first look leaves out: no more than r, and no more than those from the first on in which the row differs
@@ -226,14 +202,12 @@ fn level_of(row: usize, till: usize, r: usize) -> usize
         return r;
     }
     let last = till - 1;
-    let mut d: usize = 0;
-    while d < r {
+    for d in 0..r {
         if (row >> (d + 1)) == (last >> (d + 1)) {
             return d;
         }
-        d += 1;
     }
-    d
+    r
 }
 
 // Up to where no piece meets the rows from this one on: the row itself, where one does. Where no piece meets its first atoms, none meets any
@@ -243,12 +217,11 @@ fn shut_to(chart: Chart, row: usize, top: usize) -> usize
     ensures { ShutTo chart row result }
 {
     let n = chart.atoms;
-    let mut d = top;
-    while d > 0 {
+    for more in 0..top {
+        let d = top - more;
         if !search::building_of(chart, n - d, row >> d) {
             return ((row >> d) + 1) << d;
         }
-        d -= 1;
     }
     if search::building(chart, row) {
         row
@@ -265,35 +238,30 @@ fn passed_to(chart: Chart, row: usize, till: usize) -> usize
     if row < till {
         return till;
     }
-    let r = least_of(chart.atoms, 6);
+    let r = chart.atoms.min(6);
     shut_to(chart, row, level_of(row, till, r))
 }
 
 // The first of a set of rows, counted from `start`, that some piece meets.
-fn first_building(chart: Chart, set: u64, start: usize) -> RowAnswer
+fn first_building(chart: Chart, set: u64, start: usize) -> Option<usize>
     requires { (start < 4294967232) × (chart.atoms ≤ limit) }
     ensures { BuildingsSay chart (bit set) start result }
 {
     let mut rest = set;
-    let mut at: usize = 0;
     let mut till: usize = 0;
-    while at < 64 {
-        let Found::At(e) = evalset::word_least(rest) else {
-            return RowAnswer::Nothing;
-        };
+    while let Some(e) = evalset::word_least(rest) {
         let row = start + e;
         till = passed_to(chart, row, till);
         if till == row {
-            return RowAnswer::At(row);
+            return Some(row);
         }
         rest = evalset::word_without(rest, e);
-        at = e + 1;
     }
-    RowAnswer::Nothing
+    None
 }
 
 // Of a set of rows that pass the check, the first that counts for what is asked.
-fn chosen(chart: Chart, asked: Asked, set: u64, start: usize) -> RowAnswer
+fn chosen(chart: Chart, asked: Asked, set: u64, start: usize) -> Option<usize>
     requires { (start < 4294967232) × (chart.atoms ≤ limit) }
     ensures { ChosenSays (question_of asked) chart (bit set) start result }
 {
@@ -314,7 +282,7 @@ fn word(
     cut: Cut,
     row: usize,
     e: usize,
-) -> RowAnswer
+) -> Option<usize>
     requires { SafeFrom code.now 0 ends.now × Fits cut × (row < 2 ^ cut.k) × (e < 2 ^ cut.w) × Lent cut leaves.old stack.old × (chart.atoms ≤ limit) }
     ensures { Lent cut leaves.new stack.new × ((g : Given code.now ends.now chart cut) → RowsTested g table.now row → Finds g (cut.k + cut.w) (row * 2 ^ cut.w + e) cut.r result) }
 {
@@ -353,24 +321,19 @@ fn in_words(
     cut: Cut,
     row: usize,
     words: u64,
-) -> RowAnswer
+) -> Option<usize>
     requires { SafeFrom code.now 0 ends.now × Fits cut × (row < 2 ^ cut.k) × Low cut.w words × Lent cut leaves.old stack.old × (chart.atoms ≤ limit) }
     ensures { Lent cut leaves.new stack.new × ((g : Given code.now ends.now chart cut) → RowsTested g table.now row × Left g cut.k row cut.w words → Finds g cut.k row (cut.w + cut.r) result) }
 {
     let mut rest = words;
-    let mut at: usize = 0;
-    while at < 64 {
-        let Found::At(e) = evalset::word_least(rest) else {
-            return RowAnswer::Nothing;
-        };
+    while let Some(e) = evalset::word_least(rest) {
         let found = word(code, ends, leaves, stack, table, chart, cut, row, e);
-        let RowAnswer::Nothing = found else {
+        if found.is_some() {
             return found;
-        };
+        }
         rest = evalset::word_without(rest, e);
-        at = e + 1;
     }
-    RowAnswer::Nothing
+    None
 }
 
 // The first row of a block. Its table is made only if some word is left.
@@ -384,20 +347,20 @@ fn block(
     chart: Chart,
     cut: Cut,
     row: usize,
-) -> RowAnswer
+) -> Option<usize>
     requires { SafeFrom code.now 0 ends.now × CutFor list.now cut × (row < 2 ^ cut.k) × Lent cut leaves.old stack.old × (chart.atoms ≤ limit) }
     ensures { Lent cut leaves.new stack.new × ((g : Given code.now ends.now chart cut) → Serving chart.names g.atoms list.now → WordsTested g upper.now row → Finds g cut.k row (cut.w + cut.r) result) }
 {
     let words = words_left(code, ends, upper, cut, row);
     if words == 0 {
-        return RowAnswer::Nothing;
+        return None;
     }
     let table = pairing::judged(list, cut.contacts, 0, cut.w + cut.r, row);
     in_words(code, ends, leaves, stack, &table, chart, cut, row, words)
 }
 
 // The first row in the blocks, one block after the other. The table of the first atoms serves all their words.
-fn in_blocks(code: &[u8], ends: &[usize], list: &[u16], chart: Chart, cut: Cut) -> RowAnswer
+fn in_blocks(code: &[u8], ends: &[usize], list: &[u16], chart: Chart, cut: Cut) -> Option<usize>
     requires { SafeFrom code.now 0 ends.now × CutFor list.now cut × (chart.atoms ≤ limit) }
     ensures { (g : Given code.now ends.now chart cut) → Serving chart.names g.atoms list.now → Finds g 0 0 (cut.k + (cut.w + cut.r)) result }
 {
@@ -405,11 +368,7 @@ fn in_blocks(code: &[u8], ends: &[usize], list: &[u16], chart: Chart, cut: Cut) 
     let mut leaves = word_leaves(cut.k + cut.w, cut.r);
     let upper = pairing::judged(list, cut.contacts, cut.r, cut.k + cut.w, 0);
     let mut rest = unrefuted(code, ends, 0, 0, cut.k);
-    let mut at: usize = 0;
-    while at < 64 {
-        let Found::At(e) = evalset::word_least(rest) else {
-            return RowAnswer::Nothing;
-        };
+    while let Some(e) = evalset::word_least(rest) {
         let found = block(
             code,
             ends,
@@ -421,17 +380,16 @@ fn in_blocks(code: &[u8], ends: &[usize], list: &[u16], chart: Chart, cut: Cut) 
             cut,
             e,
         );
-        let RowAnswer::Nothing = found else {
+        if found.is_some() {
             return found;
-        };
+        }
         rest = evalset::word_without(rest, e);
-        at = e + 1;
     }
-    RowAnswer::Nothing
+    None
 }
 
 // The first row where one word has all rows: no table of the first atoms is made.
-fn in_word(code: &[u8], ends: &[usize], list: &[u16], chart: Chart, cut: Cut) -> RowAnswer
+fn in_word(code: &[u8], ends: &[usize], list: &[u16], chart: Chart, cut: Cut) -> Option<usize>
     requires { SafeFrom code.now 0 ends.now × CutFor list.now cut × (cut.k + cut.w ≡ 0) × (chart.atoms ≤ limit) }
     ensures { (g : Given code.now ends.now chart cut) → Serving chart.names g.atoms list.now → Finds g 0 0 (cut.k + (cut.w + cut.r)) result }
 {
@@ -451,20 +409,13 @@ fn in_word(code: &[u8], ends: &[usize], list: &[u16], chart: Chart, cut: Cut) ->
     )
 }
 
-// The lesser of two numbers.
-fn least_of(a: usize, b: usize) -> usize
-    ensures { result ≡ min a b }
-{
-    if a < b { a } else { b }
-}
-
 // The cut of n atoms: up to six for the rows of a word, up to four for the words of a block, and the others for the blocks.
 fn cut_of(list: &[u16], contacts: u32, n: usize, asked: Asked) -> Cut
     requires { (n ≤ limit) × (contacts < 65536) }
     ensures { CutOf list.now contacts n asked result }
 {
-    let r = least_of(n, 6);
-    let w = least_of(n - r, 4);
+    let r = n.min(6);
+    let w = (n - r).min(4);
     Cut {
         asked,
         k: n - r - w,
@@ -481,7 +432,7 @@ pub fn all_evaluations(names: usize) -> usize
     ensures { result ≡ evaluation_count names }
 {
     let one: usize = 1;
-    one << least_of(names, NAMES)
+    one << names.min(NAMES)
 }
 
 // The search with the lent memory for the words that are seen and for the list of words.
@@ -492,7 +443,7 @@ fn searched(
     asked: Asked,
     seen: &mut [u64],
     list: &mut [u16],
-) -> RowAnswer
+) -> Option<usize>
     requires { Runnable code.now ends.now chart × Roomy chart seen.old list.old }
     ensures { SearchSays (question_of asked) code.now ends.now chart result }
 {
@@ -507,7 +458,13 @@ fn searched(
 }
 
 // The same with room for the list of words by the number of names: sheets of few names do not clear more than they need.
-fn listed(code: &[u8], ends: &[usize], chart: Chart, asked: Asked, seen: &mut [u64]) -> RowAnswer
+fn listed(
+    code: &[u8],
+    ends: &[usize],
+    chart: Chart,
+    asked: Asked,
+    seen: &mut [u64],
+) -> Option<usize>
     requires { Runnable code.now ends.now chart × Unseen chart seen.old }
     ensures { SearchSays (question_of asked) code.now ends.now chart result }
 {
@@ -525,7 +482,7 @@ fn listed(code: &[u8], ends: &[usize], chart: Chart, asked: Asked, seen: &mut [u
 
 // "The first realisable row that makes all rules true"; for one building "the first that some such plan realises with all rules true". Our own crates alone call it, with code and chart that they made from
 // rules: `runnable` of proofs/Claims.antt meets the requires for these.
-pub fn first_row(code: &[u8], ends: &[usize], chart: Chart, asked: Asked) -> RowAnswer
+pub fn first_row(code: &[u8], ends: &[usize], chart: Chart, asked: Asked) -> Option<usize>
     requires { Runnable code.now ends.now chart }
     ensures { FirstRowSays (question_of asked) code.now ends.now chart result }
 {

@@ -11,14 +11,14 @@ ghost use Rattle.spelling.specs.Comparing.{wanted_before, Starts, Agree, Matches
 // ---- the number of an atom
 
 // How many terms end before a symbol, where so many end with it.
+#[tactic(auto, unfolding(crate::specs::Comparing::wanted_before))]
 fn wanted_before(symbol: u8, wanted: usize) -> usize
     requires { (0 < wanted) × (wanted ≤ 256) }
     ensures { result ≡ wanted_before symbol wanted }
 {
     match symbol {
         2 => wanted,
-        3 => wanted + 1,
-        4 => wanted + 1,
+        3 | 4 => wanted + 1,
         _ => wanted - 1,
     }
 }
@@ -29,18 +29,17 @@ fn second_start(row: &[u8; 256], len: usize) -> usize
     ensures { Starts row.now len result }
 {
     let mut wanted: usize = 1;
-    let mut i = len;
-    while i > 0 {
+    for i in (0..len).rev() {
         if wanted == 0 {
-            return i;
+            return i + 1;
         }
-        i -= 1;
         wanted = wanted_before(row[i], wanted);
     }
-    i
+    0
 }
 
 // The symbol at a place of an atom that is kept.
+#[tactic(auto, unfolding(crate::specs::Kept::symbol_at))]
 fn symbol_at(kept: &[u8; 2048], number: usize, i: usize) -> u8
     requires { (number < 16) × (i < 256) }
     ensures { result ≡ symbol_at kept.now number i }
@@ -61,12 +60,10 @@ fn agree(
     requires { (number < 16) × (start ≤ end) × (end ≤ 256) × (at + (end - start) ≤ 256) }
     ensures { Tells (Agree kept.now number at row.now start end) result }
 {
-    let mut i = start;
-    while i < end {
+    for i in start..end {
         if row[i] != symbol_at(kept, number, at + (i - start)) {
             return false;
         }
-        i += 1;
     }
     true
 }
@@ -88,13 +85,6 @@ fn matches(kept: &[u8; 2048], number: usize, row: &[u8; 256], len: usize, second
     false
 }
 
-// A byte as a number of symbols.
-fn wide(n: u8) -> usize
-    ensures { result ≡ n }
-{
-    n as usize
-}
-
 // The number of the atom with this row: the place of the first that is the same; how many there are where none is.
 pub fn number_of(
     kept: &[u8; 2048],
@@ -111,18 +101,15 @@ pub fn number_of(
     // Only a contact's terms may be exchanged: of another atom no symbol is passed in search of the second.
     let passed = if contact { len } else { 0 };
     let second = second_start(row, passed);
-    let mut j: usize = 0;
-    while j < many {
-        let here = j;
-        j += 1;
-        if wide(lens[here]) != len {
+    for j in 0..many {
+        if usize::from(lens[j]) != len {
             continue;
         }
-        if contacts[here] != contact {
+        if contacts[j] != contact {
             continue;
         }
-        if matches(kept, here, row, len, second) {
-            return here;
+        if matches(kept, j, row, len, second) {
+            return j;
         }
     }
     many
@@ -131,6 +118,7 @@ pub fn number_of(
 // ---- one atom more
 
 // The symbol at a place of a row; 0 past its end.
+#[tactic(auto, unfolding(crate::specs::Comparing::symbol_in))]
 fn symbol_in(row: &[u8; 256], len: usize, i: usize) -> u8
     requires { len ≤ 256 }
     ensures { result ≡ symbol_in row.now len i }
@@ -143,9 +131,7 @@ pub fn keep_row(kept: &mut [u8; 2048], row: &[u8; 256], len: usize, number: usiz
     requires { Storing kept.old row.now len number }
     ensures { Stores kept.old row.now len number kept.new }
 {
-    let mut i: usize = 0;
-    while 2 * i < len {
+    for i in 0..len.div_ceil(2) {
         kept[128 * number + i] = symbol_in(row, len, 2 * i) + 16 * symbol_in(row, len, 2 * i + 1);
-        i += 1;
     }
 }

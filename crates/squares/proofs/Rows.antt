@@ -94,47 +94,41 @@ short ws = ⊎_elim (λ z. omega arith) (λ z. omega arith)
 
 -- ---- a row joined, word by word
 
--- the first k words of row p have the bits of x too, of which word j has those of y j; the other words are as they were
-pub record JoinedTo (w p : ℕ) (y : ℕ → ℕ) (k : ℕ) (ws ws' : List ℕ) : Type 0 where
+-- the first k words of row p have the members of x too; the other words are as they were
+pub record JoinedTo (w p : ℕ) (x : ℕ → Bool) (k : ℕ) (ws ws' : List ℕ) : Type 0 where
   pub long : length ws' ≡ length ws
-  pub done : (j : ℕ) → j < k → (e : ℕ) → bit (get_or ws' (w * p + j) 0) e ≡ (bit (get_or ws (w * p + j) 0) e || bit (y j) e)
+  pub done : (j : ℕ) → j < k → (e : ℕ) → e < word_bits → bit (get_or ws' (w * p + j) 0) e ≡ (bit (get_or ws (w * p + j) 0) e || x (word_bits * j + e))
   pub before : (i : ℕ) → i < w * p → get_or ws' i 0 ≡ get_or ws i 0
   pub behind : (i : ℕ) → w * p + k ≤ i → get_or ws' i 0 ≡ get_or ws i 0
 
-module _ (w p : ℕ) (y : ℕ → ℕ) (ws : List ℕ) where
-  pub joined_none : JoinedTo w p y 0 ws ws
+module _ (w p : ℕ) (x : ℕ → Bool) (ws : List ℕ) where
+  pub joined_none : JoinedTo w p x 0 ws ws
   joined_none = record { long = refl; done = λ j l. absurd (omega arith); before = λ i l. refl; behind = λ i l. refl }
 
-  pub joined_next : (k : ℕ) (ws' : List ℕ) → w * p + k < length ws → JoinedTo w p y k ws ws'
-      → JoinedTo w p y (k + 1) ws (set ws' (w * p + k) (bit_or (get_or ws' (w * p + k) 0) (y k)))
-  joined_next k ws' l h =
+  pub joined_next : (k v : ℕ) (ws' : List ℕ) → w * p + k < length ws → Bits x k v → JoinedTo w p x k ws ws'
+      → JoinedTo w p x (k + 1) ws (set ws' (w * p + k) (bit_or (get_or ws' (w * p + k) 0) v))
+  joined_next k v ws' l b h =
       record {
         long = length-set ws' (w * p + k) _ ∙ h.long;
-        done = λ j m e. go j m e (dec_eq j k);
+        done = λ j m e n. go j m e n (dec_eq j k);
         before = λ i m. get_or-set_other ws' (w * p + k) i _ 0 (λ z. omega arith) ∙ h.before i m;
         behind = λ i m. get_or-set_other ws' (w * p + k) i _ 0 (λ z. omega arith) ∙ h.behind i (omega arith);
       }
     where
-      go : (j : ℕ) → j < k + 1 → (e : ℕ) → Dec (j ≡ k)
-          → bit (get_or (set ws' (w * p + k) (bit_or (get_or ws' (w * p + k) 0) (y k))) (w * p + j) 0) e ≡ (bit (get_or ws (w * p + j) 0) e || bit (y j) e)
-      go j m e (yes z) =
-          ap (λ (x : ℕ). bit (get_or (set ws' (w * p + k) (bit_or (get_or ws' (w * p + k) 0) (y k))) (w * p + x) 0) e) z
-          ∙ ap (λ (x : ℕ). bit x e) (get_or-set_same ws' (w * p + k) (bit_or (get_or ws' (w * p + k) 0) (y k)) 0 (omega (arith, h.long)))
-          ∙ bit_or_lem (get_or ws' (w * p + k) 0) (y k) e ∙ ap (λ (x : ℕ). bit x e || bit (y k) e) (h.behind (w * p + k) (omega arith))
-          ∙ ap (λ (x : ℕ). bit (get_or ws (w * p + x) 0) e || bit (y x) e) (sym z)
-      go j m e (no ne) =
-          ap (λ (x : ℕ). bit x e) (get_or-set_other ws' (w * p + k) (w * p + j) (bit_or (get_or ws' (w * p + k) 0) (y k)) 0 (λ z. ne (omega arith)))
-          ∙ h.done j (omega (arith, ne)) e
+      go : (j : ℕ) → j < k + 1 → (e : ℕ) → e < word_bits → Dec (j ≡ k)
+          → bit (get_or (set ws' (w * p + k) (bit_or (get_or ws' (w * p + k) 0) v)) (w * p + j) 0) e ≡ (bit (get_or ws (w * p + j) 0) e || x (word_bits * j + e))
+      go j m e n (yes z) =
+          ap (λ (i : ℕ). bit (get_or (set ws' (w * p + k) (bit_or (get_or ws' (w * p + k) 0) v)) (w * p + i) 0) e) z
+          ∙ ap (λ (y : ℕ). bit y e) (get_or-set_same ws' (w * p + k) (bit_or (get_or ws' (w * p + k) 0) v) 0 (omega (arith, h.long)))
+          ∙ bit_or_lem (get_or ws' (w * p + k) 0) v e
+          ∙ ap₂ (λ (y : ℕ) (t : Bool). bit y e || t) (h.behind (w * p + k) (omega arith)) (b e n)
+          ∙ ap (λ (i : ℕ). bit (get_or ws (w * p + i) 0) e || x (word_bits * i + e)) (sym z)
+      go j m e n (no ne) =
+          ap (λ (y : ℕ). bit y e) (get_or-set_other ws' (w * p + k) (w * p + j) (bit_or (get_or ws' (w * p + k) 0) v) 0 (λ z. ne (omega arith)))
+          ∙ h.done j (omega (arith, ne)) e n
 
-  -- by a call
-  pub joined_step : (k at v : ℕ) (ws' more : List ℕ) → at ≡ w * p + k → v ≡ y k → w * p + k < length ws → JoinedTo w p y k ws ws'
-      → more ≡ set ws' at (bit_or (get_or ws' at 0) v) → JoinedTo w p y (k + 1) ws more
-  joined_step k at v ws' more a b l h q =
-      subst (JoinedTo w p y (k + 1) ws) (sym (q ∙ ap₂ (λ (i x : ℕ). set ws' i (bit_or (get_or ws' i 0) x)) a b)) (joined_next k ws' l h)
-
-  pub joined_row : (x : ℕ → Bool) (ws' : List ℕ) → wide ws ≡ w → 0 < w → ((k e : ℕ) → k < w → e < word_bits → bit (y k) e ≡ x (word_bits * k + e))
-      → JoinedTo w p y w ws ws' → Joined p x ws ws'
-  joined_row x ws' z some bits h =
+  pub joined_row : (ws' : List ℕ) → wide ws ≡ w → 0 < w → JoinedTo w p x w ws ws' → Joined p x ws ws'
+  joined_row ws' z some h =
       record { long = h.long; here = here; others = others }
     where
       same : wide ws' ≡ w
@@ -147,9 +141,8 @@ module _ (w p : ℕ) (y : ℕ → ℕ) (ws : List ℕ) where
           let v : q < word_bits * w = omega (arith, l, z) in
           let t : ltb q (word_bits * w) ≡ true = lt-ltb q (word_bits * w) v in
           shape ws' w p same q ∙ ap (λ (b : Bool). b && bit (get_or ws' (w * p + q / word_bits) 0) (q % word_bits)) t
-          ∙ h.done (q / word_bits) m (q % word_bits)
-          ∙ ap₂ ◌||◌ (sym (shape ws w p z q ∙ ap (λ (b : Bool). b && bit (get_or ws (w * p + q / word_bits) 0) (q % word_bits)) t))
-          (bits (q / word_bits) (q % word_bits) m (omega arith) ∙ ap x u)
+          ∙ h.done (q / word_bits) m (q % word_bits) (omega arith)
+          ∙ ap₂ ◌||◌ (sym (shape ws w p z q ∙ ap (λ (b : Bool). b && bit (get_or ws (w * p + q / word_bits) 0) (q % word_bits)) t)) (ap x u)
 
       others : (i q : ℕ) → (i ≡ p → ⊥) → square_at ws' i q ≡ square_at ws i q
       others i q ne =
@@ -205,6 +198,24 @@ module _ (ws : List ℕ) where
   pub wide_reach : (length ws ≡ 64 → ⊥) → reach ws ≡ 256
   wide_reach ne = ap (λ (x : ℕ). word_bits * x) (wide_is ws ne)
 
+-- of a square: a row that it has, and one that it has not
+module _ (ws : List ℕ) (h : Square ws) (p : ℕ) where
+  pub inside : p < reach ws → wide ws * p + wide ws ≤ length ws
+  inside l = ⊎_elim (λ z. narrow_inside ws z p (omega (arith, l, narrow_reach ws z))) large h
+    where
+      large : length ws ≡ 1024 → wide ws * p + wide ws ≤ length ws
+      large z =
+          let ne : length ws ≡ 64 → ⊥ = λ y. omega arith in
+          wide_inside ws h ne p (omega (arith, l, wide_reach ws ne))
+
+  pub outside : reach ws ≤ p → square_at ws p ≡ none_of
+  outside l = ⊎_elim (λ z. narrow_beyond ws z p (omega (arith, l, narrow_reach ws z))) large h
+    where
+      large : length ws ≡ 1024 → square_at ws p ≡ none_of
+      large z =
+          let ne : length ws ≡ 64 → ⊥ = λ y. omega arith in
+          wide_beyond ws h ne p (omega (arith, l, wide_reach ws ne))
+
 -- the reach is that of the length
 pub same_reach : (us ws : List ℕ) → length us ≡ length ws → reach us ≡ reach ws
 same_reach us ws z = ap (λ (x : ℕ). word_bits * x) (as_wide us ws z)
@@ -218,6 +229,15 @@ unfolding wide room
 reach_room ws = go (eqb (length ws) word_bits)
   where
     go : (b : Bool) → word_bits * cond b 1 4 ≤ 256
+    go true = omega arith
+    go false = omega arith
+
+-- a row has a word
+pub some_word : (ws : List ℕ) → 0 < wide ws
+unfolding wide
+some_word ws = go (eqb (length ws) word_bits)
+  where
+    go : (b : Bool) → 0 < cond b 1 4
     go true = omega arith
     go false = omega arith
 

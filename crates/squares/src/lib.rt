@@ -2,12 +2,18 @@
 // more. A requires asks only that the row is in the square: our own crates alone call these functions. Assumes nothing.
 #![tactic(auto)]
 
-ghost use Rattle.std.specs.Prelude.{◌≡◌, ◌+◌, ◌*◌, ◌≤◌, ◌<◌, length, get_or, set};
-ghost use Rattle.std.specs.Int.Bits.{bit_or};
+ghost use Rattle.std.specs.Prelude.{◌≡◌, ◌+◌, ◌*◌, ◌≤◌, length};
 ghost use Rattle.evalset.specs.Sets.{mem};
 ghost use Rattle.squares.specs.Square.{wide, Square, square_at, Joined, JoinedIn};
 
 use evalset::EvalSet;
+
+// How many words a row has. There are 64 times as many rows.
+fn wide(ws: &[u64]) -> usize
+    ensures { result ≡ wide ws.now }
+{
+    if ws.len() == 64 { 1 } else { 4 }
+}
 
 // Row p.
 pub fn row_of(ws: &[u64], p: usize) -> EvalSet
@@ -25,28 +31,15 @@ pub fn row_of(ws: &[u64], p: usize) -> EvalSet
     }
 }
 
-// A word takes in the bits of another.
-fn join_word(ws: &mut [u64], at: usize, x: u64)
-    requires { at < length ws.old }
-    ensures { ws.new ≡ set ws.old at (bit_or (get_or ws.old at 0) x) }
-{
-    ws[at] = ws[at] | x;
-}
-
 // Row p takes in the set, as far as the rows reach.
 pub fn join_row(ws: &mut [u64], p: usize, s: EvalSet)
     requires { Square ws.old × (wide ws.old * p + wide ws.old ≤ length ws.old) }
     ensures { Joined p (mem s) ws.old ws.new }
 {
-    if ws.len() == 64 {
-        join_word(ws, p, evalset::word_of(s, 0));
-        return;
+    let n = wide(ws);
+    for k in 0..n {
+        ws[n * p + k] |= evalset::word_of(s, k);
     }
-    let at = 4 * p;
-    join_word(ws, at, evalset::word_of(s, 0));
-    join_word(ws, at + 1, evalset::word_of(s, 1));
-    join_word(ws, at + 2, evalset::word_of(s, 2));
-    join_word(ws, at + 3, evalset::word_of(s, 3));
 }
 
 // Row p, empty where the square has no such row.
@@ -54,16 +47,11 @@ pub fn row_at(ws: &[u64], p: usize) -> EvalSet
     requires { Square ws.now }
     ensures { mem result ≡ square_at ws.now p }
 {
-    if ws.len() == 64 {
-        if p < 64 {
-            return row_of(ws, p);
-        }
-        return evalset::empty();
+    if p < 64 * wide(ws) {
+        row_of(ws, p)
+    } else {
+        evalset::empty()
     }
-    if p < 256 {
-        return row_of(ws, p);
-    }
-    evalset::empty()
 }
 
 // Row p takes in the set, where the square has such a row.
@@ -71,13 +59,7 @@ pub fn join_at(ws: &mut [u64], p: usize, s: EvalSet)
     requires { Square ws.old }
     ensures { JoinedIn p (mem s) ws.old ws.new }
 {
-    if ws.len() == 64 {
-        if p < 64 {
-            join_row(ws, p, s);
-        }
-        return;
-    }
-    if p < 256 {
+    if p < 64 * wide(ws) {
         join_row(ws, p, s);
     }
 }

@@ -84,13 +84,11 @@ fn number_of(digits: &[u8]) -> usize
     ensures { result ≡ number_from 0 digits.now }
 {
     let mut n: usize = 0;
-    let mut i: usize = 0;
-    while i < digits.len() {
-        n = with_digit(n, digits[i]);
+    for d in digits {
+        n = with_digit(n, *d);
         if n == 0 {
             return 0;
         }
-        i += 1;
     }
     n
 }
@@ -253,14 +251,12 @@ fn line_end(log: &[u8], from: usize) -> usize
     ensures { (from ≤ result) × (result ≤ length log.now)
         × (split_log (drop from log.now) ≡ take (result - from) (drop from log.now) ∷ split_log (drop (result + 1) log.now)) }
 {
-    let mut i = from;
-    while i < log.len() {
+    for i in from..log.len() {
         if log[i] == LINE_END {
             return i;
         }
-        i += 1;
     }
-    i
+    log.len()
 }
 
 // How many bytes of a line are left where one byte 13 at its end is dropped.
@@ -310,14 +306,7 @@ pub fn start() -> LogState
 fn passed(state: LogState, from: usize, len: usize) -> LogState
     ensures { result ≡ passed_to from len state }
 {
-    let table = state.table;
-    let tally = state.tally;
-    LogState {
-        table,
-        tally,
-        from,
-        len,
-    }
+    LogState { from, len, ..state }
 }
 
 // ---- the text of an answer
@@ -368,14 +357,10 @@ fn put_words(words: &[u32], n: usize, out: &mut [u8], at: usize) -> usize
     requires { at + 9 * length words.now ≤ length out.old }
     ensures { Puts at (collect hex_word (take n words.now)) out.old out.new result × (result ≤ at + 9 * length words.now) }
 {
+    let count = n.min(words.len());
     let mut end = at;
-    let mut i: usize = 0;
-    while i < words.len() {
-        if n <= i {
-            return end;
-        }
+    for i in 0..count {
         end = put_hex(words[i], out, end);
-        i += 1;
     }
     end
 }

@@ -21,6 +21,12 @@ use Rattle.syntax.specs.Machine.{Sym, Frame, rank_of, allow, loosest, State, wan
 use Rattle.syntax.specs.Reader.{code, codes, kind_at, top, goes, goes_on, binding_of, goes_at}
 use Rattle.syntax.proofs.MachineLaws.{run_dead, pop_keep, goes_formula}
 
+-- a kind that is not past the last
+pub kind_inside : (ks : List ℕ) (p : ℕ) → kind_at ks p < 19 → p < length ks
+kind_inside [] p h = absurd (omega arith)
+kind_inside (k ∷ ks) ℕ.zero h = omega arith
+kind_inside (k ∷ ks) (suc p) h = let z : p < length ks = kind_inside ks p h in omega arith
+
 -- the kind of what stands first
 abbrev pub kind_on : List Sym → ℕ
 kind_on [] = 19

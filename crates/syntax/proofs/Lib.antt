@@ -1,5 +1,4 @@
 pub mod MachineLaws
-pub mod Returns
 pub mod Heads
 pub mod Steps
 pub mod Readers

@@ -2,6 +2,7 @@
 -- answer speaks of goes on as theirs, turn by turn, and each call has less to read. Assumes nothing.
 use Prim.Native.Nat.{ℕ, suc, ◌+◌, ◌*◌, ◌-◌, ◌≤◌, ◌<◌}
 use native.Mathlib.Omega.{arith}
+use Rattle.std.specs.Prelude.{Result as Answer, Ok, Err}
 use mathlib.Core.Path.{◌≡◌, refl, sym, ap, subst, ◌∙◌}
 use mathlib.Core.List.{List, [], ◌∷◌, ◌++◌}
 use mathlib.Core.Bool.{Bool, true, false, not, cond, true≢false, beq}
@@ -14,12 +15,11 @@ use Rattle.formula.specs.Sign.{joins_terms}
 use Rattle.formula.specs.Formula.{Name}
 use Rattle.syntax.specs.Symbol.{Leaf, Relation, leaf, binary, constant, relation, contact, part}
 use Rattle.syntax.specs.Machine.{Sym, Frame, in_parenthesis, after_minus, after_tilde, after_binary, first_of, second_of, rank_of, allow, State, want, have, call, Popped, guard, join, step, Result, run, reading}
-use Rattle.syntax.specs.Reader.{code, codes, kind_at, top, binding_of, goes_at, follows_of, Holds, EndsAs, StopsBelow, Sorted, Within, Inside, Room, expected_of, ended_of, ended_in, related_of, related_in, zeroed_of, zeroed_in, Asked, Said, MoreAsked, MoreSaid, ParenthesisSaid, RelationAsked, RelationSaid, start_of, Parsed, ParseSaid}
-use Rattle.syntax.specs.declared.Read.{Read}
-use Rattle.syntax.specs.declared.Read.TheVariants.{Value, Refused}
+use Rattle.syntax.specs.Reader.{code, codes, kind_at, top, binding_of, goes_at, Holds, EndsAs, StopsBelow, Sorted, Within, Inside, Room, expected_of, ended_of, ended_in, related_of, related_in, zeroed_of, zeroed_in, Asked, Said, MoreAsked, MoreSaid, ParenthesisSaid, RelationAsked, RelationSaid, start_of, ParseSaid}
+use Rattle.syntax.specs.Reader.{Read, Value, Refused, read_of}
+use Rattle.syntax.specs.declared.Value.{Value as ValueRead}
 use Rattle.syntax.proofs.MachineLaws.{pop_keep}
-use Rattle.syntax.proofs.Returns.{kind_inside}
-use Rattle.syntax.proofs.Heads.{length_codes, kind_on, Joins, binding_term, binding_formula, binding_zero, binding_end, rejected, NoTerm, no_term, no_opening, kind_at_lem, goes_at_lem, at_sign, at_leaf, at_binary}
+use Rattle.syntax.proofs.Heads.{kind_inside, length_codes, kind_on, Joins, binding_term, binding_formula, binding_zero, binding_end, rejected, NoTerm, no_term, no_opening, kind_at_lem, goes_at_lem, at_sign, at_leaf, at_binary}
 use Rattle.syntax.proofs.Steps.{holds_one, inside_of, room_of, within_from, stops_looser, sorted_formula, goes_false, goes_last, stops_last, Turns, ended_goes, closed_goes, parted_goes, related_goes, zeroed_goes, ended_stops, ended_sorted, ended_within, expected_sorted, expected_within, zeroed_within, zeroed_stops}
 
 -- ---- what is left to read, so that each call has less: twenty for a token, and the rank
@@ -190,14 +190,6 @@ more_none ks k s t p n c b A a v q r h =
 
 pub more_refused : (ks : List ℕ) (k : ℕ) (s : Read) (p : ℕ) (A : List ℕ) → s ≡ Refused p → MoreSaid ks k s A (Refused p) A
 more_refused ks k s p A v = subst (λ (z : Read). MoreSaid ks k z A (Refused p) A) (sym v) (record { says = λ xs e K l R g. g; stops = tt; sorted = λ w g. g; within = λ m d g. g })
-
--- an answer on which no binary sign goes is the answer
-none_follows : (ks : List ℕ) (k : ℕ) (s : Read) (A : List ℕ) → MoreAsked ks k s → follows_of ks k s ≡ false → MoreSaid ks k s A s A
-none_follows ks k (Value t p n) A a h = more_none ks k (Value t p n) t p n (kind_at ks p) (binding_of t (kind_at ks p)) A a refl refl refl (ltb-false k (binding_of t (kind_at ks p)) h)
-none_follows ks k (Refused p) A a h = more_refused ks k (Refused p) p A refl
-
-pub level_alone : (ks : List ℕ) (a k : ℕ) (w : Bool) (n j : ℕ) (v : Bool) (A : List ℕ) (x : Read) (B : List ℕ) → Asked ks a k w n → v ≡ w → k ≤ j → (k < 4 → j ≤ 3) → Said ks a j v n A x B → follows_of ks k x ≡ false → Said ks a k w n A x B
-level_alone ks a k w n j v A x B q u h l s f = level_said ks a k w n j v A x B x B u h s (none_follows ks k x B (level_more_asked ks a k w n (left_at ks a k) j v A x B q refl l s).1 f)
 
 -- ---- what the readers ask of one another
 
@@ -373,8 +365,10 @@ module _ (ks : List ℕ) (a n : ℕ) (q : Asked ks a 3 true n) (c : ℕ) (kind :
     pub opening_joined : (y : Read) (C : List ℕ) → MoreSaid ks 4 x B y C → Said ks a 4 true n A y C
     opening_joined y C m = level_said ks a 4 true n 6 true A x B y C refl (omega arith) opening_read m
 
-    pub opening_alone : follows_of ks 4 x ≡ false → Said ks a 4 true n A x B
-    opening_alone f = level_alone ks a 4 true n 6 true A x B opening_plain refl (omega arith) (λ l. absurd (omega arith)) opening_read f
+    -- what the parenthesis holds is refused
+    pub opening_refused : (p : ℕ) → x ≡ Refused p → Said ks a 3 true n A (Refused p) B
+    opening_refused p v =
+        zeroed_said ks a n q A (Refused p) B (Refused p) B (opening_joined (Refused p) B (more_refused ks 4 x p B v)) (refl, refl)
 
 -- ---- parenthesis
 
@@ -461,6 +455,24 @@ module _ (ks : List ℕ) (a n : ℕ) (q : RelationAsked ks a n) where
               within = within_from (length ks) a (n + 1) p (m + 1) (related_of (expected_of ks 9 z)) (omega (arith, second_within)) (omega (arith, second_within)) (related_within (length ks) p m (expected_of ks 9 z) second_expected);
             }))
 
+-- ---- a refusal that `?` hands on
+
+module _ {r : Answer ValueRead ℕ} {p : ℕ} (e : r ≡ Err p) where
+  pub said_err : {ks : List ℕ} {a k : ℕ} {w : Bool} {n : ℕ} {A B : List ℕ} → Said ks a k w n A (Refused p) B → Said ks a k w n A (read_of r) B
+  said_err {ks} {a} {k} {w} {n} {A} {B} s = subst (λ (x : Answer ValueRead ℕ). Said ks a k w n A (read_of x) B) (sym e) s
+
+  pub more_err : {ks : List ℕ} {k : ℕ} {s : Read} {A B : List ℕ} → MoreSaid ks k s A (Refused p) B → MoreSaid ks k s A (read_of r) B
+  more_err {ks} {k} {s} {A} {B} m = subst (λ (x : Answer ValueRead ℕ). MoreSaid ks k s A (read_of x) B) (sym e) m
+
+  pub parenthesis_err : {ks : List ℕ} {a : ℕ} {w : Bool} {n : ℕ} {A B : List ℕ} → ParenthesisSaid ks a w n A (Refused p) B → ParenthesisSaid ks a w n A (read_of r) B
+  parenthesis_err {ks} {a} {w} {n} {A} {B} s = subst (λ (x : Answer ValueRead ℕ). ParenthesisSaid ks a w n A (read_of x) B) (sym e) s
+
+  pub relation_err : {ks : List ℕ} {a d n : ℕ} {A B : List ℕ} → RelationSaid ks a d n A (Refused p) B → RelationSaid ks a d n A (read_of r) B
+  relation_err {ks} {a} {d} {n} {A} {B} s = subst (λ (x : Answer ValueRead ℕ). RelationSaid ks a d n A (read_of x) B) (sym e) s
+
+pub parse_err : (ks A B : List ℕ) {r : Answer ℕ ℕ} {p : ℕ} → r ≡ Err p → ParseSaid ks A (Err p) B → ParseSaid ks A r B
+parse_err ks A B e s = subst (λ (x : Answer ℕ ℕ). ParseSaid ks A x B) (sym e) s
+
 -- ---- parse
 
 module _ (ks : List ℕ) (A : List ℕ) (x : Read) (B : List ℕ) (s : Said ks 0 0 true 0 A x B) where
@@ -471,23 +483,23 @@ module _ (ks : List ℕ) (A : List ℕ) (x : Read) (B : List ℕ) (s : Said ks 0
   stops_whole : (t : Bool) (p n : ℕ) → x ≡ Value t p n → goes_at t (kind_at ks p) ≤ 0
   stops_whole t p n v = subst (StopsBelow ks 0) v s.stops
 
-  pub whole_term : (t : Bool) (p n : ℕ) → x ≡ Value t p n → t ≡ true → ParseSaid ks A (Refused p) B
+  pub whole_term : (t : Bool) (p n : ℕ) → x ≡ Value t p n → t ≡ true → ParseSaid ks A (Err p) B
   whole_term t p n v u xs e h =
       let g : EndsAs xs (reading xs) [] (Value t p n) B = whole (Value t p n) v xs e h in
       g.2 ∙ rejected (drop p xs) t 0 p [] g.0 (goes_at_lem xs ks e p t 0 (stops_whole t p n v)) (omega arith) (omega arith) (λ z. refl) (λ z. refl) (λ z. absurd (omega arith)) (λ z f. absurd (true≢false (sym u ∙ f)))
 
-  pub whole_longer : (t : Bool) (p n : ℕ) → x ≡ Value t p n → p < length ks → ParseSaid ks A (Refused p) B
+  pub whole_longer : (t : Bool) (p n : ℕ) → x ≡ Value t p n → p < length ks → ParseSaid ks A (Err p) B
   whole_longer t p n v l xs e h =
       let g : EndsAs xs (reading xs) [] (Value t p n) B = whole (Value t p n) v xs e h in
       g.2 ∙ rejected (drop p xs) t 0 p [] g.0 (goes_at_lem xs ks e p t 0 (stops_whole t p n v)) (omega arith) (omega arith) (λ z. refl) (λ z. refl) (λ z. absurd (omega arith))
       (λ z f. absurd (let i : length xs - p ≡ 0 = sym (length-drop p xs) ∙ ap length z in let j : length xs ≡ length ks = sym (length_codes xs) ∙ ap length e in omega arith))
 
-  pub whole_formula : (t : Bool) (p n : ℕ) → x ≡ Value t p n → t ≡ false → length ks ≤ p → ParseSaid ks A (Value t p n) B
+  pub whole_formula : (t : Bool) (p n : ℕ) → x ≡ Value t p n → t ≡ false → length ks ≤ p → ParseSaid ks A (Ok n) B
   unfolding run
   whole_formula t p n v u l xs e h =
       let g : EndsAs xs (reading xs) [] (Value t p n) B = whole (Value t p n) v xs e h in
       let j : length xs ≡ length ks = sym (length_codes xs) ∙ ap length e in
       (g.0, g.1, g.2 ∙ ap (λ (k : List Sym). run k p (have t [] g.0)) (drop_of_length-le xs (let m : length xs ≤ p = omega arith in m)) ∙ ap (λ (b : Bool). run [] p (have b [] g.0)) u)
 
-  pub whole_refused : (p : ℕ) → x ≡ Refused p → ParseSaid ks A x B
-  whole_refused p v xs e h = subst (λ (z : Read). Parsed xs z B) (sym v) (whole (Refused p) v xs e h)
+  pub whole_refused : (p : ℕ) → x ≡ Refused p → ParseSaid ks A (Err p) B
+  whole_refused p v xs e h = whole (Refused p) v xs e h

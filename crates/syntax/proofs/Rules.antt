@@ -1,12 +1,12 @@
 -- From the reading of the tokens to the rule that is answered: the arrays hold the text's tokens, so the kinds that are read
 -- are those of its symbols, and a refused token's place is where it starts. Assumes nothing.
+use Rattle.std.specs.Prelude.{Result as Answer, Ok, Err}
 use mathlib.Core.Path.{◌≡◌, refl, sym, ap, ap₂, subst, ◌∙◌}
-use mathlib.Core.Bool.{Bool}
 use mathlib.Core.Logic.{⊎_elim}
 use mathlib.Core.List.{List, [], ◌∷◌, map}
 use Prim.Native.Nat.{ℕ, ◌≤◌, ◌<◌}
 use native.Mathlib.Omega.{arith}
-use lib.ListN.{length, get_or, take, replicate, length-map, get_or-map, get_or-eq_default}
+use lib.ListN.{length, get_or, take, length-map, get_or-map, get_or-eq_default}
 use Rattle.lists.proofs.Truth.{side}
 use Rattle.lists.proofs.Padded.{pad_taken}
 use Rattle.lists.specs.Padded.{pad}
@@ -14,21 +14,18 @@ use Rattle.lexer.specs.Token.{Token, bytes_of}
 use Rattle.lexer.specs.Cutting.{Cutting, tokens, refused as refusedCut}
 use Rattle.lexer.specs.Cutter.{cutting}
 use Rattle.lexer.specs.Arrays.{code_of, tokens_of, lexed_of, lexed}
-use Rattle.lexer.specs.declared.LexAnswer.{LexAnswer}
-use Rattle.lexer.specs.declared.Lexed.{Lexed}
+use Rattle.lexer.specs.declared.LexError.{LexError}
 use Rattle.lexer.specs.declared.Kind.{Kind}
 use Rattle.lexer.specs.declared.Tokens.{Tokens}
-use Rattle.lexer.proofs.Claims.{start_at, at_most, lexed_cutting, lexed_too_long}
+use Rattle.lexer.proofs.Claims.{start_at, at_most, count, lexed_cutting, lexed_too_long}
 use Rattle.formula.specs.Formula.{Name}
 use Rattle.syntax.specs.Symbol.{symbol_of, kind_of}
-use Rattle.syntax.specs.Machine.{Sym, reading}
+use Rattle.syntax.specs.Machine.{Sym, refused, reading}
 use Rattle.syntax.specs.Reader.{codes, Parsed}
 use Rattle.syntax.specs.RuleText.{symbols_of, place_of}
 use Rattle.syntax.specs.Rule.{refusal_of, read_tokens, tokens_in, by_answer, rule_of}
 use Rattle.syntax.specs.declared.RuleAnswer.{RuleAnswer}
 use Rattle.syntax.specs.declared.Rule.{Rule}
-use Rattle.syntax.specs.declared.Read.{Read}
-use Rattle.syntax.specs.declared.Read.TheVariants.{Value, Refused}
 
 -- ---- kinds
 
@@ -85,60 +82,42 @@ module _ (s : List ℕ) (ts : List Token) (t : Tokens) (e : t ≡ tokens_of ts) 
 
 -- ---- answers
 
-pub empty_rule : (a : RuleAnswer) (k s l o : List ℕ) → k ≡ replicate 256 0 → s ≡ replicate 256 0 → l ≡ replicate 256 0 → o ≡ replicate 256 0
-    → ◌≡◌ {A = Rule} (record { answer = a; tokens = record { kinds = k; starts = s; lens = l; n = 0 }; order = o; len = 0 }) (refusal_of a)
-unfolding refusal_of tokens_of pad
-empty_rule a k s l o e f g h = cc
-
-module _ (s : List ℕ) (ts : List Token) (t : Tokens) (e : t ≡ tokens_of ts) (r : Read) (B : List ℕ) (parsed : Parsed (symbols_of s ts) r B) where
-  pub read_value : (u : Bool) (p n : ℕ) → r ≡ Value u p n
+module _ (s : List ℕ) (ts : List Token) (t : Tokens) (e : t ≡ tokens_of ts) where
+  pub read_value : (n : ℕ) (B : List ℕ) → Parsed (symbols_of s ts) (Ok n) B
       → ◌≡◌ {A = Rule} (record { answer = RuleAnswer.Formula; tokens = t; order = B; len = n }) (read_tokens s ts (reading (symbols_of s ts)))
-  read_value u p n f =
-      let h : Parsed (symbols_of s ts) (Value u p n) B = subst (λ (x : Read). Parsed (symbols_of s ts) x B) f parsed in
+  read_value n B h =
       let o : List Sym = h.0 in
       let m : n ≡ length o = sym h.1.1 in
       let q : B ≡ pad 256 (codes o) = h.1.0 in
       (cc) ∙ sym (ap (read_tokens s ts) h.2)
 
-  pub read_refused : (i p : ℕ) → r ≡ Refused i → p ≡ place_of s ts i → refusal_of (RuleAnswer.GrammarAt p) ≡ read_tokens s ts (reading (symbols_of s ts))
-  read_refused i p f q =
-      ap (λ (x : ℕ). refusal_of (RuleAnswer.GrammarAt x)) q
-      ∙ sym (ap (read_tokens s ts) (subst (λ (x : Read). Parsed (symbols_of s ts) x B) f parsed))
+  pub read_refused : (i p : ℕ) → reading (symbols_of s ts) ≡ refused i → p ≡ place_of s ts i → refusal_of (RuleAnswer.GrammarAt p) ≡ read_tokens s ts (reading (symbols_of s ts))
+  read_refused i p f q = ap (λ (x : ℕ). refusal_of (RuleAnswer.GrammarAt x)) q ∙ sym (ap (read_tokens s ts) f)
 
 -- ---- from the lexer's answer
 
-cut_arrays : (r : Cutting) → (lexed_of r).tokens ≡ tokens_of (tokens_in r)
-cut_arrays (tokens ts) = refl
-cut_arrays (refusedCut a) = refl
+cut_arrays : (r : Cutting) (t : Tokens) → lexed_of r ≡ Ok t → t ≡ tokens_of (tokens_in r)
+cut_arrays (tokens []) t e = cc
+cut_arrays (tokens (x ∷ xs)) t e = cc
+cut_arrays (refusedCut a) t e = cc
 
-cut_few : (s : List ℕ) → length s ≤ 256 → (r : Cutting) → cutting s ≡ r → (lexed_of r).tokens.n ≤ 256
-unfolding tokens_of
+cut_few : (s : List ℕ) → length s ≤ 256 → (r : Cutting) → cutting s ≡ r → length (tokens_in r) ≤ 256
 cut_few s h (tokens ts) e = omega (arith, at_most s ts e)
 cut_few s h (refusedCut a) e = omega arith
 
-module _ (s : List ℕ) (l : Lexed) (e : l ≡ lexed s) where
-  pub rule_by : (a : LexAnswer) → l.answer ≡ a → rule_of s ≡ by_answer a s (tokens_in (cutting s))
+module _ (s : List ℕ) (l : Answer Tokens LexError) (e : l ≡ lexed s) where
+  pub rule_by : (x : Answer Tokens LexError) → l ≡ x → rule_of s ≡ by_answer x s (tokens_in (cutting s))
   unfolding rule_of
-  rule_by a h = ap (λ (x : LexAnswer). by_answer x s (tokens_in (cutting s))) (ap (λ (x : Lexed). x.answer) (sym e) ∙ h)
+  rule_by x h = ap (λ (y : Answer Tokens LexError). by_answer y s (tokens_in (cutting s))) (sym e ∙ h)
 
-  pub few_tokens : l.tokens.n ≤ 256
-  unfolding tokens_of
-  few_tokens = subst (λ (x : Lexed). x.tokens.n ≤ 256) (sym e) (⊎_elim long short (side 256 (length s)))
-    where
-      short : length s ≤ 256 → (lexed s).tokens.n ≤ 256
-      short h = rw (lexed_cutting s h) (cut_few s h (cutting s) refl)
+  module _ (t : Tokens) (h : l ≡ Ok t) where
+    not_long : length s ≤ 256
+    not_long = ⊎_elim (λ k. absurd (let z : ◌≡◌ {A = Answer Tokens LexError} (Ok t) (Err LexError.TooLong) = sym h ∙ e ∙ lexed_too_long s k in let y : ◌≡◌ {A = ℕ} 0 1 = cc in omega arith)) (λ k. k) (side 256 (length s))
 
-      long : 256 < length s → (lexed s).tokens.n ≤ 256
-      long h = rw (lexed_too_long s h) (omega arith)
+    pub arrays_of : t ≡ tokens_of (tokens_in (cutting s))
+    arrays_of = cut_arrays (cutting s) t (sym (lexed_cutting s not_long) ∙ sym e ∙ h)
 
-  pub arrays_of : l.answer ≡ LexAnswer.Tokens → l.tokens ≡ tokens_of (tokens_in (cutting s))
-  arrays_of h = ap (λ (x : Lexed). x.tokens) e ∙ ⊎_elim long short (side 256 (length s))
-    where
-      short : length s ≤ 256 → (lexed s).tokens ≡ tokens_of (tokens_in (cutting s))
-      short k = ap (λ (x : Lexed). x.tokens) (lexed_cutting s k) ∙ cut_arrays (cutting s)
+    pub few_tokens : t.n ≤ 256
+    few_tokens = omega (arith, ap (λ (x : Tokens). x.n) arrays_of, count (tokens_in (cutting s)), cut_few s not_long (cutting s) refl)
 
-      long : 256 < length s → (lexed s).tokens ≡ tokens_of (tokens_in (cutting s))
-      long k =
-          let z : LexAnswer.TooLong ≡ LexAnswer.Tokens = ap (λ (x : Lexed). x.answer) (sym (lexed_too_long s k) ∙ sym e) ∙ h in
-          let y : ◌≡◌ {A = ℕ} 0 1 = cc in
-          absurd (omega arith)
+pub ruleset places = (place_in_lem, place_out)

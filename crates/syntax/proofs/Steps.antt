@@ -15,11 +15,9 @@ use Rattle.formula.specs.declared.Sign.TheVariants.{Implies, Iff, Or, And, Plus,
 use Rattle.syntax.specs.Symbol.{Relation, is_zero, relation}
 use Rattle.syntax.specs.Machine.{Sym, Frame, in_parenthesis, after_minus, after_tilde, after_binary, first_of, second_of, need, sign_of, allow, loosest, want, have, dead, Popped, guard, shut, close, zeroed, parted, Result, refused, run}
 use Rattle.syntax.specs.Reader.{code, codes, kind_at, top, goes_on, binding_of, goes_at, Holds, EndsAs, StopsBelow, Sorted, Within, Inside, Room, expected_of, ended_of, ended_in, related_of, related_in, zeroed_of, zeroed_in, start_of}
-use Rattle.syntax.specs.declared.Read.{Read}
-use Rattle.syntax.specs.declared.Read.TheVariants.{Value, Refused}
+use Rattle.syntax.specs.Reader.{Read, Value, Refused}
 use Rattle.syntax.proofs.MachineLaws.{pop_keep, Waits, feed}
-use Rattle.syntax.proofs.Returns.{kind_inside}
-use Rattle.syntax.proofs.Heads.{length_codes, binding_term, binding_formula, rejected, kind_at_lem, goes_at_lem, at_sign}
+use Rattle.syntax.proofs.Heads.{kind_inside, length_codes, binding_term, binding_formula, rejected, kind_at_lem, goes_at_lem, at_sign}
 
 -- ---- one number more in the order
 

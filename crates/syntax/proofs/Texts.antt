@@ -1,6 +1,7 @@
 -- Each rule text is answered as it is meant to be, and in no other way: the cut of a text is the one that is meant, and its
 -- tokens are read exactly as the grammar has them. Assumes nothing.
 use mathlib.Core.Logic.{⊎_elim}
+use Rattle.std.specs.Prelude.{Result as Answer}
 use mathlib.Core.Path.{◌≡◌, refl, sym, ap, subst, ◌∙◌}
 use mathlib.Core.List.{List, [], ◌∷◌}
 use Prim.Native.Nat.{ℕ, ◌≤◌, ◌<◌}
@@ -12,8 +13,8 @@ use Rattle.lexer.specs.Token.{Token}
 use Rattle.lexer.specs.Cutting.{Cutting, tokens, refused, with_token, Cut, end, blank, run, long_name, sign, measured_sign, no_sign, foreign}
 use Rattle.lexer.specs.Cutter.{cutting}
 use Rattle.lexer.specs.Arrays.{tokens_of, lexed_of}
-use Rattle.lexer.specs.declared.LexAnswer.{LexAnswer}
-use Rattle.lexer.specs.declared.Lexed.{Lexed}
+use Rattle.lexer.specs.declared.LexError.{LexError}
+use Rattle.lexer.specs.declared.Tokens.{Tokens}
 use Rattle.lexer.proofs.Claims.{computed_is_meant, meant_is_computed, lexed_cutting, lexed_too_long}
 use Rattle.formula.specs.Formula.{Formula, Name}
 use Rattle.syntax.specs.Grammar.{Derives}
@@ -33,23 +34,22 @@ use Rattle.syntax.proofs.Unique.{formula_back}
 
 rule_long : (s : List ℕ) → 256 < length s → rule_of s ≡ refusal_of RuleAnswer.TooLong
 unfolding rule_of
-rule_long s h = ap (λ (l : Lexed). by_answer l.answer s (tokens_in (cutting s))) (lexed_too_long s h)
+rule_long s h = ap (λ (l : Answer Tokens LexError). by_answer l s (tokens_in (cutting s))) (lexed_too_long s h)
 
-rule_cut : (s : List ℕ) → length s ≤ 256 → (r : Cutting) → cutting s ≡ r → rule_of s ≡ by_answer (lexed_of r).answer s (tokens_in r)
+rule_cut : (s : List ℕ) → length s ≤ 256 → (r : Cutting) → cutting s ≡ r → rule_of s ≡ by_answer (lexed_of r) s (tokens_in r)
 unfolding rule_of
 rule_cut s h r e =
-    ap (λ (l : Lexed). by_answer l.answer s (tokens_in (cutting s))) (lexed_cutting s h)
-    ∙ ap (λ (x : Cutting). by_answer (lexed_of x).answer s (tokens_in x)) e
+    ap (λ (l : Answer Tokens LexError). by_answer l s (tokens_in (cutting s))) (lexed_cutting s h)
+    ∙ ap (λ (x : Cutting). by_answer (lexed_of x) s (tokens_in x)) e
 
 -- ---- only refusals 3, 4 and 5 come from a cut
 
-abbrev OfCut : LexAnswer → Type 0
-OfCut LexAnswer.Tokens = ⊥
-OfCut LexAnswer.TooLong = ⊥
-OfCut LexAnswer.NoToken = ⊥
-OfCut (LexAnswer.ForeignByte i) = Unit {0}
-OfCut (LexAnswer.LongName i) = Unit {0}
-OfCut (LexAnswer.Measured i) = Unit {0}
+abbrev OfCut : LexError → Type 0
+OfCut LexError.TooLong = ⊥
+OfCut LexError.NoToken = ⊥
+OfCut (LexError.ForeignByte i) = Unit {0}
+OfCut (LexError.LongName i) = Unit {0}
+OfCut (LexError.Measured i) = Unit {0}
 
 abbrev RefusedByCut : Cutting → Type 0
 RefusedByCut (tokens ts) = Unit {0}
@@ -83,16 +83,15 @@ of_tokens s short t ts c (accepted o) e =
     formula (record { short = short; cut_tokens = t ∷ ts; cut = c; derived = (sound (symbols_of s (t ∷ ts)) o e).1 })
 of_tokens s short t ts c (refusedAt j) e = grammar short c (exact (symbols_of s (t ∷ ts)) j e)
 
-of_cut : (s : List ℕ) → length s ≤ 256 → (r : Cutting) → Cut 0 s r → RefusedByCut r → Answers s (by_answer (lexed_of r).answer s (tokens_in r)).answer
+of_cut : (s : List ℕ) → length s ≤ 256 → (r : Cutting) → Cut 0 s r → RefusedByCut r → Answers s (by_answer (lexed_of r) s (tokens_in r)).answer
 unfolding refusal_of
 of_cut s short (tokens []) c h = no_token short c
 of_cut s short (tokens (t ∷ ts)) c h = of_tokens s short t ts c (reading (symbols_of s (t ∷ ts))) refl
-of_cut s short (refused LexAnswer.Tokens) c h = absurd h
-of_cut s short (refused LexAnswer.TooLong) c h = absurd h
-of_cut s short (refused LexAnswer.NoToken) c h = absurd h
-of_cut s short (refused (LexAnswer.ForeignByte i)) c h = foreign_byte short c
-of_cut s short (refused (LexAnswer.LongName i)) c h = name_long short c
-of_cut s short (refused (LexAnswer.Measured i)) c h = measured short c
+of_cut s short (refused LexError.TooLong) c h = absurd h
+of_cut s short (refused LexError.NoToken) c h = absurd h
+of_cut s short (refused (LexError.ForeignByte i)) c h = foreign_byte short c
+of_cut s short (refused (LexError.LongName i)) c h = name_long short c
+of_cut s short (refused (LexError.Measured i)) c h = measured short c
 
 pub answered : (s : List ℕ) → Answers s (rule_of s).answer
 unfolding refusal_of
@@ -109,17 +108,17 @@ answered s = ⊎_elim long short (side 256 (length s))
 -- ---- and in no other way
 
 -- the answer of a text whose cut is known
-by_cut : (s : List ℕ) → length s ≤ 256 → (r : Cutting) → Cut 0 s r → rule_of s ≡ by_answer (lexed_of r).answer s (tokens_in r)
+by_cut : (s : List ℕ) → length s ≤ 256 → (r : Cutting) → Cut 0 s r → rule_of s ≡ by_answer (lexed_of r) s (tokens_in r)
 by_cut s short r c = rule_cut s short r (sym (meant_is_computed s r c))
 
 -- a rule is read, with its tokens and its formula's order
 pub rule_read : (s : List ℕ) (f : Formula Name) (h : IsRule s f)
     → rule_of s ≡ record { answer = RuleAnswer.Formula; tokens = tokens_of h.cut_tokens; order = pad 256 (codes (postfix f)); len = length (postfix f) }
 rule_read s f h =
-    let e : rule_of s ≡ by_answer (lexed_of (tokens h.cut_tokens)).answer s h.cut_tokens = by_cut s h.short (tokens h.cut_tokens) h.cut in
+    let e : rule_of s ≡ by_answer (lexed_of (tokens h.cut_tokens)) s h.cut_tokens = by_cut s h.short (tokens h.cut_tokens) h.cut in
     e ∙ some h.cut_tokens h.derived ∙ ap (read_tokens s h.cut_tokens) (complete (symbols_of s h.cut_tokens) f h.derived)
   where
-    some : (ts : List Token) → Derives (symbols_of s ts) f → by_answer (lexed_of (tokens ts)).answer s ts ≡ read_tokens s ts (reading (symbols_of s ts))
+    some : (ts : List Token) → Derives (symbols_of s ts) f → by_answer (lexed_of (tokens ts)) s ts ≡ read_tokens s ts (reading (symbols_of s ts))
     some [] d = absurd (no_formula f d)
     some (t ∷ ts) d = refl
 
@@ -128,9 +127,9 @@ unfolding refusal_of
 answered_only s a (formula {f = f} h) = sym (ap (λ (x : Rule). x.answer) (rule_read s f h))
 answered_only s a (too_long h) = sym (ap (λ (x : Rule). x.answer) (rule_long s h))
 answered_only s a (no_token h c) = sym (ap (λ (x : Rule). x.answer) (by_cut s h (tokens []) c))
-answered_only s a (foreign_byte {i = i} h c) = sym (ap (λ (x : Rule). x.answer) (by_cut s h (refused (LexAnswer.ForeignByte i)) c))
-answered_only s a (name_long {i = i} h c) = sym (ap (λ (x : Rule). x.answer) (by_cut s h (refused (LexAnswer.LongName i)) c))
-answered_only s a (measured {i = i} h c) = sym (ap (λ (x : Rule). x.answer) (by_cut s h (refused (LexAnswer.Measured i)) c))
+answered_only s a (foreign_byte {i = i} h c) = sym (ap (λ (x : Rule). x.answer) (by_cut s h (refused (LexError.ForeignByte i)) c))
+answered_only s a (name_long {i = i} h c) = sym (ap (λ (x : Rule). x.answer) (by_cut s h (refused (LexError.LongName i)) c))
+answered_only s a (measured {i = i} h c) = sym (ap (λ (x : Rule). x.answer) (by_cut s h (refused (LexError.Measured i)) c))
 answered_only s a (grammar {t = t} {ts = ts} {j = j} h c r) =
     sym (ap (λ (x : Rule). x.answer) (by_cut s h (tokens (t ∷ ts)) c ∙ ap (read_tokens s (t ∷ ts)) (exact_only (symbols_of s (t ∷ ts)) j r)))
 

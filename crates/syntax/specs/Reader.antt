@@ -1,16 +1,15 @@
 -- For proofs, but for `codes`, the kinds of symbols, and `judged_of`, the answer for tokens alone, which are computed: what the recursive
 -- readers are asked and answer, over the machine: a reader lent the kinds of the tokens answers how the machine goes on, whatever frames
 -- wait and whatever order is written before. Assumes nothing.
-use Rattle.std.specs.Prelude.{Bool, true, false, cond, List, [], ◌∷◌, map, ◌≡◌, ℕ, ◌+◌, ◌≤◌, ◌<◌, eqb, ltb, length, get_or, drop, set, replicate}
+use Rattle.std.specs.Prelude.{Result as Answer, Ok, Err, Option, Some, None, Bool, true, false, cond, List, [], ◌∷◌, map, ◌≡◌, ℕ, ◌+◌, ◌≤◌, ◌<◌, eqb, ltb, length, get_or, drop, set, replicate}
 use Rattle.std.specs.Bool.{beq}
 use Rattle.lists.specs.Padded.{pad}
 use Rattle.formula.specs.declared.Sign.TheVariants.{Implies, Iff, Or, And, Plus, Times}
 use Rattle.lexer.specs.Arrays.{code_of}
 use Rattle.syntax.specs.Symbol.{Relation, kind_of, leaf, minus, tilde, opening, closing, comma, is_zero, binary, constant, relation}
 use Rattle.syntax.specs.Machine.{Sym, Frame, in_parenthesis, need, allow, want, have, call, Result, accepted, refused, run, reading}
-use Rattle.syntax.specs.declared.Judged.{Judged}
-use Rattle.syntax.specs.declared.Read.{Read}
-use Rattle.syntax.specs.declared.Read.TheVariants.{Value, Refused}
+use Rattle.syntax.specs.declared.NotAFormula.{NotAFormula}
+use Rattle.syntax.specs.declared.Value.{Value as ValueRead}
 
 -- ---- symbols as numbers
 
@@ -70,11 +69,29 @@ binding_of t c =
     (cond (eqb c 3) (goes t (binary And))
     (cond (eqb c 4) (goes t (binary Plus)) (cond (eqb c 5) (goes t (binary Times)) 0)))))
 
+-- the rank of what goes on a value, 0 where nothing does
+abbrev pub or_zero : Option ℕ → ℕ
+or_zero None = 0
+or_zero (Some b) = b
+
 -- the same with =0
 unfoldable pub goes_at : Bool → ℕ → ℕ
 goes_at t c = cond (eqb c 10) (cond t 4 0) (binding_of t c)
 
 -- ---- answers
+
+-- what a reader answers: a value, by its sort, true for a term, the place after it and the length of the order so far; or the token that
+-- is refused
+pub data Read : Type 0 where
+  Value : Bool → ℕ → ℕ → Read
+  Refused : ℕ → Read
+
+abbrev pub value_of : ValueRead → Read
+value_of v = Value v.term v.at v.len
+
+abbrev pub read_of : Answer ValueRead ℕ → Read
+read_of (Ok v) = value_of v
+read_of (Err p) = Refused p
 
 -- the array holds the kinds of the order o and zeros
 abbrev pub Holds : List ℕ → ℕ → List Sym → Type 0
@@ -111,11 +128,6 @@ Room (Value t p n) = n < 256
 Room (Refused p) = Unit {0}
 
 -- ---- the functions that call no reader
-
--- whether a binary sign of rank k or tighter goes on the value
-abbrev pub follows_of : List ℕ → ℕ → Read → Bool
-follows_of ks k (Value t p n) = ltb k (binding_of t (kind_at ks p))
-follows_of ks k (Refused p) = false
 
 -- a value with the kind c after it
 abbrev pub expected_of : List ℕ → ℕ → Read → Read
@@ -203,18 +215,18 @@ start_of true = 0
 start_of false = 4
 
 -- all tokens are read into an array of zeros
-abbrev pub Parsed : List Sym → Read → List ℕ → Type 0
-Parsed xs (Value t p n) B = (o : List Sym) × Holds B n o × (reading xs ≡ accepted o)
-Parsed xs (Refused p) B = reading xs ≡ refused p
+abbrev pub Parsed : List Sym → Answer ℕ ℕ → List ℕ → Type 0
+Parsed xs (Ok n) B = (o : List Sym) × Holds B n o × (reading xs ≡ accepted o)
+Parsed xs (Err p) B = reading xs ≡ refused p
 
-abbrev pub ParseSaid : List ℕ → List ℕ → Read → List ℕ → Type 0
+abbrev pub ParseSaid : List ℕ → List ℕ → Answer ℕ ℕ → List ℕ → Type 0
 ParseSaid ks A r B = (xs : List Sym) → codes xs ≡ ks → A ≡ replicate 256 0 → Parsed xs r B
 
 -- the result without the order
-abbrev pub without_order : Result → Judged
-without_order (accepted o) = Judged.Formula
-without_order (refused i) = Judged.RefusedAt i
+abbrev pub without_order : Result → Answer (Unit {0}) NotAFormula
+without_order (accepted o) = Ok tt
+without_order (refused i) = Err (NotAFormula.At i)
 
 -- what tokens are; more than 256 stand in no rule text
-unfoldable pub judged_of : List Sym → Judged
-judged_of xs = cond (ltb 256 (length xs)) Judged.TooMany (without_order (reading xs))
+unfoldable pub judged_of : List Sym → Answer (Unit {0}) NotAFormula
+judged_of xs = cond (ltb 256 (length xs)) (Err NotAFormula.TooMany) (without_order (reading xs))

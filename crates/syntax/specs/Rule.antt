@@ -1,11 +1,12 @@
 -- What is computed: the answer for a rule text, with its tokens and its formula's order as arrays. Assumes nothing.
-use Rattle.std.specs.Prelude.{List, [], ℕ, length, replicate}
+use Rattle.std.specs.Prelude.{Result as Answer, Ok, Err, List, [], ℕ, length, replicate}
 use Rattle.lists.specs.Padded.{pad}
 use Rattle.lexer.specs.Token.{Token}
 use Rattle.lexer.specs.Cutting.{Cutting, tokens, refused}
 use Rattle.lexer.specs.Cutter.{cutting}
 use Rattle.lexer.specs.Arrays.{tokens_of, lexed}
-use Rattle.lexer.specs.declared.LexAnswer.{LexAnswer}
+use Rattle.lexer.specs.declared.LexError.{LexError}
+use Rattle.lexer.specs.declared.Tokens.{Tokens}
 use Rattle.syntax.specs.Machine.{Result, accepted, refused as refusedAt, reading}
 use Rattle.formula.specs.Formula.{Form, Formula, Name}
 use Rattle.syntax.specs.Postfix.{formula_of}
@@ -28,17 +29,21 @@ abbrev pub tokens_in : Cutting → List Token
 tokens_in (tokens ts) = ts
 tokens_in (refused a) = []
 
-abbrev pub by_answer : LexAnswer → List ℕ → List Token → Rule
-by_answer LexAnswer.Tokens s ts = read_tokens s ts (reading (symbols_of s ts))
-by_answer LexAnswer.TooLong s ts = refusal_of RuleAnswer.TooLong
-by_answer LexAnswer.NoToken s ts = refusal_of RuleAnswer.NoToken
-by_answer (LexAnswer.ForeignByte i) s ts = refusal_of (RuleAnswer.ForeignByte i)
-by_answer (LexAnswer.LongName i) s ts = refusal_of (RuleAnswer.LongName i)
-by_answer (LexAnswer.Measured i) s ts = refusal_of (RuleAnswer.Measured i)
+-- the answer for a text that is not cut into tokens
+abbrev pub not_cut : LexError → RuleAnswer
+not_cut LexError.TooLong = RuleAnswer.TooLong
+not_cut LexError.NoToken = RuleAnswer.NoToken
+not_cut (LexError.ForeignByte i) = RuleAnswer.ForeignByte i
+not_cut (LexError.LongName i) = RuleAnswer.LongName i
+not_cut (LexError.Measured i) = RuleAnswer.Measured i
+
+abbrev pub by_answer : Answer Tokens LexError → List ℕ → List Token → Rule
+by_answer (Ok t) s ts = read_tokens s ts (reading (symbols_of s ts))
+by_answer (Err e) s ts = refusal_of (not_cut e)
 
 -- the answer for a text
 unfoldable pub rule_of : List ℕ → Rule
-rule_of s = by_answer (lexed s).answer s (tokens_in (cutting s))
+rule_of s = by_answer (lexed s) s (tokens_in (cutting s))
 
 -- "Each entry is the rule's text as it came, and means the formula read from it": of a text that is no rule, F
 abbrev pub formula_read : Result → Formula Name

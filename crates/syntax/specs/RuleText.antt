@@ -4,7 +4,7 @@ use Rattle.std.specs.Prelude.{List, [], ◌∷◌, map, ℕ, ◌≤◌, ◌<◌,
 use Rattle.formula.specs.Formula.{Formula, Name}
 use Rattle.lexer.specs.Token.{Token, bytes_of}
 use Rattle.lexer.specs.Cutting.{tokens, refused, Cut}
-use Rattle.lexer.specs.declared.LexAnswer.TheVariants as LexAnswer
+use Rattle.lexer.specs.declared.LexError.TheVariants as LexError
 use Rattle.syntax.specs.Symbol.{Symbol, symbol_of}
 use Rattle.syntax.specs.Grammar.{Derives}
 use Rattle.syntax.specs.Refusal.{Refusal}
@@ -33,9 +33,9 @@ pub data Answers (s : List ℕ) : RuleAnswer → Type 0 where
   -- 1: "no token and no foreign byte"
   no_token : length s ≤ 256 → Cut 0 s (tokens []) → Answers s RuleAnswer.NoToken
   -- 3, 4 and 5: "add, tokens, first place wins"
-  foreign_byte : {i : ℕ} → length s ≤ 256 → Cut 0 s (refused (LexAnswer.ForeignByte i)) → Answers s (RuleAnswer.ForeignByte i)
-  name_long : {i : ℕ} → length s ≤ 256 → Cut 0 s (refused (LexAnswer.LongName i)) → Answers s (RuleAnswer.LongName i)
-  measured : {i : ℕ} → length s ≤ 256 → Cut 0 s (refused (LexAnswer.Measured i)) → Answers s (RuleAnswer.Measured i)
+  foreign_byte : {i : ℕ} → length s ≤ 256 → Cut 0 s (refused (LexError.ForeignByte i)) → Answers s (RuleAnswer.ForeignByte i)
+  name_long : {i : ℕ} → length s ≤ 256 → Cut 0 s (refused (LexError.LongName i)) → Answers s (RuleAnswer.LongName i)
+  measured : {i : ℕ} → length s ≤ 256 → Cut 0 s (refused (LexError.Measured i)) → Answers s (RuleAnswer.Measured i)
   -- 6: "tokens up to here begin no formula, or text ends early"
   grammar : {t : Token} {ts : List Token} {j : ℕ} → length s ≤ 256 → Cut 0 s (tokens (t ∷ ts)) → Refusal (symbols_of s (t ∷ ts)) j
       → Answers s (RuleAnswer.GrammarAt (place_of s (t ∷ ts) j))

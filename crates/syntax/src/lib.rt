@@ -9,13 +9,13 @@ ghost use Rattle.lexer.specs.Token.{Token};
 ghost use Rattle.lexer.specs.Arrays.{tokens_of};
 ghost use Rattle.syntax.specs.Symbol.{binary};
 ghost use Rattle.syntax.specs.Machine.{Sym, reading};
-ghost use Rattle.syntax.specs.Reader.{kind_at, goes, binding_of, follows_of, Inside, Room, expected_of, ended_of, ended_in, related_of, related_in, zeroed_of, zeroed_in, Asked, Said, MoreAsked, MoreSaid, ParenthesisSaid, RelationAsked, RelationSaid, start_of, ParseSaid, codes, judged_of};
+ghost use Rattle.syntax.specs.Reader.{kind_at, goes, or_zero, binding_of, value_of, read_of, Inside, Room, expected_of, ended_of, ended_in, related_of, related_in, zeroed_of, zeroed_in, Asked, Said, MoreAsked, MoreSaid, ParenthesisSaid, RelationAsked, RelationSaid, start_of, ParseSaid, codes, judged_of};
 ghost use Rattle.syntax.specs.RuleText.{symbols_of, place_of};
-ghost use Rattle.syntax.specs.Rule.{refusal_of, read_tokens, rule_of};
+ghost use Rattle.syntax.specs.Rule.{refusal_of, read_tokens, not_cut, rule_of};
 
 use formula::Sign;
 use lexer::{
-    AND, CLOSE, COMMA, CONTACT, FALSITY, IFF, IMPLIES, IS_ZERO, LexAnswer, MINUS, NAME, OPEN, OR,
+    AND, CLOSE, COMMA, CONTACT, FALSITY, IFF, IMPLIES, IS_ZERO, LexError, MINUS, NAME, OPEN, OR,
     PART, PLUS, TILDE, TIMES, TRUTH, Tokens, ZERO,
 };
 
@@ -44,20 +44,19 @@ pub struct Rule {
     pub len: usize,
 }
 
-// What a reader answers: a value, whether it is a term, the token after it and the length of the order
-// so far; or the token that is refused.
+// A value that was read: whether it is a term, the token after it and the length of the order so far.
 #[derive(Clone, Copy)]
-enum Read {
-    Value(bool, usize, usize),
-    Refused(usize),
+struct Value {
+    term: bool,
+    at: usize,
+    len: usize,
 }
 
-// What tokens alone are: a formula, refused at one of them or at their end, or more than 256, which no
-// rule text has.
-#[derive(Clone, Copy)]
-pub enum Judged {
-    Formula,
-    RefusedAt(usize),
+// Why tokens alone are no formula: they are refused at one of them or at their end, or are more than 256,
+// which no rule text has.
+#[derive(Clone, Copy, PartialEq, Eq, Debug)]
+pub enum NotAFormula {
+    At(usize),
     TooMany,
 }
 
@@ -68,21 +67,22 @@ fn kind_at(kinds: &[u8], at: usize) -> u8
     if at < kinds.len() { kinds[at] } else { END }
 }
 
-// One more than the rank of a binary sign where it goes on a term, or on a formula; else 0.
-fn goes_on(term: bool, b: Sign) -> u8
-    ensures { result ≡ goes term (binary b) }
+// The rank of the right value of a binary sign, one more than its own, where it goes on a term, or on a
+// formula.
+fn goes_on(term: bool, b: Sign) -> Option<u8>
+    ensures { or_zero result ≡ goes term (binary b) }
 {
-    let l = formula::level(b);
-    if formula::joins_terms(b) {
-        if term { l + 4 } else { 0 }
-    } else {
-        if term { 0 } else { l + 1 }
+    if formula::joins_terms(b) != term {
+        return None;
     }
+    let l = formula::level(b);
+    Some(if term { l + 4 } else { l + 1 })
 }
 
 // The same for a kind of token.
-fn binding(term: bool, kind: u8) -> u8
-    ensures { result ≡ binding_of term kind }
+#[tactic(auto, unfolding(crate::specs::Reader::binding_of))]
+fn binding(term: bool, kind: u8) -> Option<u8>
+    ensures { or_zero result ≡ binding_of term kind }
 {
     match kind {
         IMPLIES => goes_on(term, Sign::Implies),
@@ -91,207 +91,190 @@ fn binding(term: bool, kind: u8) -> u8
         AND => goes_on(term, Sign::And),
         PLUS => goes_on(term, Sign::Plus),
         TIMES => goes_on(term, Sign::Times),
-        _ => 0,
-    }
-}
-
-// Whether a binary sign of rank k or tighter goes on the value; none goes on a refusal.
-fn follows(kinds: &[u8], k: u8, r: Read) -> bool
-    ensures { result ≡ follows_of kinds.now k r }
-{
-    match r {
-        Read::Value(t, p, _) => {
-            let b = binding(t, kind_at(kinds, p));
-            k < b
-        }
-        Read::Refused(_) => false,
+        _ => None,
     }
 }
 
 // A value and the token that must stand after it.
-fn expected(kinds: &[u8], kind: u8, r: Read) -> Read
-    requires { Inside (length kinds.now) r }
-    ensures { result ≡ expected_of kinds.now kind r }
+fn expected(kinds: &[u8], kind: u8, v: Value) -> Result<Value, usize>
+    requires { Inside (length kinds.now) (value_of v) }
+    ensures { read_of result ≡ expected_of kinds.now kind (value_of v) }
 {
-    match r {
-        Read::Value(t, p, n) => {
-            if kind_at(kinds, p) == kind {
-                Read::Value(t, p + 1, n)
-            } else {
-                Read::Refused(p)
-            }
-        }
-        Read::Refused(p) => Read::Refused(p),
+    if kind_at(kinds, v.at) != kind {
+        return Err(v.at);
     }
+    Ok(Value { at: v.at + 1, ..v })
 }
 
 // A sign after its last value; a value of the other sort is refused.
-fn ended(r: Read, term: bool, kind: u8, order: &mut [u8; 256]) -> Read
-    requires { Room r }
-    ensures { (result ≡ ended_of term r) × (order.new ≡ ended_in term kind r order.old) }
+fn ended(v: Value, term: bool, kind: u8, order: &mut [u8; 256]) -> Result<Value, usize>
+    requires { Room (value_of v) }
+    ensures { (read_of result ≡ ended_of term (value_of v)) × (order.new ≡ ended_in term kind (value_of v) order.old) }
 {
-    match r {
-        Read::Value(t, p, n) => {
-            if t == term {
-                order[n] = kind;
-                return Read::Value(t, p, n + 1);
-            }
-            Read::Refused(p)
-        }
-        Read::Refused(p) => Read::Refused(p),
+    if v.term != term {
+        return Err(v.at);
     }
+    order[v.len] = kind;
+    Ok(Value {
+        len: v.len + 1,
+        ..v
+    })
 }
 
 // C or <= after its second term.
-fn related(r: Read, kind: u8, order: &mut [u8; 256]) -> Read
-    requires { Room r }
-    ensures { (result ≡ related_of r) × (order.new ≡ related_in kind r order.old) }
+fn related(v: Value, kind: u8, order: &mut [u8; 256]) -> Value
+    requires { Room (value_of v) }
+    ensures { (value_of result ≡ related_of (value_of v)) × (order.new ≡ related_in kind (value_of v) order.old) }
 {
-    match r {
-        Read::Value(_, p, n) => {
-            order[n] = kind;
-            Read::Value(false, p, n + 1)
-        }
-        Read::Refused(p) => Read::Refused(p),
+    order[v.len] = kind;
+    Value {
+        term: false,
+        at: v.at,
+        len: v.len + 1,
     }
 }
 
 // A term with =0 after it is a formula.
-fn zeroed(kinds: &[u8], r: Read, order: &mut [u8; 256]) -> Read
-    requires { (length kinds.now ≤ 256) × (Inside (length kinds.now) r) }
-    ensures { (result ≡ zeroed_of kinds.now r) × (order.new ≡ zeroed_in kinds.now r order.old) }
+#[tactic(auto, using(crate::proofs::Heads::kind_inside))]
+fn zeroed(kinds: &[u8], v: Value, order: &mut [u8; 256]) -> Value
+    requires { (length kinds.now ≤ 256) × (Inside (length kinds.now) (value_of v)) }
+    ensures { (value_of result ≡ zeroed_of kinds.now (value_of v)) × (order.new ≡ zeroed_in kinds.now (value_of v) order.old) }
 {
-    match r {
-        Read::Value(t, p, n) => {
-            if t {
-                if kind_at(kinds, p) == IS_ZERO {
-                    order[n] = IS_ZERO;
-                    return Read::Value(false, p + 1, n + 1);
-                }
-                return Read::Value(t, p, n);
-            }
-            Read::Value(t, p, n)
-        }
-        Read::Refused(p) => Read::Refused(p),
+    if v.term && kind_at(kinds, v.at) == IS_ZERO {
+        order[v.len] = IS_ZERO;
+        return Value {
+            term: false,
+            at: v.at + 1,
+            len: v.len + 1,
+        };
     }
+    v
 }
 
 // A value of rank k or tighter: 0 to 3 are the levels of formulas, 4 to 6 those of terms from level 1 on.
 // A parenthesis in front may hold a formula only where one may stand (w).
 #[cycle(formula_prefix_level_more_parenthesis_relation_term_prefix)]
-fn level(kinds: &[u8], at: usize, k: u8, w: bool, order: &mut [u8; 256], n: usize) -> Read
+fn level(
+    kinds: &[u8],
+    at: usize,
+    k: u8,
+    w: bool,
+    order: &mut [u8; 256],
+    n: usize,
+) -> Result<Value, usize>
     requires { Asked kinds.now at k w n }
-    ensures { Said kinds.now at k w n order.old result order.new }
+    ensures { Said kinds.now at k w n order.old (read_of result) order.new }
 {
     if k < 4 {
-        let x = formula_prefix(kinds, at, order, n);
-        if follows(kinds, k, x) {
-            return more(kinds, k, x, order);
-        }
-        return x;
-    }
-    let x = term_prefix(kinds, at, w, order, n);
-    if follows(kinds, k, x) {
+        let x = formula_prefix(kinds, at, order, n)?;
         return more(kinds, k, x, order);
     }
-    x
+    let x = term_prefix(kinds, at, w, order, n)?;
+    more(kinds, k, x, order)
 }
 
 // The binary signs of rank k or tighter after a value, each with its right value.
 #[cycle(formula_prefix_level_more_parenthesis_relation_term_prefix)]
-fn more(kinds: &[u8], k: u8, r: Read, order: &mut [u8; 256]) -> Read
-    requires { MoreAsked kinds.now k r }
-    ensures { MoreSaid kinds.now k r order.old result order.new }
+fn more(kinds: &[u8], k: u8, v: Value, order: &mut [u8; 256]) -> Result<Value, usize>
+    requires { MoreAsked kinds.now k (value_of v) }
+    ensures { MoreSaid kinds.now k (value_of v) order.old (read_of result) order.new }
 {
-    match r {
-        Read::Value(t, p, n) => {
-            let c = kind_at(kinds, p);
-            let b = binding(t, c);
-            if k < b {
-                let x = level(kinds, p + 1, b, !t, order, n);
-                let y = ended(x, t, c, order);
-                return more(kinds, k, y, order);
-            }
-            Read::Value(t, p, n)
-        }
-        Read::Refused(p) => Read::Refused(p),
+    let c = kind_at(kinds, v.at);
+    let Some(b) = binding(v.term, c) else {
+        return Ok(v);
+    };
+    if b <= k {
+        return Ok(v);
     }
+    let x = level(kinds, v.at + 1, b, !v.term, order, v.len)?;
+    let y = ended(x, v.term, c, order)?;
+    more(kinds, k, y, order)
 }
 
 // A formula with no binary sign in front, or a whole term. A parenthesis in front, of either sort, is read
 // with no level of terms around it, since parentheses nest.
 #[cycle(formula_prefix_level_more_parenthesis_relation_term_prefix)]
-fn formula_prefix(kinds: &[u8], at: usize, order: &mut [u8; 256], n: usize) -> Read
+fn formula_prefix(kinds: &[u8], at: usize, order: &mut [u8; 256], n: usize) -> Result<Value, usize>
     requires { Asked kinds.now at 3 true n }
-    ensures { Said kinds.now at 3 true n order.old result order.new }
+    ensures { Said kinds.now at 3 true n order.old (read_of result) order.new }
 {
     let c = kind_at(kinds, at);
     match c {
         TILDE => {
-            let x = formula_prefix(kinds, at + 1, order, n);
+            let x = formula_prefix(kinds, at + 1, order, n)?;
             ended(x, false, c, order)
         }
         TRUTH..=FALSITY => {
             order[n] = c;
-            Read::Value(false, at + 1, n + 1)
+            Ok(Value {
+                term: false,
+                at: at + 1,
+                len: n + 1,
+            })
         }
         CONTACT..=PART => relation(kinds, at + 1, c, order, n),
         OPEN => {
-            let x = parenthesis(kinds, at + 1, true, order, n);
-            if follows(kinds, 4, x) {
-                let y = more(kinds, 4, x, order);
-                return zeroed(kinds, y, order);
-            }
-            zeroed(kinds, x, order)
+            let x = parenthesis(kinds, at + 1, true, order, n)?;
+            let y = more(kinds, 4, x, order)?;
+            Ok(zeroed(kinds, y, order))
         }
         _ => {
-            let x = level(kinds, at, 4, true, order, n);
-            zeroed(kinds, x, order)
+            let x = level(kinds, at, 4, true, order, n)?;
+            Ok(zeroed(kinds, x, order))
         }
     }
 }
 
 // The two terms of C or <=, in a parenthesis.
 #[cycle(formula_prefix_level_more_parenthesis_relation_term_prefix)]
-fn relation(kinds: &[u8], at: usize, kind: u8, order: &mut [u8; 256], n: usize) -> Read
+fn relation(
+    kinds: &[u8],
+    at: usize,
+    kind: u8,
+    order: &mut [u8; 256],
+    n: usize,
+) -> Result<Value, usize>
     requires { RelationAsked kinds.now at n }
-    ensures { RelationSaid kinds.now at kind n order.old result order.new }
+    ensures { RelationSaid kinds.now at kind n order.old (read_of result) order.new }
 {
-    if kind_at(kinds, at) == OPEN {
-        let x = level(kinds, at + 1, 4, false, order, n);
-        let y = expected(kinds, COMMA, x);
-        match y {
-            Read::Value(_, p, m) => {
-                let z = level(kinds, p, 4, false, order, m);
-                let e = expected(kinds, CLOSE, z);
-                return related(e, kind, order);
-            }
-            Read::Refused(p) => {
-                return Read::Refused(p);
-            }
-        }
+    if kind_at(kinds, at) != OPEN {
+        return Err(at);
     }
-    Read::Refused(at)
+    let x = level(kinds, at + 1, 4, false, order, n)?;
+    let y = expected(kinds, COMMA, x)?;
+    let z = level(kinds, y.at, 4, false, order, y.len)?;
+    let e = expected(kinds, CLOSE, z)?;
+    Ok(related(e, kind, order))
 }
 
 // A term with no binary sign in front, or a parenthesis.
 #[cycle(formula_prefix_level_more_parenthesis_relation_term_prefix)]
-fn term_prefix(kinds: &[u8], at: usize, w: bool, order: &mut [u8; 256], n: usize) -> Read
+fn term_prefix(
+    kinds: &[u8],
+    at: usize,
+    w: bool,
+    order: &mut [u8; 256],
+    n: usize,
+) -> Result<Value, usize>
     requires { Asked kinds.now at 6 w n }
-    ensures { Said kinds.now at 6 w n order.old result order.new }
+    ensures { Said kinds.now at 6 w n order.old (read_of result) order.new }
 {
     let c = kind_at(kinds, at);
     match c {
         ZERO..=NAME => {
             order[n] = c;
-            Read::Value(true, at + 1, n + 1)
+            Ok(Value {
+                term: true,
+                at: at + 1,
+                len: n + 1,
+            })
         }
         MINUS => {
-            let x = term_prefix(kinds, at + 1, false, order, n);
+            let x = term_prefix(kinds, at + 1, false, order, n)?;
             ended(x, true, c, order)
         }
         OPEN => parenthesis(kinds, at + 1, w, order, n),
-        _ => Read::Refused(at),
+        _ => Err(at),
     }
 }
 
@@ -304,81 +287,81 @@ fn start(w: bool) -> u8
 
 // What stands in a parenthesis, and the sign that closes it.
 #[cycle(formula_prefix_level_more_parenthesis_relation_term_prefix)]
-fn parenthesis(kinds: &[u8], at: usize, w: bool, order: &mut [u8; 256], n: usize) -> Read
+fn parenthesis(
+    kinds: &[u8],
+    at: usize,
+    w: bool,
+    order: &mut [u8; 256],
+    n: usize,
+) -> Result<Value, usize>
     requires { Asked kinds.now at (start_of w) w n }
-    ensures { ParenthesisSaid kinds.now at w n order.old result order.new }
+    ensures { ParenthesisSaid kinds.now at w n order.old (read_of result) order.new }
 {
-    let x = level(kinds, at, start(w), w, order, n);
+    let x = level(kinds, at, start(w), w, order, n)?;
     expected(kinds, CLOSE, x)
 }
 
-// All the tokens: the formula's order, or the token that is refused.
-fn parse(kinds: &[u8], order: &mut [u8; 256]) -> Read
+// All the tokens: the length of the formula's order, or the token that is refused.
+fn parse(kinds: &[u8], order: &mut [u8; 256]) -> Result<usize, usize>
     requires { length kinds.now ≤ 256 }
     ensures { ParseSaid kinds.now order.old result order.new }
 {
-    let r = level(kinds, 0, 0, true, order, 0);
-    match r {
-        Read::Value(t, p, _) => {
-            if t {
-                return Read::Refused(p);
-            }
-            if p < kinds.len() {
-                return Read::Refused(p);
-            }
-            r
-        }
-        Read::Refused(_) => r,
+    let v = level(kinds, 0, 0, true, order, 0)?;
+    if v.term || v.at < kinds.len() {
+        return Err(v.at);
     }
+    Ok(v.len)
 }
 
 // A refusal, which comes with no token and no order.
+#[tactic(auto, unfolding(crate::specs::Rule::refusal_of))]
 fn refusal(a: RuleAnswer) -> Rule
     ensures { result ≡ refusal_of a }
 {
     Rule {
         answer: a,
-        tokens: Tokens {
-            kinds: lexer::zeros(),
-            starts: lexer::zeros(),
-            lens: lexer::zeros(),
-            n: 0,
-        },
-        order: lexer::zeros(),
+        tokens: Tokens::none(),
+        order: [0; 256],
         len: 0,
     }
 }
 
 // The place in the text of token i, or the text's length.
-fn place(t: Tokens, size: usize, i: usize) -> usize
-    requires { t.n ≤ 256 }
-    ensures { (s : List ℕ) (ts : List Token) → t ≡ tokens_of ts → size ≡ length s → result ≡ place_of s ts i }
+#[tactic(auto, using(crate::proofs::Rules::places))]
+fn place(t: &Tokens, size: usize, i: usize) -> usize
+    requires { t.now.n ≤ 256 }
+    ensures { (s : List ℕ) (ts : List Token) → t.now ≡ tokens_of ts → size ≡ length s → result ≡ place_of s ts i }
 {
-    let starts = t.starts;
-    let n = t.n;
-    if i < n { starts[i] as usize } else { size }
+    if i < t.n { t.starts[i] as usize } else { size }
 }
 
 // The formula of the tokens of a text.
-fn parsed(t: Tokens, size: usize) -> Rule
-    requires { t.n ≤ 256 }
-    ensures { (s : List ℕ) (ts : List Token) → t ≡ tokens_of ts → size ≡ length s → result ≡ read_tokens s ts (reading (symbols_of s ts)) }
+fn parsed(t: &Tokens, size: usize) -> Rule
+    requires { t.now.n ≤ 256 }
+    ensures { (s : List ℕ) (ts : List Token) → t.now ≡ tokens_of ts → size ≡ length s → result ≡ read_tokens s ts (reading (symbols_of s ts)) }
 {
-    let kinds = t.kinds;
-    let n = t.n;
-    let mut order = lexer::zeros();
-    let r = parse(&kinds[..n], &mut order);
-    match r {
-        Read::Value(_, _, m) => Rule {
+    let mut order = [0; 256];
+    match parse(&t.kinds[..t.n], &mut order) {
+        Ok(len) => Rule {
             answer: RuleAnswer::Formula,
-            tokens: t,
-            order: order,
-            len: m,
+            tokens: *t,
+            order,
+            len,
         },
-        Read::Refused(i) => {
-            let p = place(t, size, i);
-            refusal(RuleAnswer::GrammarAt(p))
-        }
+        Err(i) => refusal(RuleAnswer::GrammarAt(place(t, size, i))),
+    }
+}
+
+// How a text is answered that is not cut into tokens.
+fn not_cut(e: LexError) -> RuleAnswer
+    ensures { result ≡ not_cut e }
+{
+    match e {
+        LexError::TooLong => RuleAnswer::TooLong,
+        LexError::NoToken => RuleAnswer::NoToken,
+        LexError::ForeignByte(i) => RuleAnswer::ForeignByte(i),
+        LexError::LongName(i) => RuleAnswer::LongName(i),
+        LexError::Measured(i) => RuleAnswer::Measured(i),
     }
 }
 
@@ -386,31 +369,23 @@ fn parsed(t: Tokens, size: usize) -> Rule
 pub fn read_rule(text: &[u8]) -> Rule
     ensures { result ≡ rule_of text.now }
 {
-    let l = lexer::lex(text);
-    let a = l.answer;
-    let t = l.tokens;
-    match a {
-        LexAnswer::Tokens => parsed(t, text.len()),
-        LexAnswer::TooLong => refusal(RuleAnswer::TooLong),
-        LexAnswer::NoToken => refusal(RuleAnswer::NoToken),
-        LexAnswer::ForeignByte(i) => refusal(RuleAnswer::ForeignByte(i)),
-        LexAnswer::LongName(i) => refusal(RuleAnswer::LongName(i)),
-        LexAnswer::Measured(i) => refusal(RuleAnswer::Measured(i)),
+    match lexer::lex(text) {
+        Ok(t) => parsed(&t, text.len()),
+        Err(e) => refusal(not_cut(e)),
     }
 }
 
 // Whether tokens of these kinds are a formula, and where they are refused if not. Of a byte that is no
 // token's kind nothing is said.
-pub fn judge(kinds: &[u8]) -> Judged
+pub fn judge(kinds: &[u8]) -> Result<(), NotAFormula>
     ensures { (xs : List Sym) → codes xs ≡ kinds.now → result ≡ judged_of xs }
 {
     if 256 < kinds.len() {
-        return Judged::TooMany;
+        return Err(NotAFormula::TooMany);
     }
-    let mut order = lexer::zeros();
-    let r = parse(kinds, &mut order);
-    match r {
-        Read::Value(_, _, _) => Judged::Formula,
-        Read::Refused(i) => Judged::RefusedAt(i),
+    let mut order = [0; 256];
+    match parse(kinds, &mut order) {
+        Ok(_) => Ok(()),
+        Err(i) => Err(NotAFormula::At(i)),
     }
 }

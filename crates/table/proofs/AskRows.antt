@@ -28,8 +28,10 @@ use Rattle.table.specs.Sheet.{Text}
 use Rattle.table.specs.Rules.{AreRules}
 use Rattle.table.specs.Calls.{formulas_of}
 use Rattle.table.specs.Asking.{plan_answer, found_answer, ask_answer, judgement_answer, judge_decoded, judge_plan, judge_reading, judge_answer}
-use Rattle.plan.specs.declared.PlanRead.{PlanRead}
-use Rattle.plan.specs.Arrays.{answer_of, Reads}
+use Rattle.std.specs.Prelude.{Result, Ok, Err}
+use Rattle.plan.specs.declared.NotAPlan.{NotAPlan}
+use Rattle.plan.specs.declared.PlanArrays.{PlanArrays}
+use Rattle.plan.specs.Arrays.{Reads}
 use Rattle.table.specs.declared.Outcome.{Outcome}
 use Rattle.table.proofs.Rules.{AllRead, are_formulas, formulas_are}
 use Rattle.table.proofs.Asking.{asked_some, judged_some}
@@ -164,12 +166,12 @@ module _ (words : List ℕ) where
 -- ---- plan words alone
 
 -- they are refused with 13 exactly where words up to here begin no plan, or end early
-pub words_refused : (words : List ℕ) (q : PlanRead) → Reads words q → (j : ℕ) → (plan_outcome q.answer ≡ Outcome.Refused 13 j) ↔ Refusal words j
-words_refused words q reads j = (
-  λ e. go (read_of words) refl (sym (ap plan_outcome reads.answer) ∙ e),
-  λ r. ap plan_outcome reads.answer ∙ ap (λ (x : Reading). plan_outcome (answer_of x)) ((refused_exactly words j).1 r),
+pub words_refused : (words : List ℕ) (q : Result PlanArrays NotAPlan) → Reads words q → (j : ℕ) → (plan_outcome q ≡ Outcome.Refused 13 j) ↔ Refusal words j
+words_refused words (Ok arrays) reads j = (
+  λ e. absurd (let z : ◌≡◌ {A = ℕ} 0 1 = cc in omega arith),
+  λ r. absurd (let e : plan reads.0 ≡ refused j = sym reads.1 ∙ (refused_exactly words j).1 r in let z : ◌≡◌ {A = ℕ} 0 1 = cc in omega arith),
 )
-  where
-    go : (x : Reading) → read_of words ≡ x → plan_outcome (answer_of x) ≡ Outcome.Refused 13 j → Refusal words j
-    go (plan p) e f = absurd (let z : ◌≡◌ {A = ℕ} 0 1 = cc in omega arith)
-    go (refused i) e f = let z : i ≡ j = cc in (refused_exactly words j).0 (e ∙ ap refused z)
+words_refused words (Err e) reads j = (
+  λ f. let z : e.at ≡ j = cc in (refused_exactly words j).0 (reads ∙ ap refused z),
+  λ r. let f : refused e.at ≡ refused j = sym reads ∙ (refused_exactly words j).1 r in let z : e.at ≡ j = cc in ap (Outcome.Refused 13) z,
+)

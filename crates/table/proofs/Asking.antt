@@ -1,7 +1,7 @@
 -- Ask and judge meet their definitions: the plans given of the standing rules are none, or one that is written, and words that are read are
 -- judged as a plan. Assumes nothing.
 use Prim.Native.Nat.{ℕ, ◌≤◌, ◌<◌}
-use mathlib.Core.Path.{◌≡◌, refl, sym, ap, ap₂, ◌∙◌}
+use mathlib.Core.Path.{◌≡◌, refl, sym, ap, ap₂, subst, ◌∙◌}
 use mathlib.Core.Bool.{Bool, true, false, cond}
 use mathlib.Core.List.{List, [], ◌∷◌}
 use native.Mathlib.Omega.{arith}
@@ -13,12 +13,12 @@ use Rattle.lists.specs.Buffer.{over}
 use Rattle.contact.specs.Question.{Question}
 use Rattle.contact.specs.Numbering.{names_of}
 use Rattle.plan.specs.declared.PlanArrays.{PlanArrays}
-use Rattle.plan.specs.declared.PlanAnswer.TheVariants as PlanAnswer
-use Rattle.plan.specs.declared.PlanRead.{PlanRead}
-use Rattle.plan.specs.declared.Written.{Written}
+use Rattle.std.specs.Prelude.{Result, Ok, Err}
+use Rattle.lists.specs.declared.ShortBuffer.{ShortBuffer}
+use Rattle.plan.specs.declared.NotAPlan.{NotAPlan}
 use Rattle.plan.specs.Words.{Plan, words_of}
 use Rattle.plan.specs.Reader.{Reading, plan, refused, read_of, ReadingSays}
-use Rattle.plan.specs.Arrays.{answer_of, plan_in, Reads, Writes}
+use Rattle.plan.specs.Arrays.{Reads, Writes}
 use Rattle.plan.specs.Stored.{Stored}
 use Rattle.plan.specs.Plans.{plans_of}
 use Rattle.plan.specs.Judging.{Judgement, yes, unmet, judge, uncovered}
@@ -109,18 +109,18 @@ module _ (q : Question) (t : Table) (v : FromUs t) (buffer : List ℕ) where
       (g ∙ ap (λ (ps : List Plan). found_words ps buffer) (sym e) ∙ sym (words_some q (rules_of t) some buffer))
 
 -- the plan writer's answers, as ask's
-abbrev pub written_answer : Written → AskAnswer
-written_answer (Written.Words n) = AskAnswer.Plan n
-written_answer (Written.Needs n) = AskAnswer.ShortBuffer n
+abbrev pub written_answer : Result ℕ ShortBuffer → AskAnswer
+written_answer (Ok n) = AskAnswer.Plan n
+written_answer (Err e) = AskAnswer.ShortBuffer e.needed
 
 -- what is written is what is asked for
-pub wrote_plan : (p : Plan) (buffer : List ℕ) (w : Written) (exit : List ℕ) → Writes p buffer w exit
+pub wrote_plan : (p : Plan) (buffer : List ℕ) (w : Result ℕ ShortBuffer) (exit : List ℕ) → Writes p buffer w exit
     → (written_answer w ≡ found_answer (p ∷ []) (length buffer)) × (exit ≡ found_words (p ∷ []) buffer)
 wrote_plan p buffer w exit h =
     let n = length (words_of p) in
     (ap written_answer h.answer ∙ either n (leb n (length buffer)), h.words)
   where
-    either : (n : ℕ) (b : Bool) → written_answer (cond b (Written.Words n) (Written.Needs n)) ≡ cond b (AskAnswer.Plan n) (AskAnswer.ShortBuffer n)
+    either : (n : ℕ) (b : Bool) → written_answer (cond b (Ok n) (Err (record { needed = n }))) ≡ cond b (AskAnswer.Plan n) (AskAnswer.ShortBuffer n)
     either n true = refl
     either n false = refl
 
@@ -164,21 +164,20 @@ module _ (t : Table) (v : FromUs t) (words : List ℕ) where
   judges_some : 0 < t.count → (a : JudgeAnswer) → a ≡ judge_reading (formulas_of (rules_of t)) words (read_of words) (exact words) → Judges t words (judge_result t a)
   judges_some h a e = judges_of a (e ∙ sym (judged_some (rules_of t) (some_stand t v h) words))
 
-  module _ (r : PlanRead) (reads : Reads words r) where
-    -- the words are no plan
-    pub judges_words : 0 < t.count → (at : ℕ) → r.answer ≡ PlanAnswer.Refused at → Judges t words (judge_result t (JudgeAnswer.NotAPlan at))
-    judges_words h at e = judges_some h (JudgeAnswer.NotAPlan at) (sym (go (read_of words) (exact words) (sym reads.answer ∙ e)))
-      where
-        go : (x : Reading) (says : ReadingSays words x) → answer_of x ≡ PlanAnswer.Refused at → judge_reading (formulas_of (rules_of t)) words x says ≡ JudgeAnswer.NotAPlan at
-        go (plan p) says q = absurd (let z : ◌≡◌ {A = ℕ} 0 1 = cc in omega arith)
-        go (refused j) says q = let z : j ≡ at = cc in ap JudgeAnswer.NotAPlan z
+  -- the words are no plan
+  pub judges_words : 0 < t.count → (e : NotAPlan) → Reads words (Err e) → Judges t words (judge_result t (JudgeAnswer.NotAPlan e.at))
+  judges_words h e reads = judges_some h (JudgeAnswer.NotAPlan e.at) (sym (go (read_of words) (exact words) reads))
+    where
+      go : (x : Reading) (says : ReadingSays words x) → x ≡ refused e.at → judge_reading (formulas_of (rules_of t)) words x says ≡ JudgeAnswer.NotAPlan e.at
+      go (plan p) says q = absurd (let z : ◌≡◌ {A = ℕ} 0 1 = cc in omega arith)
+      go (refused j) says q = let z : j ≡ e.at = cc in ap JudgeAnswer.NotAPlan z
 
-    -- they are one, and it is judged by the compiled rules
-    pub judges_plan : 0 < t.count → r.answer ≡ PlanAnswer.Plan → (c : Compiling) (kept code : List ℕ) → CompiledRules (formulas_of (rules_of t)) c kept code
-        → (a : JudgeAnswer) → JudgementIs c code r.plan a → Judges t words (judge_result t a)
-    unfolding JudgementIs
-    judges_plan h e c kept code compiled a says = judges_some h a (go (read_of words) (exact words) (sym reads.answer ∙ e) reads.plan)
-      where
-        go : (x : Reading) (s : ReadingSays words x) → answer_of x ≡ PlanAnswer.Plan → Stored r.plan (plan_in x) → a ≡ judge_reading (formulas_of (rules_of t)) words x s
-        go (plan p) s q stored = says (formulas_of (rules_of t)) kept compiled p s.0 stored
-        go (refused j) s q stored = absurd (let z : ◌≡◌ {A = ℕ} 0 1 = cc in omega arith)
+  -- they are one, and it is judged by the compiled rules
+  pub judges_plan : 0 < t.count → (arrays : PlanArrays) → Reads words (Ok arrays) → (c : Compiling) (kept code : List ℕ) → CompiledRules (formulas_of (rules_of t)) c kept code
+      → (a : JudgeAnswer) → JudgementIs c code arrays a → Judges t words (judge_result t a)
+  unfolding JudgementIs
+  judges_plan h arrays reads c kept code compiled a says = judges_some h a (go (read_of words) (exact words) reads.1)
+    where
+      go : (x : Reading) (s : ReadingSays words x) → x ≡ plan reads.0 → a ≡ judge_reading (formulas_of (rules_of t)) words x s
+      go (plan p) s q = let z : p ≡ reads.0 = cc in says (formulas_of (rules_of t)) kept compiled p s.0 (subst (Stored arrays) (sym z) reads.2)
+      go (refused j) s q = absurd (let z : ◌≡◌ {A = ℕ} 0 1 = cc in omega arith)

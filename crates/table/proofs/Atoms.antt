@@ -21,21 +21,22 @@ use Rattle.contact.proofs.Distinct.{from_distinct}
 use Rattle.syntax.specs.Rule.{meaning_of}
 use Rattle.syntax.specs.RuleText.{IsRule}
 use Rattle.syntax.proofs.Claims.{is_rule}
-use Rattle.printing.specs.declared.Printed.{Printed}
+use Rattle.lists.specs.declared.ShortBuffer.{ShortBuffer}
 use Rattle.printing.specs.Text.{text_of}
 use Rattle.printing.specs.Prints.{atom_text, Prints}
 use Rattle.printing.proofs.Claims.{atom_never_longer}
 use Rattle.ruleset.specs.declared.AtomPlace.{AtomPlace}
 use Rattle.ruleset.specs.declared.Compiling.{Compiling}
 use Rattle.ruleset.specs.Texts.{CompiledRules}
-use Rattle.ruleset.specs.Places.{atom_at, WritingIs}
+use Rattle.ruleset.specs.Places.{atom_at, Writing, WritingIs}
 use Rattle.table.specs.declared.AtomText.{AtomText}
 use Rattle.table.specs.declared.Table.{Table}
 use Rattle.table.specs.Store.{rules_of}
 use Rattle.table.specs.Sheet.{Text}
 use Rattle.table.specs.Rules.{CanStand}
 use Rattle.table.specs.Calls.{formulas_of, FromUs}
-use Rattle.table.specs.Steps.{TextsCompiled, FirstPlace, PlaceIs}
+use Rattle.std.specs.Prelude.{Some, None, Result, Ok, Err}
+use Rattle.table.specs.Steps.{TextsCompiled, PlaceIs}
 use Rattle.table.specs.AtomText.{atom_text_of}
 use Rattle.table.specs.Explaining.{GivesAtom, kept_text, texts_of}
 use Rattle.table.proofs.Lines.{count_is}
@@ -47,67 +48,70 @@ use Rattle.table.proofs.Compiled.{reached_all}
 pub as_many : (t : Table) → FromUs t → length (formulas_of (rules_of t)) ≡ t.count
 as_many t v = length-map (rules_of t) meaning_of ∙ sym (count_is t v)
 
+abbrev too_short : ℕ → Result ℕ ShortBuffer
+too_short n = Err (record { needed = n })
+
 -- ---- where the atom is written first
 
 many : (rules : List (Formula Name)) (c : Compiling) (kept code : List ℕ) → CompiledRules rules c kept code → c.known.atoms.chart.atoms ≡ length (different_atoms rules)
 many rules c kept code h = h.known.compiled.counted ∙ length-map (different_atoms rules) (map_atom (number_of rules))
 
-module _ (c : Compiling) (code : List ℕ) (which : ℕ) (p : AtomPlace) where
-  pub place_none : c.known.atoms.chart.atoms ≤ which → c.known.count ≤ p.rule → PlaceIs c code which p
+module _ (c : Compiling) (code : List ℕ) (which : ℕ) where
+  pub place_none : c.known.atoms.chart.atoms ≤ which → PlaceIs c code which None
   unfolding PlaceIs
-  place_none high past rules kept h = record { there = λ low. absurd (omega (arith, many rules c kept code h)); none = λ l. omega (arith, h.known.counted) }
+  place_none high rules kept h = omega (arith, many rules c kept code h)
 
-  pub place_found : which < c.known.atoms.chart.atoms → WritingIs c code which p → PlaceIs c code which p
+  pub place_found : (p : AtomPlace) → which < c.known.atoms.chart.atoms → WritingIs c code which p → PlaceIs c code which (Some p)
   unfolding WritingIs PlaceIs
-  place_found low says rules kept h = record { there = λ l. says rules kept h; none = λ high. absurd (omega (arith, many rules c kept code h)) }
+  place_found p low says rules kept h = (omega (arith, many rules c kept code h), says rules kept h)
 
 -- ---- its text
 
-module _ (t : Table) (v : FromUs t) (c : Compiling) (code : List ℕ) (by : TextsCompiled (take t.count (rules_of t)) c code) (which : ℕ) (p : AtomPlace) (says : PlaceIs c code which p) where
+module _ (t : Table) (v : FromUs t) (c : Compiling) (code : List ℕ) (by : TextsCompiled (take t.count (rules_of t)) c code) (which : ℕ) where
   abbrev rules : List (Formula Name)
   rules = formulas_of (rules_of t)
-
-  first : FirstPlace rules which p
-  unfolding PlaceIs
-  first = says rules by.kept (reached_all t c code v by)
 
   -- the text of the atom with the number, whether there is one or not
   abbrev ws : List ℕ
   ws = text_of (Form.atom (atom_at (different_atoms rules) which))
 
-  -- a place in no rule
-  pub gives_none : t.count ≤ p.rule → (buffer : List ℕ) → GivesAtom rules which buffer (Printed.Text 0) buffer
-  unfolding atom_text_of over
-  gives_none past buffer =
-      let high : length (different_atoms rules) ≤ which = cases (ltb which (length (different_atoms rules))) (λ e. absurd (omega (arith, as_many t v, (first.there (ltb-true _ _ e)).rule_there))) (λ e. ltb-false _ _ e) in
+  -- there is no such atom
+  pub gives_none : PlaceIs c code which None → (buffer : List ℕ) → GivesAtom rules which buffer (Ok 0) buffer
+  unfolding atom_text_of over PlaceIs
+  gives_none says buffer =
+      let high : length (different_atoms rules) ≤ which = says rules by.kept (reached_all t c code v by) in
       let none : atom_text_of rules which ≡ [] = ap (λ (b : Bool). cond b ws []) (le-ltb _ _ high) in
       let fits : leb 0 (length buffer) ≡ true = le-leb 0 (length buffer) (omega arith) in
-      subst (λ (l : List ℕ). Prints l buffer (Printed.Text 0) buffer) (sym none)
+      subst (λ (l : List ℕ). Prints l buffer (Ok 0) buffer) (sym none)
       (record {
-        answer = sym (ap (λ (b : Bool). cond b (Printed.Text 0) (Printed.Needs 0)) fits);
+        answer = sym (ap (λ (b : Bool). cond b (Ok 0) (too_short 0)) fits);
         bytes = sym (ap (λ (b : Bool). cond b buffer buffer) fits);
       })
 
-  -- a place in a rule
-  module _ (h : p.rule < t.count) where
-    low : which < length (different_atoms rules)
-    low = cases (ltb which (length (different_atoms rules))) (λ e. ltb-true _ _ e) (λ e. absurd (omega (arith, as_many t v, first.none (ltb-false _ _ e))))
+  -- it is written first at the place
+  module _ (p : AtomPlace) (says : PlaceIs c code which (Some p)) where
+    first : (which < length (different_atoms rules)) × Writing rules which p
+    unfolding PlaceIs
+    first = says rules by.kept (reached_all t c code v by)
 
-    rule_is : get_or rules p.rule Form.truth ≡ meaning_of (text v h)
-    rule_is = map_at meaning_of (rules_of t) p.rule [] Form.truth (omega (arith, count_is t v)) ∙ ap meaning_of (sym (text_is v h))
+    pub in_table : p.rule < t.count
+    in_table = omega (arith, as_many t v, first.1.rule_there)
 
-    pub atom_there : p.atom < length (atoms_of (meaning_of (text v h)))
-    atom_there = subst (λ (f : Formula Name). p.atom < length (atoms_of f)) rule_is (first.there low).atom_there
+    rule_is : get_or rules p.rule Form.truth ≡ meaning_of (text v in_table)
+    rule_is = map_at meaning_of (rules_of t) p.rule [] Form.truth (omega (arith, count_is t v, in_table)) ∙ ap meaning_of (sym (text_is v in_table))
+
+    pub atom_there : p.atom < length (atoms_of (meaning_of (text v in_table)))
+    atom_there = subst (λ (f : Formula Name). p.atom < length (atoms_of f)) rule_is first.1.atom_there
 
     -- what is printed there is the text of the atom
-    same_text : atom_text (text v h) p.atom ≡ atom_text_of rules which
+    same_text : atom_text (text v in_table) p.atom ≡ atom_text_of rules which
     unfolding atom_text atom_text_of
     same_text =
         ap (λ (f : Formula Name). text_of (Form.atom (get_or (atoms_of f) p.atom (Atom.empty Term.zero)))) (sym rule_is)
-        ∙ ap (λ (a : Atom Name). text_of (Form.atom a)) (first.there low).is_atom
-        ∙ sym (ap (λ (b : Bool). cond b ws []) (lt-ltb _ _ low))
+        ∙ ap (λ (a : Atom Name). text_of (Form.atom a)) first.1.is_atom
+        ∙ sym (ap (λ (b : Bool). cond b ws []) (lt-ltb _ _ first.0))
 
-    pub gives_text : (buffer : List ℕ) (r : Printed) (exit : List ℕ) → Prints (atom_text (text v h) p.atom) buffer r exit → GivesAtom rules which buffer r exit
+    pub gives_text : (buffer : List ℕ) (r : Result ℕ ShortBuffer) (exit : List ℕ) → Prints (atom_text (text v in_table) p.atom) buffer r exit → GivesAtom rules which buffer r exit
     gives_text buffer r exit says = subst (λ (l : List ℕ). Prints l buffer r exit) same_text says
 
 -- ---- its length
@@ -139,15 +143,15 @@ atom_short rs can which =
 -- ---- in arrays
 
 -- the length that is answered
-abbrev pub length_in : Printed → ℕ
-length_in (Printed.Text n) = n
-length_in (Printed.Needs n) = n
+abbrev pub length_in : Result ℕ ShortBuffer → ℕ
+length_in (Ok n) = n
+length_in (Err e) = e.needed
 
 abbrev text_in : List ℕ → ℕ → AtomText
 text_in bytes len = record { bytes = bytes; len = len }
 
 -- 256 bytes have room for what is printed
-pub kept_atom : (t : Table) → FromUs t → (which : ℕ) (buffer : List ℕ) → buffer ≡ replicate 256 0 → (r : Printed) (exit : List ℕ)
+pub kept_atom : (t : Table) → FromUs t → (which : ℕ) (buffer : List ℕ) → buffer ≡ replicate 256 0 → (r : Result ℕ ShortBuffer) (exit : List ℕ)
     → GivesAtom (formulas_of (rules_of t)) which buffer r exit → (len : ℕ) → length_in r ≡ len
     → record { bytes = exit; len = len } ≡ kept_text (atom_text_of (formulas_of (rules_of t)) which)
 unfolding kept_text
@@ -155,7 +159,7 @@ kept_atom t v which buffer zeros r exit g len e =
     let xs = atom_text_of (formulas_of (rules_of t)) which in
     let long : length buffer ≡ 256 = ap length zeros in
     let fits : leb (length xs) (length buffer) ≡ true = le-leb (length xs) (length buffer) (omega (arith, atom_short (rules_of t) v.standing which, long)) in
-    let is : len ≡ length xs = sym e ∙ ap length_in (g.answer ∙ ap (λ (b : Bool). cond b (Printed.Text (length xs)) (Printed.Needs (length xs))) fits) in
+    let is : len ≡ length xs = sym e ∙ ap length_in (g.answer ∙ ap (λ (b : Bool). cond b (Ok (length xs)) (too_short (length xs))) fits) in
     ap₂ text_in
     (g.bytes ∙ ap (λ (b : Bool). cond b (over xs buffer) buffer) fits ∙ ap (over xs) zeros)
     is

@@ -36,11 +36,12 @@ use Rattle.table.specs.Asking.{ask_answer, Asks, judge_answer, Judges}
 use Rattle.formula.specs.Formula.{Formula, Name}
 use Rattle.lexer.specs.Arrays.{lexed}
 use Rattle.syntax.specs.Rule.{rule_of}
-use Rattle.plan.specs.declared.PlanRead.{PlanRead}
-use Rattle.plan.specs.declared.Written.{Written}
+use Rattle.plan.specs.declared.NotAPlan.{NotAPlan}
+use Rattle.plan.specs.declared.PlanArrays.{PlanArrays}
 use Rattle.plan.specs.Words.{Refusal, Plan, words_of}
 use Rattle.plan.specs.Arrays.{Reads, Writes}
-use Rattle.printing.specs.declared.Printed.{Printed}
+use Rattle.std.specs.Prelude.{Result}
+use Rattle.lists.specs.declared.ShortBuffer.{ShortBuffer}
 use Rattle.printing.specs.Prints.{Prints as PrintsText}
 use Rattle.table.specs.declared.Outcome.{Outcome}
 use Rattle.table.specs.Numbers.{add_outcome, withdraw_outcome, load_outcome, ask_outcome, judge_outcome, print_outcome, explain_outcome, check_outcome, still_outcome, clash_outcome, lex_outcome, rule_outcome, plan_outcome, written_outcome, printed_outcome}
@@ -248,7 +249,7 @@ atom_short = Atoms.atom_short
 -- ---- rule texts and plan words alone
 
 -- what the cutter of tokens refuses has the number and the place that add gives it, whatever rules stand
-pub tokens_refused : (rs : List Text) (s : Text) (k p : ℕ) → lex_outcome (lexed s).answer ≡ Outcome.Refused k p → add_outcome (judge_add rs s) ≡ Outcome.Refused k p
+pub tokens_refused : (rs : List Text) (s : Text) (k p : ℕ) → lex_outcome (lexed s) ≡ Outcome.Refused k p → add_outcome (judge_add rs s) ≡ Outcome.Refused k p
 tokens_refused = Parts.tokens_refused
 
 -- what the reader of rule text refuses has the number and the place that add gives it, whatever rules stand
@@ -256,17 +257,17 @@ pub text_refused : (rs : List Text) (s : Text) (k p : ℕ) → rule_outcome (rul
 text_refused = Rows.text_refused
 
 -- the reader of plan words refuses with 13 exactly where the words up to there begin no plan, or end early
-pub words_refused : (words : List ℕ) (q : PlanRead) → Reads words q → (j : ℕ) → (plan_outcome q.answer ≡ Outcome.Refused 13 j) ↔ Refusal words j
+pub words_refused : (words : List ℕ) (q : Result PlanArrays NotAPlan) → Reads words q → (j : ℕ) → (plan_outcome q ≡ Outcome.Refused 13 j) ↔ Refusal words j
 words_refused = AskRows.words_refused
 
 -- a plan is written where the buffer has room for its words, and else 12 has the words needed
-pub words_written : (p : Plan) (buffer : List ℕ) (w : Written) (exit : List ℕ) → Writes p buffer w exit
+pub words_written : (p : Plan) (buffer : List ℕ) (w : Result ℕ ShortBuffer) (exit : List ℕ) → Writes p buffer w exit
     → (length (words_of p) ≤ length buffer → written_outcome w ≡ Outcome.Plan (length (words_of p)))
     × (length buffer < length (words_of p) → written_outcome w ≡ Outcome.Refused 12 (length (words_of p)))
 words_written = Parts.words_written
 
 -- a text is printed where the buffer has room for its bytes, and else 12 has the bytes needed
-pub text_printed : (text buffer : List ℕ) (w : Printed) (exit : List ℕ) → PrintsText text buffer w exit
+pub text_printed : (text buffer : List ℕ) (w : Result ℕ ShortBuffer) (exit : List ℕ) → PrintsText text buffer w exit
     → (length text ≤ length buffer → printed_outcome w ≡ Outcome.Text (length text))
     × (length buffer < length text → printed_outcome w ≡ Outcome.Refused 12 (length text))
 text_printed = Parts.text_printed

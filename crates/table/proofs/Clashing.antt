@@ -11,7 +11,8 @@ use Rattle.contact.specs.Row.{Row}
 use Rattle.contact.specs.Check.{first_row_of}
 use Rattle.ruleset.specs.declared.Compiling.{Compiling}
 use Rattle.ruleset.specs.Texts.{CompiledRules}
-use Rattle.clashing.specs.declared.Clashed.{Clashed}
+use Rattle.std.specs.Prelude.{Result}
+use Rattle.clashing.specs.declared.NoClash.{NoClash}
 use Rattle.clashing.specs.Clashing.{clash_of}
 use Rattle.clashing.specs.Steps.{Clashes, ClashIs}
 use Rattle.table.specs.declared.Table.{Table}
@@ -29,7 +30,7 @@ abbrev pub clash_result : Table → ClashAnswer → ClashResult
 clash_result t a = record { table = t; answer = a }
 
 -- what is found, as clash's answer and places
-found_so : (found : List Row) (set before after : List Bool) (r : Clashed) → Clashes found set before after r
+found_so : (found : List Row) (set before after : List Bool) (r : Result ℕ NoClash) → Clashes found set before after r
     → (clashed_answer r ≡ rows_answer found (length set) (length before)) × (after ≡ rows_places found set before)
 found_so (row ∷ found) set before after r h = (ap clashed_answer h.0, h.1)
 found_so [] set before after r h = go (leb (length set) (length before)) refl
@@ -53,7 +54,7 @@ module _ (t : Table) (v : FromUs t) (places : List Bool) where
       clashes_of ClashAnswer.NoRule places (sym (ap (λ (rs : List Text). clash_answer rs (length places)) none)) (sym (ap (λ (rs : List Text). clash_places rs places) none))
 
   -- the answer by the compiled rules
-  pub clashes_by : 0 < t.count → (c : Compiling) (kept code : List ℕ) → CompiledRules (formulas_of (rules_of t)) c kept code → (r : Clashed) (exit : List Bool)
+  pub clashes_by : 0 < t.count → (c : Compiling) (kept code : List ℕ) → CompiledRules (formulas_of (rules_of t)) c kept code → (r : Result ℕ NoClash) (exit : List Bool)
       → ClashIs c code places exit r → (a : ClashAnswer) → a ≡ clashed_answer r → GivesClash t places (clash_result t a) exit
   unfolding ClashIs
   clashes_by h c kept code compiled r exit says a e =

@@ -20,14 +20,14 @@ use Rattle.names.proofs.Claims.{rule_gathered}
 use Rattle.names.specs.declared.NamesAnswer.{NamesAnswer}
 use Rattle.ruleset.specs.declared.Known.{Known}
 use Rattle.ruleset.specs.declared.Grown.{Grown}
-use Rattle.ruleset.specs.declared.RoomAnswer.{RoomAnswer}
-use Rattle.ruleset.specs.Texts.{KnownRules, OneMore, Ready, room_answer, WithRule}
-use Rattle.table.specs.declared.Tried.{Tried}
+use Rattle.std.specs.Prelude.{Result, Ok, Err}
+use Rattle.ruleset.specs.declared.NoRoom.{NoRoom}
+use Rattle.ruleset.specs.Texts.{KnownRules, OneMore, Ready, room_answer, room_of, WithRule}
 use Rattle.table.specs.declared.AddAnswer.{AddAnswer}
 use Rattle.table.specs.Sheet.{Text}
 use Rattle.table.specs.Calls.{formulas_of, names_in, atoms_in, read_answer, names_answer, first_refusal, judge_names, judge_atoms, judge_room, judge_text, judge_add}
 use Rattle.table.specs.Rules.{CanStand}
-use Rattle.table.specs.Steps.{KnownTexts, Knowing, room_add, Tries}
+use Rattle.table.specs.Steps.{KnownTexts, Knowing, no_room, Tries}
 use Rattle.table.proofs.Standing.{NotAdded, not_full, refused_else, names_last, read_formula}
 
 -- ---- how a text is judged, step by step
@@ -89,13 +89,14 @@ names_with rs s h e f =
 
 -- ---- the room
 
-room_taken : (a : RoomAnswer) → room_add a ≡ AddAnswer.Added → a ≡ RoomAnswer.Room
-room_taken RoomAnswer.Room e = refl
-room_taken (RoomAnswer.TooManyNames p) e = absurd (let z : ◌≡◌ {A = ℕ} 0 1 = cc in omega arith)
-room_taken RoomAnswer.ManyAtoms e = absurd (let z : ◌≡◌ {A = ℕ} 0 1 = cc in omega arith)
+-- whether there is room, as add's answer
+abbrev room_add : Result Unit NoRoom → AddAnswer
+room_add (Ok u) = AddAnswer.Added
+room_add (Err why) = no_room why
 
-not_ninth : (p : ℕ) → NotAdded (AddAnswer.TooManyNames p)
-not_ninth p e = let z : ◌≡◌ {A = ℕ} 0 1 = cc in omega arith
+room_refused : (why : NoRoom) → NotAdded (no_room why)
+room_refused (NoRoom.TooManyNames p) e = let z : ◌≡◌ {A = ℕ} 0 1 = cc in omega arith
+room_refused NoRoom.TooManyAtoms e = let z : ◌≡◌ {A = ℕ} 0 1 = cc in omega arith
 
 -- the answer for the room is add's, of a rule where fewer than 16 stand
 module _ (rs : List Text) (s : Text) (read : judge_text s ≡ AddAnswer.Added) (few : length rs < 16) where
@@ -105,12 +106,9 @@ module _ (rs : List Text) (s : Text) (read : judge_text s ≡ AddAnswer.Added) (
       (λ h. rw h (sym (judge_added rs s read few (names_are rs s NamesAnswer.Enough e) (leb-true _ _ h))))
       (λ h. rw h (sym (judge_atoms_lem rs s read few (names_are rs s NamesAnswer.Enough e) (leb-false _ _ h))))
   room_judged (NamesAnswer.TooManyNames p) e =
-      sym (judge_names_lem rs s read few (AddAnswer.TooManyNames p) (names_are rs s (NamesAnswer.TooManyNames p) e) (not_ninth p))
+      sym (judge_names_lem rs s read few (AddAnswer.TooManyNames p) (names_are rs s (NamesAnswer.TooManyNames p) e) (room_refused (NoRoom.TooManyNames p)))
 
 -- ---- a text put to what is known
-
-abbrev tried_with : Known → AddAnswer → Tried
-tried_with k a = record { known = k; answer = a }
 
 formulas_with : (rs : List Text) (s : Text) → formulas_of (rs ++ s ∷ []) ≡ formulas_of rs ++ meaning_of s ∷ []
 formulas_with rs s = map-append meaning_of rs (s ∷ [])
@@ -119,14 +117,14 @@ module _ (k : Known) (s : Text) (kept : List ℕ) where
   known_count : (rs : List Text) → KnownTexts rs k kept → k.count ≡ length rs
   known_count rs h = h.counted ∙ length-map rs meaning_of
 
-  pub tries_refused : (a : AddAnswer) (keptOut : List ℕ) → judge_text s ≡ a → NotAdded a → Tries k s kept (tried_with k a) keptOut
+  pub tries_refused : (a : AddAnswer) (out : Known) (keptOut : List ℕ) → judge_text s ≡ a → NotAdded a → Tries k s kept a out keptOut
   unfolding Tries
-  tries_refused a keptOut f n rs can h = (sym (judge_text_lem rs s a f n), λ e. absurd (n e))
+  tries_refused a out keptOut f n rs can h = (sym (judge_text_lem rs s a f n), λ e. absurd (n e))
 
   module _ (read : judge_text s ≡ AddAnswer.Added) where
-    pub tries_full : (keptOut : List ℕ) → 16 ≤ k.count → Tries k s kept (tried_with k AddAnswer.TableFull) keptOut
+    pub tries_full : (out : Known) (keptOut : List ℕ) → 16 ≤ k.count → Tries k s kept AddAnswer.TableFull out keptOut
     unfolding Tries
-    tries_full keptOut l rs can h = (sym (judge_full rs s read (omega (arith, known_count rs h))), λ e. absurd (not_full e))
+    tries_full out keptOut l rs can h = (sym (judge_full rs s read (omega (arith, known_count rs h))), λ e. absurd (not_full e))
 
     module _ (few : k.count < 16) (rule : Rule) (is : rule ≡ rule_of s) (code : List ℕ) (long : 256 ≤ length code) where
       one_more : (rs : List Text) → KnownTexts rs k kept → OneMore s rule k kept code 0 (formulas_of rs) (meaning_of s)
@@ -142,24 +140,33 @@ module _ (k : Known) (s : Text) (kept : List ℕ) where
       pub ready : Knowing k kept → Ready s rule k kept code 0
       ready h = record { rules = formulas_of h.rules; formula = meaning_of s; one_more = one_more h.rules h.known }
 
-      pub tries_room : (g : Grown) (keptOut out : List ℕ) → WithRule s rule k kept code 0 g keptOut out → (a : AddAnswer) → a ≡ room_add g.answer
-          → Tries k s kept (tried_with g.known a) keptOut
-      unfolding Tries WithRule names_in atoms_in
-      tries_room g keptOut out says a e rs can h =
+      -- what is judged of the room is judged of the text
+      room_is : (rs : List Text) → CanStand rs → (h : KnownTexts rs k kept) → room_add (room_of s (formulas_of rs) (meaning_of s)) ≡ judge_add rs s
+      unfolding names_in atoms_in
+      room_is rs can h =
+          ap (λ (fs : List (Formula Name)). room_add (room_answer (gathered s (names_in rs)).answer (length (different_atoms fs)))) (sym (formulas_with rs s))
+          ∙ room_judged rs s read (omega (arith, known_count rs h)) (gathered s (names_in rs)).answer refl
+
+      pub tries_grown : (g : Grown) (keptOut out : List ℕ) → WithRule s rule k kept code 0 (Ok g) keptOut out → Tries k s kept AddAnswer.Added g.known keptOut
+      unfolding Tries WithRule
+      tries_grown g keptOut out says rs can h =
           let w = says (formulas_of rs) (meaning_of s) (one_more rs h) in (
-            e ∙ ap room_add w.0
-                ∙ ap (λ (fs : List (Formula Name)). room_add (room_answer (gathered s (names_in rs)).answer (length (different_atoms fs)))) (sym (formulas_with rs s))
-                ∙ room_judged rs s read (omega (arith, known_count rs h)) (gathered s (names_in rs)).answer refl,
-            λ q. subst (λ (fs : List (Formula Name)). KnownRules fs g.known keptOut) (sym (formulas_with rs s))
-                (w.1 (room_taken g.answer (sym e ∙ q))).known,
+            ap room_add (sym w.0) ∙ room_is rs can h,
+            λ q. subst (λ (fs : List (Formula Name)). KnownRules fs g.known keptOut) (sym (formulas_with rs s)) w.1.known,
           )
 
+      pub tries_no_room : (why : NoRoom) (keptOut out : List ℕ) → WithRule s rule k kept code 0 (Err why) keptOut out → (a : AddAnswer) → a ≡ no_room why → (known : Known)
+          → Tries k s kept a known keptOut
+      unfolding Tries WithRule
+      tries_no_room why keptOut out says a e known rs can h =
+          (e ∙ ap room_add (sym (says (formulas_of rs) (meaning_of s) (one_more rs h))) ∙ room_is rs can h, λ q. absurd (room_refused why (sym e ∙ q)))
+
 -- the answer and what is known after a text
-module _ (k : Known) (rs : List Text) (can : CanStand rs) (kept : List ℕ) (h : KnownTexts rs k kept) (s : Text) (r : Tried) (keptOut : List ℕ) (t : Tries k s kept r keptOut) where
-  pub answer_is : r.answer ≡ judge_add rs s
+module _ (k : Known) (rs : List Text) (can : CanStand rs) (kept : List ℕ) (h : KnownTexts rs k kept) (s : Text) (a : AddAnswer) (out : Known) (keptOut : List ℕ) (t : Tries k s kept a out keptOut) where
+  pub answer_is : a ≡ judge_add rs s
   unfolding Tries
   answer_is = (t rs can h).0
 
-  pub known_next : r.answer ≡ AddAnswer.Added → KnownTexts (rs ++ s ∷ []) r.known keptOut
+  pub known_next : a ≡ AddAnswer.Added → KnownTexts (rs ++ s ∷ []) out keptOut
   unfolding Tries
   known_next e = (t rs can h).1 e

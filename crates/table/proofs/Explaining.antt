@@ -12,10 +12,11 @@ use borrow.Author.Tests.{leb-true, leb-false}
 use Rattle.lists.specs.Buffer.{over}
 use Rattle.ruleset.specs.declared.Compiling.{Compiling}
 use Rattle.ruleset.specs.Texts.{CompiledRules, VerdictIs, ExplainedIs}
-use Rattle.trees.specs.declared.Verdict.{Verdict}
+use Rattle.std.specs.Prelude.{Result}
+use Rattle.trees.specs.declared.NotClosed.{NotClosed}
 use Rattle.trees.specs.Trees.{Tree, words_of}
 use Rattle.trees.specs.Checker.{trees_of}
-use Rattle.explaining.specs.declared.Explanation.{Explanation}
+use Rattle.explaining.specs.declared.NoTree.{NoTree}
 use Rattle.explaining.specs.Explained.{Explained}
 use Rattle.table.specs.declared.Table.{Table}
 use Rattle.table.specs.declared.ExplainAnswer.{ExplainAnswer}
@@ -41,7 +42,7 @@ unfolding over
 sets_over ws before fits = sets-eq ws before 0 (omega arith) ∙ ap (λ (k : ℕ). ws ++ drop k before) (zero-add (length ws))
 
 -- what the writer says of its trees, as explain's answer and words
-explained_so : (ts : List Tree) (before after : List ℕ) (r : Explanation) → Explained ts before after r
+explained_so : (ts : List Tree) (before after : List ℕ) (r : Result ℕ NoTree) → Explained ts before after r
     → (explanation_answer r ≡ told_answer ts (length before)) × (after ≡ told_words ts before)
 explained_so [] before after r h = (ap explanation_answer h.0, h.1)
 explained_so (t ∷ ts) before after r h = go (leb (length (words_of t)) (length before)) refl
@@ -68,7 +69,7 @@ module _ (t : Table) (v : FromUs t) (buffer : List ℕ) where
       explains_of ExplainAnswer.NoRule buffer (sym (ap (λ (rs : List Text). explain_answer rs (length buffer)) none)) (sym (ap (λ (rs : List Text). explain_words rs buffer) none))
 
   -- the writer's answer by the compiled rules
-  pub explains_told : 0 < t.count → (c : Compiling) (kept code : List ℕ) → CompiledRules (formulas_of (rules_of t)) c kept code → (r : Explanation) (exit : List ℕ)
+  pub explains_told : 0 < t.count → (c : Compiling) (kept code : List ℕ) → CompiledRules (formulas_of (rules_of t)) c kept code → (r : Result ℕ NoTree) (exit : List ℕ)
       → ExplainedIs c code buffer exit r → (a : ExplainAnswer) → a ≡ explanation_answer r → Explains t buffer (explain_result t a) exit
   unfolding ExplainedIs
   explains_told h c kept code compiled r exit says a e =
@@ -91,7 +92,7 @@ module _ (t : Table) (v : FromUs t) (words : List ℕ) where
   checks_none h = checks_of CheckAnswer.NoRule (sym (ap (λ (rs : List Text). check_answer rs words) (none_stand t v h)))
 
   -- the verdict by the compiled rules
-  pub checks_verdict : 0 < t.count → (c : Compiling) (kept code : List ℕ) → CompiledRules (formulas_of (rules_of t)) c kept code → (r : Verdict) → VerdictIs c code words r
+  pub checks_verdict : 0 < t.count → (c : Compiling) (kept code : List ℕ) → CompiledRules (formulas_of (rules_of t)) c kept code → (r : Result Unit NotClosed) → VerdictIs c code words r
       → (a : CheckAnswer) → a ≡ verdict_answer r → Checks t words (check_result t a)
   unfolding VerdictIs
   checks_verdict h c kept code compiled r says a e =

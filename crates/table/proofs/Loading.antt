@@ -10,7 +10,6 @@ use borrow.Author.Tests.{lt-leb, le-leb, le-ltb, lt-ltb}
 use Rattle.ruleset.specs.declared.Known.{Known}
 use Rattle.ruleset.specs.Texts.{NothingKnown}
 use Rattle.table.specs.declared.Table.{Table}
-use Rattle.table.specs.declared.Tried.{Tried}
 use Rattle.table.specs.declared.AddAnswer.{AddAnswer}
 use Rattle.table.specs.declared.LoadAnswer.{LoadAnswer}
 use Rattle.table.specs.Store.{table_of, rules_of}
@@ -125,15 +124,15 @@ module _ (file : Text) (t : Table) (k : Known) (symbols : List ℕ) (line from e
         kept = ap (λ (ls : List Text). held ++ ls) (sym (filled_blank here (lines_from file (e + 1)) b) ∙ ap filled (sym whole)) ∙ p.kept;
       }
 
-  module _ (r : Tried) (b : blank_line here ≡ false) (out : List ℕ) (a : Tries k here symbols r out) where
-    answered : r.answer ≡ judge_add held here
-    answered = answer_is k held p.from_us.standing symbols p.known here r out a
+  module _ (r : AddAnswer) (grown : Known) (b : blank_line here ≡ false) (out : List ℕ) (a : Tries k here symbols r grown out) where
+    answered : r ≡ judge_add held here
+    answered = answer_is k held p.from_us.standing symbols p.known here r grown out a
 
-    module _ (yes : r.answer ≡ AddAnswer.Added) where
+    module _ (yes : r ≡ AddAnswer.Added) where
       taken : judge_add held here ≡ AddAnswer.Added
       taken = sym answered ∙ yes
 
-      pub after_added : (u : Table) → u ≡ table_of (held ++ here ∷ []) → Progress file u r.known out (line + 1) (e + 1)
+      pub after_added : (u : Table) → u ≡ table_of (held ++ here ∷ []) → Progress file u grown out (line + 1) (e + 1)
       after_added u f =
           let q : rules_of u ≡ held ++ here ∷ [] = ap rules_of f ∙ rules_table (held ++ here ∷ []) in
           record {
@@ -141,7 +140,7 @@ module _ (file : Text) (t : Table) (k : Known) (symbols : List ℕ) (line from e
             within = omega arith;
             lines = omega (arith, p.lines);
             from_us = subst FromUs (sym f) (from_us_table (held ++ here ∷ []) (stand_more held here p.from_us.standing taken));
-            known = subst (λ (rs : List Text). KnownTexts rs r.known out) (sym q) (known_next k held p.from_us.standing symbols p.known here r out a yes);
+            known = subst (λ (rs : List Text). KnownTexts rs grown out) (sym q) (known_next k held p.from_us.standing symbols p.known here r grown out a yes);
             judged = ap (λ (x : List Text). judge_lines (line + 1 + 1) x (lines_from file (e + 1))) q
                 ∙ sym (judge_added (line + 1) held here (lines_from file (e + 1)) b taken) ∙ ap (judge_lines (line + 1) held) (sym whole) ∙ p.judged;
             kept = ap (λ (x : List Text). x ++ filled (lines_from file (e + 1))) q
@@ -155,12 +154,12 @@ module _ (file : Text) (t : Table) (k : Known) (symbols : List ℕ) (line from e
         ap is_none (sym p.kept ∙ ap (λ (ls : List Text). held ++ filled ls) whole ∙ ap (λ (ls : List Text). held ++ ls) (filled_more here (lines_from file (e + 1)) b))
         ∙ not_none held here (filled (lines_from file (e + 1)))
 
-    pub line_refused : NotAdded r.answer → judge_load file ≡ LoadAnswer.Line (line + 1) r.answer
+    pub line_refused : NotAdded r → judge_load file ≡ LoadAnswer.Line (line + 1) r
     line_refused m =
         by_lines file p.short some_filled
         ∙ sym p.judged
         ∙ ap (judge_lines (line + 1) held) whole
-        ∙ judge_refused (line + 1) held here (lines_from file (e + 1)) r.answer b (sym answered) m
+        ∙ judge_refused (line + 1) held here (lines_from file (e + 1)) r b (sym answered) m
 
 -- the end of the file
 module _ (file : Text) (t : Table) (known : Known) (symbols : List ℕ) (line from : ℕ) (p : Progress file t known symbols line from) (h : length file < from) where

@@ -6,7 +6,8 @@ use mathlib.Core.List.{List, []}
 use native.Mathlib.Omega.{arith}
 use lib.Dec.{leb}
 use lib.ListN.{length, get_or}
-use Rattle.printing.specs.declared.Printed.{Printed}
+use Rattle.std.specs.Prelude.{Result, Ok, Err}
+use Rattle.lists.specs.declared.ShortBuffer.{ShortBuffer}
 use Rattle.printing.specs.Prints.{printed_text}
 use Rattle.printing.specs.Prints as printing
 use Rattle.table.specs.declared.Table.{Table}
@@ -24,9 +25,9 @@ abbrev pub print_result : Table → PrintAnswer → PrintResult
 print_result t a = record { table = t; answer = a }
 
 -- the printer's answers, as print's
-abbrev pub printed_answer : Printed → PrintAnswer
-printed_answer (Printed.Text n) = PrintAnswer.Text n
-printed_answer (Printed.Needs n) = PrintAnswer.ShortBuffer n
+abbrev pub printed_answer : Result ℕ ShortBuffer → PrintAnswer
+printed_answer (Ok n) = PrintAnswer.Text n
+printed_answer (Err e) = PrintAnswer.ShortBuffer e.needed
 
 module _ (t : Table) (v : FromUs t) (k : ℕ) (buffer : List ℕ) where
   pub prints_of : (a : PrintAnswer) (exit : List ℕ) → a ≡ print_answer (rules_of t) k (length buffer) → exit ≡ print_bytes (rules_of t) k buffer
@@ -42,7 +43,7 @@ module _ (t : Table) (v : FromUs t) (k : ℕ) (buffer : List ℕ) where
       (sym (ap (λ (a : WithdrawAnswer). if_withdrawn a (text_bytes ws buffer) buffer) e))
 
   -- the printer's answer for the text at the k-th place
-  pub prints_text : 0 < k → k ≤ t.count → (s : Text) → s ≡ get_or (rules_of t) (k - 1) [] → (p : Printed) (exit : List ℕ) → printing.Prints (printed_text s) buffer p exit
+  pub prints_text : 0 < k → k ≤ t.count → (s : Text) → s ≡ get_or (rules_of t) (k - 1) [] → (p : Result ℕ ShortBuffer) (exit : List ℕ) → printing.Prints (printed_text s) buffer p exit
       → (a : PrintAnswer) → printed_answer p ≡ a → Prints t k buffer (print_result t a) exit
   unfolding print_answer print_bytes
   prints_text low high s is p exit h a e =
@@ -54,6 +55,6 @@ module _ (t : Table) (v : FromUs t) (k : ℕ) (buffer : List ℕ) where
       ∙ sym (ap (λ (w : WithdrawAnswer). if_withdrawn w (text_answer ws (length buffer)) (PrintAnswer.NoSuchRule k)) good))
       (h.bytes ∙ ap (λ (x : List ℕ). text_bytes x buffer) same ∙ sym (ap (λ (w : WithdrawAnswer). if_withdrawn w (text_bytes ws buffer) buffer) good))
     where
-      either : (b : Bool) (n : ℕ) → printed_answer (cond b (Printed.Text n) (Printed.Needs n)) ≡ cond b (PrintAnswer.Text n) (PrintAnswer.ShortBuffer n)
+      either : (b : Bool) (n : ℕ) → printed_answer (cond b (Ok n) (Err (record { needed = n }))) ≡ cond b (PrintAnswer.Text n) (PrintAnswer.ShortBuffer n)
       either true n = refl
       either false n = refl

@@ -17,7 +17,7 @@ use Rattle.names.specs.declared.Gathered.{Gathered}
 use Rattle.names.proofs.Claims.{may_gather, known_from}
 use Rattle.ruleset.specs.declared.Known.{Known}
 use Rattle.ruleset.specs.Texts.{NothingKnown}
-use Rattle.table.specs.declared.Tried.{Tried}
+use Rattle.table.specs.declared.AddAnswer.{AddAnswer}
 use Rattle.table.specs.declared.Line.{Line}
 use Rattle.table.specs.declared.Table.{Table}
 use Rattle.table.specs.Store.{rules_of, kept_line, text_of}
@@ -96,13 +96,13 @@ module _ {t : Table} {i : ℕ} (v : FromUs t) (h : i < t.count) where
     known_so_far = record { rules = take i (rules_of t); standing = first_stand; known = p.known }
 
     -- it is added, since it stands
-    pub known_more : (r : Tried) (keptOut : List ℕ) → Tries k text kept r keptOut → KnownTo t r.known keptOut (i + 1)
-    known_more r keptOut says =
+    pub known_more : (a : AddAnswer) (out : Known) (keptOut : List ℕ) → Tries k text kept a out keptOut → KnownTo t out keptOut (i + 1)
+    known_more a out keptOut says =
         let rs = take i (rules_of t) in
-        let e = answer_is k rs first_stand kept p.known text r keptOut says ∙ stand_added rs text stands in
+        let e = answer_is k rs first_stand kept p.known text a out keptOut says ∙ stand_added rs text stands in
         record {
           within = omega (arith, count_is t v);
-          known = subst (λ (l : List Text). KnownTexts l r.known keptOut) (sym first) (known_next k rs first_stand kept p.known text r keptOut says e);
+          known = subst (λ (l : List Text). KnownTexts l out keptOut) (sym first) (known_next k rs first_stand kept p.known text a out keptOut says e);
         }
 
   module _ (ns : Names) (p : NamedTo t ns i) where

@@ -9,7 +9,6 @@ use borrow.Author.Tests.{le-ltb, lt-leb, le-leb, lt-ltb}
 use Rattle.ruleset.specs.declared.Known.{Known}
 use Rattle.table.specs.declared.Table.{Table}
 use Rattle.table.specs.declared.AddAnswer.{AddAnswer}
-use Rattle.table.specs.declared.Tried.{Tried}
 use Rattle.table.specs.declared.AddResult.{AddResult}
 use Rattle.table.specs.declared.WithdrawAnswer.{WithdrawAnswer}
 use Rattle.table.specs.declared.WithdrawResult.{WithdrawResult}
@@ -43,27 +42,27 @@ loads_of t f r v e = record { result = e; from_us = rw e (from_us_table _ (stand
 
 -- ---- add
 
-module _ (t : Table) (s : Text) (k : Known) (kept : List ℕ) (r : Tried) (keptOut : List ℕ) (v : FromUs t) (e : KnownTexts (rules_of t) k kept) (h : Tries k s kept r keptOut) where
-  answered : r.answer ≡ judge_add (rules_of t) s
-  answered = answer_is k (rules_of t) v.standing kept e s r keptOut h
+module _ (t : Table) (s : Text) (k : Known) (kept : List ℕ) (r : AddAnswer) (grown : Known) (keptOut : List ℕ) (v : FromUs t) (e : KnownTexts (rules_of t) k kept) (h : Tries k s kept r grown keptOut) where
+  answered : r ≡ judge_add (rules_of t) s
+  answered = answer_is k (rules_of t) v.standing kept e s r grown keptOut h
 
-  pub adds_refused : NotAdded r.answer → Adds t s (add_result t r.answer)
+  pub adds_refused : NotAdded r → Adds t s (add_result t r)
   unfolding added
   adds_refused n =
       adds_of t s _ v
-      (ap (λ (u : Table). add_result u r.answer) (v.same ∙ ap table_of (sym (added_refused (rules_of t) s (λ f. n (answered ∙ f)))))
+      (ap (λ (u : Table). add_result u r) (v.same ∙ ap table_of (sym (added_refused (rules_of t) s (λ f. n (answered ∙ f)))))
       ∙ ap (add_result (table_of (add_rules (rules_of t) s))) answered)
 
-  module _ (yes : r.answer ≡ AddAnswer.Added) where
+  module _ (yes : r ≡ AddAnswer.Added) where
     -- there is a line for the text
     pub may_put : FromUs t × (t.count < 16) × (length s ≤ 256)
     may_put = let m = room (rules_of t) s (sym answered ∙ yes) in (v, omega (arith, m.few, count_is t v), read_short s m.read)
 
-    pub adds_taken : (u : Table) → u ≡ table_of (rules_of t ++ s ∷ []) → Adds t s (add_result u r.answer)
+    pub adds_taken : (u : Table) → u ≡ table_of (rules_of t ++ s ∷ []) → Adds t s (add_result u r)
     unfolding added
     adds_taken u f =
         adds_of t s _ v
-        (ap (λ (w : Table). add_result w r.answer) (f ∙ ap table_of (sym (added_taken (rules_of t) s (sym answered ∙ yes))))
+        (ap (λ (w : Table). add_result w r) (f ∙ ap table_of (sym (added_taken (rules_of t) s (sym answered ∙ yes))))
         ∙ ap (add_result (table_of (add_rules (rules_of t) s))) answered)
 
 -- ---- withdraw

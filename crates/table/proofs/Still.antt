@@ -1,7 +1,7 @@
 -- Still meets its definition: words that are read are a plan, whose arrays with the rules' number of names hold it as one of these names; it is
 -- judged by the compiled rules, and the search's row decides where it does not meet them. Assumes nothing.
 use Prim.Native.Nat.{ℕ, ◌≤◌, ◌<◌}
-use mathlib.Core.Path.{◌≡◌, refl, sym, ap, ap₂, ◌∙◌}
+use mathlib.Core.Path.{◌≡◌, refl, sym, ap, ap₂, subst, ◌∙◌}
 use mathlib.Core.Bool.{Bool, true, false, not, ◌&&◌, cond}
 use mathlib.Core.List.{List, [], ◌∷◌}
 use mathlib.Mathlib.Data.Bool.Basic.{eq-false_of_not-eq-true}
@@ -16,12 +16,13 @@ use Rattle.contact.specs.Numbering.{names_of}
 use Rattle.contact.specs.Row.{Row}
 use Rattle.contact.specs.Check.{first_row_of}
 use Rattle.contact.proofs.Claims.{meets_same}
-use Rattle.plan.specs.declared.PlanAnswer.TheVariants as PlanAnswer
-use Rattle.plan.specs.declared.PlanRead.{PlanRead}
+use Rattle.std.specs.Prelude.{Option, Ok, Err}
+use Rattle.plan.specs.declared.NotAPlan.{NotAPlan}
+use Rattle.plan.specs.declared.PlanArrays.{PlanArrays}
 use Rattle.plan.specs.Words.{Plan, IsPlan}
 use Rattle.plan.specs.Wider.{widened, widened_arrays}
 use Rattle.plan.specs.Reader.{Reading, plan, refused, read_of, ReadingSays}
-use Rattle.plan.specs.Arrays.{answer_of, plan_in, Reads}
+use Rattle.plan.specs.Arrays.{Reads}
 use Rattle.plan.specs.Stored.{Stored}
 use Rattle.plan.specs.Judging.{Judgement, yes, unmet, judge, uncovered}
 use Rattle.plan.specs.Floor.{named_floor}
@@ -31,7 +32,6 @@ use Rattle.plan.proofs.Wider.{widened_plan, widened_stored, widened_floor}
 use Rattle.judging.specs.declared.Judged.{Judged}
 use Rattle.judging.specs.Values.{judged_of}
 use Rattle.judging.specs.Judges.{judged_plan}
-use Rattle.solver.specs.declared.RowAnswer.{RowAnswer}
 use Rattle.solver.specs.Tree.{answer_for}
 use Rattle.ruleset.specs.declared.Compiling.{Compiling}
 use Rattle.ruleset.specs.Texts.{CompiledRules, FirstRowIs, JudgedIs}
@@ -59,50 +59,50 @@ met_both : (b : Bool) (j : Judged) → is_met (cond b Judged.Uncovered j) ≡ (n
 met_both true j = refl
 met_both false j = refl
 
-module _ (words : List ℕ) (r : PlanRead) (reads : Reads words r) (c : Compiling) (code : List ℕ) where
-  -- the words are no plan
-  pub drawn_unread : (at : ℕ) → r.answer ≡ PlanAnswer.Refused at → DrawnIs c code words false
-  unfolding DrawnIs drawn_of
-  drawn_unread at e rules kept compiled = sym (go (read_of words) (exact words) (sym reads.answer ∙ e))
-    where
-      go : (x : Reading) (h : ReadingSays words x) → answer_of x ≡ PlanAnswer.Refused at → drawn_reading rules words x h ≡ false
-      go (plan p) h q = absurd (let z : ◌≡◌ {A = ℕ} 0 1 = cc in omega arith)
-      go (refused j) h q = refl
+-- the words are no plan
+pub drawn_unread : (words : List ℕ) (e : NotAPlan) → Reads words (Err e) → (c : Compiling) (code : List ℕ) → DrawnIs c code words false
+unfolding DrawnIs drawn_of
+drawn_unread words e reads c code rules kept compiled = sym (go (read_of words) (exact words) reads)
+  where
+    go : (x : Reading) (h : ReadingSays words x) → x ≡ refused e.at → drawn_reading rules words x h ≡ false
+    go (plan p) h q = absurd (let z : ◌≡◌ {A = ℕ} 0 1 = cc in omega arith)
+    go (refused j) h q = refl
 
+module _ (words : List ℕ) (arrays : PlanArrays) (reads : Reads words (Ok arrays)) (c : Compiling) (code : List ℕ) where
   -- they are one: what holds of each plan that the arrays hold
-  drawn_read : r.answer ≡ PlanAnswer.Plan → (b : Bool)
-      → ((rules : List (Formula Name)) (kept : List ℕ) → CompiledRules rules c kept code → (p : Plan) (h : IsPlan p) → Stored r.plan p → b ≡ drawn_plan rules p h)
+  drawn_read : (b : Bool)
+      → ((rules : List (Formula Name)) (kept : List ℕ) → CompiledRules rules c kept code → (p : Plan) (h : IsPlan p) → Stored arrays p → b ≡ drawn_plan rules p h)
       → DrawnIs c code words b
   unfolding DrawnIs drawn_of
-  drawn_read e b says rules kept compiled = go (read_of words) (exact words) (sym reads.answer ∙ e) reads.plan
+  drawn_read b says rules kept compiled = go (read_of words) (exact words) reads.1
     where
-      go : (x : Reading) (h : ReadingSays words x) → answer_of x ≡ PlanAnswer.Plan → Stored r.plan (plan_in x) → b ≡ drawn_reading rules words x h
-      go (plan p) h q stored = says rules kept compiled p h.0 stored
-      go (refused j) h q stored = absurd (let z : ◌≡◌ {A = ℕ} 0 1 = cc in omega arith)
+      go : (x : Reading) (h : ReadingSays words x) → x ≡ plan reads.0 → b ≡ drawn_reading rules words x h
+      go (plan p) h q = let z : p ≡ reads.0 = cc in says rules kept compiled p h.0 (subst (Stored arrays) (sym z) reads.2)
+      go (refused j) h q = absurd (let z : ◌≡◌ {A = ℕ} 0 1 = cc in omega arith)
 
   abbrev names : ℕ
   names = c.known.atoms.chart.names
 
   -- of more names than the rules
-  pub drawn_more : r.answer ≡ PlanAnswer.Plan → names < r.plan.names → DrawnIs c code words false
-  drawn_more e l =
-      drawn_read e false (λ rules kept compiled p h stored.
+  pub drawn_more : names < arrays.names → DrawnIs c code words false
+  drawn_more l =
+      drawn_read false (λ rules kept compiled p h stored.
       let more : length (names_of rules) < p.names = omega (arith, l, stored.names, compiled.known.names_counted) in
       sym (ap (λ (b : Bool). b && (not (uncovered (widened (length (names_of rules)) p)) && meets_all (named_floor rules p h) rules))
       (lt-leb p.names (length (names_of rules)) more)))
 
   -- of no more: it is judged as one of the rules' names
-  pub drawn_judged : r.answer ≡ PlanAnswer.Plan → r.plan.names ≤ names → (j : Judged) → JudgedIs c code (widened_arrays names r.plan) j
+  pub drawn_judged : arrays.names ≤ names → (j : Judged) → JudgedIs c code (widened_arrays names arrays) j
       → (b : Bool) → b ≡ is_met j → DrawnIs c code words b
   unfolding JudgedIs
-  drawn_judged e l j says b is =
-      drawn_read e b (λ rules kept compiled p h stored.
+  drawn_judged l j says b is =
+      drawn_read b (λ rules kept compiled p h stored.
       let n : ℕ = length (names_of rules) in
       let count : names ≡ n = compiled.known.names_counted in
       let fewer : p.names ≤ n = omega (arith, l, stored.names, count) in
       let few : names ≤ most = omega (arith, count, compiled.known.fits.names_fit) in
       let k : IsPlan (widened names p) = widened_plan names p (omega (arith, fewer, count)) few h in
-      let by : j ≡ judged_plan rules (widened names p) k = says rules kept compiled (widened names p) k count (widened_stored names p r.plan stored) in
+      let by : j ≡ judged_plan rules (widened names p) k = says rules kept compiled (widened names p) k count (widened_stored names p arrays stored) in
       is ∙ ap is_met by ∙ met_both (uncovered (widened names p)) (judged_of (judge (named_floor rules (widened names p) k) rules))
       ∙ ap₂ (λ (m : ℕ) (t : Bool). not (uncovered (widened m p)) && t) count
       (yes_meets (named_floor rules (widened names p) k) rules _ refl
@@ -123,7 +123,7 @@ module _ (words : List ℕ) (c : Compiling) (code : List ℕ) where
       ap (λ (d : Bool). cond d StillAnswer.AsDrawn (row_answer (first_row_of plain rules))) (says rules kept compiled)
 
   -- and where they are not, by the row that is found
-  pub hand_found : DrawnIs c code words false → (r : RowAnswer) → FirstRowIs plain c code r → (a : StillAnswer) → a ≡ found_still r → InHandIs c code words a
+  pub hand_found : DrawnIs c code words false → (r : Option ℕ) → FirstRowIs plain c code r → (a : StillAnswer) → a ≡ found_still r → InHandIs c code words a
   unfolding DrawnIs FirstRowIs InHandIs
   hand_found says r first a e rules kept compiled =
       e ∙ ap found_still (first rules kept compiled) ∙ found_rows (first_row_of plain rules)

@@ -17,7 +17,8 @@ use Rattle.contact.proofs.Claims.{plan_counts_named, plan_meets_named, no_plan_n
 use Rattle.contact.proofs.Naming.{named_plan}
 use Rattle.contact.proofs.Numbered.{numbers_count}
 use Rattle.syntax.specs.Rule.{meaning_of}
-use Rattle.trees.specs.declared.Verdict.{Verdict}
+use Rattle.std.specs.Prelude.{Result, Ok, Err}
+use Rattle.trees.specs.declared.NotClosed.{NotClosed}
 use Rattle.trees.specs.Trees.{Tree, words_of}
 use Rattle.trees.specs.OfRules.{IsWrittenTree}
 use Rattle.trees.specs.Checker.{checked_of, trees_of}
@@ -157,16 +158,16 @@ module _ (words : List ℕ) where
   verdict_row : (rs : List Text) (fs : List (Formula Name)) → FewFor fs → SomeStand rs → AreRules rs fs → CheckRow rs words (check_outcome (verdict_answer (checked_of fs words)))
   verdict_row rs fs few some are = go (checked_of fs words) refl
     where
-      go : (v : Verdict) → checked_of fs words ≡ v → CheckRow rs words (check_outcome (verdict_answer v))
-      go Verdict.Accepts e = let c = (accepts_exactly fs few.atoms few.rules words).0 e in CheckRow.closed c.0 some are c.2 c.1
-      go (Verdict.Refuses j) e = CheckRow.wrong some are ((refuses_exactly fs few.atoms few.rules words j).0 e)
+      go : (v : Result Unit NotClosed) → checked_of fs words ≡ v → CheckRow rs words (check_outcome (verdict_answer v))
+      go (Ok u) e = let c = (accepts_exactly fs few.atoms few.rules words).0 e in CheckRow.closed c.0 some are c.2 c.1
+      go (Err wrong) e = CheckRow.wrong some are ((refuses_exactly fs few.atoms few.rules words wrong.at).0 e)
 
   pub check_row : (rs : List Text) → AllRead rs → FewFor (formulas_of rs) → CheckRow rs words (check_outcome (check_answer rs words))
   unfolding check_answer
   check_row [] read few = CheckRow.none refl
   check_row (s ∷ rs) read few = verdict_row (s ∷ rs) (formulas_of (s ∷ rs)) few cons≢nil (formulas_are (s ∷ rs) read)
 
-  by_verdict : (rs : List Text) (fs : List (Formula Name)) → SomeStand rs → AreRules rs fs → (v : Verdict) → checked_of fs words ≡ v → check_outcome (verdict_answer v) ≡ check_outcome (check_answer rs words)
+  by_verdict : (rs : List Text) (fs : List (Formula Name)) → SomeStand rs → AreRules rs fs → (v : Result Unit NotClosed) → checked_of fs words ≡ v → check_outcome (verdict_answer v) ≡ check_outcome (check_answer rs words)
   by_verdict rs fs some are v e =
       sym (ap check_outcome (checked_some rs some words ∙ ap verdict_answer (ap (λ (gs : List (Formula Name)). checked_of gs words) (sym (are_formulas rs fs are)) ∙ e)))
 
@@ -174,6 +175,6 @@ module _ (words : List ℕ) where
   unfolding check_answer
   check_row_only rs few o (CheckRow.none e) = sym (ap (λ (l : List Text). check_outcome (check_answer l words)) e)
   check_row_only rs few o (CheckRow.wrong {fs} {j} some are r) =
-      let f = subst FewFor (sym (are_formulas rs fs are)) few in by_verdict rs fs some are (Verdict.Refuses j) ((refuses_exactly fs f.atoms f.rules words j).1 r)
+      let f = subst FewFor (sym (are_formulas rs fs are)) few in by_verdict rs fs some are (Err (record { at = j })) ((refuses_exactly fs f.atoms f.rules words j).1 r)
   check_row_only rs few o (CheckRow.closed {fs} t some are c w) =
-      let f = subst FewFor (sym (are_formulas rs fs are)) few in by_verdict rs fs some are Verdict.Accepts ((accepts_exactly fs f.atoms f.rules words).1 (t, w, c))
+      let f = subst FewFor (sym (are_formulas rs fs are)) few in by_verdict rs fs some are (Ok tt) ((accepts_exactly fs f.atoms f.rules words).1 (t, w, c))

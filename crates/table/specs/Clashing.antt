@@ -1,10 +1,10 @@
 -- What is computed: what clash gives, as a function of the list of standing texts and of the places lent beside the table, and its contract. Rows
 -- says what is meant; proofs/Claims.antt ties the two. The last definition is for proofs. Assumes nothing.
-use Rattle.std.specs.Prelude.{ℕ, ◌≡◌, Bool, cond, List, [], ◌∷◌, ◌++◌, leb, length, drop}
+use Rattle.std.specs.Prelude.{ℕ, ◌≡◌, Bool, cond, List, [], ◌∷◌, ◌++◌, leb, length, drop, Result, Ok, Err}
 use Rattle.contact.specs.Question.{plain}
 use Rattle.contact.specs.Row.{Row}
 use Rattle.contact.specs.Check.{first_row_of}
-use Rattle.clashing.specs.declared.Clashed.{Clashed}
+use Rattle.clashing.specs.declared.NoClash.{NoClash}
 use Rattle.clashing.specs.Clashing.{clash_of}
 use Rattle.clashing.specs.Steps.{ClashIs}
 use Rattle.ruleset.specs.declared.Compiling.{Compiling}
@@ -51,13 +51,13 @@ pub record GivesClash (t : Table) (places : List Bool) (r : ClashResult) (exit :
 -- ---- for proofs
 
 -- what is found of the compiled rules, as clash's answer
-abbrev pub clashed_answer : Clashed → ClashAnswer
-clashed_answer (Clashed.Places n) = ClashAnswer.Clash n
-clashed_answer Clashed.PlanExists = ClashAnswer.HasPlan
-clashed_answer (Clashed.Short n) = ClashAnswer.ShortBuffer n
+abbrev pub clashed_answer : Result ℕ NoClash → ClashAnswer
+clashed_answer (Ok n) = ClashAnswer.Clash n
+clashed_answer (Err NoClash.PlanExists) = ClashAnswer.HasPlan
+clashed_answer (Err (NoClash.Short n)) = ClashAnswer.ShortBuffer n
 
 -- the texts are compiled, and clash answers by them
-pub record TextsClash (texts : List Text) (places exit : List Bool) (r : Clashed) : Type 0 where
+pub record TextsClash (texts : List Text) (places exit : List Bool) (r : Result ℕ NoClash) : Type 0 where
   pub compiling : Compiling
   pub code : List ℕ
   pub compiled : TextsCompiled texts compiling code

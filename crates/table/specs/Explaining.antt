@@ -1,16 +1,16 @@
 -- What is computed: what explain and check_tree give (document 02, T-06), as functions of the list of standing texts and of what is lent
 -- beside the table, and their contracts. Rows says what is meant; proofs/Claims.antt ties the two. Then what
 -- atom and atoms give, whose texts are meant in AtomText. Assumes nothing.
-use Rattle.std.specs.Prelude.{ℕ, ◌≡◌, cond, List, [], ◌∷◌, map, leb, length, replicate}
+use Rattle.std.specs.Prelude.{ℕ, ◌≡◌, cond, List, [], ◌∷◌, map, leb, length, replicate, Result, Ok, Err}
 use Rattle.lists.specs.Buffer.{over}
 use Rattle.lists.specs.Search.{below}
 use Rattle.formula.specs.Formula.{Formula, Name}
-use Rattle.printing.specs.declared.Printed.{Printed}
+use Rattle.lists.specs.declared.ShortBuffer.{ShortBuffer}
 use Rattle.printing.specs.Prints.{Prints}
-use Rattle.trees.specs.declared.Verdict.{Verdict}
+use Rattle.trees.specs.declared.NotClosed.{NotClosed}
 use Rattle.trees.specs.Trees.{Tree, words_of}
 use Rattle.trees.specs.Checker.{checked_of, trees_of}
-use Rattle.explaining.specs.declared.Explanation.{Explanation}
+use Rattle.explaining.specs.declared.NoTree.{NoTree}
 use Rattle.table.specs.declared.AtomText.{AtomText}
 use Rattle.table.specs.declared.Table.{Table}
 use Rattle.table.specs.declared.ExplainAnswer.{ExplainAnswer}
@@ -34,10 +34,10 @@ told_answer [] room = ExplainAnswer.HasPlan
 told_answer (t ∷ ts) room = tree_answer (words_of t) room
 
 -- the writer's answers, as explain's
-abbrev pub explanation_answer : Explanation → ExplainAnswer
-explanation_answer (Explanation.Tells n) = ExplainAnswer.Tree n
-explanation_answer Explanation.PlanExists = ExplainAnswer.HasPlan
-explanation_answer (Explanation.Short n) = ExplainAnswer.ShortBuffer n
+abbrev pub explanation_answer : Result ℕ NoTree → ExplainAnswer
+explanation_answer (Ok n) = ExplainAnswer.Tree n
+explanation_answer (Err NoTree.PlanExists) = ExplainAnswer.HasPlan
+explanation_answer (Err (NoTree.Short n)) = ExplainAnswer.ShortBuffer n
 
 -- "both calls start with 11"
 unfoldable pub explain_answer : List Text → ℕ → ExplainAnswer
@@ -66,9 +66,9 @@ pub record Explains (t : Table) (buffer : List ℕ) (r : ExplainResult) (exit : 
 -- ---- check_tree
 
 -- "16 in the checker with the index of the first word that .."
-abbrev pub verdict_answer : Verdict → CheckAnswer
-verdict_answer Verdict.Accepts = CheckAnswer.Closed
-verdict_answer (Verdict.Refuses j) = CheckAnswer.NotClosed j
+abbrev pub verdict_answer : Result Unit NotClosed → CheckAnswer
+verdict_answer (Ok u) = CheckAnswer.Closed
+verdict_answer (Err e) = CheckAnswer.NotClosed e.at
 
 unfoldable pub check_answer : List Text → List ℕ → CheckAnswer
 check_answer [] words = CheckAnswer.NoRule
@@ -85,7 +85,7 @@ pub record Checks (t : Table) (words : List ℕ) (r : CheckResult) : Type 0 wher
 -- ---- atom and atoms
 
 -- its text is printed into the buffer, as that of a rule is
-abbrev pub GivesAtom : List (Formula Name) → ℕ → List ℕ → Printed → List ℕ → Type 0
+abbrev pub GivesAtom : List (Formula Name) → ℕ → List ℕ → Result ℕ ShortBuffer → List ℕ → Type 0
 GivesAtom rules which = Prints (atom_text_of rules which)
 
 -- a text in an array, zeros behind it, and those of sixteen numbers

@@ -1,10 +1,11 @@
 -- What is meant: document 01's number of each answer, and what it carries, by the table of calls; of print, explain, check_tree and still, that of document 02; of clash, those of explain. Assumes nothing.
-use Rattle.std.specs.Prelude.{ℕ}
-use Rattle.lexer.specs.declared.LexAnswer.{LexAnswer}
+use Rattle.std.specs.Prelude.{ℕ, Result, Ok, Err}
+use Rattle.lists.specs.declared.ShortBuffer.{ShortBuffer}
+use Rattle.lexer.specs.declared.LexError.{LexError}
+use Rattle.lexer.specs.declared.Tokens.{Tokens}
 use Rattle.syntax.specs.declared.RuleAnswer.{RuleAnswer}
-use Rattle.plan.specs.declared.PlanAnswer.{PlanAnswer}
-use Rattle.plan.specs.declared.Written.{Written}
-use Rattle.printing.specs.declared.Printed.{Printed}
+use Rattle.plan.specs.declared.NotAPlan.{NotAPlan}
+use Rattle.plan.specs.declared.PlanArrays.{PlanArrays}
 use Rattle.table.specs.declared.Outcome.{Outcome}
 use Rattle.table.specs.declared.AddAnswer.{AddAnswer}
 use Rattle.table.specs.declared.WithdrawAnswer.{WithdrawAnswer}
@@ -107,13 +108,13 @@ clash_outcome (ClashAnswer.ShortBuffer n) = Outcome.Refused 12 n
 -- ---- the same of the readers' and the writers' answers
 
 -- a text's tokens alone, as add has it
-abbrev pub lex_outcome : LexAnswer → Outcome
-lex_outcome LexAnswer.Tokens = Outcome.Done
-lex_outcome LexAnswer.TooLong = Outcome.Refused 2 256
-lex_outcome LexAnswer.NoToken = Outcome.Refused 1 0
-lex_outcome (LexAnswer.ForeignByte i) = Outcome.Refused 3 i
-lex_outcome (LexAnswer.LongName i) = Outcome.Refused 4 i
-lex_outcome (LexAnswer.Measured i) = Outcome.Refused 5 i
+abbrev pub lex_outcome : Result Tokens LexError → Outcome
+lex_outcome (Ok t) = Outcome.Done
+lex_outcome (Err LexError.TooLong) = Outcome.Refused 2 256
+lex_outcome (Err LexError.NoToken) = Outcome.Refused 1 0
+lex_outcome (Err (LexError.ForeignByte i)) = Outcome.Refused 3 i
+lex_outcome (Err (LexError.LongName i)) = Outcome.Refused 4 i
+lex_outcome (Err (LexError.Measured i)) = Outcome.Refused 5 i
 
 -- a rule text alone, as add has it
 abbrev pub rule_outcome : RuleAnswer → Outcome
@@ -126,16 +127,16 @@ rule_outcome (RuleAnswer.Measured i) = Outcome.Refused 5 i
 rule_outcome (RuleAnswer.GrammarAt i) = Outcome.Refused 6 i
 
 -- plan words alone, as judge has them
-abbrev pub plan_outcome : PlanAnswer → Outcome
-plan_outcome PlanAnswer.Plan = Outcome.Done
-plan_outcome (PlanAnswer.Refused i) = Outcome.Refused 13 i
+abbrev pub plan_outcome : Result PlanArrays NotAPlan → Outcome
+plan_outcome (Ok plan) = Outcome.Done
+plan_outcome (Err e) = Outcome.Refused 13 e.at
 
 -- a plan written as words, as ask has it
-abbrev pub written_outcome : Written → Outcome
-written_outcome (Written.Words n) = Outcome.Plan n
-written_outcome (Written.Needs n) = Outcome.Refused 12 n
+abbrev pub written_outcome : Result ℕ ShortBuffer → Outcome
+written_outcome (Ok n) = Outcome.Plan n
+written_outcome (Err e) = Outcome.Refused 12 e.needed
 
 -- a text printed, as print has it
-abbrev pub printed_outcome : Printed → Outcome
-printed_outcome (Printed.Text n) = Outcome.Text n
-printed_outcome (Printed.Needs n) = Outcome.Refused 12 n
+abbrev pub printed_outcome : Result ℕ ShortBuffer → Outcome
+printed_outcome (Ok n) = Outcome.Text n
+printed_outcome (Err e) = Outcome.Refused 12 e.needed

@@ -1,31 +1,30 @@
 -- For proofs: what the private functions do: what is known of standing texts, a text put to them, the rules of a table compiled, the plan
 -- of a row written, and the answers of the judge of plans as those of judge. Assumes nothing.
-use Rattle.std.specs.Prelude.{ℕ, ◌≤◌, ◌<◌, ◌≡◌, List, [], ◌∷◌, ◌++◌, length}
+use Rattle.std.specs.Prelude.{ℕ, ◌≤◌, ◌<◌, ◌≡◌, List, [], ◌∷◌, ◌++◌, length, Option, MatchOption, Result}
 use Rattle.formula.specs.Formula.{Formula, Name}
 use Rattle.contact.specs.Question.{Question}
 use Rattle.contact.specs.Numbering.{different_atoms}
 use Rattle.ruleset.specs.declared.Known.{Known}
-use Rattle.ruleset.specs.declared.RoomAnswer.{RoomAnswer}
+use Rattle.ruleset.specs.declared.NoRoom.{NoRoom}
 use Rattle.ruleset.specs.declared.Compiling.{Compiling}
 use Rattle.ruleset.specs.declared.AtomPlace.{AtomPlace}
 use Rattle.ruleset.specs.Places.{Writing}
 use Rattle.ruleset.specs.Texts.{KnownRules, CompiledRules, CompiledTexts, FirstRowIs, ExplainedIs, VerdictIs}
 use Rattle.search.specs.Rows.{row_bits}
-use Rattle.plan.specs.declared.Written.{Written}
+use Rattle.lists.specs.declared.ShortBuffer.{ShortBuffer}
 use Rattle.plan.specs.Arrays.{Writes}
 use Rattle.plan.specs.Plans.{row_plan}
 use Rattle.plan.specs.declared.PlanArrays.{PlanArrays}
 use Rattle.plan.specs.Words.{Plan, IsPlan}
 use Rattle.plan.specs.Stored.{Stored}
-use Rattle.explaining.specs.declared.Explanation.{Explanation}
-use Rattle.trees.specs.declared.Verdict.{Verdict}
+use Rattle.explaining.specs.declared.NoTree.{NoTree}
+use Rattle.trees.specs.declared.NotClosed.{NotClosed}
 use Rattle.judging.specs.declared.Judged.{Judged}
 use Rattle.table.specs.declared.JudgeAnswer.{JudgeAnswer}
 use Rattle.table.specs.declared.Table.{Table}
 use Rattle.table.specs.declared.AddAnswer.{AddAnswer}
 use Rattle.table.specs.declared.LoadAnswer.{LoadAnswer}
 use Rattle.table.specs.declared.LoadResult.{LoadResult}
-use Rattle.table.specs.declared.Tried.{Tried}
 use Rattle.table.specs.declared.Searched.{Searched}
 use Rattle.table.specs.Sheet.{Text}
 use Rattle.table.specs.Calls.{formulas_of, judge_add}
@@ -42,17 +41,16 @@ pub record Knowing (k : Known) (kept : List ℕ) : Type 0 where
   pub standing : CanStand rules
   pub known : KnownTexts rules k kept
 
--- the answer for the room as add's
-abbrev pub room_add : RoomAnswer → AddAnswer
-room_add RoomAnswer.Room = AddAnswer.Added
-room_add (RoomAnswer.TooManyNames p) = AddAnswer.TooManyNames p
-room_add RoomAnswer.ManyAtoms = AddAnswer.TooManyAtoms
+-- why there is no room, as add's answer
+abbrev pub no_room : NoRoom → AddAnswer
+no_room (NoRoom.TooManyNames p) = AddAnswer.TooManyNames p
+no_room NoRoom.TooManyAtoms = AddAnswer.TooManyAtoms
 
 -- whatever texts are known, the text is judged where they stand, and known with them if it is added
-unfoldable pub Tries : Known → Text → List ℕ → Tried → List ℕ → Type 0
-Tries k s kept r keptOut =
+unfoldable pub Tries : Known → Text → List ℕ → AddAnswer → Known → List ℕ → Type 0
+Tries k s kept answer out keptOut =
     (rs : List Text) → CanStand rs → KnownTexts rs k kept
-    → (r.answer ≡ judge_add rs s) × (r.answer ≡ AddAnswer.Added → KnownTexts (rs ++ s ∷ []) r.known keptOut)
+    → (answer ≡ judge_add rs s) × (answer ≡ AddAnswer.Added → KnownTexts (rs ++ s ∷ []) out keptOut)
 
 -- the texts are compiled, their symbols kept somewhere
 pub record TextsCompiled (texts : List Text) (c : Compiling) (code : List ℕ) : Type 0 where
@@ -66,7 +64,7 @@ pub record TextsSearched (q : Question) (texts : List Text) (r : Searched) : Typ
   pub first : FirstRowIs q r.compiled code r.found
 
 -- what is written over the buffer is the plan of a row of the rules that are compiled
-unfoldable pub PlanPut : Question → Compiling → ℕ → List ℕ → Written → List ℕ → Type 0
+unfoldable pub PlanPut : Question → Compiling → ℕ → List ℕ → Result ℕ ShortBuffer → List ℕ → Type 0
 PlanPut q c row buffer r exit =
     (rules : List (Formula Name)) (kept code : List ℕ) → CompiledRules rules c kept code
     → Writes (row_plan q rules (row_bits c.known.atoms.chart.atoms row)) buffer r exit
@@ -84,25 +82,24 @@ pub record TextsJudged (texts : List Text) (arrays : PlanArrays) (r : JudgeAnswe
   pub says : JudgementIs compiling code arrays r
 
 -- or the writer puts their tree into a buffer
-pub record TextsTold (texts : List Text) (before after : List ℕ) (r : Explanation) : Type 0 where
+pub record TextsTold (texts : List Text) (before after : List ℕ) (r : Result ℕ NoTree) : Type 0 where
   pub compiling : Compiling
   pub code : List ℕ
   pub compiled : TextsCompiled texts compiling code
   pub told : ExplainedIs compiling code before after r
 
 -- or the checker judges words by them
-pub record TextsChecked (texts : List Text) (words : List ℕ) (r : Verdict) : Type 0 where
+pub record TextsChecked (texts : List Text) (words : List ℕ) (r : Result Unit NotClosed) : Type 0 where
   pub compiling : Compiling
   pub code : List ℕ
   pub compiled : TextsCompiled texts compiling code
   pub verdict : VerdictIs compiling code words r
 
--- the different atom with this number is written first at the place; where there is no such atom, the place is in no rule
-pub record FirstPlace (rules : List (Formula Name)) (which : ℕ) (p : AtomPlace) : Type 0 where
-  pub there : which < length (different_atoms rules) → Writing rules which p
-  pub none : length (different_atoms rules) ≤ which → length rules ≤ p.rule
+-- the different atom with this number is written first at the place; where there is no place, there is no such atom
+abbrev pub FirstPlace : List (Formula Name) → ℕ → Option AtomPlace → Type 0
+FirstPlace rules which p = MatchOption p (length (different_atoms rules) ≤ which) (λ q. (which < length (different_atoms rules)) × Writing rules which q)
 
-unfoldable pub PlaceIs : Compiling → List ℕ → ℕ → AtomPlace → Type 0
+unfoldable pub PlaceIs : Compiling → List ℕ → ℕ → Option AtomPlace → Type 0
 PlaceIs c code which p = (rules : List (Formula Name)) (kept : List ℕ) → CompiledRules rules c kept code → FirstPlace rules which p
 
 abbrev pub load_result : Table → LoadAnswer → LoadResult

@@ -1,6 +1,6 @@
 -- What is computed: what still gives (document 02, T-09), as a function of the list of standing texts and of the words lent beside the table,
 -- and its contract. Rows says what is meant; proofs/Claims.antt ties the two. The last definitions are for proofs. Assumes nothing.
-use Rattle.std.specs.Prelude.{ℕ, ◌≡◌, Bool, true, false, not, ◌&&◌, cond, List, [], ◌∷◌, leb, length}
+use Rattle.std.specs.Prelude.{ℕ, ◌≡◌, Bool, true, false, not, ◌&&◌, cond, List, [], ◌∷◌, leb, length, Option, Some, None}
 use Rattle.formula.specs.Formula.{Formula, Name}
 use Rattle.contact.specs.Meaning.{meets_all}
 use Rattle.contact.specs.Question.{plain}
@@ -14,7 +14,6 @@ use Rattle.plan.specs.Judging.{uncovered}
 use Rattle.plan.specs.Floor.{named_floor}
 use Rattle.plan.proofs.Exact.{exact}
 use Rattle.judging.specs.declared.Judged.{Judged}
-use Rattle.solver.specs.declared.RowAnswer.{RowAnswer}
 use Rattle.ruleset.specs.declared.Compiling.{Compiling}
 use Rattle.ruleset.specs.Texts.{CompiledRules}
 use Rattle.table.specs.declared.Table.{Table}
@@ -69,9 +68,9 @@ is_met (Judged.Unmet k) = false
 is_met Judged.Uncovered = false
 
 -- the search's answers, as still's
-abbrev pub found_still : RowAnswer → StillAnswer
-found_still (RowAnswer.At row) = StillAnswer.Yes
-found_still RowAnswer.Nothing = StillAnswer.No
+abbrev pub found_still : Option ℕ → StillAnswer
+found_still (Some row) = StillAnswer.Yes
+found_still None = StillAnswer.No
 
 -- whether the words are drawn for the rules that are compiled
 unfoldable pub DrawnIs : Compiling → List ℕ → List ℕ → Bool → Type 0

@@ -6,7 +6,7 @@
 // of lists of calls is in proofs/Claims.antt.
 #![tactic(auto)]
 
-ghost use Rattle.std.specs.Prelude.{◌≡◌, [], ◌∷◌, ◌++◌, ℕ, ◌+◌, ◌-◌, ◌*◌, ◌≤◌, ◌<◌, length, take, drop, replicate};
+ghost use Rattle.std.specs.Prelude.{◌≡◌, [], ◌∷◌, ◌++◌, ◌+◌, ◌-◌, ◌*◌, ◌≤◌, ◌<◌, length, take, drop, replicate};
 ghost use Rattle.contact.specs.Question.{plain, building};
 ghost use Rattle.names.specs.Gather.{arrays_of};
 ghost use Rattle.evalset.specs.Most.{most};
@@ -23,20 +23,19 @@ ghost use Rattle.table.specs.Explaining.{explanation_answer, Explains, verdict_a
 ghost use Rattle.table.specs.AtomText.{atom_text_of};
 ghost use Rattle.table.specs.Still.{StillDoes, is_met, found_still, DrawnIs, InHandIs, TextsInHand};
 ghost use Rattle.table.specs.Clashing.{clashed_answer, GivesClash, TextsClash};
-ghost use Rattle.table.specs.Steps.{KnownTexts, Knowing, room_add, Tries, TextsCompiled, TextsSearched, PlanPut, JudgementIs, TextsJudged, TextsTold, TextsChecked, PlaceIs, load_result, judged_answer};
+ghost use Rattle.table.specs.Steps.{KnownTexts, Knowing, no_room, Tries, TextsCompiled, TextsSearched, PlanPut, JudgementIs, TextsJudged, TextsTold, TextsChecked, PlaceIs, load_result, judged_answer};
 ghost use Rattle.table.specs.Numbers.{add_outcome, withdraw_outcome, on_line, load_outcome, ask_outcome, judge_outcome, print_outcome, explain_outcome, check_outcome, still_outcome, clash_outcome};
 
-use clashing::Clashed;
-use explaining::Explanation;
+use clashing::NoClash;
+use explaining::NoTree;
 use judging::Judged;
+use lists::ShortBuffer;
 use names::Names;
-use plan::{PlanAnswer, PlanArrays, Written};
-use printing::Printed;
-use ruleset::{AtomPlace, Compiling, Known, RoomAnswer};
+use plan::PlanArrays;
+use ruleset::{AtomPlace, Compiling, Known, NoRoom};
 use search::Asked;
-use solver::RowAnswer;
 use syntax::RuleAnswer;
-use trees::Verdict;
+use trees::NotClosed;
 
 // How many rules there may be, and how many bytes a file may have.
 const RULES: usize = 16;
@@ -258,18 +257,11 @@ pub enum Outcome {
     RefusedLine(usize, usize, usize),
 }
 
-// What is known after a text was put to rules, and how the text was answered. Where it is refused, nothing is said of what is known.
-#[derive(Clone, Copy)]
-struct Tried {
-    known: Known,
-    answer: AddAnswer,
-}
-
-// Rules compiled, and their first row.
+// Rules compiled, and their first row, if there is one.
 #[derive(Clone, Copy)]
 struct Searched {
     compiled: Compiling,
-    found: RowAnswer,
+    found: Option<usize>,
 }
 
 // A line with nothing in it.
@@ -286,12 +278,8 @@ fn line_of(text: &[u8]) -> Line
     ensures { result ≡ kept_line text.now }
 {
     let mut bytes = lexer::zeros();
-    let mut i: usize = 0;
-    while i < text.len() {
-        bytes[i] = text[i];
-        i += 1;
-    }
     let len = text.len();
+    bytes[..len].copy_from_slice(text);
     Line { bytes, len }
 }
 
@@ -308,39 +296,40 @@ pub fn line_end(file: &[u8], from: usize) -> usize
     ensures { (from ≤ result) × (result ≤ length file.now)
         × (lines_of (drop from file.now) ≡ take (result - from) (drop from file.now) ∷ lines_from file.now (result + 1)) }
 {
-    let mut i = from;
-    while i < file.len() {
+    for i in from..file.len() {
         if file[i] == LINE_END {
             return i;
         }
-        i += 1;
     }
-    i
+    file.len()
 }
 
 // The reader's answer as add's.
-fn read_answer(a: RuleAnswer) -> AddAnswer
-    ensures { result ≡ read_answer a }
-{
-    match a {
-        RuleAnswer::Formula => AddAnswer::Added,
-        RuleAnswer::TooLong => AddAnswer::TooLong,
-        RuleAnswer::NoToken => AddAnswer::NoToken,
-        RuleAnswer::ForeignByte(i) => AddAnswer::ForeignByte(i),
-        RuleAnswer::LongName(i) => AddAnswer::LongName(i),
-        RuleAnswer::Measured(i) => AddAnswer::Measured(i),
-        RuleAnswer::GrammarAt(i) => AddAnswer::GrammarAt(i),
+impl From<RuleAnswer> for AddAnswer {
+    ghost from_gives = { λ a answer. answer ≡ read_answer a };
+
+    fn from(a: RuleAnswer) -> AddAnswer {
+        match a {
+            RuleAnswer::Formula => AddAnswer::Added,
+            RuleAnswer::TooLong => AddAnswer::TooLong,
+            RuleAnswer::NoToken => AddAnswer::NoToken,
+            RuleAnswer::ForeignByte(i) => AddAnswer::ForeignByte(i),
+            RuleAnswer::LongName(i) => AddAnswer::LongName(i),
+            RuleAnswer::Measured(i) => AddAnswer::Measured(i),
+            RuleAnswer::GrammarAt(i) => AddAnswer::GrammarAt(i),
+        }
     }
 }
 
-// The answer for the room as add's.
-fn room_answer(a: RoomAnswer) -> AddAnswer
-    ensures { result ≡ room_add a }
-{
-    match a {
-        RoomAnswer::Room => AddAnswer::Added,
-        RoomAnswer::TooManyNames(i) => AddAnswer::TooManyNames(i),
-        RoomAnswer::ManyAtoms => AddAnswer::TooManyAtoms,
+// Why there is no room, as add's answer.
+impl From<NoRoom> for AddAnswer {
+    ghost from_gives = { λ why answer. answer ≡ no_room why };
+
+    fn from(why: NoRoom) -> AddAnswer {
+        match why {
+            NoRoom::TooManyNames(i) => AddAnswer::TooManyNames(i),
+            NoRoom::TooManyAtoms => AddAnswer::TooManyAtoms,
+        }
     }
 }
 
@@ -357,37 +346,31 @@ fn put_last(table: Table, text: &[u8]) -> Table
     next
 }
 
-// Room for the symbols of sixteen atoms.
-fn no_symbols() -> [u8; 2048]
-    ensures { length result ≡ 2048 }
-{
-    [0u8; 2048]
-}
+// How many bytes the symbols of sixteen atoms need.
+const SYMBOLS: usize = 2048;
 
-// What is known with a text put last, or why the text is refused. The code of a rule is made on the way and not kept.
-fn with_text(known: Known, text: &[u8], kept: &mut [u8; 2048]) -> Tried
-    requires { Knowing known kept.old }
-    ensures { Tries known text.now kept.old result kept.new }
+// A text put to what is known, which then has it last, or why the text is refused; where it is, nothing is said of what is known. The code
+// of a rule is made on the way and not kept.
+fn with_text(known: &mut Known, text: &[u8], kept: &mut [u8; 2048]) -> AddAnswer
+    requires { Knowing known.old kept.old }
+    ensures { Tries known.old text.now kept.old result known.new kept.new }
 {
     let rule = syntax::read_rule(text);
-    let found = rule.answer;
-    let read = read_answer(found);
+    let read = AddAnswer::from(rule.answer);
     let AddAnswer::Added = read else {
-        return Tried {
-            known,
-            answer: read,
-        };
+        return read;
     };
     if RULES <= known.count {
-        let answer = AddAnswer::TableFull;
-        return Tried { known, answer };
+        return AddAnswer::TableFull;
     }
     let mut code = lexer::zeros();
-    let grown = ruleset::with_rule(text, rule, known, kept, &mut code, 0);
-    let room = grown.answer;
-    let answer = room_answer(room);
-    let known = grown.known;
-    Tried { known, answer }
+    match ruleset::with_rule(text, rule, *known, kept, &mut code, 0) {
+        Ok(grown) => {
+            *known = grown.known;
+            AddAnswer::Added
+        }
+        Err(why) => AddAnswer::from(why),
+    }
 }
 
 // A table, with load's answer.
@@ -397,33 +380,11 @@ fn kept(table: Table, answer: LoadAnswer) -> LoadResult
     LoadResult { table, answer }
 }
 
-// Room for the code of eight rules, which most tables do not exceed: to clear more costs more than to compile a small sheet.
-fn half_code() -> [u8; 2048]
-    ensures { length result ≡ 2048 }
-{
-    [0u8; 2048]
-}
+// How many bytes the code of sixteen rules needs, and that of eight, which most tables do not exceed: to clear more costs more than to
+// compile a small sheet.
+const CODE: usize = 4096;
 
-// Room for the code of sixteen rules.
-fn no_code() -> [u8; 4096]
-    ensures { length result ≡ 4096 }
-{
-    [0u8; 4096]
-}
-
-// A square that is clear, for the evaluations of up to six names.
-fn few_square() -> [u64; 64]
-    ensures { (names : ℕ) → names ≤ 6 → Lent names result }
-{
-    [0; 64]
-}
-
-// The same for those of eight.
-fn all_square() -> [u64; 1024]
-    ensures { (names : ℕ) → names ≤ most → Lent names result }
-{
-    [0; 1024]
-}
+const HALF_CODE: usize = 2048;
 
 // The plan of a row of the compiled rules for what is asked, its words written over the first ones of the buffer, with a square lent for
 // what the row separates; or how many words it needs.
@@ -433,7 +394,7 @@ fn put_plan_in(
     asked: Asked,
     square: &mut [u64],
     buffer: &mut [u32],
-) -> Written
+) -> Result<usize, ShortBuffer>
     requires { (c.known.atoms.chart.names ≤ most) × (c.known.atoms.chart.atoms ≤ limit) × Lent c.known.atoms.chart.names square.old }
     ensures { PlanPut (question_of asked) c row buffer.old result buffer.new }
 {
@@ -443,47 +404,52 @@ fn put_plan_in(
 }
 
 // The same. With at most six names no more is cleared than their evaluations need.
-fn put_plan(c: Compiling, row: usize, asked: Asked, buffer: &mut [u32]) -> Written
+fn put_plan(
+    c: Compiling,
+    row: usize,
+    asked: Asked,
+    buffer: &mut [u32],
+) -> Result<usize, ShortBuffer>
     requires { (c.known.atoms.chart.names ≤ most) × (c.known.atoms.chart.atoms ≤ limit) }
     ensures { PlanPut (question_of asked) c row buffer.old result buffer.new }
 {
     if c.known.atoms.chart.names <= 6 {
-        let mut few = few_square();
+        let mut few = [0; 64];
         return put_plan_in(c, row, asked, &mut few, buffer);
     }
-    let mut many = all_square();
+    let mut many = [0; 1024];
     put_plan_in(c, row, asked, &mut many, buffer)
 }
 
 // The answer of a writer.
-fn explanation_answer(told: Explanation) -> ExplainAnswer
+fn explanation_answer(told: Result<usize, NoTree>) -> ExplainAnswer
     ensures { result ≡ explanation_answer told }
 {
     match told {
-        Explanation::Tells(n) => ExplainAnswer::Tree(n),
-        Explanation::PlanExists => ExplainAnswer::HasPlan,
-        Explanation::Short(n) => ExplainAnswer::ShortBuffer(n),
+        Ok(n) => ExplainAnswer::Tree(n),
+        Err(NoTree::PlanExists) => ExplainAnswer::HasPlan,
+        Err(NoTree::Short(n)) => ExplainAnswer::ShortBuffer(n),
     }
 }
 
 // The answer of which rules clash.
-fn clashed_answer(found: Clashed) -> ClashAnswer
+fn clashed_answer(found: Result<usize, NoClash>) -> ClashAnswer
     ensures { result ≡ clashed_answer found }
 {
     match found {
-        Clashed::Places(n) => ClashAnswer::Clash(n),
-        Clashed::PlanExists => ClashAnswer::HasPlan,
-        Clashed::Short(n) => ClashAnswer::ShortBuffer(n),
+        Ok(n) => ClashAnswer::Clash(n),
+        Err(NoClash::PlanExists) => ClashAnswer::HasPlan,
+        Err(NoClash::Short(n)) => ClashAnswer::ShortBuffer(n),
     }
 }
 
 // The answer of a verdict.
-fn verdict_answer(v: Verdict) -> CheckAnswer
+fn verdict_answer(v: Result<(), NotClosed>) -> CheckAnswer
     ensures { result ≡ verdict_answer v }
 {
     match v {
-        Verdict::Accepts => CheckAnswer::Closed,
-        Verdict::Refuses(j) => CheckAnswer::NotClosed(j),
+        Ok(()) => CheckAnswer::Closed,
+        Err(wrong) => CheckAnswer::NotClosed(wrong.at),
     }
 }
 
@@ -528,29 +494,28 @@ fn drawn(c: Compiling, code: &[u8], words: &[u32]) -> bool
     requires { Whole c code.now }
     ensures { DrawnIs c code.now words.now result }
 {
-    let mut read = plan::read_plan(words);
-    let reading = read.answer;
-    let PlanAnswer::Plan = reading else {
+    let read = plan::read_plan(words);
+    let Ok(mut plan) = read else {
         return false;
     };
     let names = c.known.atoms.chart.names;
-    let lent = read.plan.names as usize;
+    let lent = plan.names as usize;
     if names < lent {
         return false;
     }
     let all = names as u8;
-    read.plan.names = all;
-    let judged = ruleset::judged(c, code, read.plan);
+    plan.names = all;
+    let judged = ruleset::judged(c, code, plan);
     is_met(judged)
 }
 
 // The search's answer as still's: a first row has a plan.
-fn found_still(found: RowAnswer) -> StillAnswer
+fn found_still(found: Option<usize>) -> StillAnswer
     ensures { result ≡ found_still found }
 {
     match found {
-        RowAnswer::At(_) => StillAnswer::Yes,
-        RowAnswer::Nothing => StillAnswer::No,
+        Some(_) => StillAnswer::Yes,
+        None => StillAnswer::No,
     }
 }
 
@@ -566,17 +531,15 @@ fn in_hand(c: Compiling, code: &[u8], words: &[u32]) -> StillAnswer
     found_still(found)
 }
 
-// Where the different atom with this number, from 0, is written first among the compiled rules; where there is no such atom, a place behind
-// the last rule.
-fn place_of(c: Compiling, code: &[u8], which: usize) -> AtomPlace
+// Where the different atom with this number, from 0, is written first among the compiled rules, if there is such an atom.
+fn place_of(c: Compiling, code: &[u8], which: usize) -> Option<AtomPlace>
     requires { Whole c code.now }
     ensures { PlaceIs c code.now which result }
 {
-    let rule = c.known.count;
     if c.known.atoms.chart.atoms <= which {
-        return AtomPlace { rule, atom: 0 };
+        return None;
     }
-    ruleset::first_writing(c, code, which)
+    Some(ruleset::first_writing(c, code, which))
 }
 
 // Sixteen texts of no bytes.
@@ -739,14 +702,11 @@ impl Table {
     {
         let rules = self.count;
         let mut known = ruleset::nothing_known();
-        let mut i: usize = 0;
-        while i < rules {
+        for i in 0..rules {
             let line = self.lines[i];
             let len = line.len;
             let bytes = line.bytes;
-            let tried = with_text(known, &bytes[..len], kept);
-            known = tried.known;
-            i += 1;
+            with_text(&mut known, &bytes[..len], kept);
         }
         known
     }
@@ -758,8 +718,7 @@ impl Table {
     {
         let rules = self.count;
         let mut names = names::no_names();
-        let mut i: usize = 0;
-        while i < rules {
+        for i in 0..rules {
             let line = self.lines[i];
             let len = line.len;
             let bytes = line.bytes;
@@ -767,7 +726,6 @@ impl Table {
             let rule = syntax::read_rule(text);
             let gathered = names::gather(text, rule, names);
             names = gathered.names;
-            i += 1;
         }
         names
     }
@@ -778,10 +736,9 @@ impl Table {
         requires { FromUs self }
         ensures { Adds self text.now result }
     {
-        let mut kept = no_symbols();
-        let known = self.known(&mut kept);
-        let judged = with_text(known, text, &mut kept);
-        let answer = judged.answer;
+        let mut kept = [0u8; SYMBOLS];
+        let mut known = self.known(&mut kept);
+        let answer = with_text(&mut known, text, &mut kept);
         let AddAnswer::Added = answer else {
             return AddResult {
                 table: self,
@@ -815,11 +772,9 @@ impl Table {
         let mut freed = self;
         freed.lines[count - 1] = none;
         let mut table = freed;
-        let mut i = k;
-        while i < count {
+        for i in k..count {
             let line = self.lines[i];
             table.lines[i - 1] = line;
-            i += 1;
         }
         table.count = count - 1;
         let answer = WithdrawAnswer::Withdrawn;
@@ -837,20 +792,19 @@ impl Table {
         }
         let mut table = Table::empty();
         let mut known = ruleset::nothing_known();
-        let mut symbols = no_symbols();
+        let mut symbols = [0u8; SYMBOLS];
         let mut line: usize = 0;
         let mut from: usize = 0;
+        // By index: the place moves by the length of the line.
         while from <= file.len() {
             let end = line_end(file, from);
             line += 1;
             let text = &file[from..end];
             if !blank_line(text) {
-                let tried = with_text(known, text, &mut symbols);
-                let answer = tried.answer;
+                let answer = with_text(&mut known, text, &mut symbols);
                 let AddAnswer::Added = answer else {
                     return kept(self, LoadAnswer::Line { line, answer });
                 };
-                known = tried.known;
                 let last = line_of(text);
                 let count = table.count;
                 table.lines[count] = last;
@@ -873,14 +827,12 @@ impl Table {
         ensures { TextsCompiled (take rules (rules_of self)) result code.new × (length code.new ≡ length code.old) }
     {
         let mut c = ruleset::nothing_compiled();
-        let mut kept = no_symbols();
-        let mut i: usize = 0;
-        while i < rules {
+        let mut kept = [0u8; SYMBOLS];
+        for i in 0..rules {
             let line = self.lines[i];
             let len = line.len;
             let bytes = line.bytes;
             c = ruleset::with_text(&bytes[..len], c, &mut kept, code);
-            i += 1;
         }
         c
     }
@@ -891,12 +843,12 @@ impl Table {
         ensures { TextsSearched (question_of asked) (take rules (rules_of self)) result }
     {
         if rules <= HALF {
-            let mut code = half_code();
+            let mut code = [0u8; HALF_CODE];
             let compiled = self.compiled(rules, &mut code);
             let found = ruleset::row_of(compiled, &code, asked);
             return Searched { compiled, found };
         }
-        let mut code = no_code();
+        let mut code = [0u8; CODE];
         let compiled = self.compiled(rules, &mut code);
         let found = ruleset::row_of(compiled, &code, asked);
         Searched { compiled, found }
@@ -919,7 +871,7 @@ impl Table {
         let searched = self.searched(standing, asked);
         let c = searched.compiled;
         let found = searched.found;
-        let RowAnswer::At(row) = found else {
+        let Some(row) = found else {
             return AskResult {
                 table: self,
                 answer: AskAnswer::NoPlan,
@@ -927,13 +879,13 @@ impl Table {
         };
         let written = put_plan(c, row, asked, buffer);
         match written {
-            Written::Words(n) => AskResult {
+            Ok(n) => AskResult {
                 table: self,
                 answer: AskAnswer::Plan(n),
             },
-            Written::Needs(n) => AskResult {
+            Err(short) => AskResult {
                 table: self,
-                answer: AskAnswer::ShortBuffer(n),
+                answer: AskAnswer::ShortBuffer(short.needed),
             },
         }
     }
@@ -962,11 +914,11 @@ impl Table {
         ensures { TextsJudged (take rules (rules_of self)) plan result }
     {
         if rules <= HALF {
-            let mut code = half_code();
+            let mut code = [0u8; HALF_CODE];
             let c = self.compiled(rules, &mut code);
             return judgement(c, &code, plan);
         }
-        let mut code = no_code();
+        let mut code = [0u8; CODE];
         let c = self.compiled(rules, &mut code);
         judgement(c, &code, plan)
     }
@@ -985,48 +937,47 @@ impl Table {
                 answer: JudgeAnswer::NoRule,
             };
         }
-        let read = plan::read_plan(words);
-        let reading = read.answer;
-        if let PlanAnswer::Refused(at) = reading {
-            return JudgeResult {
+        match plan::read_plan(words) {
+            Ok(plan) => {
+                let answer = self.judgement(count, plan);
+                JudgeResult {
+                    table: self,
+                    answer,
+                }
+            }
+            Err(refused) => JudgeResult {
                 table: self,
-                answer: JudgeAnswer::NotAPlan(at),
-            };
-        }
-        let plan = read.plan;
-        let answer = self.judgement(count, plan);
-        JudgeResult {
-            table: self,
-            answer,
+                answer: JudgeAnswer::NotAPlan(refused.at),
+            },
         }
     }
 
     // The first so many of the standing rules compiled, and the writer's tree of them put into the buffer.
-    fn told(self, rules: usize, buffer: &mut [u32]) -> Explanation
+    fn told(self, rules: usize, buffer: &mut [u32]) -> Result<usize, NoTree>
         requires { FromUs self × (rules ≤ self.count) }
         ensures { TextsTold (take rules (rules_of self)) buffer.old buffer.new result }
     {
         if rules <= HALF {
-            let mut code = half_code();
+            let mut code = [0u8; HALF_CODE];
             let c = self.compiled(rules, &mut code);
             return ruleset::explained(c, &code, buffer);
         }
-        let mut code = no_code();
+        let mut code = [0u8; CODE];
         let c = self.compiled(rules, &mut code);
         ruleset::explained(c, &code, buffer)
     }
 
     // The first so many of the standing rules compiled, and the checker's verdict on the words by them.
-    fn tree_checked(self, rules: usize, words: &[u32]) -> Verdict
+    fn tree_checked(self, rules: usize, words: &[u32]) -> Result<(), NotClosed>
         requires { FromUs self × (rules ≤ self.count) }
         ensures { TextsChecked (take rules (rules_of self)) words.now result }
     {
         if rules <= HALF {
-            let mut code = half_code();
+            let mut code = [0u8; HALF_CODE];
             let c = self.compiled(rules, &mut code);
             return ruleset::tree_checked(c, &code, words);
         }
-        let mut code = no_code();
+        let mut code = [0u8; CODE];
         let c = self.compiled(rules, &mut code);
         ruleset::tree_checked(c, &code, words)
     }
@@ -1081,11 +1032,11 @@ impl Table {
         ensures { TextsInHand (take rules (rules_of self)) words.now result }
     {
         if rules <= HALF {
-            let mut code = half_code();
+            let mut code = [0u8; HALF_CODE];
             let c = self.compiled(rules, &mut code);
             return in_hand(c, &code, words);
         }
-        let mut code = no_code();
+        let mut code = [0u8; CODE];
         let c = self.compiled(rules, &mut code);
         in_hand(c, &code, words)
     }
@@ -1113,18 +1064,18 @@ impl Table {
     }
 
     // The first so many of the standing rules compiled, and which of them clash put over the first places.
-    fn clashed(self, rules: usize, places: &mut [bool]) -> Clashed
+    fn clashed(self, rules: usize, places: &mut [bool]) -> Result<usize, NoClash>
         requires { FromUs self × (rules ≤ self.count) }
         ensures { TextsClash (take rules (rules_of self)) places.old places.new result }
     {
         if rules <= HALF {
-            let mut code = half_code();
-            let mut room = half_code();
+            let mut code = [0u8; HALF_CODE];
+            let mut room = [0u8; HALF_CODE];
             let c = self.compiled(rules, &mut code);
             return clashing::clash(c, &code, &mut room, places);
         }
-        let mut code = no_code();
-        let mut room = no_code();
+        let mut code = [0u8; CODE];
+        let mut room = [0u8; CODE];
         let c = self.compiled(rules, &mut code);
         clashing::clash(c, &code, &mut room, places)
     }
@@ -1154,16 +1105,20 @@ impl Table {
 
     // The text of the different atom with this number, from 0 by first place, over the first bytes of the buffer, where the standing rules are
     // compiled: the rule in which it is written first is read again.
-    fn atom_by(self, c: Compiling, code: &[u8], which: usize, buffer: &mut [u8]) -> Printed
+    fn atom_by(
+        self,
+        c: Compiling,
+        code: &[u8],
+        which: usize,
+        buffer: &mut [u8],
+    ) -> Result<usize, ShortBuffer>
         requires { FromUs self × TextsCompiled (take self.count (rules_of self)) c code.now }
         ensures { GivesAtom (formulas_of (rules_of self)) which buffer.old result buffer.new }
     {
-        let place = place_of(c, code, which);
-        let at = place.rule;
-        if self.count <= at {
-            return Printed::Text(0);
-        }
-        let line = self.lines[at];
+        let Some(place) = place_of(c, code, which) else {
+            return Ok(0);
+        };
+        let line = self.lines[place.rule];
         let len = line.len;
         let bytes = line.bytes;
         let text = &bytes[..len];
@@ -1174,17 +1129,17 @@ impl Table {
     // The text of the different atom with this number, from 0 by first place, as it was read there, over the first bytes of the buffer; no
     // byte where there is no such atom. Where the buffer is shorter than the text the answer has the bytes needed, which are at most 256.
     // The bytes past the text, and all bytes of the other answer, keep their values.
-    pub fn atom(self, which: usize, buffer: &mut [u8]) -> Printed
+    pub fn atom(self, which: usize, buffer: &mut [u8]) -> Result<usize, ShortBuffer>
         requires { FromUs self }
         ensures { GivesAtom (formulas_of (rules_of self)) which buffer.old result buffer.new }
     {
         let rules = self.count;
         if rules <= HALF {
-            let mut code = half_code();
+            let mut code = [0u8; HALF_CODE];
             let c = self.compiled(rules, &mut code);
             return self.atom_by(c, &code, which, buffer);
         }
-        let mut code = no_code();
+        let mut code = [0u8; CODE];
         let c = self.compiled(rules, &mut code);
         self.atom_by(c, &code, which, buffer)
     }
@@ -1197,8 +1152,11 @@ impl Table {
         let mut bytes = lexer::zeros();
         let printed = self.atom_by(c, code, which, &mut bytes);
         match printed {
-            Printed::Text(len) => AtomText { bytes, len },
-            Printed::Needs(len) => AtomText { bytes, len },
+            Ok(len) => AtomText { bytes, len },
+            Err(short) => AtomText {
+                bytes,
+                len: short.needed,
+            },
         }
     }
 
@@ -1208,11 +1166,9 @@ impl Table {
         ensures { result ≡ texts_of (atom_text_of (formulas_of (rules_of self))) }
     {
         let mut texts = no_texts();
-        let mut i: usize = 0;
-        while i < 16 {
+        for i in 0..16 {
             let text = self.atom_text(c, code, i);
             texts[i] = text;
-            i += 1;
         }
         texts
     }
@@ -1225,11 +1181,11 @@ impl Table {
     {
         let rules = self.count;
         if rules <= HALF {
-            let mut code = half_code();
+            let mut code = [0u8; HALF_CODE];
             let c = self.compiled(rules, &mut code);
             return self.atom_texts(c, &code);
         }
-        let mut code = no_code();
+        let mut code = [0u8; CODE];
         let c = self.compiled(rules, &mut code);
         self.atom_texts(c, &code)
     }
@@ -1260,13 +1216,13 @@ impl Table {
         let rule = syntax::read_rule(text);
         let printed = printing::print(text, rule, buffer);
         match printed {
-            Printed::Text(n) => PrintResult {
+            Ok(n) => PrintResult {
                 table: self,
                 answer: PrintAnswer::Text(n),
             },
-            Printed::Needs(n) => PrintResult {
+            Err(short) => PrintResult {
                 table: self,
-                answer: PrintAnswer::ShortBuffer(n),
+                answer: PrintAnswer::ShortBuffer(short.needed),
             },
         }
     }

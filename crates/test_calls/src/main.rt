@@ -21,7 +21,6 @@
 ghost use Rattle.std.specs.Prelude.{◌≡◌, ◌≤◌, ◌<◌, length};
 ghost use Rattle.table.specs.Calls.{FromUs};
 
-use reading::Got;
 use table::{AskAnswer, AskResult, ExplainAnswer, Outcome, PrintAnswer, Table, WithdrawAnswer};
 use test_kit::{
     no_text, no_words, put_byte, put_every, put_times, put_word, same_words, write_bytes,
@@ -89,28 +88,17 @@ fn after(s: &[u8], from: usize, b: u8) -> usize
     requires { from < length s.now }
     ensures { (from < result) × (result ≤ length s.now) }
 {
-    let mut i = from;
-    while i < s.len() {
+    for i in from..s.len() {
         if s[i] == b {
             return i + 1;
         }
-        i += 1;
     }
-    i
+    s.len()
 }
 
-// How many bytes there are without a last byte b.
-fn without_last(s: &[u8], b: u8) -> usize
-    ensures { result ≤ length s.now }
-{
-    let n = s.len();
-    if n <= 0 {
-        return n;
-    }
-    if s[n - 1] == b {
-        return n - 1;
-    }
-    n
+// A text without a last byte b.
+fn without_last(s: &[u8], b: u8) -> &[u8] {
+    s.strip_suffix(&[b]).unwrap_or(s)
 }
 
 // The byte at a place, 0 past the end.
@@ -143,30 +131,14 @@ fn command_of(line: &[u8]) -> Command {
     }
 }
 
-// A decimal digit put after a number, or the largest number where the result is larger.
-fn with_digit(n: usize, d: usize) -> usize
-    requires { d < 10 }
-{
-    if (0xFFFF_FFFF_FFFF_FFFF - d) / 10 < n {
-        return 0xFFFF_FFFF_FFFF_FFFF;
-    }
-    n * 10 + d
-}
-
-// The number that the digits at the start of a text make.
+// The number that the digits at the start of a text make, or the largest number where that is larger.
 fn number_of(s: &[u8]) -> usize {
     let mut n: usize = 0;
-    let mut i: usize = 0;
-    while i < s.len() {
-        let b = s[i];
-        if b < 48 {
+    for b in s {
+        if !b.is_ascii_digit() {
             return n;
         }
-        if 57 < b {
-            return n;
-        }
-        n = with_digit(n, (b - 48) as usize);
-        i += 1;
+        n = n.saturating_mul(10).saturating_add((*b - b'0') as usize);
     }
     n
 }
@@ -213,6 +185,7 @@ fn put_signs(text: &mut [u8], at: usize, signs: &[u8]) -> usize
 {
     let mut end = at;
     let mut i: usize = 0;
+    // By place: a sign has one byte or three.
     while i < signs.len() {
         let next = after_sign(signs, i);
         end = put_byte(text, end, sign_byte(&signs[i..next]));
@@ -229,10 +202,8 @@ fn put_part(text: &mut [u8], at: usize, part: &[u8]) -> usize
     if part[0] == b'{' {
         let n = number_of(&part[1..]);
         let start = after(part, 0, b':');
-        let signs = &part[start..];
-        let len = without_last(signs, b'}');
         let mut once = no_text();
-        let end = put_signs(&mut once, 0, &signs[0..len]);
+        let end = put_signs(&mut once, 0, without_last(&part[start..], b'}'));
         return put_times(text, at, &once[0..end], n);
     }
     put_signs(text, at, part)
@@ -255,6 +226,7 @@ fn put_text(text: &mut [u8], line: &[u8]) -> usize
 {
     let mut end: usize = 0;
     let mut i: usize = 0;
+    // By place: a part has as many bytes as after_part says.
     while i < line.len() {
         let next = after_part(line, i);
         end = put_part(text, end, &line[i..next]);
@@ -268,10 +240,8 @@ fn put_text(text: &mut [u8], line: &[u8]) -> usize
 // The word that the digits of a text make, its last eight.
 fn word_of(s: &[u8]) -> u32 {
     let mut w: u32 = 0;
-    let mut i: usize = 0;
-    while i < s.len() {
-        w = w % 0x1000_0000 * 16 + digit_of(s[i]) as u32;
-        i += 1;
+    for b in s {
+        w = w % 0x1000_0000 * 16 + digit_of(*b) as u32;
     }
     w
 }
@@ -281,13 +251,8 @@ fn put_words(words: &mut [u32], line: &[u8]) -> usize
     ensures { (result ≤ length words.new) × (length words.new ≡ length words.old) }
 {
     let mut end: usize = 0;
-    let mut i: usize = 0;
-    while i < line.len() {
-        let next = after(line, i, b' ');
-        let word = &line[i..next];
-        let len = without_last(word, b' ');
-        end = put_word(words, end, word_of(&word[0..len]));
-        i = next;
+    for word in line.split_inclusive(|b| *b == b' ') {
+        end = put_word(words, end, word_of(without_last(word, b' ')));
     }
     end
 }
@@ -297,22 +262,18 @@ fn marked() -> [u32; 2083]
     ensures { length result ≡ 2083 }
 {
     let mut words = no_words();
-    let mut i: usize = 0;
-    while i < 2083 {
+    for i in 0..2083 {
         words[i] = 0xE000_0000 + i as u32;
-        i += 1;
     }
     words
 }
 
 // Whether the words from a place on are as `marked` gives them.
 fn kept_from(words: [u32; 2083], from: usize) -> bool {
-    let mut i = from;
-    while i < 2083 {
+    for i in from..2083 {
         if words[i] != 0xE000_0000 + i as u32 {
             return false;
         }
-        i += 1;
     }
     true
 }
@@ -324,13 +285,6 @@ fn write_kept(rt: &impl Print, words: [u32; 2083], from: usize) {
     } else {
         write_bytes(rt, b"; not kept");
     }
-}
-
-// The lesser of two numbers.
-fn at_most(n: usize, most: usize) -> usize
-    ensures { result ≤ most }
-{
-    if n < most { n } else { most }
 }
 
 // The last evaluation over some names.
@@ -366,13 +320,14 @@ fn no_every() -> [u32; 32898]
 
 // ---- the same table
 
-// An answer of ask as one number; a plan has three words at least, and a buffer of 2,083 words is never short.
-fn code_of(a: AskAnswer) -> usize {
-    match a {
-        AskAnswer::Plan(n) => n,
-        AskAnswer::NoPlan => 0,
-        AskAnswer::NoRule => 1,
-        AskAnswer::ShortBuffer(_) => 2,
+// Whether two answers of ask are the same. A buffer of 2,083 words is never short.
+fn same_answer(a: AskAnswer, b: AskAnswer) -> bool {
+    match (a, b) {
+        (AskAnswer::Plan(n), AskAnswer::Plan(m)) => n == m,
+        (AskAnswer::NoPlan, AskAnswer::NoPlan) => true,
+        (AskAnswer::NoRule, AskAnswer::NoRule) => true,
+        (AskAnswer::ShortBuffer(_), AskAnswer::ShortBuffer(_)) => true,
+        _ => false,
     }
 }
 
@@ -384,20 +339,12 @@ fn same_plan(a: Table, b: Table) -> bool
     let mut two = marked();
     let first = a.ask(&mut one);
     let second = b.ask(&mut two);
-    let answer = first.answer;
-    let other = second.answer;
-    if code_of(answer) != code_of(other) {
-        return false;
-    }
-    same_words(&one, &two)
+    same_answer(first.answer, second.answer) && same_words(&one, &two)
 }
 
 // Whether a rule was withdrawn.
 fn taken(a: WithdrawAnswer) -> bool {
-    match a {
-        WithdrawAnswer::Withdrawn => true,
-        WithdrawAnswer::NoSuchRule(_) => false,
-    }
+    matches!(a, WithdrawAnswer::Withdrawn)
 }
 
 // Whether two tables have as many rules, and give the same plans while their first rules are withdrawn one by one.
@@ -406,8 +353,7 @@ fn same_table(before: Table, after: Table) -> bool
 {
     let mut a = before;
     let mut b = after;
-    let mut i: usize = 0;
-    while i < 17 {
+    for _i in 0..17 {
         if !same_plan(a, b) {
             return false;
         }
@@ -415,12 +361,9 @@ fn same_table(before: Table, after: Table) -> bool
         let second = b.withdraw(1);
         a = first.table;
         b = second.table;
-        let answer = first.answer;
-        let other = second.answer;
-        if taken(answer) != taken(other) {
+        if taken(first.answer) != taken(second.answer) {
             return false;
         }
-        i += 1;
     }
     true
 }
@@ -513,7 +456,7 @@ fn judge_every(rt: &impl Print, t: Table, rest: &[u8]) -> Table
     ensures { FromUs result }
 {
     let mut words = no_every();
-    let names = at_most(number_of(rest), 8) as u8;
+    let names = number_of(rest).min(8) as u8;
     let n = put_every(&mut words, first_over(names), last_over(names));
     judge(rt, t, &words[0..n])
 }
@@ -553,7 +496,7 @@ fn ask_plan(rt: &impl Print, t: Table, building: bool, rest: &[u8]) -> Table
     requires { FromUs t }
     ensures { FromUs result }
 {
-    let n = at_most(number_of(rest), 2083);
+    let n = number_of(rest).min(2083);
     let mut words = marked();
     let r = asked(t, building, &mut words[0..n]);
     let next = r.table;
@@ -587,7 +530,7 @@ fn explain_rules(rt: &impl Print, t: Table, rest: &[u8]) -> Table
     requires { FromUs t }
     ensures { FromUs result }
 {
-    let n = at_most(number_of(rest), 2083);
+    let n = number_of(rest).min(2083);
     let mut words = marked();
     let r = t.explain(&mut words[0..n]);
     let next = r.table;
@@ -628,7 +571,7 @@ fn still_words(rt: &impl Print, t: Table, rest: &[u8]) -> Table
 // Writes whether bytes are those that were lent, none of which a text has.
 fn write_bytes_kept(rt: &impl Print, bytes: &[u8]) {
     let lent = [255u8; 300];
-    let n = at_most(bytes.len(), 300);
+    let n = bytes.len().min(300);
     if check::same(bytes, &lent[0..n]) {
         write_bytes(rt, b"; kept");
     } else {
@@ -660,7 +603,7 @@ fn print_rule(rt: &impl Print, t: Table, rest: &[u8]) -> Table
     }
     let k = number_of(rest);
     let at = after(rest, 0, b' ');
-    let n = at_most(number_of(&rest[at..]), 300);
+    let n = number_of(&rest[at..]).min(300);
     let mut bytes = [255u8; 300];
     let r = t.print(k, &mut bytes[0..n]);
     let next = r.table;
@@ -722,11 +665,10 @@ fn run_line(rt: &impl Print, t: Table, line: &[u8]) -> Table
 fn run(rt: &impl Print, scripts: &[u8]) {
     let mut t = Table::empty();
     let mut from: usize = 0;
+    // By place: a `for` over `split_inclusive` needs an invariant here, and has none where the function has a type parameter.
     while from < scripts.len() {
         let next = after(scripts, from, b'\n');
-        let line = &scripts[from..next];
-        let n = without_last(line, b'\n');
-        t = run_line(rt, t, &line[0..n]);
+        t = run_line(rt, t, without_last(&scripts[from..next], b'\n'));
         from = next;
     }
 }
@@ -760,10 +702,8 @@ fn marked_largest() -> [u32; 32643]
     ensures { length result ≡ 32643 }
 {
     let mut words = no_largest();
-    let mut i: usize = 0;
-    while i < 32643 {
+    for i in 0..32643 {
         words[i] = 0xE000_0000 + i as u32;
-        i += 1;
     }
     words
 }
@@ -775,10 +715,8 @@ fn every_somewhere() -> [u32; 32643]
 {
     let mut words = marked_largest();
     put_every(&mut words, 0x8008_00FF, 254);
-    let mut e: usize = 1;
-    while e < 256 {
+    for e in 1..256 {
         words[e] = 0x2000_0000 + e as u32;
-        e += 1;
     }
     words
 }
@@ -813,8 +751,7 @@ fn write_largest(rt: &impl Print) {
 
 fn main(rt: HostRuntime) {
     let mut scripts = [0u8; 65536];
-    let got = reading::read_sheet(&mut rt.stdin(), &mut scripts);
-    let Got::Bytes(n) = got else {
+    let Ok(n) = reading::read_sheet(&mut rt.stdin(), &mut scripts) else {
         let _ = rt.eprintln("test_calls: the scripts cannot be read");
         return;
     };

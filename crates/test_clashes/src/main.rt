@@ -21,7 +21,6 @@
 // through from the first to the last.
 #![tactic(auto)]
 
-ghost use Rattle.std.specs.Prelude.{◌≡◌, ◌≤◌};
 ghost use Rattle.small_sheets.specs.Bounds.{Bounded};
 ghost use Rattle.table.specs.Calls.{FromUs};
 
@@ -29,17 +28,19 @@ use small_floors::{
     Floor, apart, bit, evaluations, has, is_pair, joined, operand, position, stand_somewhere,
     start, step,
 };
-use small_sheets::{Numbers, RULE, Sheet, numbers_of, sheet_at};
+use small_sheets::{Numbers, Sheet, Sign, numbers_of, sheet_at};
 use table::{LoadAnswer, Outcome, Table};
-use test_kit::{write_bytes, write_counts, write_labelled, write_refusal};
+use test_kit::{raise, write_bytes, write_counts, write_labelled, write_refusal};
 
 // ---- what clash says
 
-// An answer: 0 where rules clash, else a refusal's number; and what it carries.
-#[derive(Clone, Copy)]
-struct Said {
-    number: usize,
-    carried: usize,
+// What clash says: rules clash, with the number of places; a refusal, its number and what it carries; or anything else, also where two
+// answers are not the same.
+#[derive(Clone, Copy, PartialEq, Eq)]
+enum Said {
+    Clash(usize),
+    Refused(usize, usize),
+    Other,
 }
 
 // What clash hands back, and the places after it.
@@ -58,41 +59,23 @@ struct Answer {
     places: [u8; 20],
 }
 
-// No answer of clash.
-const NOTHING_SAID: usize = 99;
-
 fn said_by(outcome: Outcome) -> Said {
     match outcome {
-        Outcome::Clash(n) => Said {
-            number: 0,
-            carried: n,
-        },
-        Outcome::Refused(number, carried) => Said { number, carried },
-        _ => Said {
-            number: NOTHING_SAID,
-            carried: 0,
-        },
+        Outcome::Clash(n) => Said::Clash(n),
+        Outcome::Refused(number, carried) => Said::Refused(number, carried),
+        _ => Said::Other,
     }
 }
 
 // Places that are true and false by turns, the first as given.
 fn by_turns(first: bool) -> [bool; 20] {
     let mut places = [first; 20];
-    let mut i: usize = 0;
-    while i < 20 {
+    for i in 0..20 {
         if i % 2 == 1 {
             places[i] = !first;
         }
-        i += 1;
     }
     places
-}
-
-// The lesser of two numbers.
-fn at_most(n: usize, most: usize) -> usize
-    ensures { result ≤ most }
-{
-    if n < most { n } else { most }
 }
 
 fn clashed(table: Table, n: usize, first: bool) -> Lent
@@ -100,11 +83,9 @@ fn clashed(table: Table, n: usize, first: bool) -> Lent
     ensures { FromUs result.table }
 {
     let mut places = by_turns(first);
-    let end = at_most(n, 20);
-    let r = table.clash(&mut places[0..end]);
+    let r = table.clash(&mut places[..n.min(20)]);
     let table = r.table;
-    let answer = r.answer;
-    let said = said_by(table::clash_outcome(answer));
+    let said = said_by(table::clash_outcome(r.answer));
     Lent {
         table,
         said,
@@ -123,16 +104,10 @@ fn mark_of(held: bool, one: bool, other: bool) -> u8 {
 fn marks_of(one: [bool; 20], other: [bool; 20]) -> [u8; 20] {
     let held = by_turns(true);
     let mut marks = [0u8; 20];
-    let mut i: usize = 0;
-    while i < 20 {
+    for i in 0..20 {
         marks[i] = mark_of(held[i], one[i], other[i]);
-        i += 1;
     }
     marks
-}
-
-fn is_same(one: Said, other: Said) -> bool {
-    one.number == other.number && one.carried == other.carried
 }
 
 // What clash says of so many places, whichever values they hold, the second time by the table that it handed back.
@@ -144,25 +119,17 @@ fn answer_of(table: Table, n: usize) -> Answer
     let marks = one.places;
     let others = other.places;
     let places = marks_of(marks, others);
-    let mut said = one.said;
-    if !is_same(said, other.said) {
-        said.number = NOTHING_SAID;
-    }
+    let said = if one.said == other.said {
+        one.said
+    } else {
+        Said::Other
+    };
     Answer { said, places }
 }
 
 // Whether two answers are the same, place by place.
 fn same_answer(one: Answer, other: Answer) -> bool {
-    let marks = one.places;
-    let others = other.places;
-    let mut i: usize = 0;
-    while i < 20 {
-        if marks[i] != others[i] {
-            return false;
-        }
-        i += 1;
-    }
-    is_same(one.said, other.said)
+    one.places == other.places && one.said == other.said
 }
 
 // ---- sheets by hand: the calls
@@ -184,9 +151,8 @@ fn write_outcome(rt: &impl Print, outcome: Outcome) {
 
 // Writes what becomes of the first n places.
 fn write_marks(rt: &impl Print, places: [u8; 20], n: usize) {
-    let end = at_most(n, 20);
     write_bytes(rt, b" [");
-    write_bytes(rt, &places[0..end]);
+    write_bytes(rt, &places[..n.min(20)]);
     write_bytes(rt, b"]\n");
 }
 
@@ -195,15 +161,14 @@ fn write_clash(rt: &impl Print, asked: &[u8], table: Table, n: usize)
     requires { FromUs table }
 {
     let answer = answer_of(table, n);
-    let said = answer.said;
     let places = answer.places;
     write_bytes(rt, asked);
     write_labelled(rt, b", ", n);
     write_bytes(rt, b" places => ");
-    if said.number == 0 {
-        write_labelled(rt, b"clash of ", said.carried);
-    } else {
-        write_refusal(rt, said.number, said.carried);
+    match answer.said {
+        Said::Clash(n) => write_labelled(rt, b"clash of ", n),
+        Said::Refused(number, carried) => write_refusal(rt, number, carried),
+        Said::Other => write_bytes(rt, b"another answer"),
     }
     write_marks(rt, places, n);
 }
@@ -226,34 +191,20 @@ fn with_text(rt: &impl Print, table: Table, text: &[u8]) -> Table
     r.table
 }
 
-// A table with the rule in sheet[start..end].
-fn with_part(rt: &impl Print, table: Table, sheet: &[u8], start: usize, end: usize) -> Table
-    requires { FromUs table }
-    ensures { FromUs result }
-{
-    if start <= end {
-        if end <= sheet.len() {
-            return with_text(rt, table, &sheet[start..end]);
-        }
-    }
-    table
-}
-
 // The table of a sheet's rules, each put to add.
 fn table_of(rt: &impl Print, sheet: &[u8]) -> Table
     ensures { FromUs result }
 {
     let mut table = Table::empty();
     let mut start: usize = 0;
-    let mut i: usize = 0;
-    while i < sheet.len() {
+    // By place: a `for` over `split` needs an invariant here, and has none where the function has a type parameter.
+    for i in 0..sheet.len() {
         if sheet[i] == b'/' {
-            table = with_part(rt, table, sheet, start, i);
+            table = with_text(rt, table, &sheet[start..i]);
             start = i + 1;
         }
-        i += 1;
     }
-    with_part(rt, table, sheet, start, i)
+    with_text(rt, table, &sheet[start..])
 }
 
 fn test_sheet(rt: &impl Print, sheet: &[u8], n: usize) {
@@ -379,8 +330,7 @@ fn answer_alike(table: Table, other: Table) -> bool
 {
     let mut one = table;
     let mut two = other;
-    let mut k: usize = 0;
-    while k < 17 {
+    for _i in 0..17 {
         if !same_answer(answer_of(one, 16), answer_of(two, 16)) {
             return false;
         }
@@ -388,7 +338,6 @@ fn answer_alike(table: Table, other: Table) -> bool
         let s = two.withdraw(1);
         one = r.table;
         two = s.table;
-        k += 1;
     }
     true
 }
@@ -439,17 +388,14 @@ struct Found {
 }
 
 // A form on a floor. Its rules are taken from the last to the first, each from its last sign.
-fn evaluate(code: &[u8], numbers: Numbers, floor: Floor) -> Evaluated {
+fn evaluate(code: &[Sign], numbers: Numbers, floor: Floor) -> Evaluated {
     let mut m = start(numbers);
     let mut rules: u8 = 0;
-    let mut i: usize = 0;
-    while i < code.len() {
-        let sign = code[code.len() - 1 - i];
-        if sign == RULE {
+    for sign in code.iter().rev() {
+        if *sign == Sign::Rule {
             rules = rules % 128 * 2 + operand(m, 0) % 2;
         }
-        m = step(m, sign, floor);
-        i += 1;
+        m = step(m, *sign, floor);
     }
     Evaluated {
         row: m.row,
@@ -474,17 +420,7 @@ fn nothing_found() -> Found {
 
 // Whether a floor with this row is among those of the points.
 fn is_known(found: Found, row: u32) -> bool {
-    let rows = found.rows;
-    let mut i: usize = 0;
-    while i < ROWS {
-        if i < found.count {
-            if rows[i] == row {
-                return true;
-            }
-        }
-        i += 1;
-    }
-    false
+    found.rows.iter().take(found.count).any(|r| *r == row)
 }
 
 // One floor more, where its row is a new one.
@@ -509,43 +445,37 @@ fn with_floor(found: Found, floor: Floor, g: Evaluated) -> Found {
 }
 
 // The floors with those on which e and f are in contact too.
-fn with_contact(found: Found, code: &[u8], numbers: Numbers, e: usize, f: usize) -> Found {
+fn with_contact(found: Found, code: &[Sign], numbers: Numbers, e: usize, f: usize) -> Found {
     let floors = found.floors;
     let mut next = found;
-    let mut i: usize = 0;
-    while i < ROWS {
-        if i < found.count {
-            let floor = joined(floors[i], e, f);
-            next = with_floor(next, floor, evaluate(code, numbers, floor));
-        }
-        i += 1;
+    for other in floors.iter().take(found.count) {
+        let floor = joined(*other, e, f);
+        next = with_floor(next, floor, evaluate(code, numbers, floor));
     }
     next
 }
 
 // What is found, with the floors of these points.
-fn with_floors(found: Found, code: &[u8], numbers: Numbers, points: u8) -> Found {
+fn with_floors(found: Found, code: &[Sign], numbers: Numbers, points: u8) -> Found {
     let floor = apart(points);
     let mut none = found;
     none.count = 0;
     let mut next = with_floor(none, floor, evaluate(code, numbers, floor));
-    let mut i: usize = 0;
-    while i < 64 {
-        if is_pair(points, i / 8, i % 8) {
-            next = with_contact(next, code, numbers, i / 8, i % 8);
+    for e in 0..8 {
+        for f in 0..8 {
+            if is_pair(points, e, f) {
+                next = with_contact(next, code, numbers, e, f);
+            }
         }
-        i += 1;
     }
     next
 }
 
 // The search over all floors that count.
-fn search(code: &[u8], numbers: Numbers, names: usize) -> Found {
+fn search(code: &[Sign], numbers: Numbers, names: usize) -> Found {
     let all = evaluations(names);
     let mut found = nothing_found();
-    let mut points: u8 = 0;
-    while points < all {
-        points += 1;
+    for points in 1..=all {
         if stand_somewhere(points, names) {
             found = with_floors(found, code, numbers, points);
         }
@@ -557,12 +487,10 @@ fn search(code: &[u8], numbers: Numbers, names: usize) -> Found {
 
 // Whether some floor meets all rules of a set.
 fn some_meets(met: [bool; 256], set: u8) -> bool {
-    let mut s: usize = 0;
-    while s < 256 {
-        if met[s] && s as u8 & set == set {
+    for s in 0..=255u8 {
+        if met[s as usize] && s & set == set {
             return true;
         }
-        s += 1;
     }
     false
 }
@@ -578,9 +506,7 @@ fn first_rules(n: usize) -> u8 {
 // "go through the rules from the last to the first and leave each out that is not needed by those before it and those kept"
 fn kept_of(met: [bool; 256], rules: usize) -> u8 {
     let mut kept: u8 = 0;
-    let mut i = rules;
-    while 0 < i {
-        i -= 1;
+    for i in (0..rules).rev() {
         if some_meets(met, first_rules(i) | kept) {
             kept = kept | bit(i);
         }
@@ -590,39 +516,27 @@ fn kept_of(met: [bool; 256], rules: usize) -> u8 {
 
 // "for each rule of the set some such floor meets the others"
 fn each_is_needed(met: [bool; 256], set: u8) -> bool {
-    let mut i: usize = 0;
-    while i < 8 {
+    for i in 0..8 {
         if has(set, i) && !some_meets(met, set & (255 - bit(i))) {
             return false;
         }
-        i += 1;
     }
     true
 }
 
 // How many rules a form has.
-fn rules_in(code: &[u8]) -> usize {
-    let mut n: usize = 0;
-    let mut i: usize = 0;
-    while i < code.len() {
-        if code[i] == RULE {
-            n = n % 512 + 1;
-        }
-        i += 1;
-    }
-    n
+fn rules_in(code: &[Sign]) -> usize {
+    code.iter().filter(|sign| **sign == Sign::Rule).count()
 }
 
 // The set of the places that are written true.
 fn set_in(answer: Answer) -> u8 {
     let places = answer.places;
     let mut set: u8 = 0;
-    let mut i: usize = 0;
-    while i < 8 {
+    for i in 0..8 {
         if places[i] == b'1' {
             set = set | bit(i);
         }
-        i += 1;
     }
     set
 }
@@ -631,20 +545,13 @@ fn mark_in(set: u8, i: usize) -> u8 {
     if has(set, i) { b'1' } else { b'0' }
 }
 
-// The answer with a number that it carries, and with the first places written by a set.
-fn answered(number: usize, carried: usize, written: usize, set: u8) -> Answer {
+// The answer that says this, with the first places written by a set.
+fn answered(said: Said, written: usize, set: u8) -> Answer {
     let mut places = [b'.'; 20];
-    let mut i: usize = 0;
-    while i < 8 {
-        if i < written {
-            places[i] = mark_in(set, i);
-        }
-        i += 1;
+    for i in 0..written.min(8) {
+        places[i] = mark_in(set, i);
     }
-    Answer {
-        said: Said { number, carried },
-        places,
-    }
+    Answer { said, places }
 }
 
 // ---- counts
@@ -664,49 +571,44 @@ const SIZES: usize = 5;
 
 const RULES: usize = 13;
 
-// Raises count i by one; no count comes near the bound.
-fn raise(counts: &mut [usize; 21], i: usize) {
-    counts[i % 21] = counts[i % 21] % 0x1_0000_0000 + 1;
-}
-
 // What was counted.
 fn show_counts(rt: &impl Print, counts: [usize; 21]) {
     write_counts(
         rt,
-        b"sheets        \
-        plans         \
-        no plans      \
-        refused 8     \
-        disagreements \
-        sets of 1     \
-        sets of 2     \
-        sets of 3     \
-        sets of 4     \
-        sets of 5     \
-        sets of 6     \
-        sets of 7     \
-        sets of 8     \
-        with rule 1   \
-        with rule 2   \
-        with rule 3   \
-        with rule 4   \
-        with rule 5   \
-        with rule 6   \
-        with rule 7   \
-        with rule 8   ",
+        &[
+            "sheets",
+            "plans",
+            "no plans",
+            "refused 8",
+            "disagreements",
+            "sets of 1",
+            "sets of 2",
+            "sets of 3",
+            "sets of 4",
+            "sets of 5",
+            "sets of 6",
+            "sets of 7",
+            "sets of 8",
+            "with rule 1",
+            "with rule 2",
+            "with rule 3",
+            "with rule 4",
+            "with rule 5",
+            "with rule 6",
+            "with rule 7",
+            "with rule 8",
+        ],
         &counts,
     );
 }
 
 // One set more.
 fn count_set(counts: &mut [usize; 21], set: u8) {
-    raise(counts, SIZES + (position(set, 8) % 9 + 7) % 8);
-    let mut i: usize = 0;
-    while i < 8 {
+    raise(counts, SIZES + (position(set, 8) % 9 + 7) % 8, 1);
+    for i in 0..8 {
         if has(set, i) {
-            raise(counts, RULES + i);
+            raise(counts, RULES + i, 1);
         }
-        i += 1;
     }
 }
 
@@ -714,7 +616,7 @@ fn disagree(rt: &impl Print, counts: &mut [usize; 21], why: &[u8], file: &[u8]) 
     write_bytes(rt, why);
     write_bytes(rt, b"\n");
     write_bytes(rt, file);
-    raise(counts, DISAGREEMENTS);
+    raise(counts, DISAGREEMENTS, 1);
 }
 
 // ---- the sheets
@@ -732,9 +634,9 @@ fn test_no_plan(
 {
     let answer = answer_of(table, 16);
     let set = set_in(answer);
-    raise(counts, NO_PLANS);
+    raise(counts, NO_PLANS, 1);
     count_set(counts, set);
-    if !same_answer(answer, answered(0, rules, rules, set)) {
+    if !same_answer(answer, answered(Said::Clash(rules), rules, set)) {
         disagree(rt, counts, b"the answer or a place is another", file);
     }
     if some_meets(met, set) {
@@ -747,7 +649,10 @@ fn test_no_plan(
         disagree(rt, counts, b"the set is another", file);
     }
     if 0 < rules {
-        if !same_answer(answer_of(table, rules - 1), answered(12, rules, 0, 0)) {
+        if !same_answer(
+            answer_of(table, rules - 1),
+            answered(Said::Refused(12, rules), 0, 0),
+        ) {
             disagree(rt, counts, b"a place too few", file);
         }
     }
@@ -757,8 +662,8 @@ fn test_no_plan(
 fn test_plan(rt: &impl Print, counts: &mut [usize; 21], table: Table, file: &[u8])
     requires { FromUs table }
 {
-    raise(counts, PLANS);
-    if !same_answer(answer_of(table, 16), answered(17, 0, 0, 0)) {
+    raise(counts, PLANS, 1);
+    if !same_answer(answer_of(table, 16), answered(Said::Refused(17, 0), 0, 0)) {
         disagree(rt, counts, b"a plan exists", file);
     }
 }
@@ -768,7 +673,7 @@ fn test_table(
     counts: &mut [usize; 21],
     table: Table,
     file: &[u8],
-    code: &[u8],
+    code: &[Sign],
     names: usize,
 )
     requires { FromUs table }
@@ -786,18 +691,6 @@ fn test_table(
     test_no_plan(rt, counts, table, file, met, rules);
 }
 
-// The table with its k-th rule withdrawn, where k is not 0.
-fn without(table: Table, k: usize) -> Table
-    requires { FromUs table }
-    ensures { FromUs result }
-{
-    if k == 0 {
-        return table;
-    }
-    let w = table.withdraw(k);
-    w.table
-}
-
 // A sheet is refused where it has more than 16 different atoms.
 fn test_made(rt: &impl Print, counts: &mut [usize; 21], sheet: Sheet)
     requires { Bounded sheet }
@@ -807,16 +700,16 @@ fn test_made(rt: &impl Print, counts: &mut [usize; 21], sheet: Sheet)
     let form = sheet.form;
     let last = sheet.last;
     let r = Table::empty().load(&text[0..end]);
-    let answer = r.answer;
-    let LoadAnswer::Loaded = answer else {
-        raise(counts, REFUSED);
+    let LoadAnswer::Loaded = r.answer else {
+        raise(counts, REFUSED, 1);
         return;
     };
-    let table = without(r.table, sheet.withdrawn);
+    // Rule 0 is none: to withdraw it is refused, and changes nothing.
+    let w = r.table.withdraw(sheet.withdrawn);
     test_table(
         rt,
         counts,
-        table,
+        w.table,
         &text[0..end],
         &form[0..last],
         sheet.names,
@@ -825,7 +718,7 @@ fn test_made(rt: &impl Print, counts: &mut [usize; 21], sheet: Sheet)
 
 fn test_number(rt: &impl Print, counts: &mut [usize; 21], k: u64) {
     let sheet = sheet_at(k);
-    raise(counts, SHEETS);
+    raise(counts, SHEETS, 1);
     if sheet.whole {
         test_made(rt, counts, sheet);
         return;
@@ -835,10 +728,8 @@ fn test_number(rt: &impl Print, counts: &mut [usize; 21], k: u64) {
 
 // All sheets of test_small_floors: document 01's own and 3,000 generated ones.
 fn test_sheets(rt: &impl Print, counts: &mut [usize; 21]) {
-    let mut k: u64 = 0;
-    while k < 3012 {
+    for k in 0..3012 {
         test_number(rt, counts, k);
-        k += 1;
     }
 }
 

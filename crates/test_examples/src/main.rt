@@ -87,6 +87,7 @@ fn show_log(rt: &impl Print, title: &[u8], log: &[u8]) {
     let mut words = supportlog::no_words();
     let mut text = supportlog::no_text();
     let mut state = supportlog::start();
+    // By state: a piece takes as many bytes of the log as next_piece says.
     while state.from < log.len() {
         state = supportlog::next_piece(log, state, &mut words, &mut text);
         let len = state.len;
@@ -285,11 +286,8 @@ fn put_point(text: &mut [u8], at: usize, i: usize, e: usize) -> usize {
     put_byte(text, end, b'\n')
 }
 
-// The line of a contact, where the first position is the smaller.
+// The line of a contact.
 fn put_pair(text: &mut [u8], at: usize, i: usize, j: usize) -> usize {
-    if j <= i {
-        return at;
-    }
     let end = put_labelled(text, at, b"contact ", i);
     let end = put_labelled(text, end, b" ", j);
     put_byte(text, end, b'\n')
@@ -298,21 +296,19 @@ fn put_pair(text: &mut [u8], at: usize, i: usize, j: usize) -> usize {
 // The lines of the points: each lies in some name, so that the first one has evaluation 1.
 fn put_points(text: &mut [u8], at: usize) -> usize {
     let mut end = at;
-    let mut i: usize = 0;
-    while i < 255 {
+    for i in 0..255 {
         end = put_point(text, end, i, i + 1);
-        i += 1;
     }
     end
 }
 
-// The lines of all pairs.
+// The lines of all pairs, the smaller position first.
 fn put_pairs(text: &mut [u8], at: usize) -> usize {
     let mut end = at;
-    let mut k: usize = 0;
-    while k < 65025 {
-        end = put_pair(text, end, k / 255, k % 255);
-        k += 1;
+    for i in 0..255 {
+        for j in i + 1..255 {
+            end = put_pair(text, end, i, j);
+        }
     }
     end
 }
@@ -337,6 +333,7 @@ fn same_pieces(words: &[u32; 32642], count: usize, names: Names, text: &[u8]) ->
     let mut bytes = report::no_text();
     let mut at: usize = 0;
     let mut next: usize = 0;
+    // By state: a piece takes as many words as building_piece says.
     while next < count {
         let piece = report::building_piece(words, count, names, next, &mut bytes);
         let len = piece.len;

@@ -1,9 +1,9 @@
-// What the test programs share: writing to standard output, comparing words, and putting bytes and words into buffers. No contract
+// What the test programs share: writing to standard output, counting, comparing words, and putting bytes and words into buffers. No contract
 // can say which bytes a call writes, so the functions that write have none; the digits that they write are made by functions that
 // have. No public function has a requires. Assumes nothing.
 #![tactic(auto)]
 
-ghost use Rattle.std.specs.Prelude.{◌≡◌, true, [], ◌∷◌, ◌+◌, ◌^◌, ◌<◌, length, replicate};
+ghost use Rattle.std.specs.Prelude.{◌≡◌, true, [], ◌∷◌, ◌+◌, ◌^◌, ◌<◌, length, replicate, slice_index, slice_set};
 ghost use Rattle.lists.specs.Search.{from};
 ghost use Rattle.test_kit.specs.Digits.{word_digits};
 ghost use Rattle.test_kit.specs.Putting.{Puts, times};
@@ -29,8 +29,7 @@ pub fn write_labelled(rt: &impl Print, label: &[u8], n: usize) {
 
 // A refusal: its number and what it carries.
 pub fn write_refusal(rt: &impl Print, number: usize, carried: usize) {
-    write_labelled(rt, b"refused ", number);
-    write_labelled(rt, b" at ", carried);
+    let _ = print!(rt; "refused {number} at {carried}");
 }
 
 // The eight hexadecimal digits of a word, in capitals.
@@ -59,30 +58,28 @@ fn write_word(rt: &impl Print, before: &[u8], w: u32, after: &[u8]) {
 
 // Words, each in its digits between two texts.
 pub fn write_words(rt: &impl Print, before: &[u8], words: &[u32], after: &[u8]) {
-    let mut i: usize = 0;
-    while i < words.len() {
-        write_word(rt, before, words[i], after);
-        i += 1;
+    for w in words {
+        write_word(rt, before, *w, after);
     }
 }
 
-// The label with this number, of labels of 14 bytes each.
-fn write_label(rt: &impl Print, labels: &[u8], i: usize) {
-    if i < labels.len() / 14 {
-        let start = i * 14;
-        let end = start + 14;
-        write_bytes(rt, &labels[start..end]);
+// Counts, each behind its label in 14 columns, one a line.
+pub fn write_counts(rt: &impl Print, labels: &[&str], counts: &[usize]) {
+    for (label, n) in labels.iter().zip(counts.iter()) {
+        let _ = println!(rt; "{label:14}{n}");
     }
 }
 
-// Counts, each behind its label, one a line.
-pub fn write_counts(rt: &impl Print, labels: &[u8], counts: &[usize]) {
-    let mut i: usize = 0;
-    while i < counts.len() {
-        write_label(rt, labels, i);
-        write_number(rt, counts[i]);
-        write_bytes(rt, b"\n");
-        i += 1;
+// ---- counting
+
+// Raises count i by n, where there is such a count.
+pub fn raise(counts: &mut [usize], i: usize, n: usize)
+    ensures kept { length counts.new ≡ length counts.old }
+    ensures raised { slice_index counts.old i + n < 2 ^ 64
+        → counts.new ≡ slice_set counts.old i (slice_index counts.old i + n) }
+{
+    if i < counts.len() {
+        counts[i] = counts[i].saturating_add(n);
     }
 }
 
@@ -92,17 +89,7 @@ pub fn write_counts(rt: &impl Print, labels: &[u8], counts: &[usize]) {
 pub fn same_words(a: &[u32], b: &[u32]) -> bool
     ensures { (result ≡ true → a.now ≡ b.now) × (a.now ≡ b.now → result ≡ true) }
 {
-    if a.len() != b.len() {
-        return false;
-    }
-    let mut i: usize = 0;
-    while i < a.len() {
-        if a[i] != b[i] {
-            return false;
-        }
-        i += 1;
-    }
-    true
+    a == b
 }
 
 // ---- texts
@@ -131,10 +118,8 @@ pub fn put_bytes(text: &mut [u8], at: usize, bytes: &[u8]) -> usize
     ensures { Puts bytes.now at text.old text.new result }
 {
     let mut end = at;
-    let mut i: usize = 0;
-    while i < bytes.len() {
-        end = put_byte(text, end, bytes[i]);
-        i += 1;
+    for b in bytes {
+        end = put_byte(text, end, *b);
     }
     end
 }
@@ -144,10 +129,8 @@ pub fn put_times(text: &mut [u8], at: usize, bytes: &[u8], n: usize) -> usize
     ensures { Puts (times n bytes.now) at text.old text.new result }
 {
     let mut end = at;
-    let mut i: usize = 0;
-    while i < n {
+    for _i in 0..n {
         end = put_bytes(text, end, bytes);
-        i += 1;
     }
     end
 }
@@ -179,10 +162,8 @@ fn put_rising(words: &mut [u32], at: usize, first: u32, n: u32) -> usize
     ensures { Puts (from first n) at words.old words.new result }
 {
     let mut end = at;
-    let mut i: u32 = 0;
-    while i < n {
+    for i in 0..n {
         end = put_word(words, end, first + i);
-        i += 1;
     }
     end
 }
@@ -194,10 +175,8 @@ pub fn put_every(words: &mut [u32], first: u32, last: u8) -> usize
     let n = last as u32 + 1;
     let at = put_word(words, 0, first);
     let mut end = put_rising(words, at, 0x2000_0000, n);
-    let mut i: u32 = 0;
-    while i < n {
+    for i in 0..n {
         end = put_rising(words, end, 0x3000_0001 + i * 257, n - (i + 1));
-        i += 1;
     }
     put_word(words, end, 0x4000_0000 + end as u32)
 }

@@ -3,26 +3,8 @@
 // no plans, refusals. The file `stdout` has what documents 01 and 02 ask for, worked out by a separate program.
 #![tactic(auto)]
 
-ghost use Rattle.std.specs.Prelude.{◌≤◌, length};
-
-use reading::Got;
 use tally::Tally;
 use test_kit::{write_bytes, write_labelled};
-
-// The end of the log that starts at a place.
-fn log_end(logs: &[u8], from: usize) -> usize
-    requires { from ≤ length logs.now }
-    ensures { (from ≤ result) × (result ≤ length logs.now) }
-{
-    let mut i = from;
-    while i < logs.len() {
-        if logs[i] == 0 {
-            return i;
-        }
-        i += 1;
-    }
-    i
-}
 
 fn show_tally(rt: &impl Print, tally: Tally) {
     write_labelled(rt, b"tally ", tally.added as usize);
@@ -38,6 +20,7 @@ fn show(rt: &impl Print, log: &[u8]) {
     let mut words = supportlog::no_words();
     let mut text = supportlog::no_text();
     let mut state = supportlog::start();
+    // By state: a piece takes as many bytes of the log as next_piece says.
     while state.from < log.len() {
         state = supportlog::next_piece(log, state, &mut words, &mut text);
         let len = state.len;
@@ -49,22 +32,17 @@ fn show(rt: &impl Print, log: &[u8]) {
 
 // All logs.
 fn show_all(rt: &impl Print, logs: &[u8]) {
-    let mut from: usize = 0;
-    let mut count: usize = 0;
-    while from < logs.len() {
-        let end = log_end(logs, from);
-        count += 1;
-        write_labelled(rt, b"# ", count);
+    let pieces = logs.split_inclusive(|b| *b == 0);
+    for (piece, number) in pieces.zip(1..=logs.len()) {
+        write_labelled(rt, b"# ", number);
         write_bytes(rt, b"\n");
-        show(rt, &logs[from..end]);
-        from = end + 1;
+        show(rt, piece.strip_suffix(b"\0").unwrap_or(piece));
     }
 }
 
 fn main(rt: HostRuntime) {
     let mut logs = [0u8; 65536];
-    let got = reading::read_sheet(&mut rt.stdin(), &mut logs);
-    let Got::Bytes(n) = got else {
+    let Ok(n) = reading::read_sheet(&mut rt.stdin(), &mut logs) else {
         let _ = rt.eprintln("test_logs: the logs cannot be read");
         return;
     };

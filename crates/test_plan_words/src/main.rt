@@ -6,7 +6,8 @@
 ghost use Rattle.std.specs.Prelude.{◌≡◌, length};
 
 use evalset::{EvalSet, ROOM};
-use plan::{PlanAnswer, PlanArrays, Written};
+use lists::ShortBuffer;
+use plan::PlanArrays;
 use test_kit::{
     no_words, put_every, put_word, same_words, write_bytes, write_labelled, write_number,
     write_refusal, write_words,
@@ -20,15 +21,8 @@ fn wide(b: u8) -> usize {
 
 // Writes the evaluations of a plan's points, a blank before each.
 fn write_points(rt: &impl Print, p: PlanArrays) {
-    let points = p.points;
-    let count = p.count;
-    let mut i: usize = 0;
-    while i < 64 {
-        if count <= i {
-            return;
-        }
-        write_labelled(rt, b" ", wide(points[i]));
-        i += 1;
+    for e in &p.points[..p.count.min(64)] {
+        write_labelled(rt, b" ", wide(*e));
     }
 }
 
@@ -37,32 +31,16 @@ fn write_contact(rt: &impl Print, i: usize, j: usize) {
     write_labelled(rt, b"-", j);
 }
 
-// Whether position i, of this row, is in contact with a later position j.
-fn later(row: EvalSet, i: usize, j: usize, count: usize) -> bool {
-    if i < j {
-        if j < count {
-            return evalset::contains(row, j);
-        }
-    }
-    false
-}
-
 // Writes the contacts of position i with later ones, and answers whether there is one.
 fn write_row(rt: &impl Print, row: EvalSet, i: usize, count: usize) -> bool {
     let mut some = false;
-    let mut j: usize = 0;
-    while j < 64 {
-        if later(row, i, j, count) {
+    for j in 0..count.min(64) {
+        if i < j && evalset::contains(row, j) {
             write_contact(rt, i, j);
             some = true;
         }
-        j += 1;
     }
     some
-}
-
-fn either(a: bool, b: bool) -> bool {
-    if a { true } else { b }
 }
 
 // Writes the contacts of two points, or that there is none.
@@ -70,12 +48,10 @@ fn write_contacts(rt: &impl Print, p: PlanArrays) {
     let rows = p.rows;
     let count = p.count;
     let mut some = false;
-    let mut i: usize = 0;
-    while i < 64 {
-        if i < count {
-            some = either(write_row(rt, squares::row_at(&rows, i), i, count), some);
+    for i in 0..count.min(64) {
+        if write_row(rt, squares::row_at(&rows, i), i, count) {
+            some = true;
         }
-        i += 1;
     }
     if !some {
         write_bytes(rt, b" none");
@@ -84,10 +60,7 @@ fn write_contacts(rt: &impl Print, p: PlanArrays) {
 
 // Whether the first n of the written words are the given ones, and no more.
 fn same(words: &[u32], written: &[u32], n: usize) -> bool {
-    if n <= written.len() {
-        return same_words(words, &written[0..n]);
-    }
-    false
+    n <= written.len() && same_words(words, &written[0..n])
 }
 
 // The set, and e unless it is left out.
@@ -102,13 +75,8 @@ fn with_unless(set: EvalSet, e: usize, left_out: bool) -> EvalSet {
 // The evaluations of the points whose positions are not in a row.
 fn others(points: [u8; ROOM], count: usize, row: EvalSet) -> EvalSet {
     let mut set = evalset::empty();
-    let mut j: usize = 0;
-    while j < ROOM {
-        if count <= j {
-            return set;
-        }
+    for j in 0..count.min(ROOM) {
         set = with_unless(set, wide(points[j]), evalset::contains(row, j));
-        j += 1;
     }
     set
 }
@@ -128,20 +96,15 @@ fn apart_in(p: PlanArrays) -> [u64; 1024]
     let rows = p.rows;
     let count = p.count;
     let mut square = no_square();
-    let mut i: usize = 0;
-    while i < ROOM {
-        if count <= i {
-            return square;
-        }
+    for i in 0..count.min(ROOM) {
         let row = squares::row_at(&rows, i);
         squares::join_at(&mut square, wide(points[i]), others(points, count, row));
-        i += 1;
     }
     square
 }
 
 // Writes a plan that was read into a buffer.
-fn put_again(p: PlanArrays, buffer: &mut [u32]) -> Written {
+fn put_again(p: PlanArrays, buffer: &mut [u32]) -> Result<usize, ShortBuffer> {
     let points = p.points;
     let given = others(points, p.count, evalset::empty());
     let apart = apart_in(p);
@@ -151,16 +114,15 @@ fn put_again(p: PlanArrays, buffer: &mut [u32]) -> Written {
 // Writes a plan's words again and whether they are the same.
 fn write_again(rt: &impl Print, words: &[u32], p: PlanArrays) {
     let mut buffer = [0u32; 32898];
-    let w = put_again(p, &mut buffer);
-    match w {
-        Written::Words(n) => {
+    match put_again(p, &mut buffer) {
+        Ok(n) => {
             if same(words, &buffer, n) {
                 write_bytes(rt, b"written again, the same");
             } else {
                 write_bytes(rt, b"written again, others");
             }
         }
-        Written::Needs(_) => {
+        Err(_) => {
             write_bytes(rt, b"not written again");
         }
     }
@@ -180,27 +142,24 @@ fn write_plan(rt: &impl Print, words: &[u32], p: PlanArrays) {
 fn show(rt: &impl Print, words: &[u32]) {
     write_words(rt, b"", words, b" ");
     write_bytes(rt, b"=> ");
-    let r = plan::read_plan(words);
-    let a = r.answer;
-    let p = r.plan;
-    match a {
-        PlanAnswer::Plan => {
+    match plan::read_plan(words) {
+        Ok(p) => {
             write_plan(rt, words, p);
         }
-        PlanAnswer::Refused(i) => {
-            write_refusal(rt, 13, i);
+        Err(refusal) => {
+            write_refusal(rt, 13, refusal.at);
         }
     }
     write_bytes(rt, b"\n");
 }
 
-fn write_written(rt: &impl Print, w: Written) {
+fn write_written(rt: &impl Print, w: Result<usize, ShortBuffer>) {
     match w {
-        Written::Words(n) => {
+        Ok(n) => {
             write_labelled(rt, b"words ", n);
         }
-        Written::Needs(n) => {
-            write_labelled(rt, b"needs ", n);
+        Err(short) => {
+            write_labelled(rt, b"needs ", short.needed);
         }
     }
     write_bytes(rt, b"; ");
@@ -208,10 +167,10 @@ fn write_written(rt: &impl Print, w: Written) {
 
 // Writes the plan of P3 into a buffer of nines and shows the buffer.
 fn into_buffer(rt: &impl Print, buffer: &mut [u32]) {
-    let r = plan::read_plan(&[0x1000_0202, 0x2000_0001, 0x2000_0002, 0x4000_0003]);
-    let p = r.plan;
-    let w = put_again(p, buffer);
-    write_written(rt, w);
+    let Ok(p) = plan::read_plan(&[0x1000_0202, 0x2000_0001, 0x2000_0002, 0x4000_0003]) else {
+        return;
+    };
+    write_written(rt, put_again(p, buffer));
     write_words(rt, b"", buffer, b" ");
     write_bytes(rt, b"\n");
 }
@@ -232,17 +191,14 @@ fn buffers(rt: &impl Print) {
 fn show_long(rt: &impl Print, words: &[u32]) {
     write_number(rt, words.len());
     write_bytes(rt, b" words => ");
-    let r = plan::read_plan(words);
-    let a = r.answer;
-    let p = r.plan;
-    match a {
-        PlanAnswer::Plan => {
+    match plan::read_plan(words) {
+        Ok(p) => {
             write_number(rt, p.count);
             write_bytes(rt, b" points; ");
             write_again(rt, words, p);
         }
-        PlanAnswer::Refused(i) => {
-            write_refusal(rt, 13, i);
+        Err(refusal) => {
+            write_refusal(rt, 13, refusal.at);
         }
     }
     write_bytes(rt, b"\n");

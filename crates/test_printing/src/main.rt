@@ -7,8 +7,6 @@
 
 ghost use Rattle.printing.specs.Prints.{WasRead};
 
-use printing::Printed;
-use reading::Got;
 use syntax::{Rule, RuleAnswer};
 
 // Writes bytes as they are.
@@ -28,11 +26,8 @@ fn page_of(text: &[u8], rule: Rule) -> Page
     requires { WasRead text.now rule }
 {
     let mut bytes = [0u8; 256];
-    let answer = printing::print(text, rule, &mut bytes);
-    match answer {
-        Printed::Text(n) => Page { bytes, n },
-        Printed::Needs(_) => Page { bytes, n: 0 },
-    }
+    let n = printing::print(text, rule, &mut bytes).unwrap_or(0);
+    Page { bytes, n }
 }
 
 // Says so where a text that is printed and the order of the rule are not found again.
@@ -47,15 +42,13 @@ fn read_again(rt: &impl Print, text: &[u8], rule: Rule, page: Page) {
 
 // Says so where two rules have different orders, or different texts.
 fn compare(rt: &impl Print, rule: Rule, again: Rule, first: Page, second: Page) {
-    let order = rule.order;
-    let bytes = first.bytes;
     if rule.len != again.len {
         write_bytes(rt, b" has another order");
     }
-    if !check::same(&order, &again.order) {
+    if rule.order != again.order {
         write_bytes(rt, b" has another order");
     }
-    if !check::same(&bytes, &second.bytes) {
+    if first.bytes != second.bytes {
         write_bytes(rt, b" is printed otherwise");
     }
 }
@@ -97,22 +90,20 @@ fn show_part(rt: &impl Print, list: &[u8], start: usize, end: usize) {
 // Shows each text of a list, in which byte 10 ends each.
 fn show_each(rt: &impl Print, list: &[u8]) {
     let mut start: usize = 0;
-    let mut i: usize = 0;
-    while i < list.len() {
-        if list[i] == b'\n' {
+    for (i, b) in list.iter().enumerate() {
+        if *b == b'\n' {
             show_part(rt, list, start, i);
             start = i + 1;
         }
-        i += 1;
     }
 }
 
 fn main(rt: HostRuntime) {
     let mut list = [0u8; 65536];
     let got = reading::read_sheet(&mut rt.stdin(), &mut list);
-    let Got::Bytes(n) = got else {
+    let Ok(n) = got else {
         let _ = rt.eprintln("test_printing: the list cannot be read");
         return;
     };
-    show_each(&rt, &list[0..n]);
+    show_each(&rt, &list[..n]);
 }

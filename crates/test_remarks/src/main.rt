@@ -4,26 +4,8 @@
 // sentence, and from these the two lines by a separate small program, which knows no rule and no candidate.
 #![tactic(auto)]
 
-ghost use Rattle.std.specs.Prelude.{◌≤◌, length};
-
-use reading::Got;
 use table::{AddAnswer, LoadAnswer};
 use test_kit::{put_bytes, put_times, write_bytes, write_labelled};
-
-// The end of the sheet that starts at a place.
-fn sheet_end(sheets: &[u8], from: usize) -> usize
-    requires { from ≤ length sheets.now }
-    ensures { (from ≤ result) × (result ≤ length sheets.now) }
-{
-    let mut i = from;
-    while i < sheets.len() {
-        if sheets[i] == 0 {
-            return i;
-        }
-        i += 1;
-    }
-    i
-}
 
 // The remark on a sheet.
 fn show(rt: &impl Print, sheet: &[u8]) {
@@ -34,15 +16,11 @@ fn show(rt: &impl Print, sheet: &[u8]) {
 
 // All sheets.
 fn show_all(rt: &impl Print, sheets: &[u8]) {
-    let mut from: usize = 0;
-    let mut count: usize = 0;
-    while from < sheets.len() {
-        let end = sheet_end(sheets, from);
-        count += 1;
-        write_labelled(rt, b"# ", count);
+    let pieces = sheets.split_inclusive(|b| *b == 0);
+    for (piece, number) in pieces.zip(1..=sheets.len()) {
+        write_labelled(rt, b"# ", number);
         write_bytes(rt, b"\n");
-        show(rt, &sheets[from..end]);
-        from = end + 1;
+        show(rt, piece.strip_suffix(b"\0").unwrap_or(piece));
     }
 }
 
@@ -81,6 +59,7 @@ fn show_log(rt: &impl Print, number: usize, log: &[u8]) {
     let mut said = remarks::no_text();
     let mut state = supportlog::start();
     let mut count: usize = 0;
+    // By state: a piece takes as many bytes of the log as next_piece says.
     while state.from < log.len() {
         count += 1;
         let len = supportlog::remark_line(log, state, count, &mut said);
@@ -121,8 +100,7 @@ fn logs(rt: &impl Print) {
 
 fn main(rt: HostRuntime) {
     let mut sheets = [0u8; 65536];
-    let got = reading::read_sheet(&mut rt.stdin(), &mut sheets);
-    let Got::Bytes(n) = got else {
+    let Ok(n) = reading::read_sheet(&mut rt.stdin(), &mut sheets) else {
         let _ = rt.eprintln("test_remarks: the sheets cannot be read");
         return;
     };

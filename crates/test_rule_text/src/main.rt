@@ -23,23 +23,17 @@ fn write_code(rt: &impl Print, b: u8) {
 
 // Writes a byte so that a line of text shows it.
 fn write_shown(rt: &impl Print, b: u8) {
-    if b < 32 {
-        write_code(rt, b);
-    } else if 126 < b {
-        write_code(rt, b);
-    } else if b == b'\\' {
-        write_code(rt, b);
-    } else {
-        write_byte(rt, b);
+    match b {
+        b'\\' => write_code(rt, b),
+        32..=126 => write_byte(rt, b),
+        _ => write_code(rt, b),
     }
 }
 
 // Writes a text, each byte so that a line shows it.
 fn write_text(rt: &impl Print, text: &[u8]) {
-    let mut i: usize = 0;
-    while i < text.len() {
-        write_shown(rt, text[i]);
-        i += 1;
+    for b in text {
+        write_shown(rt, *b);
     }
 }
 
@@ -61,13 +55,11 @@ fn write_gap(rt: &impl Print, i: usize) {
 }
 
 // The first name among the tokens from a place on; 256 where there is none.
-fn name_from(kinds: [u8; 256], from: usize) -> usize {
-    let mut t = from;
-    while t < 256 {
+fn name_from(kinds: &[u8; 256], from: usize) -> usize {
+    for t in from..256 {
         if kinds[t] == NAME {
             return t;
         }
-        t += 1;
     }
     256
 }
@@ -96,40 +88,34 @@ fn write_sign(rt: &impl Print, kind: u8) {
 
 // Writes the name at token t of a rule.
 fn write_name(rt: &impl Print, text: &[u8], tokens: Tokens, t: usize) {
-    let starts = tokens.starts;
-    let lens = tokens.lens;
     if t < 256 {
-        write_token(rt, text, lexer::wide(starts[t]), lexer::wide(lens[t]));
+        write_token(
+            rt,
+            text,
+            usize::from(tokens.starts[t]),
+            usize::from(tokens.lens[t]),
+        );
     }
 }
 
 // Writes a formula in its postfix order, whose names are those of the text in their order.
 fn write_formula(rt: &impl Print, text: &[u8], rule: Rule) {
-    let order = rule.order;
-    let tokens = rule.tokens;
-    let kinds = tokens.kinds;
-    let n = rule.len;
     let mut t: usize = 0;
-    let mut i: usize = 0;
-    while i < 256 {
-        if n <= i {
-            return;
-        }
+    for (i, kind) in rule.order.iter().take(rule.len).enumerate() {
         write_gap(rt, i);
-        if order[i] == NAME {
-            let at = name_from(kinds, t);
-            write_name(rt, text, tokens, at);
+        if *kind == NAME {
+            let at = name_from(&rule.tokens.kinds, t);
+            write_name(rt, text, rule.tokens, at);
             t = after(at);
         } else {
-            write_sign(rt, order[i]);
+            write_sign(rt, *kind);
         }
-        i += 1;
     }
 }
 
 // The place after a token, at most 256.
 fn after(t: usize) -> usize {
-    if t < 256 { t + 1 } else { 256 }
+    t.min(255) + 1
 }
 
 // Writes the line of a text.
@@ -162,13 +148,11 @@ fn show_part(rt: &impl Print, list: &[u8], start: usize, end: usize) {
 // Shows each text of a list, in which byte 10 ends each.
 fn show_each(rt: &impl Print, list: &[u8]) {
     let mut start: usize = 0;
-    let mut i: usize = 0;
-    while i < list.len() {
-        if list[i] == b'\n' {
+    for (i, b) in list.iter().enumerate() {
+        if *b == b'\n' {
             show_part(rt, list, start, i);
             start = i + 1;
         }
-        i += 1;
     }
 }
 
@@ -189,12 +173,9 @@ fn run(rt: &impl Print, b: u8, n: usize) {
 
 // Shows each of the 256 byte values as a text by itself: every class of bytes.
 fn every_byte(rt: &impl Print) {
-    let mut b: u8 = 0;
-    while b < 255 {
+    for b in 0..=255 {
         show_byte(rt, b);
-        b += 1;
     }
-    show_byte(rt, b);
 }
 
 // Shows the text of one byte.

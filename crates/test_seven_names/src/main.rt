@@ -7,13 +7,13 @@
 // the longer sheets by a reader of its own and takes the first row and its plan by the documents' words.
 #![tactic(auto)]
 
-ghost use Rattle.std.specs.Prelude.{◌<◌};
+ghost use Rattle.std.specs.Prelude.{◌<◌, IfOk};
 ghost use Rattle.small_sheets.specs.Bounds.{Bounded};
 ghost use Rattle.table.specs.Calls.{FromUs};
 
 use small_sheets::{Sheet, WORKED, numbers_of, sheet_at};
 use table::{AskAnswer, Outcome, Table};
-use test_kit::{put_bytes, write_bytes, write_number};
+use test_kit::{put_bytes, raise, write_counts};
 
 // A word that no plan has: what the buffers hold before a question.
 const UNWRITTEN: u32 = 0xFFFF_FFFF;
@@ -29,56 +29,34 @@ fn put_line(text: &mut [u8], names: usize) -> usize {
     }
 }
 
-// The table of a sheet behind such a line, with the number by which it is refused, 0 where it is not.
-fn longer(s: Sheet, refused: &mut usize) -> Table
+// The table of a sheet behind such a line, or the number by which it is refused.
+fn longer(s: Sheet) -> Result<Table, usize>
     requires { Bounded s }
-    ensures { FromUs result }
+    ensures { IfOk result FromUs }
 {
     let mut text = [0u8; 1200];
     let at = put_line(&mut text, s.names);
     let own = s.text;
     let end = s.end;
     let n = put_bytes(&mut text, at, &own[..end]);
-    let all = &text[..];
-    if all.len() < n {
-        return Table::empty();
-    }
-    let r = Table::empty().load(&all[..n]);
-    let answer = r.answer;
-    *refused = number_of(table::load_outcome(answer));
-    r.table
-}
-
-// The number of a refusal, 0 where there is none.
-fn number_of(said: Outcome) -> usize {
-    match said {
-        Outcome::RefusedLine(number, _, _) => number,
-        _ => 0,
+    let r = Table::empty().load(&text[..n.min(1200)]);
+    match table::load_outcome(r.answer) {
+        Outcome::RefusedLine(number, _, _) => Err(number),
+        _ => Ok(r.table),
     }
 }
 
 // ---- answers
 
-// How many words a plan has; 0 for no plan, and 1 for anything else.
-fn size_of(a: AskAnswer) -> usize {
-    match a {
-        AskAnswer::Plan(n) => n,
-        AskAnswer::NoPlan => 0,
-        _ => 1,
-    }
-}
-
-fn asked(t: Table, building: bool, words: &mut [u32; 530]) -> usize
+fn asked(t: Table, building: bool, words: &mut [u32; 530]) -> AskAnswer
     requires { FromUs t }
 {
     if building {
         let r = t.ask_building(words);
-        let answer = r.answer;
-        return size_of(answer);
+        return r.answer;
     }
     let r = t.ask(words);
-    let answer = r.answer;
-    size_of(answer)
+    r.answer
 }
 
 // An evaluation where the names before so many make it seven.
@@ -104,22 +82,24 @@ fn widened(w: u32, names: usize) -> u32 {
 
 // Whether the words of the longer sheet are those of the shorter one, widened, and past them as they were.
 fn same_widened(words: &[u32; 530], others: &[u32; 530], names: usize) -> bool {
-    let mut i: usize = 0;
-    while i < 530 {
-        if others[i] != widened(words[i], names) {
-            return false;
-        }
-        i += 1;
-    }
-    true
+    words
+        .iter()
+        .zip(others.iter())
+        .all(|(w, other)| *other == widened(*w, names))
 }
 
 // ---- counts
 
 // What is counted: sheets; those refused with 8; plans, no plans and words, for the plain question and for one building; disagreements.
-fn raise(counts: &mut [usize; 9], i: usize, n: usize) {
-    counts[i % 9] = counts[i % 9] % 0x1_0000_0000 + n % 0x1_0000;
-}
+const SHEETS: usize = 0;
+
+const REFUSED: usize = 1;
+
+const PLANS: usize = 2;
+
+const BUILDINGS: usize = 5;
+
+const DISAGREEMENTS: usize = 8;
 
 // Holds the answers to a question on both sheets to each other, and counts from a place on.
 fn compare(
@@ -134,80 +114,77 @@ fn compare(
 {
     let mut words = [UNWRITTEN; 530];
     let mut others = [UNWRITTEN; 530];
-    let n = asked(short, building, &mut words);
-    let m = asked(long, building, &mut others);
-    if n == m && n != 1 && same_widened(&words, &others, names) {
-        if n == 0 {
-            raise(counts, from % 9 + 1, 1);
-            return;
-        }
-        raise(counts, from, 1);
-        raise(counts, from % 9 + 2, n);
+    let one = asked(short, building, &mut words);
+    let other = asked(long, building, &mut others);
+    if !same_widened(&words, &others, names) {
+        raise(counts, DISAGREEMENTS, 1);
         return;
     }
-    raise(counts, 8, 1);
+    match (one, other) {
+        (AskAnswer::Plan(n), AskAnswer::Plan(m)) if n == m => {
+            raise(counts, from, 1);
+            raise(counts, from % 9 + 2, n);
+        }
+        (AskAnswer::NoPlan, AskAnswer::NoPlan) => raise(counts, from % 9 + 1, 1),
+        _ => raise(counts, DISAGREEMENTS, 1),
+    }
 }
 
 // A sheet that is refused: both are, or the shorter has sixteen atoms.
 fn test_refused(counts: &mut [usize; 9], atoms: usize, number: usize) {
     if number == 8 && 15 < atoms {
-        raise(counts, 1, 1);
-        return;
+        raise(counts, REFUSED, 1);
+    } else {
+        raise(counts, DISAGREEMENTS, 1);
     }
-    raise(counts, 8, 1);
 }
 
 fn test_sheet(counts: &mut [usize; 9], s: Sheet)
     requires { Bounded s }
 {
+    raise(counts, SHEETS, 1);
+    let long = match longer(s) {
+        Ok(long) => long,
+        Err(number) => {
+            let form = s.form;
+            let last = s.last;
+            test_refused(counts, numbers_of(&form[..last]).count, number);
+            return;
+        }
+    };
     let own = s.text;
     let end = s.end;
-    let form = s.form;
-    let last = s.last;
-    let numbers = numbers_of(&form[..last]);
-    let mut refused: usize = 0;
-    let long = longer(s, &mut refused);
-    raise(counts, 0, 1);
-    if refused != 0 {
-        test_refused(counts, numbers.count, refused);
-        return;
-    }
     let r = Table::empty().load(&own[..end]);
     let short = r.table;
-    compare(counts, 2, short, long, false, s.names);
-    compare(counts, 5, short, long, true, s.names);
+    compare(counts, PLANS, short, long, false, s.names);
+    compare(counts, BUILDINGS, short, long, true, s.names);
 }
 
 // How many sheets are generated.
-const SHEETS: u64 = 3000;
+const GENERATED: u64 = 3000;
 
 fn test_sheets(counts: &mut [usize; 9]) {
-    let mut k: u64 = 0;
-    while k < SHEETS {
+    for k in 0..GENERATED {
         let s = sheet_at(WORKED + k);
         if s.names != 0 {
             test_sheet(counts, s);
         }
-        k += 1;
     }
-}
-
-fn write_count(rt: &impl Print, label: &[u8], n: usize) {
-    write_bytes(rt, label);
-    write_number(rt, n);
-    write_bytes(rt, b"\n");
 }
 
 fn main(rt: HostRuntime) {
     let mut counts = [0usize; 9];
     test_sheets(&mut counts);
-    write_count(&rt, b"sheets        ", counts[0]);
-    write_count(&rt, b"refused 8     ", counts[1]);
-    write_count(&rt, b"plans         ", counts[2]);
-    write_count(&rt, b"no plans      ", counts[3]);
-    write_count(&rt, b"plan words    ", counts[4]);
-    write_count(&rt, b"buildings     ", counts[5]);
-    write_count(&rt, b"no buildings  ", counts[6]);
-    write_count(&rt, b"their words   ", counts[7]);
-    write_count(&rt, b"disagreements ", counts[8]);
+    let labels = [
+        "sheets",
+        "refused 8",
+        "plans",
+        "no plans",
+        "plan words",
+        "buildings",
+        "no buildings",
+        "their words",
+        "disagreements",
+    ];
+    write_counts(&rt, &labels, &counts);
 }

@@ -22,18 +22,17 @@ use small_floors::{
     is_pair, joined, no_words, on_floor, operand, position, stand_somewhere, start, step, touching,
     two_bytes, weight, with_points, with_word,
 };
-use small_sheets::{CONTACT, Numbers, PART, Sheet, WORKED, is_atom, numbers_of, sheet_at};
+use small_sheets::{Numbers, Sheet, Sign, WORKED, is_atom, numbers_of, sheet_at};
 use table::{AddAnswer, AskAnswer, Table};
-use test_kit::{write_bytes, write_counts, write_labelled, write_words};
+use test_kit::{raise, write_bytes, write_counts, write_labelled, write_words};
 
 // ---- the search over small floors
 
-// Whether a floor is found that meets the rules, for one building one that hangs together, and the first of the rows of such floors.
+// The first of the rows of the floors that meet the rules, for one building of those that hang together; none where there is no such floor.
 #[derive(Clone, Copy)]
 struct Found {
     building: bool,
-    some: bool,
-    row: u32,
+    row: Option<u32>,
     whole: bool,
 }
 
@@ -62,12 +61,12 @@ fn floors_on(points: u8, names: usize) -> usize {
 // set brings those that it is in contact with.
 fn reached(set: u8, touch: [u8; 8]) -> u8 {
     let mut all = set;
-    let mut i: usize = 0;
-    while i < 64 {
-        if has(all, i % 8) {
-            all = all | touch[i % 8];
+    for _i in 0..8 {
+        for e in 0..8 {
+            if has(all, e) {
+                all = all | touch[e];
+            }
         }
-        i += 1;
     }
     all
 }
@@ -96,8 +95,7 @@ fn is_asked_for(floor: Floor, building: bool) -> bool {
 fn nothing_found(building: bool) -> Found {
     Found {
         building,
-        some: false,
-        row: 0,
+        row: None,
         whole: true,
     }
 }
@@ -109,10 +107,10 @@ fn with_floor(found: Found, m: Machine) -> Found {
         next.whole = false;
     }
     if m.met {
-        next.some = true;
-        if found.row < m.row {
-            next.row = m.row;
-        }
+        next.row = match found.row {
+            Some(row) => Some(row.max(m.row)),
+            None => Some(m.row),
+        };
     }
     next
 }
@@ -128,28 +126,24 @@ fn with_floor_for_both(found: Both, floor: Floor, m: Machine) -> Both {
 }
 
 // What is found, with the floors of these points.
-fn with_floors(found: Both, code: &[u8], numbers: Numbers, names: usize, points: u8) -> Both {
+fn with_floors(found: Both, code: &[Sign], numbers: Numbers, names: usize, points: u8) -> Both {
     let floors = floors_on(points, names);
     let mut next = found;
-    let mut contacts: usize = 0;
-    while contacts < floors {
+    for contacts in 0..floors {
         let floor = floor_of(points, contacts);
         next = with_floor_for_both(next, floor, on_floor(code, numbers, floor));
-        contacts += 1;
     }
     next
 }
 
 // The search over all floors of at most four points, for both questions.
-fn search(code: &[u8], numbers: Numbers, names: usize) -> Both {
+fn search(code: &[Sign], numbers: Numbers, names: usize) -> Both {
     let all = evaluations(names);
     let mut found = Both {
         plain: nothing_found(false),
         building: nothing_found(true),
     };
-    let mut points: u8 = 0;
-    while points < all {
-        points += 1;
+    for points in 1..=all {
         found = with_floors(found, code, numbers, names, points);
     }
     found
@@ -160,98 +154,74 @@ fn search(code: &[u8], numbers: Numbers, names: usize) -> Both {
 // 'The plan that is given' and 'Plan words', for a row of a sheet's atoms over at most three names; and the floor that a plan's words
 // have.
 
-// What an atom is in a row; an atom that is no contact is a zero atom.
-const NO_ATOM: u8 = 0;
-
-const TRUE_CONTACT: u8 = 1;
-
-const FALSE_CONTACT: u8 = 2;
-
-const TRUE_ZERO: u8 = 3;
-
-const FALSE_ZERO: u8 = 4;
-
-// An atom in a row: for a contact its two terms, for a zero atom its term, each as the evaluations in which it holds.
+// An atom in a row that makes it true or false: a contact with its two terms, or a zero atom with its term, each term as the evaluations in
+// which it holds. An atom that is no contact is a zero atom.
 #[derive(Clone, Copy)]
-struct RowAtom {
-    kind: u8,
-    first: u8,
-    second: u8,
+enum RowAtom {
+    TrueContact(u8, u8),
+    FalseContact(u8, u8),
+    TrueZero(u8),
+    FalseZero(u8),
 }
 
 // The atoms in a row, and the evaluations in true zero terms.
 #[derive(Clone, Copy)]
 struct Atoms {
-    list: [RowAtom; 16],
+    list: [Option<RowAtom>; 16],
     names: usize,
     vacant: u8,
 }
 
 fn no_atoms(names: usize) -> Atoms {
-    let none = RowAtom {
-        kind: NO_ATOM,
-        first: 0,
-        second: 0,
-    };
-    let list = [none; 16];
     Atoms {
-        list,
+        list: [None; 16],
         names,
         vacant: 0,
     }
 }
 
-fn kind_of(sign: u8, holds: bool) -> u8 {
-    if sign == CONTACT {
-        return if holds { TRUE_CONTACT } else { FALSE_CONTACT };
+// The atom of a sign with the evaluations of its operands: "the term of <=(x,y) being x*-y".
+fn row_atom(sign: Sign, holds: bool, x: u8, y: u8) -> RowAtom {
+    let term = if sign == Sign::Part { x & (255 - y) } else { x };
+    match sign {
+        Sign::Contact if holds => RowAtom::TrueContact(x, y),
+        Sign::Contact => RowAtom::FalseContact(x, y),
+        _ if holds => RowAtom::TrueZero(term),
+        _ => RowAtom::FalseZero(term),
     }
-    if holds { TRUE_ZERO } else { FALSE_ZERO }
-}
-
-// The first term of an atom: "the term of <=(x,y) being x*-y".
-fn first_term(sign: u8, x: u8, y: u8) -> u8 {
-    if sign == PART { x & (255 - y) } else { x }
 }
 
 // An atom with its number, in the place of one that has the number already.
 fn with_atom(atoms: Atoms, number: usize, atom: RowAtom) -> Atoms {
     let mut next = atoms;
-    if atom.kind == TRUE_ZERO {
-        next.vacant = atoms.vacant | atom.first;
+    if let RowAtom::TrueZero(term) = atom {
+        next.vacant = atoms.vacant | term;
     }
-    next.list[number % 16] = atom;
+    next.list[number % 16] = Some(atom);
     next
 }
 
 // An atom of the form as the row's bit, with the machine before it.
-fn with_row_atom(atoms: Atoms, m: Machine, sign: u8, row: u32) -> Atoms {
+fn with_row_atom(atoms: Atoms, m: Machine, sign: Sign, row: u32) -> Atoms {
     if !is_atom(sign) {
         return atoms;
     }
-    let x = operand(m, 0);
-    let y = operand(m, 1);
     let number = coming(m);
-    let atom = RowAtom {
-        kind: kind_of(sign, row & weight(number) != 0),
-        first: first_term(sign, x, y),
-        second: y,
-    };
+    let holds = row & weight(number) != 0;
+    let atom = row_atom(sign, holds, operand(m, 0), operand(m, 1));
     with_atom(atoms, number, atom)
 }
 
 // The different atoms of a form as the row's bits: terms are evaluated on the floor of all evaluations. Atoms are taken from the last
 // to the first, so that of those that are the same the first stays: "The witness of an exchanged contact is taken from its first
 // writing".
-fn atoms_of(code: &[u8], numbers: Numbers, names: usize, row: u32) -> Atoms {
+fn atoms_of(code: &[Sign], numbers: Numbers, names: usize, row: u32) -> Atoms {
     let floor = apart(evaluations(names));
     let mut atoms = no_atoms(names);
     let mut m = start(numbers);
-    let mut i: usize = 0;
-    while i < code.len() {
-        let sign = code[code.len() - 1 - i];
-        i += 1;
-        atoms = with_row_atom(atoms, m, sign, row);
-        m = step(m, sign, floor);
+    for sign in code.iter().rev() {
+        atoms = with_row_atom(atoms, m, *sign, row);
+        m = step(m, *sign, floor);
     }
     atoms
 }
@@ -263,18 +233,20 @@ fn crossing(x: u8, y: u8, e: usize, f: usize) -> bool {
 
 // Whether an atom separates e and f.
 fn separates(atom: RowAtom, e: usize, f: usize) -> bool {
-    atom.kind == FALSE_CONTACT && crossing(atom.first, atom.second, e, f)
+    match atom {
+        RowAtom::FalseContact(x, y) => crossing(x, y, e, f),
+        _ => false,
+    }
 }
 
 // "Two evaluations are separated if a false contact has one in its first term and the other in its second, either way round."
 fn separated(atoms: Atoms, e: usize, f: usize) -> bool {
-    let list = atoms.list;
-    let mut i: usize = 0;
-    while i < 16 {
-        if separates(list[i], e, f) {
-            return true;
+    for place in &atoms.list {
+        if let Some(atom) = place {
+            if separates(*atom, e, f) {
+                return true;
+            }
         }
-        i += 1;
     }
     false
 }
@@ -293,77 +265,63 @@ fn allowed_in(atoms: Atoms, set: u8, e: usize) -> bool {
     has(set, e) && allowed(atoms, e)
 }
 
-// The least allowed evaluation in a set; 8 where there is none.
-fn least(atoms: Atoms, set: u8) -> usize {
-    let mut e: usize = 0;
-    while e < 8 {
-        if allowed_in(atoms, set, e) {
-            return e;
-        }
-        e += 1;
-    }
-    8
+// The least allowed evaluation in a set.
+fn least(atoms: Atoms, set: u8) -> Option<usize> {
+    (0..8).find(|e| allowed_in(atoms, set, *e))
 }
 
-// The least allowed evaluation in a set that is not separated from e; 8 where there is none.
-fn partner(atoms: Atoms, e: usize, set: u8) -> usize {
-    let mut f: usize = 0;
-    while f < 8 {
-        if allowed_in(atoms, set, f) {
-            if !separated(atoms, e, f) {
-                return f;
-            }
-        }
-        f += 1;
-    }
-    8
+// The least allowed evaluation in a set that is not separated from e.
+fn partner(atoms: Atoms, e: usize, set: u8) -> Option<usize> {
+    (0..8).find(|f| allowed_in(atoms, set, *f) && !separated(atoms, e, *f))
 }
 
-// "p, the least allowed one in its first term with an allowed, unseparated partner in the second"; 8 where there is none.
-fn witness(atoms: Atoms, x: u8, y: u8) -> usize {
-    let mut e: usize = 0;
-    while e < 8 {
+// "p, the least allowed one in its first term with an allowed, unseparated partner in the second", and "its least partner".
+fn witness(atoms: Atoms, x: u8, y: u8) -> Option<(usize, usize)> {
+    for e in 0..8 {
         if allowed_in(atoms, x, e) {
-            if partner(atoms, e, y) < 8 {
-                return e;
+            if let Some(f) = partner(atoms, e, y) {
+                return Some((e, f));
             }
         }
-        e += 1;
     }
-    8
+    None
 }
 
-fn with_point(points: u8, e: usize) -> u8 {
-    if e < 8 { points | bit(e) } else { points }
+// The set of an evaluation alone; the empty set where there is none.
+fn bit_if(e: Option<usize>) -> u8 {
+    match e {
+        Some(e) => bit(e),
+        None => 0,
+    }
 }
 
 // "Each true contact gives p .. and then its least partner."
-fn with_pair(atoms: Atoms, points: u8, x: u8, y: u8) -> u8 {
-    let p = witness(atoms, x, y);
-    with_point(with_point(points, p), partner(atoms, p, y))
+fn pair_of(atoms: Atoms, x: u8, y: u8) -> u8 {
+    match witness(atoms, x, y) {
+        Some((e, f)) => bit(e) | bit(f),
+        None => 0,
+    }
 }
 
-// The points with those that an atom gives.
-fn with_witnesses(atoms: Atoms, points: u8, atom: RowAtom) -> u8 {
-    let kind = atom.kind;
-    match kind {
-        TRUE_CONTACT => with_pair(atoms, points, atom.first, atom.second),
-        FALSE_ZERO => with_point(points, least(atoms, atom.first)),
-        _ => points,
+// The points that an atom gives.
+fn witnesses(atoms: Atoms, atom: RowAtom) -> u8 {
+    match atom {
+        RowAtom::TrueContact(x, y) => pair_of(atoms, x, y),
+        RowAtom::FalseZero(term) => bit_if(least(atoms, term)),
+        _ => 0,
     }
 }
 
 // "The points are these evaluations, ascending, each once; if there are none, the least allowed evaluation."
 fn points_of(atoms: Atoms) -> u8 {
-    let list = atoms.list;
     let mut points: u8 = 0;
-    let mut i: usize = 0;
-    while i < 16 {
-        points = with_witnesses(atoms, points, list[i]);
-        i += 1;
+    for place in &atoms.list {
+        if let Some(atom) = place {
+            points = points | witnesses(atoms, *atom);
+        }
     }
     if points == 0 {
-        return with_point(0, least(atoms, 255));
+        return bit_if(least(atoms, 255));
     }
     points
 }
@@ -371,36 +329,34 @@ fn points_of(atoms: Atoms) -> u8 {
 // The allowed evaluations, each two that are not separated in contact.
 fn widest(atoms: Atoms) -> Floor {
     let mut floor = apart(0);
-    let mut i: usize = 0;
-    while i < 64 {
-        if allowed(atoms, i / 8) && allowed(atoms, i % 8) && !separated(atoms, i / 8, i % 8) {
-            floor.points = floor.points | bit(i / 8);
-            floor = joined(floor, i / 8, i % 8);
+    for e in 0..8 {
+        for f in 0..8 {
+            if allowed(atoms, e) && allowed(atoms, f) && !separated(atoms, e, f) {
+                floor.points = floor.points | bit(e);
+                floor = joined(floor, e, f);
+            }
         }
-        i += 1;
     }
     floor
 }
 
 // Whether a piece has what an atom needs.
 fn has_witness(piece: u8, touch: [u8; 8], atom: RowAtom) -> bool {
-    let kind = atom.kind;
-    match kind {
-        TRUE_CONTACT => touching(piece & atom.first, piece & atom.second, touch),
-        FALSE_ZERO => piece & atom.first != 0,
+    match atom {
+        RowAtom::TrueContact(x, y) => touching(piece & x, piece & y, touch),
+        RowAtom::FalseZero(term) => piece & term != 0,
         _ => true,
     }
 }
 
 // "the whole piece that meets the row's true contacts and false zero atoms".
 fn meets_row(atoms: Atoms, piece: u8, touch: [u8; 8]) -> bool {
-    let list = atoms.list;
-    let mut i: usize = 0;
-    while i < 16 {
-        if !has_witness(piece, touch, list[i]) {
-            return false;
+    for place in &atoms.list {
+        if let Some(atom) = place {
+            if !has_witness(piece, touch, *atom) {
+                return false;
+            }
         }
-        i += 1;
     }
     true
 }
@@ -410,15 +366,13 @@ fn building_of(atoms: Atoms) -> u8 {
     let floor = widest(atoms);
     let points = floor.points;
     let touch = floor.touch;
-    let mut e: usize = 0;
-    while e < 8 {
+    for e in 0..8 {
         if has(points, e) {
             let piece = reached(bit(e), touch);
             if meets_row(atoms, piece, touch) {
                 return piece;
             }
         }
-        e += 1;
     }
     0
 }
@@ -435,18 +389,13 @@ fn given(atoms: Atoms, building: bool) -> u8 {
 // "All unseparated pairs are in contact."
 fn with_contacts(w: Words, points: u8, atoms: Atoms) -> Words {
     let mut next = w;
-    let mut i: usize = 0;
-    while i < 64 {
-        if is_pair(points, i / 8, i % 8) {
-            if !separated(atoms, i / 8, i % 8) {
-                next = with_word(
-                    next,
-                    3,
-                    two_bytes(position(points, i / 8), position(points, i % 8)),
-                );
+    for e in 0..8 {
+        for f in 0..8 {
+            if is_pair(points, e, f) && !separated(atoms, e, f) {
+                let pair = two_bytes(position(points, e), position(points, f));
+                next = with_word(next, 3, pair);
             }
         }
-        i += 1;
     }
     next
 }
@@ -459,21 +408,10 @@ fn words_of(atoms: Atoms, building: bool) -> Words {
     with_word(whole, 4, whole.count)
 }
 
-fn word_at(list: [u32; 64], i: usize) -> u32 {
-    if i < 64 { list[i] } else { UNWRITTEN }
-}
-
 // Whether a buffer holds these words, and past them what it held before.
 fn same_words(words: &[u32; 530], expected: Words) -> bool {
     let list = expected.words;
-    let mut i: usize = 0;
-    while i < 530 {
-        if words[i] != word_at(list, i) {
-            return false;
-        }
-        i += 1;
-    }
-    true
+    words[..64] == list[..] && words[64..].iter().all(|w| *w == UNWRITTEN)
 }
 
 // ---- the checks: what the table answers
@@ -487,72 +425,43 @@ enum Answer {
     Refused,
 }
 
-// Whether add refused no rule, only rules with too many atoms, or another.
-const NONE_REFUSED: u8 = 0;
+// The rules that add refused: only such with too many atoms, or another.
+#[derive(Clone, Copy)]
+enum Refusal {
+    Atoms,
+    Other,
+}
 
-const ATOMS_REFUSED: u8 = 1;
-
-const REFUSED: u8 = 2;
-
-// A table with one rule more; `refused` is brought up to date where add refuses it.
-fn with_text(table: Table, text: &[u8], refused: &mut u8) -> Table
+// A table with one rule more; `refusal` is brought up to date where add refuses it.
+fn with_text(table: Table, text: &[u8], refusal: &mut Option<Refusal>) -> Table
     requires { FromUs table }
     ensures { FromUs result }
 {
     let r = table.add(text);
-    let answer = r.answer;
-    match answer {
-        AddAnswer::Added => {}
-        AddAnswer::TooManyAtoms => {
-            *refused = *refused | ATOMS_REFUSED;
+    match (r.answer, *refusal) {
+        (AddAnswer::Added, _) => {}
+        (AddAnswer::TooManyAtoms, None) => {
+            *refusal = Some(Refusal::Atoms);
         }
+        (AddAnswer::TooManyAtoms, _) => {}
         _ => {
-            *refused = REFUSED;
+            *refusal = Some(Refusal::Other);
         }
     }
     r.table
 }
 
-// A table with the rule in file[start..end].
-fn with_part(table: Table, file: &[u8], start: usize, end: usize, refused: &mut u8) -> Table
-    requires { FromUs table }
-    ensures { FromUs result }
-{
-    if start <= end {
-        if end <= file.len() {
-            return with_text(table, &file[start..end], refused);
-        }
-    }
-    table
-}
-
 // The table of a file's lines, each ended by byte 10, each put to add.
-fn table_of(file: &[u8], refused: &mut u8) -> Table
+fn table_of(file: &[u8], refusal: &mut Option<Refusal>) -> Table
     ensures { FromUs result }
 {
     let mut table = Table::empty();
-    let mut start: usize = 0;
-    let mut i: usize = 0;
-    while i < file.len() {
-        if file[i] == b'\n' {
-            table = with_part(table, file, start, i, refused);
-            start = i + 1;
+    for line in file.split_inclusive(|b| *b == b'\n') {
+        if let Some(text) = line.strip_suffix(b"\n") {
+            table = with_text(table, text, refusal);
         }
-        i += 1;
     }
     table
-}
-
-// The table with its k-th rule withdrawn, where k is not 0.
-fn without(table: Table, k: usize) -> Table
-    requires { FromUs table }
-    ensures { FromUs result }
-{
-    if k == 0 {
-        return table;
-    }
-    let w = table.withdraw(k);
-    w.table
 }
 
 fn answer_of(answer: AskAnswer) -> Answer {
@@ -570,22 +479,20 @@ fn said(table: Table, building: bool, words: &mut [u32; 530]) -> Answer
 {
     if building {
         let r = table.ask_building(words);
-        let answer = r.answer;
-        return answer_of(answer);
+        return answer_of(r.answer);
     }
     let r = table.ask(words);
-    let answer = r.answer;
-    answer_of(answer)
+    answer_of(r.answer)
 }
 
 // What is answered, by whether rules were refused.
-fn asked(table: Table, refused: u8, building: bool, words: &mut [u32; 530]) -> Answer
+fn asked(table: Table, refusal: Option<Refusal>, building: bool, words: &mut [u32; 530]) -> Answer
     requires { FromUs table }
 {
-    match refused {
-        NONE_REFUSED => said(table, building, words),
-        ATOMS_REFUSED => Answer::TooManyAtoms,
-        _ => Answer::Refused,
+    match refusal {
+        None => said(table, building, words),
+        Some(Refusal::Atoms) => Answer::TooManyAtoms,
+        Some(Refusal::Other) => Answer::Refused,
     }
 }
 
@@ -608,12 +515,13 @@ fn disagree(rt: &impl Print, why: &[u8]) -> Finding {
     Finding::Disagrees
 }
 
-// Whether a plan's row is not the first: for three names it may be before all that are found.
-fn is_late(names: usize, row: u32, first: u32) -> bool {
-    if names < 3 {
-        return row != first;
+// Whether a plan's row is not the first: for three names there are floors that are not searched, and it may be before all that are found.
+fn is_late(names: usize, row: u32, first: Option<u32>) -> bool {
+    match first {
+        Some(first) if names < 3 => row != first,
+        Some(first) => row < first,
+        None => false,
     }
-    row < first
 }
 
 // Whether the words are those that the documents give for the atoms in their row.
@@ -625,10 +533,8 @@ fn check_words(
     words: &[u32; 530],
 ) -> Finding {
     let expected = words_of(atoms, building);
-    if expected.count == n {
-        if same_words(words, expected) {
-            return Finding::Plan(n);
-        }
+    if expected.count == n && same_words(words, expected) {
+        return Finding::Plan(n);
     }
     disagree(rt, b"the words are not the documents'")
 }
@@ -636,7 +542,7 @@ fn check_words(
 // The floor of a plan's words, held to the rules: it must meet them, its row be the first, and the words the documents'.
 fn check_row(
     rt: &impl Print,
-    code: &[u8],
+    code: &[Sign],
     numbers: Numbers,
     names: usize,
     found: Found,
@@ -660,14 +566,9 @@ fn check_row(
     )
 }
 
-// Whether a plan is given though there is no floor: for three names there are floors that are not searched.
-fn is_unfounded(names: usize, some: bool) -> bool {
-    names < 3 && !some
-}
-
 fn check_plan(
     rt: &impl Print,
-    code: &[u8],
+    code: &[Sign],
     numbers: Numbers,
     names: usize,
     found: Found,
@@ -675,7 +576,7 @@ fn check_plan(
     words: &[u32; 530],
 ) -> Finding {
     let floor = floor_in(words, n);
-    if is_unfounded(names, found.some) {
+    if names < 3 && found.row.is_none() {
         return disagree(rt, b"a plan, but no floor is found");
     }
     if !stand_somewhere(floor.points, names) {
@@ -688,7 +589,7 @@ fn check_plan(
 }
 
 fn check_no_plan(rt: &impl Print, found: Found, words: &[u32; 530]) -> Finding {
-    if found.some {
+    if found.row.is_some() {
         return disagree(rt, b"no plan, but a floor is found");
     }
     if same_words(words, no_words()) {
@@ -700,7 +601,7 @@ fn check_no_plan(rt: &impl Print, found: Found, words: &[u32; 530]) -> Finding {
 // Holds the answer to the search.
 fn check_answer(
     rt: &impl Print,
-    code: &[u8],
+    code: &[Sign],
     numbers: Numbers,
     names: usize,
     found: Found,
@@ -728,7 +629,7 @@ fn check_refused(rt: &impl Print, answer: Answer) -> Finding {
 
 fn check(
     rt: &impl Print,
-    code: &[u8],
+    code: &[Sign],
     numbers: Numbers,
     names: usize,
     found: Found,
@@ -755,23 +656,20 @@ const BUILDINGS: usize = 6;
 fn show_counts(rt: &impl Print, counts: [usize; 10]) {
     write_counts(
         rt,
-        b"sheets        \
-        plans         \
-        no plans      \
-        refused 8     \
-        plan words    \
-        disagreements \
-        buildings     \
-        no buildings  \
-        refused 8     \
-        their words   ",
+        &[
+            "sheets",
+            "plans",
+            "no plans",
+            "refused 8",
+            "plan words",
+            "disagreements",
+            "buildings",
+            "no buildings",
+            "refused 8",
+            "their words",
+        ],
         &counts,
     );
-}
-
-// Raises count i by n; no count comes near the bound.
-fn raise(counts: &mut [usize; 10], i: usize, n: usize) {
-    counts[i % 10] = counts[i % 10] % 0x1_0000_0000 + n % 0x1_0000;
 }
 
 // The answers to a question are counted from a place on: plans, no plans, those refused, words. A sheet that disagrees is written with
@@ -827,9 +725,9 @@ fn test_question(
     counts: &mut [usize; 10],
     k: u64,
     table: Table,
-    refused: u8,
+    refusal: Option<Refusal>,
     file: &[u8],
-    code: &[u8],
+    code: &[Sign],
     numbers: Numbers,
     names: usize,
     found: Found,
@@ -837,7 +735,7 @@ fn test_question(
     requires { FromUs table }
 {
     let mut words = [UNWRITTEN; 530];
-    let answer = asked(table, refused, found.building, &mut words);
+    let answer = asked(table, refusal, found.building, &mut words);
     let f = check(rt, code, numbers, names, found, answer, &words);
     if found.building {
         count_finding(rt, counts, BUILDINGS, f, file);
@@ -856,20 +754,23 @@ fn test(
     k: u64,
     file: &[u8],
     withdrawn: usize,
-    code: &[u8],
+    code: &[Sign],
     names: usize,
 ) {
-    let mut refused = NONE_REFUSED;
-    let table = without(table_of(file, &mut refused), withdrawn);
+    let mut refusal: Option<Refusal> = None;
+    let whole = table_of(file, &mut refusal);
+    // Rule 0 is none: to withdraw it is refused, and changes nothing.
+    let w = whole.withdraw(withdrawn);
+    let table = w.table;
     let numbers = numbers_of(code);
     let found = search(code, numbers, names);
     let plain = found.plain;
     let building = found.building;
     test_question(
-        rt, counts, k, table, refused, file, code, numbers, names, plain,
+        rt, counts, k, table, refusal, file, code, numbers, names, plain,
     );
     test_question(
-        rt, counts, k, table, refused, file, code, numbers, names, building,
+        rt, counts, k, table, refusal, file, code, numbers, names, building,
     );
 }
 
@@ -905,10 +806,8 @@ fn test_sheet(rt: &impl Print, counts: &mut [usize; 10], k: u64) {
 const SHEETS: u64 = 3012;
 
 fn test_sheets(rt: &impl Print, counts: &mut [usize; 10]) {
-    let mut k: u64 = 0;
-    while k < SHEETS {
+    for k in 0..SHEETS {
         test_sheet(rt, counts, k);
-        k += 1;
     }
 }
 

@@ -7,6 +7,7 @@
 // `stdout` has the counts of test_small_floors, which separate computations gave, and five changes for each of its 4,610 plan words.
 #![tactic(auto)]
 
+ghost use Rattle.std.specs.Prelude.{◌<◌};
 ghost use Rattle.small_sheets.specs.Bounds.{Bounded};
 ghost use Rattle.table.specs.Calls.{FromUs};
 
@@ -14,35 +15,34 @@ use small_floors::{
     Floor, UNWRITTEN, Words, evaluations, floor_in, floor_of, has, is_pair, no_words, on_floor,
     position, stand_somewhere, two_bytes, with_points, with_word,
 };
-use small_sheets::{Numbers, Sheet, numbers_of, sheet_at};
+use small_sheets::{Numbers, Sheet, Sign, numbers_of, sheet_at};
 use table::{AskAnswer, LoadAnswer, StillAnswer, Table};
-use test_kit::{write_bytes, write_counts};
+use test_kit::{raise, write_bytes, write_counts};
 
 // ---- what still says
 
-// Of a refusal, and of words that are too many, that it says nothing.
-const NO: u8 = 0;
-
-const YES: u8 = 1;
-
-const AS_DRAWN: u8 = 2;
-
-const NOTHING_SAID: u8 = 3;
+// Of a refusal, and of words that are too many, it says nothing.
+#[derive(Clone, Copy, PartialEq, Eq)]
+enum Says {
+    No,
+    Yes,
+    AsDrawn,
+    Nothing,
+}
 
 // What still says of the first n words.
-fn still_says(table: Table, words: &[u32], n: usize) -> u8
+fn still_says(table: Table, words: &[u32], n: usize) -> Says
     requires { FromUs table }
 {
     if words.len() < n {
-        return NOTHING_SAID;
+        return Says::Nothing;
     }
     let r = table.still(&words[0..n]);
-    let answer = r.answer;
-    match answer {
-        StillAnswer::AsDrawn => AS_DRAWN,
-        StillAnswer::Yes => YES,
-        StillAnswer::No => NO,
-        StillAnswer::NoRule => NOTHING_SAID,
+    match r.answer {
+        StillAnswer::AsDrawn => Says::AsDrawn,
+        StillAnswer::Yes => Says::Yes,
+        StillAnswer::No => Says::No,
+        StillAnswer::NoRule => Says::Nothing,
     }
 }
 
@@ -54,25 +54,22 @@ fn plan_of(names: usize, floor: Floor) -> Words {
     let touch = floor.touch;
     let first = with_word(no_words(), 1, two_bytes(names, position(points, 8)));
     let mut drawn = with_points(first, points);
-    let mut i: usize = 0;
-    while i < 64 {
-        if is_pair(points, i / 8, i % 8) && has(touch[i / 8], i % 8) {
-            drawn = with_word(
-                drawn,
-                3,
-                two_bytes(position(points, i / 8), position(points, i % 8)),
-            );
+    for e in 0..8 {
+        for f in 0..8 {
+            if is_pair(points, e, f) && has(touch[e], f) {
+                let pair = two_bytes(position(points, e), position(points, f));
+                drawn = with_word(drawn, 3, pair);
+            }
         }
-        i += 1;
     }
     with_word(drawn, 4, drawn.count)
 }
 
 // What still must say of a plan of so many names, by its floor and whether that meets the rules.
-fn must_say(names: usize, lent: usize, points: u8, met: bool, otherwise: u8) -> u8 {
+fn must_say(names: usize, lent: usize, points: u8, met: bool, otherwise: Says) -> Says {
     let fits = points & (255 - evaluations(lent)) == 0;
     if met && fits && lent <= names && stand_somewhere(points, names) {
-        return AS_DRAWN;
+        return Says::AsDrawn;
     }
     otherwise
 }
@@ -86,7 +83,7 @@ fn says_rightly(
     lent: usize,
     floor: Floor,
     met: bool,
-    otherwise: u8,
+    otherwise: Says,
 ) -> bool
     requires { FromUs table }
 {
@@ -102,11 +99,11 @@ fn says_rightly(
 // The same of a floor, for the sheet's number of names and for one that the points choose, from none to four.
 fn floor_agrees(
     table: Table,
-    code: &[u8],
+    code: &[Sign],
     numbers: Numbers,
     names: usize,
     floor: Floor,
-    otherwise: u8,
+    otherwise: Says,
 ) -> bool
     requires { FromUs table }
 {
@@ -122,11 +119,11 @@ fn floor_agrees(
 // The same of the floors of these points, where there are one or two.
 fn points_agree(
     table: Table,
-    code: &[u8],
+    code: &[Sign],
     numbers: Numbers,
     names: usize,
     points: u8,
-    otherwise: u8,
+    otherwise: Says,
 ) -> bool
     requires { FromUs table }
 {
@@ -141,18 +138,17 @@ fn points_agree(
 }
 
 // The same of all floors of one or two points.
-fn floors_agree(table: Table, code: &[u8], numbers: Numbers, names: usize, otherwise: u8) -> bool
+fn floors_agree(
+    table: Table,
+    code: &[Sign],
+    numbers: Numbers,
+    names: usize,
+    otherwise: Says,
+) -> bool
     requires { FromUs table }
 {
     let all = evaluations(names);
-    let mut points: u8 = 0;
-    while points < all {
-        points += 1;
-        if !points_agree(table, code, numbers, names, points, otherwise) {
-            return false;
-        }
-    }
-    true
+    (1..=all).all(|points| points_agree(table, code, numbers, names, points, otherwise))
 }
 
 // ---- words of ask's plan, each changed
@@ -162,54 +158,54 @@ const CHANGES: [u32; 5] = [1, 2, 4, 0x100, 0x1000_0000];
 
 // Whether a buffer holds these words and no others.
 fn same_words(words: &[u32; 530], n: usize, plan: Words) -> bool {
-    let list = plan.words;
-    if plan.count != n {
-        return false;
-    }
-    let mut i: usize = 0;
-    while i < 64 {
-        if i < n {
-            if words[i] != list[i] {
-                return false;
-            }
-        }
-        i += 1;
-    }
-    true
+    plan.count == n
+        && words
+            .iter()
+            .zip(plan.words.iter())
+            .take(n)
+            .all(|(word, own)| word == own)
 }
 
 // What still must say of the first n words, whatever they are.
-fn must_say_of(code: &[u8], numbers: Numbers, names: usize, words: &[u32; 530], n: usize) -> u8 {
+fn must_say_of(
+    code: &[Sign],
+    numbers: Numbers,
+    names: usize,
+    words: &[u32; 530],
+    n: usize,
+) -> Says {
     let lent = (words[0] / 256 % 256) as usize;
     let floor = floor_in(words, n);
     if !same_words(words, n, plan_of(lent, floor)) {
-        return YES;
+        return Says::Yes;
     }
     let m = on_floor(code, numbers, floor);
-    must_say(names, lent, floor.points, m.met, YES)
+    must_say(names, lent, floor.points, m.met, Says::Yes)
 }
 
-// The words with change b of word i.
-fn with_change(words: &[u32; 530], i: usize, b: usize) -> [u32; 530] {
+// The words with a change of word i.
+fn with_change(words: &[u32; 530], i: usize, change: u32) -> [u32; 530]
+    requires { i < 530 }
+{
     let mut changed = *words;
-    changed[i % 530] = changed[i % 530] ^ CHANGES[b % 5];
+    changed[i] ^= change;
     changed
 }
 
-// Whether still says what it must where word i has change b.
+// Whether still says what it must where word i has a change.
 fn change_agrees(
     table: Table,
-    code: &[u8],
+    code: &[Sign],
     numbers: Numbers,
     names: usize,
     words: &[u32; 530],
     n: usize,
     i: usize,
-    b: usize,
+    change: u32,
 ) -> bool
-    requires { FromUs table }
+    requires { FromUs table × i < 530 }
 {
-    let changed = with_change(words, i, b);
+    let changed = with_change(words, i, change);
     still_says(table, &changed, n) == must_say_of(code, numbers, names, &changed, n)
 }
 
@@ -217,7 +213,7 @@ fn change_agrees(
 fn changes_agree(
     counts: &mut [usize; 6],
     table: Table,
-    code: &[u8],
+    code: &[Sign],
     numbers: Numbers,
     names: usize,
     words: &[u32; 530],
@@ -226,15 +222,13 @@ fn changes_agree(
     requires { FromUs table }
 {
     let mut agrees = true;
-    let mut i: usize = 0;
-    while i < 2650 {
-        if i / 5 < n {
-            raise(counts, CHANGED);
-            if !change_agrees(table, code, numbers, names, words, n, i / 5, i % 5) {
+    for i in 0..n.min(530) {
+        for change in CHANGES {
+            raise(counts, CHANGED, 1);
+            if !change_agrees(table, code, numbers, names, words, n, i, change) {
                 agrees = false;
             }
         }
-        i += 1;
     }
     agrees
 }
@@ -254,21 +248,18 @@ const CHANGED: usize = 4;
 
 const DISAGREEMENTS: usize = 5;
 
-// Raises count i by one; no count comes near the bound.
-fn raise(counts: &mut [usize; 6], i: usize) {
-    counts[i % 6] = counts[i % 6] % 0x1_0000_0000 + 1;
-}
-
 // What was counted.
 fn show_counts(rt: &impl Print, counts: [usize; 6]) {
     write_counts(
         rt,
-        b"sheets        \
-        plans         \
-        no plans      \
-        refused 8     \
-        words changed \
-        disagreements ",
+        &[
+            "sheets",
+            "plans",
+            "no plans",
+            "refused 8",
+            "words changed",
+            "disagreements",
+        ],
         &counts,
     );
 }
@@ -277,7 +268,7 @@ fn disagree(rt: &impl Print, counts: &mut [usize; 6], why: &[u8], file: &[u8]) {
     write_bytes(rt, why);
     write_bytes(rt, b"\n");
     write_bytes(rt, file);
-    raise(counts, DISAGREEMENTS);
+    raise(counts, DISAGREEMENTS, 1);
 }
 
 // ---- the sheets
@@ -288,7 +279,7 @@ fn test_plan(
     counts: &mut [usize; 6],
     table: Table,
     file: &[u8],
-    code: &[u8],
+    code: &[Sign],
     numbers: Numbers,
     names: usize,
     words: &[u32; 530],
@@ -296,14 +287,14 @@ fn test_plan(
 )
     requires { FromUs table }
 {
-    raise(counts, PLANS);
-    if still_says(table, words, n) != AS_DRAWN {
+    raise(counts, PLANS, 1);
+    if still_says(table, words, n) != Says::AsDrawn {
         disagree(rt, counts, b"ask's plan is not as drawn", file);
     }
     if !changes_agree(counts, table, code, numbers, names, words, n) {
         disagree(rt, counts, b"a plan with a word changed", file);
     }
-    if !floors_agree(table, code, numbers, names, YES) {
+    if !floors_agree(table, code, numbers, names, Says::Yes) {
         disagree(rt, counts, b"a plan of one or two points", file);
     }
 }
@@ -313,7 +304,7 @@ fn test_table(
     counts: &mut [usize; 6],
     table: Table,
     file: &[u8],
-    code: &[u8],
+    code: &[Sign],
     names: usize,
 )
     requires { FromUs table }
@@ -321,32 +312,19 @@ fn test_table(
     let numbers = numbers_of(code);
     let mut words = [UNWRITTEN; 530];
     let r = table.ask(&mut words);
-    let answer = r.answer;
-    match answer {
+    match r.answer {
         AskAnswer::Plan(n) => {
             test_plan(rt, counts, table, file, code, numbers, names, &words, n);
         }
         AskAnswer::NoPlan => {
-            raise(counts, NO_PLANS);
-            if !floors_agree(table, code, numbers, names, NO) {
+            raise(counts, NO_PLANS, 1);
+            if !floors_agree(table, code, numbers, names, Says::No) {
                 disagree(rt, counts, b"a plan of one or two points", file);
             }
         }
         AskAnswer::NoRule => disagree(rt, counts, b"no rule", file),
         AskAnswer::ShortBuffer(_) => disagree(rt, counts, b"no room", file),
     }
-}
-
-// The table with its k-th rule withdrawn, where k is not 0.
-fn without(table: Table, k: usize) -> Table
-    requires { FromUs table }
-    ensures { FromUs result }
-{
-    if k == 0 {
-        return table;
-    }
-    let w = table.withdraw(k);
-    w.table
 }
 
 // A sheet is refused where it has more than 16 different atoms.
@@ -358,16 +336,16 @@ fn test_made(rt: &impl Print, counts: &mut [usize; 6], sheet: Sheet)
     let form = sheet.form;
     let last = sheet.last;
     let r = Table::empty().load(&text[0..end]);
-    let answer = r.answer;
-    let LoadAnswer::Loaded = answer else {
-        raise(counts, REFUSED);
+    let LoadAnswer::Loaded = r.answer else {
+        raise(counts, REFUSED, 1);
         return;
     };
-    let table = without(r.table, sheet.withdrawn);
+    // Rule 0 is none: to withdraw it is refused, and changes nothing.
+    let w = r.table.withdraw(sheet.withdrawn);
     test_table(
         rt,
         counts,
-        table,
+        w.table,
         &text[0..end],
         &form[0..last],
         sheet.names,
@@ -376,7 +354,7 @@ fn test_made(rt: &impl Print, counts: &mut [usize; 6], sheet: Sheet)
 
 fn test_sheet(rt: &impl Print, counts: &mut [usize; 6], k: u64) {
     let sheet = sheet_at(k);
-    raise(counts, SHEETS);
+    raise(counts, SHEETS, 1);
     if sheet.whole {
         test_made(rt, counts, sheet);
         return;
@@ -386,10 +364,8 @@ fn test_sheet(rt: &impl Print, counts: &mut [usize; 6], k: u64) {
 
 // All sheets of test_small_floors: document 01's own and 3,000 generated ones.
 fn test_sheets(rt: &impl Print, counts: &mut [usize; 6]) {
-    let mut k: u64 = 0;
-    while k < 3012 {
+    for k in 0..3012 {
         test_sheet(rt, counts, k);
-        k += 1;
     }
 }
 

@@ -9,9 +9,9 @@
 
 ghost use Rattle.table.specs.Calls.{FromUs};
 
-use small_sheets::{Numbers, numbers_of, sheet_at};
+use small_sheets::{Numbers, Sign, numbers_of, sheet_at};
 use table::{AskAnswer, CheckAnswer, ExplainAnswer, LoadAnswer, Table};
-use test_kit::{write_bytes, write_counts};
+use test_kit::{raise, write_bytes, write_counts};
 
 // ---- what the table answers
 
@@ -29,14 +29,7 @@ enum Reasons {
 
 // Whether the words from a place on are as they were.
 fn kept_from(words: &[u32; 530], from: usize) -> bool {
-    let mut i = from;
-    while i < 530 {
-        if words[i] != UNWRITTEN {
-            return false;
-        }
-        i += 1;
-    }
-    true
+    words.iter().skip(from).all(|w| *w == UNWRITTEN)
 }
 
 // "every tree of our writer is accepted": whether the first n words of the buffer are, and the others are kept.
@@ -48,14 +41,10 @@ fn tree_told(table: Table, words: &[u32; 530], n: usize) -> Reasons
         return Reasons::Wrong;
     }
     let r = table.check_tree(&all[0..n]);
-    let answer = r.answer;
-    let CheckAnswer::Closed = answer else {
-        return Reasons::Wrong;
-    };
-    if kept_from(words, n) {
-        return Reasons::Tree(n);
+    match r.answer {
+        CheckAnswer::Closed if kept_from(words, n) => Reasons::Tree(n),
+        _ => Reasons::Wrong,
     }
-    Reasons::Wrong
 }
 
 // "What it accepts has no plan": whether, where there is a plan, one word that no floor exists is refused, and the buffer is kept.
@@ -63,22 +52,17 @@ fn plan_told(table: Table, words: &[u32; 530]) -> Reasons
     requires { FromUs table }
 {
     let r = table.check_tree(&[0x7000_0000]);
-    let answer = r.answer;
-    let CheckAnswer::NotClosed(j) = answer else {
-        return Reasons::Wrong;
-    };
-    if j == 0 && kept_from(words, 0) {
-        return Reasons::HasPlan;
+    match r.answer {
+        CheckAnswer::NotClosed(0) if kept_from(words, 0) => Reasons::HasPlan,
+        _ => Reasons::Wrong,
     }
-    Reasons::Wrong
 }
 
 fn told(table: Table, words: &mut [u32; 530]) -> Reasons
     requires { FromUs table }
 {
     let r = table.explain(words);
-    let answer = r.answer;
-    match answer {
+    match r.answer {
         ExplainAnswer::Tree(n) => tree_told(table, words, n),
         ExplainAnswer::HasPlan => plan_told(table, words),
         _ => Reasons::Wrong,
@@ -91,11 +75,7 @@ fn has_plan(table: Table) -> bool
 {
     let mut words = [UNWRITTEN; 530];
     let r = table.ask(&mut words);
-    let answer = r.answer;
-    match answer {
-        AskAnswer::Plan(_) => true,
-        _ => false,
-    }
+    matches!(r.answer, AskAnswer::Plan(_))
 }
 
 // ---- counts
@@ -126,51 +106,47 @@ const EXPLAIN_REFUSED: usize = 32;
 
 const DISAGREEMENTS: usize = 33;
 
+// What each count is of.
+static LABELS: [&str; 34] = [
+    "no name",
+    "one name",
+    "two names",
+    "three names",
+    "with 0",
+    "with 1",
+    "with T",
+    "with F",
+    "with -",
+    "with ~",
+    "with =0",
+    "with = 0",
+    "with *",
+    "with +",
+    "with C",
+    "with <=",
+    "with &",
+    "with |",
+    "with ->",
+    "with <->",
+    "with a name",
+    "with ()",
+    "with ,",
+    "same atoms",
+    "exchanged",
+    "many places",
+    "trees",
+    "tree words",
+    "kind 5",
+    "kind 6",
+    "kind 7",
+    "mixed",
+    "explain 17",
+    "disagreements",
+];
+
 // What was counted.
 fn show_counts(rt: &impl Print, counts: [usize; 34]) {
-    write_counts(
-        rt,
-        b"no name       \
-        one name      \
-        two names     \
-        three names   \
-        with 0        \
-        with 1        \
-        with T        \
-        with F        \
-        with -        \
-        with ~        \
-        with =0       \
-        with = 0      \
-        with *        \
-        with +        \
-        with C        \
-        with <=       \
-        with &        \
-        with |        \
-        with ->       \
-        with <->      \
-        with a name   \
-        with ()       \
-        with ,        \
-        same atoms    \
-        exchanged     \
-        many places   \
-        trees         \
-        tree words    \
-        kind 5        \
-        kind 6        \
-        kind 7        \
-        mixed         \
-        explain 17    \
-        disagreements ",
-        &counts,
-    );
-}
-
-// Raises count i by n; no count comes near the bound.
-fn raise(counts: &mut [usize; 34], i: usize, n: usize) {
-    counts[i % 34] = counts[i % 34] % 0x1_0000_0000 + n % 0x1_0000;
+    write_counts(rt, &LABELS, &counts);
 }
 
 fn raise_if(counts: &mut [usize; 34], i: usize, b: bool) {
@@ -179,47 +155,43 @@ fn raise_if(counts: &mut [usize; 34], i: usize, b: bool) {
     }
 }
 
-fn occurs(bytes: &[u8], b: u8) -> bool {
-    let mut i: usize = 0;
-    while i < bytes.len() {
-        if bytes[i] == b {
-            return true;
-        }
-        i += 1;
-    }
-    false
-}
-
-// Whether the byte before a parenthesis is the end of C or of <=, whose arguments it opens.
-fn has_arguments(before: u8) -> bool {
-    match before {
-        b'C' | b'=' => true,
-        _ => false,
-    }
-}
-
-// Whether a parenthesis opens a term or a formula: it follows neither C nor <=.
+// Whether a parenthesis opens a term or a formula: it follows neither C nor <=, whose arguments it would open.
 fn is_grouped(file: &[u8]) -> bool {
     let mut before = b'\n';
-    let mut i: usize = 0;
-    while i < file.len() {
-        if file[i] == b'(' {
-            if !has_arguments(before) {
-                return true;
-            }
+    for b in file {
+        if *b == b'(' && !matches!(before, b'C' | b'=') {
+            return true;
         }
-        before = file[i];
-        i += 1;
+        before = *b;
     }
     false
 }
 
-// One more for each sign that a sheet has; a sheet with a name has the first.
-fn count_signs(counts: &mut [usize; 34], code: &[u8]) {
-    let mut sign: usize = 0;
-    while sign < 17 {
-        raise_if(counts, SIGNS + sign, occurs(code, sign as u8));
-        sign += 1;
+// The signs that are counted, in the order of their counts; a sheet with a name has the first.
+const COUNTED: [Sign; 17] = [
+    Sign::Nothing,
+    Sign::All,
+    Sign::True,
+    Sign::False,
+    Sign::Rest,
+    Sign::Not,
+    Sign::Empty,
+    Sign::SpacedEmpty,
+    Sign::Common,
+    Sign::Either,
+    Sign::Contact,
+    Sign::Part,
+    Sign::And,
+    Sign::Or,
+    Sign::If,
+    Sign::ExactlyIf,
+    Sign::Name,
+];
+
+// One more for each sign that a sheet has.
+fn count_signs(counts: &mut [usize; 34], code: &[Sign]) {
+    for (i, sign) in COUNTED.iter().enumerate() {
+        raise_if(counts, SIGNS + i, code.contains(sign));
     }
 }
 
@@ -231,11 +203,11 @@ fn count_atoms(counts: &mut [usize; 34], numbers: Numbers) {
 }
 
 // What a sheet has in it.
-fn count_sheet(counts: &mut [usize; 34], file: &[u8], code: &[u8], names: usize) {
+fn count_sheet(counts: &mut [usize; 34], file: &[u8], code: &[Sign], names: usize) {
     raise(counts, NAMES + names % 4, 1);
     count_signs(counts, code);
     raise_if(counts, GROUPS, is_grouped(file));
-    raise_if(counts, COMMAS, occurs(file, b','));
+    raise_if(counts, COMMAS, file.contains(&b','));
     count_atoms(counts, numbers_of(code));
 }
 
@@ -249,12 +221,8 @@ fn count_word(counts: &mut [usize; 34], word: u32) {
 
 fn count_tree(counts: &mut [usize; 34], words: &[u32; 530], n: usize) {
     raise(counts, TREES, 1);
-    let mut i: usize = 0;
-    while i < 530 {
-        if i < n {
-            count_word(counts, words[i]);
-        }
-        i += 1;
+    for word in words.iter().take(n) {
+        count_word(counts, *word);
     }
 }
 
@@ -277,44 +245,22 @@ fn test_table(rt: &impl Print, counts: &mut [usize; 34], table: Table, file: &[u
     let reasons = told(table, &mut words);
     let plan = has_plan(table);
     match reasons {
-        Reasons::Tree(n) => {
-            if !plan {
-                count_tree(counts, &words, n);
-                return;
-            }
-        }
-        Reasons::HasPlan => {
-            if plan {
-                raise(counts, EXPLAIN_REFUSED, 1);
-                return;
-            }
-        }
-        Reasons::Wrong => {}
+        Reasons::Tree(n) if !plan => count_tree(counts, &words, n),
+        Reasons::HasPlan if plan => raise(counts, EXPLAIN_REFUSED, 1),
+        _ => disagree(rt, counts, b"explain and check_tree", file),
     }
-    disagree(rt, counts, b"explain and check_tree", file);
-}
-
-// The table with its k-th rule withdrawn, where k is not 0.
-fn without(table: Table, k: usize) -> Table
-    requires { FromUs table }
-    ensures { FromUs result }
-{
-    if k == 0 {
-        return table;
-    }
-    let w = table.withdraw(k);
-    w.table
 }
 
 // A sheet's lines, and the number of the one that is withdrawn or 0. A sheet that is refused, of more than 16 different atoms, has nothing
 // to explain.
 fn test_lines(rt: &impl Print, counts: &mut [usize; 34], file: &[u8], withdrawn: usize) {
     let r = Table::empty().load(file);
-    let answer = r.answer;
-    let LoadAnswer::Loaded = answer else {
+    let LoadAnswer::Loaded = r.answer else {
         return;
     };
-    test_table(rt, counts, without(r.table, withdrawn), file);
+    // Rule 0 is none: to withdraw it is refused, and changes nothing.
+    let w = r.table.withdraw(withdrawn);
+    test_table(rt, counts, w.table, file);
 }
 
 fn test_sheet(rt: &impl Print, counts: &mut [usize; 34], k: u64) {
@@ -335,10 +281,8 @@ fn test_sheet(rt: &impl Print, counts: &mut [usize; 34], k: u64) {
 const SHEETS: u64 = 3012;
 
 fn test_sheets(rt: &impl Print, counts: &mut [usize; 34]) {
-    let mut k: u64 = 0;
-    while k < SHEETS {
+    for k in 0..SHEETS {
         test_sheet(rt, counts, k);
-        k += 1;
     }
 }
 

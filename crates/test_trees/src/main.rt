@@ -16,13 +16,13 @@
 ghost use Rattle.std.specs.Prelude.{◌≡◌, ◌≤◌, length};
 ghost use Rattle.table.specs.Calls.{FromUs};
 
-use reading::Got;
 use table::{CheckAnswer, ExplainAnswer, Table};
 use test_kit::{no_text, put_byte, write_bytes, write_labelled, write_words};
 
 // ---- what atoms and rules are
 
-// The values that an atom or a rule has in a branch; on a floor there are the first two.
+// The values that an atom or a rule has in a branch; on a floor there are the first two. Bytes, since they stand in one list with the points
+// of terms, and in two bits of a branch.
 const FALSE: u8 = 0;
 
 const TRUE: u8 = 1;
@@ -37,13 +37,13 @@ const UNKNOWN: u8 = 2;
 fn touching(x: u8, y: u8, floor: usize) -> u8 {
     let bits = b"6012063413652456";
     let contacts = (floor % 64 + 64) as u8;
-    let mut i: usize = 0;
-    while i < 16 {
-        let both = x >> (i / 4) & y >> (i % 4);
-        if both & contacts >> (bits[i] % 8) & 1 == 1 {
-            return TRUE;
+    for e in 0..4 {
+        for f in 0..4 {
+            let both = x >> e & y >> f;
+            if both & contacts >> (bits[4 * e + f] % 8) & 1 == 1 {
+                return TRUE;
+            }
         }
-        i += 1;
     }
     FALSE
 }
@@ -176,10 +176,8 @@ fn read_on(form: &[u8], floor: usize, branch: usize) -> Reading {
         row: 0,
         refuted: 0,
     };
-    let mut i: usize = 0;
-    while i < form.len() {
-        r = step(r, form[form.len() - 1 - i], floor, branch);
-        i += 1;
+    for sign in form.iter().rev() {
+        r = step(r, *sign, floor, branch);
     }
     r
 }
@@ -196,10 +194,8 @@ fn agrees(branch: usize, row: usize, atom: usize) -> bool {
 // point of a plan must lie in at least one of them; with no names the old meaning stays."
 fn somewhere(form: &[u8]) -> u8 {
     let mut points: u8 = 0;
-    let mut i: usize = 0;
-    while i < form.len() {
-        points = points | name_points(form[i]);
-        i += 1;
+    for sign in form {
+        points = points | name_points(*sign);
     }
     if points == 0 { 15 } else { points }
 }
@@ -212,8 +208,7 @@ fn is_within(floor: usize, points: u8) -> bool {
 // "no finite plan gives the decided atoms their values"
 fn floorless(form: &[u8], branch: usize) -> bool {
     let points = somewhere(form);
-    let mut floor: usize = 64;
-    while floor < 1024 {
+    for floor in 64..1024 {
         let r = read_on(form, floor, branch);
         if is_within(floor, points)
             && agrees(branch, r.row, 0)
@@ -222,7 +217,6 @@ fn floorless(form: &[u8], branch: usize) -> bool {
         {
             return false;
         }
-        floor += 1;
     }
     true
 }
@@ -257,21 +251,25 @@ fn decided(branch: usize, atom: usize, value: u8) -> usize {
     branch ^ (2 + value as usize % 2) << (atom % 3 * 2)
 }
 
-// An answer is a number: the index, or for a closed tree this one, which no index is.
-const CLOSED: usize = 1000;
+// What a checker says of a list of words: the tree is closed, no rule stands, or the index of a word that may not stand there.
+#[derive(Clone, Copy, PartialEq, Eq)]
+enum Verdict {
+    Closed,
+    NoRule,
+    NotClosed(usize),
+}
 
 // The answer by the definitions: the branches that are open wait on a stack, that with the atom true on top.
-fn judged(form: &[u8], words: &[u32]) -> usize {
+fn judged(form: &[u8], words: &[u32]) -> Verdict {
     let mut open = [42usize; 8];
     let mut height: usize = 1;
-    let mut i: usize = 0;
-    while i < words.len() {
+    for (i, word) in words.iter().enumerate() {
         if height == 0 {
-            return i;
+            return Verdict::NotClosed(i);
         }
         let top = (height - 1) % 8;
         let branch = open[top];
-        match role_of(form, branch, words[i]) {
+        match role_of(form, branch, *word) {
             Role::Splits(a) => {
                 open[top] = decided(branch, a, FALSE);
                 open[(top + 1) % 8] = decided(branch, a, TRUE);
@@ -281,12 +279,15 @@ fn judged(form: &[u8], words: &[u32]) -> usize {
                 height = top;
             }
             Role::Wrong => {
-                return i;
+                return Verdict::NotClosed(i);
             }
         }
-        i += 1;
     }
-    if height == 0 { CLOSED } else { i }
+    if height == 0 {
+        Verdict::Closed
+    } else {
+        Verdict::NotClosed(words.len())
+    }
 }
 
 // ---- the checks
@@ -299,15 +300,20 @@ struct Counts {
     closed: usize,
 }
 
-fn raised(n: usize, by: usize) -> usize {
-    n % 0x1_0000_0000 + by % 0x1_0000
+fn answer_of(a: CheckAnswer) -> Verdict {
+    match a {
+        CheckAnswer::Closed => Verdict::Closed,
+        CheckAnswer::NoRule => Verdict::NoRule,
+        CheckAnswer::NotClosed(j) => Verdict::NotClosed(j),
+    }
 }
 
-fn answer_of(a: CheckAnswer) -> usize {
-    match a {
-        CheckAnswer::Closed => CLOSED,
-        CheckAnswer::NoRule => 1001,
-        CheckAnswer::NotClosed(j) => j,
+// A verdict as one number: the index, or one that no index is.
+fn number_of(v: Verdict) -> usize {
+    match v {
+        Verdict::Closed => 1000,
+        Verdict::NoRule => 1001,
+        Verdict::NotClosed(j) => j,
     }
 }
 
@@ -324,20 +330,19 @@ fn compared(
 {
     let words = &buffer[0..n % 64];
     let r = t.check_tree(words);
-    let answer = r.answer;
-    let told = answer_of(answer);
+    let told = answer_of(r.answer);
     let right = judged(form, words);
     if told != right {
         write_bytes(rt, form);
         write_words(rt, b" ", words, b"");
-        write_labelled(rt, b" told ", told);
-        write_labelled(rt, b" right ", right);
+        write_labelled(rt, b" told ", number_of(told));
+        write_labelled(rt, b" right ", number_of(right));
         write_bytes(rt, b"\n");
     }
     let mut next = c;
-    next.lists = raised(c.lists, 1);
-    if right == CLOSED {
-        next.closed = raised(c.closed, 1);
+    next.lists = c.lists.saturating_add(1);
+    if right == Verdict::Closed {
+        next.closed = c.closed.saturating_add(1);
     }
     next
 }
@@ -355,13 +360,12 @@ fn with_changes(
     requires { FromUs t }
 {
     let mut next = c;
-    let mut i: usize = 0;
-    while i < n % 64 * 50 {
-        let k = (i % 50) as u32;
-        let mut words = tree;
-        words[i / 50 % 64] = 0x4000_0000 + k / 10 * 0x1000_0000 + k / 5 % 2 * 0x100 + k % 5;
-        next = compared(rt, next, t, form, words, n);
-        i += 1;
+    for i in 0..n % 64 {
+        for k in 0..50 {
+            let mut words = tree;
+            words[i] = 0x4000_0000 + k / 10 * 0x1000_0000 + k / 5 % 2 * 0x100 + k % 5;
+            next = compared(rt, next, t, form, words, n);
+        }
     }
     next
 }
@@ -378,7 +382,7 @@ fn with_tree(
     requires { FromUs t }
 {
     let mut next = compared(rt, c, t, form, words, n);
-    next.words = raised(c.words, n);
+    next.words = c.words.saturating_add(n);
     if 7 < n {
         return next;
     }
@@ -393,16 +397,13 @@ fn with_tree(
 fn put_rules(text: &mut [u8], line: &[u8]) -> usize
     ensures { (result ≤ length line.now) × (length text.new ≡ length text.old) }
 {
-    let mut i: usize = 0;
-    while i < line.len() {
-        let b = line[i];
-        if b == b'@' || b == b':' {
+    for (i, b) in line.iter().enumerate() {
+        if *b == b'@' || *b == b':' {
             return i;
         }
-        put_byte(text, i, if b == b'/' { b'\n' } else { b });
-        i += 1;
+        put_byte(text, i, if *b == b'/' { b'\n' } else { *b });
     }
-    i
+    line.len()
 }
 
 // A sheet: its text is put to an empty table.
@@ -423,22 +424,17 @@ fn with_sheet(rt: &impl Print, c: Counts, line: &[u8]) -> Counts {
 
 fn with_sheets(rt: &impl Print, c: Counts, sheets: &[u8]) -> Counts {
     let mut next = c;
-    let mut from: usize = 0;
-    let mut i: usize = 0;
-    while i < sheets.len() {
-        if sheets[i] == b'\n' && from <= i {
-            next = with_sheet(rt, next, &sheets[from..i]);
-            from = i + 1;
+    for line in sheets.split_inclusive(|b| *b == b'\n') {
+        if let Some(sheet) = line.strip_suffix(b"\n") {
+            next = with_sheet(rt, next, sheet);
         }
-        i += 1;
     }
     next
 }
 
 fn main(rt: HostRuntime) {
     let mut sheets = [0u8; 65536];
-    let got = reading::read_sheet(&mut rt.stdin(), &mut sheets);
-    let Got::Bytes(n) = got else {
+    let Ok(n) = reading::read_sheet(&mut rt.stdin(), &mut sheets) else {
         let _ = rt.eprintln("test_trees: the sheets cannot be read");
         return;
     };

@@ -3,7 +3,7 @@
 -- `Stands` makes of the calls alone, by the rows of the table of calls, and their formulas those that the grammar derives. The calls of
 -- the code come in by their contracts (Adds, Withdraws, Loads, Asks, Judges, Prints, Explains, Checks, StillDoes, GivesClash, Reads): what holds of every result that a contract allows
 -- holds of what the code gives. Assumes nothing.
-use Rattle.std.specs.Prelude.{ℕ, ◌≤◌, ◌<◌, ◌≡◌, ◌↔◌, Bool, true, false, List, [], ◌∷◌, ◌++◌, length, get_or, set, take, drop}
+use Rattle.std.specs.Prelude.{ℕ, ◌≤◌, ◌<◌, ◌≡◌, ◌↔◌, Bool, true, false, List, [], ◌∷◌, ◌++◌, length, get_or, set, take, drop, Result, Ok}
 use Rattle.formula.specs.Formula.{Formula, Name}
 use Rattle.lists.specs.Search.{In}
 use Rattle.lists.specs.Buffer.{over}
@@ -11,8 +11,8 @@ use Rattle.syntax.specs.RuleText.{IsRule}
 use Rattle.contact.specs.Meaning.{Floor, meets_all}
 use Rattle.contact.specs.Question.{Question, plain, building, Counts, NoFloor}
 use Rattle.contact.specs.Numbering.{names_of}
-use Rattle.plan.specs.declared.PlanAnswer.TheVariants as PlanAnswer
-use Rattle.plan.specs.declared.PlanRead.{PlanRead}
+use Rattle.plan.specs.declared.NotAPlan.{NotAPlan}
+use Rattle.plan.specs.declared.PlanArrays.{PlanArrays}
 use Rattle.plan.specs.Words.{Plan, words_of}
 use Rattle.plan.specs.Arrays.{Reads}
 use Rattle.plan.specs.Stored.{Stored}
@@ -158,7 +158,7 @@ pub record Given (q : Question) (rs : List Text) (words : List ℕ) : Type 0 whe
   pub met : Met rs words
   pub counts : Counts q (names_of met.formulas) (floor_of met.decodes)
   pub is : IsGiven q met.formulas met.plan
-  pub back : (r : PlanRead) → Reads words r → (r.answer ≡ PlanAnswer.Plan) × Stored r.plan met.plan
+  pub back : (r : Result PlanArrays NotAPlan) → Reads words r → (arrays : PlanArrays) × (r ≡ Ok arrays) × Stored arrays met.plan
 
 pub record Meant (rs : List Text) (t : Table) : Type 0 where
   -- each standing text is derived by the grammar, and a text means one formula only

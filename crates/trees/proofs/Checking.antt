@@ -8,14 +8,14 @@ use mathlib.Core.List.{List, [], ◌∷◌, ◌++◌, append_assoc, append-nil}
 use Prim.Native.Nat.{ℕ, suc, ◌+◌, ◌≤◌, ◌<◌}
 use native.Mathlib.Omega.{arith}
 use lib.ListN.{length, length-append}
+use Rattle.std.specs.Prelude.{Result, Ok, Err}
 use Rattle.formula.specs.Formula.{Form}
 use Rattle.contact.specs.Row.{PartialRow}
-use Rattle.trees.specs.declared.Verdict.{Verdict}
-use Rattle.trees.specs.declared.Verdict.TheVariants.{Accepts, Refuses}
+use Rattle.trees.specs.declared.NotClosed.{NotClosed}
 use Rattle.trees.specs.Trees.{Tree, split, rule, floorless, missing, split_word, rule_word, words_of, Whole, InOrder}
 use Rattle.trees.specs.Closed.{decided, root, RuleFalse, Splits, Right, Closed}
 use Rattle.trees.specs.Refusal.{to_come, Stands, Stands.splits, Stops, Refused}
-use Rattle.trees.specs.Checker.{Does, splits, closes, wrong, after, unless, does, run, checked}
+use Rattle.trees.specs.Checker.{Does, splits, closes, wrong, after, not_closed_at, unless, does, run, checked}
 use Rattle.trees.proofs.Branches.{decided_length}
 use Rattle.trees.proofs.Spelling.{Tests, Closes, Closes.rule, Says, says, does_split, does_rule, does_floor, stands_right}
 
@@ -97,7 +97,7 @@ split_order parts a p q r t f ts h =
 
 module _ (many : ℕ) (rules : List (Form ℕ)) (NoPlan : PartialRow → Type 0) (no_plan_said : PartialRow → Bool)
     (few_atoms : many ≤ 256) (few-rules : length rules < 256) (tests : Tests many no_plan_said NoPlan) where
-  abbrev runs : ℕ → List PartialRow → List ℕ → Verdict
+  abbrev runs : ℕ → List PartialRow → List ℕ → Result Unit NotClosed
   runs = run many rules no_plan_said
 
   abbrev Holds : PartialRow → Tree → Type 0
@@ -190,7 +190,7 @@ module _ (many : ℕ) (rules : List (Form ℕ)) (NoPlan : PartialRow → Type 0)
 
   -- where the words stop, the machine refuses
   step_stops : (i : ℕ) (parts : List PartialRow) (ws : List ℕ) → Short many parts → Stops many rules NoPlan parts ws
-      → runs i parts ws ≡ Refuses i
+      → runs i parts ws ≡ not_closed_at i
   step_stops i [] [] s h = absurd h
   step_stops i [] (w ∷ ws) s h = refl
   step_stops i (part ∷ parts) [] s h = refl
@@ -225,9 +225,9 @@ module _ (many : ℕ) (rules : List (Form ℕ)) (NoPlan : PartialRow → Type 0)
     words : forest_words parts trees ≡ ws
     right : AllRight parts trees
 
-  abbrev Outcome : ℕ → List PartialRow → List ℕ → Verdict → Type 0
-  Outcome i parts ws Accepts = Finished parts ws
-  Outcome i parts ws (Refuses j) = Stopped i parts ws j
+  abbrev Outcome : ℕ → List PartialRow → List ℕ → Result Unit NotClosed → Type 0
+  Outcome i parts ws (Ok u) = Finished parts ws
+  Outcome i parts ws (Err e) = Stopped i parts ws e.at
 
   stopped_here : (i : ℕ) (parts : List PartialRow) (ws : List ℕ) → Stops many rules NoPlan parts ws → Stopped i parts ws i
   stopped_here i parts ws h =
@@ -244,16 +244,16 @@ module _ (many : ℕ) (rules : List (Form ℕ)) (NoPlan : PartialRow → Type 0)
       }
 
   -- a leaf of one word ahead
-  leaf_outcome : (i : ℕ) (part : PartialRow) (parts : List PartialRow) (w : ℕ) (ws : List ℕ) (t : Tree) (v : Verdict)
+  leaf_outcome : (i : ℕ) (part : PartialRow) (parts : List PartialRow) (w : ℕ) (ws : List ℕ) (t : Tree) (v : Result Unit NotClosed)
       → words_of t ≡ w ∷ [] → Whole t → to_come part t ≡ [] → Holds part t → Outcome (suc i) parts ws v → Outcome i (part ∷ parts) (w ∷ ws) v
-  leaf_outcome i part parts w ws t Accepts e wh none h r =
+  leaf_outcome i part parts w ws t (Ok u) e wh none h r =
       record {
         trees = (t, r.trees);
         whole = (wh, r.whole);
         words = ap₂ ◌++◌ e r.words;
         right = (h, r.right);
       }
-  leaf_outcome i part parts w ws t (Refuses j) e wh none h r =
+  leaf_outcome i part parts w ws t (Err x) e wh none h r =
       record {
         pre = w ∷ r.pre;
         post = r.post;
@@ -267,10 +267,10 @@ module _ (many : ℕ) (rules : List (Form ℕ)) (NoPlan : PartialRow → Type 0)
             subst (λ (ps : List PartialRow). Stops many rules NoPlan (ps ++ forest_to_come parts r.trees) r.post) (sym none) r.stops;
       }
 
-  split_outcome : (i : ℕ) (part : PartialRow) (parts : List PartialRow) (a : ℕ) (w : ℕ) (ws : List ℕ) (v : Verdict)
+  split_outcome : (i : ℕ) (part : PartialRow) (parts : List PartialRow) (a : ℕ) (w : ℕ) (ws : List ℕ) (v : Result Unit NotClosed)
       → w ≡ split_word a → Splits many part a
       → Outcome (suc i) (decided part a true ∷ (decided part a false ∷ parts)) ws v → Outcome i (part ∷ parts) (w ∷ ws) v
-  split_outcome i part parts a w ws Accepts e s r =
+  split_outcome i part parts a w ws (Ok u) e s r =
       let t = r.trees.0 in
       let f = r.trees.1.0 in
       let ts = r.trees.1.1 in
@@ -280,7 +280,7 @@ module _ (many : ℕ) (rules : List (Form ℕ)) (NoPlan : PartialRow → Type 0)
         words = ap₂ ◌∷◌ (sym e) (append_assoc (words_of t) (words_of f) (forest_words parts ts) ∙ r.words);
         right = ((s, r.right.0, r.right.1.0), r.right.1.1);
       }
-  split_outcome i part parts a w ws (Refuses j) e s r =
+  split_outcome i part parts a w ws (Err x) e s r =
       let t = r.trees.0 in
       let f = r.trees.1.0 in
       let ts = r.trees.1.1 in
@@ -331,26 +331,26 @@ module _ (many : ℕ) (rules : List (Form ℕ)) (NoPlan : PartialRow → Type 0)
       at : 0 + length (words_of t) ≡ length pre
       at = omega (arith, ap length e)
 
-  pub closed_accepted : (ws : List ℕ) (t : Tree) → words_of t ≡ ws → Closed many rules NoPlan root t → checked many rules no_plan_said ws ≡ Accepts
+  pub closed_accepted : (ws : List ℕ) (t : Tree) → words_of t ≡ ws → Closed many rules NoPlan root t → checked many rules no_plan_said ws ≡ Ok tt
   unfolding checked
   closed_accepted ws t e c =
       from_tree ws t (whole_order t c.whole) c.right ws [] e (append-nil ws)
       ∙ ap (λ (ps : List PartialRow). runs (length ws) ps []) (whole_none t root c.whole)
 
-  pub accepted_closed : (ws : List ℕ) → checked many rules no_plan_said ws ≡ Accepts → (t : Tree) × (words_of t ≡ ws) × Closed many rules NoPlan root t
+  pub accepted_closed : (ws : List ℕ) → checked many rules no_plan_said ws ≡ Ok tt → (t : Tree) × (words_of t ≡ ws) × Closed many rules NoPlan root t
   unfolding checked
   accepted_closed ws e =
       let r = subst (Outcome 0 (root ∷ []) ws) e (outcome ws 0 (root ∷ []) (omega arith, tt)) in
       (r.trees.0, sym (append-nil (words_of r.trees.0)) ∙ r.words, record { whole = r.whole.0; right = r.right.0 })
 
-  pub refused_checked : (ws : List ℕ) (j : ℕ) → Refused many rules NoPlan ws j → checked many rules no_plan_said ws ≡ Refuses j
+  pub refused_checked : (ws : List ℕ) (j : ℕ) → Refused many rules NoPlan ws j → checked many rules no_plan_said ws ≡ not_closed_at j
   unfolding checked
   refused_checked ws j r =
       from_tree ws r.begun r.in_order r.right r.pre r.post r.words r.parts
       ∙ step_stops (length r.pre) (to_come root r.begun) r.post (short_come r.begun root (omega arith) r.right) r.stops
-      ∙ ap Refuses (sym r.place)
+      ∙ ap not_closed_at (sym r.place)
 
-  pub checked_refused : (ws : List ℕ) (j : ℕ) → checked many rules no_plan_said ws ≡ Refuses j → Refused many rules NoPlan ws j
+  pub checked_refused : (ws : List ℕ) (j : ℕ) → checked many rules no_plan_said ws ≡ not_closed_at j → Refused many rules NoPlan ws j
   unfolding checked
   checked_refused ws j e =
       let r = subst (Outcome 0 (root ∷ []) ws) e (outcome ws 0 (root ∷ []) (omega arith, tt)) in

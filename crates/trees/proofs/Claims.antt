@@ -5,10 +5,11 @@ use mathlib.Core.Logic.{◌↔◌}
 use mathlib.Core.List.{List}
 use Prim.Native.Nat.{ℕ, ◌*◌, ◌^◌, ◌≤◌, ◌<◌}
 use lib.ListN.{length}
+use Rattle.std.specs.Prelude.{Ok, Err}
 use Rattle.formula.specs.Formula.{Formula, Name}
 use Rattle.contact.specs.Question.{plain, NoFloor}
 use Rattle.contact.specs.Numbering.{different_atoms, numbered_atoms}
-use Rattle.trees.specs.declared.Verdict.TheVariants.{Accepts, Refuses}
+use Rattle.trees.specs.declared.NotClosed.{NotClosed}
 use Rattle.trees.specs.Trees.{Tree, words_of}
 use Rattle.trees.specs.OfRules.{IsClosedTree, IsNoTree, IsWrittenTree}
 use Rattle.trees.specs.Checker.{checked_of}
@@ -16,15 +17,15 @@ use Rattle.trees.proofs.OfRules as OfRules
 
 module _ (fs : List (Formula Name)) (few_atoms : length (different_atoms fs) ≤ 256) (few-rules : length (numbered_atoms fs) < 256) where
   -- the checker "accepts exactly the closed trees of these rules that split on no atom twice in a branch"
-  pub accepts_exactly : (ws : List ℕ) → (checked_of fs ws ≡ Accepts) ↔ ((t : Tree) × (words_of t ≡ ws) × IsClosedTree fs t)
+  pub accepts_exactly : (ws : List ℕ) → (checked_of fs ws ≡ Ok tt) ↔ ((t : Tree) × (words_of t ≡ ws) × IsClosedTree fs t)
   accepts_exactly = OfRules.accepts_exactly fs few_atoms few-rules
 
   -- "16 in the checker with the index of the first word that .."
-  pub refuses_exactly : (ws : List ℕ) (j : ℕ) → (checked_of fs ws ≡ Refuses j) ↔ IsNoTree fs ws j
+  pub refuses_exactly : (ws : List ℕ) (j : ℕ) → (checked_of fs ws ≡ Err (record { at = j })) ↔ IsNoTree fs ws j
   refuses_exactly = OfRules.refuses_exactly fs few_atoms few-rules
 
   -- "every tree of our writer is accepted"
-  pub written_accepted : (t : Tree) → IsWrittenTree fs t → checked_of fs (words_of t) ≡ Accepts
+  pub written_accepted : (t : Tree) → IsWrittenTree fs t → checked_of fs (words_of t) ≡ Ok tt
   written_accepted t w = (accepts_exactly (words_of t)).1 (t, refl, OfRules.written_closed fs t w)
 
 -- "What it accepts has no plan"

@@ -5,6 +5,7 @@ use mathlib.Core.List.{List, [], ◌∷◌}
 use Prim.Native.Nat.{ℕ, ◌*◌, ◌^◌, ◌≤◌, ◌<◌}
 use native.Mathlib.Omega.{arith}
 use lib.ListN.{length, length-map}
+use Rattle.std.specs.Prelude.{Ok, Err}
 use Rattle.formula.specs.Formula.{Formula, Name}
 use Rattle.lists.specs.Search.{below}
 use Rattle.contact.specs.Meaning.{renamed}
@@ -15,7 +16,7 @@ use Rattle.contact.specs.Check.{first_row_of}
 use Rattle.contact.specs.Tableau.{closes, search}
 use Rattle.contact.proofs.Claims as contact
 use Rattle.contact.proofs.Naming.{names_row, numbers_row, names_count, numbers_count}
-use Rattle.trees.specs.declared.Verdict.TheVariants.{Accepts, Refuses}
+use Rattle.trees.specs.declared.NotClosed.{NotClosed}
 use Rattle.trees.specs.Trees.{Tree, words_of}
 use Rattle.trees.specs.Closed.{Unrealised, root}
 use Rattle.trees.specs.OfRules.{NoPlanFor, IsClosedTree, IsNoTree, IsWrittenTree}
@@ -58,14 +59,14 @@ module _ (fs : List (Formula Name)) where
     exists : (row : Row) → first_row_of plain fs ≡ row ∷ [] → trees_of fs ≡ [] → Writes
 
   module _ (few_atoms : length (different_atoms fs) ≤ 256) (few-rules : length (numbered_atoms fs) < 256) where
-    pub accepts_exactly : (ws : List ℕ) → (checked_of fs ws ≡ Accepts) ↔ ((t : Tree) × (words_of t ≡ ws) × IsClosedTree fs t)
+    pub accepts_exactly : (ws : List ℕ) → (checked_of fs ws ≡ Ok tt) ↔ ((t : Tree) × (words_of t ≡ ws) × IsClosedTree fs t)
     unfolding checked_of
     accepts_exactly ws = (
       Checking.accepted_closed (length (different_atoms fs)) (numbered_atoms fs) (NoPlanFor fs) (no_plan_in fs) few_atoms few-rules tests_named ws,
       λ c. Checking.closed_accepted (length (different_atoms fs)) (numbered_atoms fs) (NoPlanFor fs) (no_plan_in fs) few_atoms few-rules tests_named ws c.0 c.1 c.2,
     )
 
-    pub refuses_exactly : (ws : List ℕ) (j : ℕ) → (checked_of fs ws ≡ Refuses j) ↔ IsNoTree fs ws j
+    pub refuses_exactly : (ws : List ℕ) (j : ℕ) → (checked_of fs ws ≡ Err (record { at = j })) ↔ IsNoTree fs ws j
     unfolding checked_of
     refuses_exactly ws j = (
       Checking.checked_refused (length (different_atoms fs)) (numbered_atoms fs) (NoPlanFor fs) (no_plan_in fs) few_atoms few-rules tests_named ws j,

@@ -9,8 +9,8 @@ use native.Mathlib.Omega.{arith}
 use lib.Bits.{bit_or}
 use lib.Dec.{eqb, ltb}
 use lib.ListN.{length, get_or, take, drop, drop_of_length-le}
-use lib.Pow.{pow_pos}
 use borrow.Author.Tests.{lt-ltb, le-ltb, ne_eqb}
+use Rattle.std.specs.Prelude.{Some, None, Result, Ok, Err}
 use Rattle.formula.specs.Formula.{Atom, Form}
 use Rattle.lists.proofs.Lists.{rest}
 use Rattle.lists.proofs.Truth.{clash}
@@ -24,11 +24,9 @@ use Rattle.pairing.proofs.Claims.{contacts_are}
 use Rattle.solver.specs.Coded.{part}
 use Rattle.solver.specs.Tree.{ComesFrom}
 use Rattle.trees.specs.declared.Branch.{Branch}
-use Rattle.trees.specs.declared.Verdict.TheVariants.{Accepts, Refuses}
-use Rattle.trees.specs.declared.Reached.{Reached}
-use Rattle.trees.specs.declared.Reached.TheVariants.{End, Stop}
+use Rattle.trees.specs.declared.NotClosed.{NotClosed}
 use Rattle.trees.specs.Closed.{value_in, decided, root, Splits}
-use Rattle.trees.specs.Checker.{Does, splits, closes, wrong, is_unknown, false_there, after, unless, by_kind, does, run, checked, no_floor}
+use Rattle.trees.specs.Checker.{Does, splits, closes, wrong, is_unknown, false_there, after, not_closed_at, unless, by_kind, does, run, checked, no_floor}
 use Rattle.trees.specs.Branch.{IsBranch, FloorSays, Comes, RuleSays, split_bit, SplitSays, is_closing, ClosesSays, ReachedSays, Moves, CheckSays}
 use Rattle.trees.proofs.Spelling.{Says, says}
 use Rattle.trees.proofs.Words.{root_branch, branch_true, branch_false}
@@ -83,39 +81,39 @@ module _ (code ends list : List ℕ) (many contacts : ℕ) (b : Branch) (w : ℕ
 
 -- ---- what a word does, by its bit and by whether it closes
 
-none_split : (many a : ℕ) {P : Type 0} → 0 ≡ split_bit many (splits a) → P
-none_split many a e = absurd (omega (arith, pow_pos (many - 1 - a)))
+none_split : (many a : ℕ) {P : Type 0} → None ≡ split_bit many (splits a) → P
+none_split many a e = absurd (let z : ◌≡◌ {A = ℕ} 0 1 = cc in omega arith)
 
-is_wrong : (many : ℕ) (d : Does) → 0 ≡ split_bit many d → false ≡ is_closing d → d ≡ wrong
+is_wrong : (many : ℕ) (d : Does) → None ≡ split_bit many d → false ≡ is_closing d → d ≡ wrong
 is_wrong many (splits a) e f = none_split many a e
 is_wrong many closes e f = clash refl (sym f)
 is_wrong many wrong e f = refl
 
-is_closing_lem : (many : ℕ) (d : Does) → 0 ≡ split_bit many d → true ≡ is_closing d → d ≡ closes
+is_closing_lem : (many : ℕ) (d : Does) → None ≡ split_bit many d → true ≡ is_closing d → d ≡ closes
 is_closing_lem many (splits a) e f = none_split many a e
 is_closing_lem many closes e f = refl
 is_closing_lem many wrong e f = clash (sym f) refl
 
-is_split : (many bit : ℕ) (d : Does) → bit ≡ split_bit many d → (bit ≡ 0 → ⊥) → (a : ℕ) × (d ≡ splits a) × (2 ^ (many - 1 - a) ≡ bit)
-is_split many bit (splits a) e f = (a, refl, sym e)
-is_split many bit closes e f = absurd (f e)
-is_split many bit wrong e f = absurd (f e)
+is_split : (many bit : ℕ) (d : Does) → Some bit ≡ split_bit many d → (a : ℕ) × (d ≡ splits a) × (2 ^ (many - 1 - a) ≡ bit)
+is_split many bit (splits a) e = (a, refl, let z : bit ≡ 2 ^ (many - 1 - a) = cc in sym z)
+is_split many bit closes e = absurd (let z : ◌≡◌ {A = ℕ} 0 1 = cc in omega arith)
+is_split many bit wrong e = absurd (let z : ◌≡◌ {A = ℕ} 0 1 = cc in omega arith)
 
 -- ---- the machine from a place of the words
 
 module _ (words code ends list : List ℕ) (many contacts : ℕ) (few : many ≤ 16) (b : Branch) (at : ℕ) where
-  abbrev Reaches : ℕ → Branch → Reached → Type 0
+  abbrev Reaches : ℕ → Branch → Result ℕ NotClosed → Type 0
   Reaches i x r = ReachedSays words code ends list many contacts x i r
 
   abbrev word : ℕ
   word = get_or words at 0
 
-  pub reached_end : at ≡ length words → Reaches at b (Stop at)
+  pub reached_end : at ≡ length words → Reaches at b (not_closed_at at)
   unfolding ReachedSays
   reached_end e names atoms rules c p h parts =
       ap (λ (ws : List ℕ). run many rules (no_floor plain names atoms) at (p ∷ parts) ws) (drop_of_length-le words {i = at} (omega arith))
 
-  module _ (l : at < length words) (bit : ℕ) (split-says : SplitSays many b.known word bit) where
+  module _ (l : at < length words) where
     -- one step
     step : (names : ℕ) (atoms : List (Atom ℕ)) (rules : List (Form ℕ)) (p : PartialRow) (parts : List PartialRow) (d : Does)
         → does many rules (no_floor plain names atoms) p word ≡ d
@@ -126,19 +124,19 @@ module _ (words code ends list : List ℕ) (many contacts : ℕ) (few : many ≤
         ∙ ap (λ (x : Does). unless x at (run many rules (no_floor plain names atoms) (suc at) (after x p parts) (drop (at + 1) words))) e
         ∙ ap (λ (k : ℕ). unless d at (run many rules (no_floor plain names atoms) k (after d p parts) (drop (at + 1) words))) (sym (add-one at))
 
-    pub reached_wrong : bit ≡ 0 → (r : Bool) → r ≡ false → ClosesSays code ends list many contacts b word r → Reaches at b (Stop at)
+    pub reached_wrong : SplitSays many b.known word None → (r : Bool) → r ≡ false → ClosesSays code ends list many contacts b word r → Reaches at b (not_closed_at at)
     unfolding ReachedSays SplitSays ClosesSays
-    reached_wrong z r e says-closes names atoms rules c p h parts =
+    reached_wrong split-says r e says-closes names atoms rules c p h parts =
         step names atoms rules p parts wrong
-        (is_wrong many _ (sym z ∙ split-says rules (no_floor plain names atoms) p h.known_is) (sym e ∙ says-closes names atoms rules c p h))
+        (is_wrong many _ (split-says rules (no_floor plain names atoms) p h.known_is) (sym e ∙ says-closes names atoms rules c p h))
 
-    pub reached_close : bit ≡ 0 → (r : Bool) → r ≡ true → ClosesSays code ends list many contacts b word r → Reaches at b (End (at + 1))
+    pub reached_close : SplitSays many b.known word None → (r : Bool) → r ≡ true → ClosesSays code ends list many contacts b word r → Reaches at b (Ok (at + 1))
     unfolding ReachedSays SplitSays ClosesSays
-    reached_close z r e says-closes names atoms rules c p h parts =
+    reached_close split-says r e says-closes names atoms rules c p h parts =
         step names atoms rules p parts closes
-        (is_closing_lem many _ (sym z ∙ split-says rules (no_floor plain names atoms) p h.known_is) (sym e ∙ says-closes names atoms rules c p h))
+        (is_closing_lem many _ (split-says rules (no_floor plain names atoms) p h.known_is) (sym e ∙ says-closes names atoms rules c p h))
 
-    module _ (some : bit ≡ 0 → ⊥) where
+    module _ (bit : ℕ) (split-says : SplitSays many b.known word (Some bit)) where
       -- the branches with the atom decided
       abbrev yes : Branch
       yes = record { known = bit_or b.known bit; truth = bit_or b.truth bit }
@@ -155,7 +153,7 @@ module _ (words code ends list : List ℕ) (many contacts : ℕ) (few : many ≤
       split : (names : ℕ) (atoms : List (Atom ℕ)) (rules : List (Form ℕ)) (p : PartialRow) → IsBranch many b p → Split names atoms rules p
       unfolding SplitSays
       split names atoms rules p h =
-          let s = is_split many bit (does many rules (no_floor plain names atoms) p word) (split-says rules (no_floor plain names atoms) p h.known_is) some in
+          let s = is_split many bit (does many rules (no_floor plain names atoms) p word) (split-says rules (no_floor plain names atoms) p h.known_is) in
           let NoPlan : PartialRow → Type 0 = λ q. no_floor plain names atoms q ≡ true in
           let right : Splits many p s.0 =
           (subst (Says many rules NoPlan (no_floor plain names atoms) (λ q k. (λ e. e, λ e. e)) p h.short word) s.1
@@ -169,21 +167,17 @@ module _ (words code ends list : List ℕ) (many contacts : ℕ) (few : many ≤
                 (branch_false many few b p h s.0 right.named right.undecided);
           }
 
-      pub reached_first : (r : Reached) (j : ℕ) → r ≡ Stop j → Reaches (at + 1) yes r → Reaches at b r
+      pub reached_first : (e : NotClosed) → Reaches (at + 1) yes (Err e) → Reaches at b (Err e)
       unfolding ReachedSays
-      reached_first (End m) j q first = absurd (let z : ◌≡◌ {A = ℕ} 0 1 = cc in omega arith)
-      reached_first (Stop i) j q first = λ names atoms rules c p h parts.
+      reached_first e first = λ names atoms rules c p h parts.
           let s = split names atoms rules p h in
           step names atoms rules p parts (splits s.atom) s.split_is
           ∙ first names atoms rules c (decided p s.atom true) s.first_is (decided p s.atom false ∷ parts)
 
-      pub reached_second : (r : Reached) (m : ℕ) → r ≡ End m → Reaches (at + 1) yes r → (q : Reached) → Reaches m no q → Reaches at b q
+      pub reached_second : (m : ℕ) → Reaches (at + 1) yes (Ok m) → (q : Result ℕ NotClosed) → Reaches m no q → Reaches at b q
       unfolding ReachedSays
-      reached_second r m i first q second = go q second
+      reached_second m ended q second = go q second
         where
-          ended : Reaches (at + 1) yes (End m)
-          ended = subst (Reaches (at + 1) yes) i first
-
           both : (names : ℕ) (atoms : List (Atom ℕ)) (rules : List (Form ℕ)) → Comes code ends list many contacts names atoms rules
               → (p : PartialRow) → (s : Split names atoms rules p) → (parts : List PartialRow)
               → run many rules (no_floor plain names atoms) at (p ∷ parts) (drop at words)
@@ -192,28 +186,19 @@ module _ (words code ends list : List ℕ) (many contacts : ℕ) (few : many ≤
               step names atoms rules p parts (splits s.atom) s.split_is
               ∙ ended names atoms rules c (decided p s.atom true) s.first_is (decided p s.atom false ∷ parts)
 
-          go : (q : Reached) → Reaches m no q → Reaches at b q
-          go (End end) then = λ names atoms rules c p h parts.
+          go : (q : Result ℕ NotClosed) → Reaches m no q → Reaches at b q
+          go (Ok end) then = λ names atoms rules c p h parts.
               let s = split names atoms rules p h in
               both names atoms rules c p s parts ∙ then names atoms rules c (decided p s.atom false) s.second_is parts
-          go (Stop j) then = λ names atoms rules c p h parts.
+          go (Err e) then = λ names atoms rules c p h parts.
               let s = split names atoms rules p h in
               both names atoms rules c p s parts ∙ then names atoms rules c (decided p s.atom false) s.second_is parts
 
 -- ---- how far the words have been read
 
-pub moves_stop : (at long : ℕ) (r : Reached) (j : ℕ) → r ≡ Stop j → Moves at long r
-moves_stop at long r j e = subst (Moves at long) (sym e) tt
-
-pub moves_end : (at long : ℕ) (r : Reached) (m : ℕ) → r ≡ End m → Moves at long r → (at < m) × (m ≤ long)
-moves_end at long r m e h = subst (Moves at long) e h
-
-moves_later : (at m long : ℕ) (r : Reached) → at < m → Moves m long r → Moves at long r
-moves_later at m long (End end) l h = (omega arith, h.1)
-moves_later at m long (Stop j) l h = tt
-
-pub moves_both : (at m long : ℕ) (r q : Reached) → r ≡ End m → Moves (at + 1) long r → Moves m long q → Moves at long q
-moves_both at m long r q e h k = let v = moves_end (at + 1) long r m e h in moves_later at m long q (omega (arith, v)) k
+pub moves_both : (at m long : ℕ) (q : Result ℕ NotClosed) → Moves (at + 1) long (Ok m) → Moves m long q → Moves at long q
+moves_both at m long (Ok end) h k = (omega arith, k.1)
+moves_both at m long (Err e) h k = tt
 
 -- fewer words are left
 pub fewer : (long at next left : ℕ) → long - at ≡ left → at < next → next ≤ long → long - next < left
@@ -223,7 +208,7 @@ fewer long at next left e l h = omega arith
 
 module _ (words code ends : List ℕ) (chart : Chart) (contacts : ℕ) (list list' : List ℕ) (count : ℕ)
     (spelt : Spelt chart.atoms (contact_at chart) contacts) (listed : ListSays chart list list' count) where
-  abbrev From : Reached → Type 0
+  abbrev From : Result ℕ NotClosed → Type 0
   From r = ReachedSays words code ends (part list' 0 count) chart.atoms contacts (record { known = 0; truth = 0 }) 0 r
 
   comes : (atoms : List (Atom ℕ)) (rules : List (Form ℕ)) → ComesFrom code ends chart atoms rules
@@ -243,24 +228,21 @@ module _ (words code ends : List ℕ) (chart : Chart) (contacts : ℕ) (list lis
   unfolding checked
   verdict atoms rules c = ap (λ (n : ℕ). run n rules (no_floor plain chart.names atoms) 0 (root ∷ []) words) c.compiled.counted
 
-  pub check_stop : (r : Reached) (j : ℕ) → r ≡ Stop j → From r → CheckSays words code ends chart (Refuses j)
+  pub check_stop : (e : NotClosed) → From (Err e) → CheckSays words code ends chart (Err e)
   unfolding CheckSays ReachedSays
-  check_stop r j e reached atoms rules c =
-      let stopped : From (Stop j) = subst From e reached in
+  check_stop e stopped atoms rules c =
       sym (stopped chart.names atoms rules (comes atoms rules c) root (root_branch chart.atoms) []) ∙ verdict atoms rules c
 
-  pub check_whole : (r : Reached) (m : ℕ) → r ≡ End m → From r → m ≡ length words → CheckSays words code ends chart Accepts
+  pub check_whole : (m : ℕ) → From (Ok m) → m ≡ length words → CheckSays words code ends chart (Ok tt)
   unfolding CheckSays ReachedSays
-  check_whole r m e reached l atoms rules c =
-      let ended : From (End m) = subst From e reached in
+  check_whole m ended l atoms rules c =
       sym (ended chart.names atoms rules (comes atoms rules c) root (root_branch chart.atoms) []
       ∙ ap (λ (ws : List ℕ). run chart.atoms rules (no_floor plain chart.names atoms) m [] ws) (drop_of_length-le words {i = m} (omega arith)))
       ∙ verdict atoms rules c
 
-  pub check_after : (r : Reached) (m : ℕ) → r ≡ End m → From r → m < length words → CheckSays words code ends chart (Refuses m)
+  pub check_after : (m : ℕ) → From (Ok m) → m < length words → CheckSays words code ends chart (not_closed_at m)
   unfolding CheckSays ReachedSays
-  check_after r m e reached l atoms rules c =
-      let ended : From (End m) = subst From e reached in
+  check_after m ended l atoms rules c =
       sym (ended chart.names atoms rules (comes atoms rules c) root (root_branch chart.atoms) []
       ∙ ap (λ (ws : List ℕ). run chart.atoms rules (no_floor plain chart.names atoms) m [] ws) (rest words m 0 l))
       ∙ verdict atoms rules c

@@ -10,6 +10,7 @@ use lib.Bits.{bit_or, or_lt}
 use lib.Dec.{eqb, ltb}
 use lib.Pow.{pow-lt, pow_pos}
 use borrow.Author.Tests.{eq-eqb, ne_eqb, lt-ltb, le-ltb}
+use Rattle.std.specs.Prelude.{Some, None}
 use Rattle.formula.specs.Formula.{Form}
 use Rattle.lists.proofs.Truth.{clash}
 use Rattle.evalset.specs.Bit.{bit}
@@ -29,14 +30,14 @@ shifted j l = ap (λ (x : ℕ). x % 2 ^ 32) (one-mul (2 ^ j)) ∙ mod-eq_of_lt (
 -- ---- the atom that a word splits on
 
 module _ (many known w : ℕ) where
-  pub split_kind : (w / 0x10000000 ≡ 5 → ⊥) → SplitSays many known w 0
+  pub split_kind : (w / 0x10000000 ≡ 5 → ⊥) → SplitSays many known w None
   unfolding SplitSays does
   split_kind h rules no_plan_said part s =
       go (eqb (w / 0x10000000) 5) (eqb (w / 0x10000000) 6) (eqb (w / 0x10000000) 7) (ltb (w % 0x10000000) 256 && false_there rules part (w % 0x10000000))
       (eqb (w % 0x10000000) 0 && no_plan_said part) (cond (ltb (w % 0x10000000) many && is_unknown (value_in part (w % 0x10000000))) (splits (w % 0x10000000)) wrong)
       (ne_eqb (w / 0x10000000) 5 h)
     where
-      go : (k l m x y : Bool) (z : Does) → k ≡ false → 0 ≡ split_bit many (cond k z (cond l (cond x closes wrong) (cond m (cond y closes wrong) wrong)))
+      go : (k l m x y : Bool) (z : Does) → k ≡ false → None ≡ split_bit many (cond k z (cond l (cond x closes wrong) (cond m (cond y closes wrong) wrong)))
       go true l m x y z e = clash refl e
       go false true m true y z e = refl
       go false true m false y z e = refl
@@ -53,7 +54,7 @@ module _ (many known w : ℕ) where
     unfolding does
     by_five rules no_plan_said part = ap (λ (k : ℕ). by_kind many rules no_plan_said part k a) five
 
-    pub split_past : many ≤ a → SplitSays many known w 0
+    pub split_past : many ≤ a → SplitSays many known w None
     unfolding SplitSays
     split_past l rules no_plan_said part s =
         sym (ap (split_bit many) (by_five rules no_plan_said part ∙ ap (λ (x : Bool). cond (x && is_unknown (value_in part a)) (splits a) wrong) (le-ltb a many l)))
@@ -76,15 +77,15 @@ module _ (many known w : ℕ) where
           ap (split_bit many) (by_five rules no_plan_said part
           ∙ ap₂ (λ (x y : Bool). cond (x && y) (splits a) wrong) (lt-ltb a many l) (turned (value_in part a) _ (known_bit part s)))
 
-      pub split_known : bit known (many - 1 - a) ≡ true → SplitSays many known w 0
+      pub split_known : bit known (many - 1 - a) ≡ true → SplitSays many known w None
       unfolding SplitSays
       split_known h rules no_plan_said part s =
           sym (by_bit rules no_plan_said part s ∙ ap (λ (x : Bool). split_bit many (cond (not x) (splits a) wrong)) h)
 
-      pub split_on : bit known (many - 1 - a) ≡ false → many ≤ 16 → SplitSays many known w ((1 * 2 ^ (many - 1 - a)) % 4294967296)
+      pub split_on : bit known (many - 1 - a) ≡ false → many ≤ 16 → SplitSays many known w (Some ((1 * 2 ^ (many - 1 - a)) % 4294967296))
       unfolding SplitSays
       split_on h few rules no_plan_said part s =
-          shifted (many - 1 - a) (omega arith)
+          ap Some (shifted (many - 1 - a) (omega arith))
           ∙ sym (by_bit rules no_plan_said part s ∙ ap (λ (x : Bool). split_bit many (cond (not x) (splits a) wrong)) h)
 
 -- ---- branches

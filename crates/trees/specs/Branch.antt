@@ -1,6 +1,6 @@
 -- For proofs: what the checker's functions ensure, of all atoms and rules that the code, the contacts and the list of words come from, and of
 -- the partial row that a branch is. `CheckSays` is the contract of `check_tree`, which only our own crates call. Assumes nothing.
-use Rattle.std.specs.Prelude.{Bool, true, false, not, ◌&&◌, ◌||◌, ◌≡◌, List, ◌∷◌, ℕ, zero, suc, ◌-◌, ◌^◌, ◌≤◌, ◌<◌, eqb, length, get_or, drop}
+use Rattle.std.specs.Prelude.{Bool, true, false, not, ◌&&◌, ◌||◌, ◌≡◌, List, ◌∷◌, ℕ, zero, suc, ◌-◌, ◌^◌, ◌≤◌, ◌<◌, eqb, length, get_or, drop, Option, Some, None, Result, Ok, Err}
 use Rattle.formula.specs.Formula.{Atom, Form}
 use Rattle.lists.specs.Search.{any}
 use Rattle.evalset.specs.Bit.{bit}
@@ -14,10 +14,7 @@ use Rattle.pairing.specs.Words.{Spelt, Contacts, Serving, within}
 use Rattle.solver.specs.Coded.{Coded}
 use Rattle.solver.specs.Tree.{ComesFrom}
 use Rattle.trees.specs.declared.Branch.{Branch}
-use Rattle.trees.specs.declared.Verdict.{Verdict}
-use Rattle.trees.specs.declared.Verdict.TheVariants.{Refuses}
-use Rattle.trees.specs.declared.Reached.{Reached}
-use Rattle.trees.specs.declared.Reached.TheVariants.{End, Stop}
+use Rattle.trees.specs.declared.NotClosed.{NotClosed}
 use Rattle.trees.specs.Closed.{value_in}
 use Rattle.trees.specs.Checker.{Does, splits, closes, wrong, is_unknown, false_there, does, run, checked, no_floor}
 
@@ -68,13 +65,13 @@ unfoldable pub RuleSays : List ℕ → List ℕ → ℕ → Branch → ℕ → B
 RuleSays code ends many b k r =
     (rules : List (Form ℕ)) → Coded many code ends rules → (part : PartialRow) → IsBranch many b part → r ≡ false_there rules part k
 
--- the bit of the atom that is split on, 0 where there is none
-abbrev pub split_bit : ℕ → Does → ℕ
-split_bit many (splits a) = 2 ^ (many - 1 - a)
-split_bit many closes = 0
-split_bit many wrong = 0
+-- the bit of the atom that is split on, if there is one
+abbrev pub split_bit : ℕ → Does → Option ℕ
+split_bit many (splits a) = Some (2 ^ (many - 1 - a))
+split_bit many closes = None
+split_bit many wrong = None
 
-unfoldable pub SplitSays : ℕ → ℕ → ℕ → ℕ → Type 0
+unfoldable pub SplitSays : ℕ → ℕ → ℕ → Option ℕ → Type 0
 SplitSays many known w r =
     (rules : List (Form ℕ)) (no_plan_said : PartialRow → Bool) (part : PartialRow) → Spelt many (λ i. not (is_unknown (value_in part i))) known
     → r ≡ split_bit many (does many rules no_plan_said part w)
@@ -91,12 +88,12 @@ ClosesSays code ends list many contacts b w r =
 
 -- ---- trees
 
--- the tree of a branch ends before `end`, or the words stop at j: for the branches still to come, whatever they are
-abbrev pub Leads : (List PartialRow → Verdict) → (ℕ → List PartialRow → Verdict) → Reached → Type 0
-Leads here from (End end) = (parts : List PartialRow) → here parts ≡ from end parts
-Leads here from (Stop j) = (parts : List PartialRow) → here parts ≡ Refuses j
+-- the tree of a branch ends before `end`, or the words stop: for the branches still to come, whatever they are
+abbrev pub Leads : (List PartialRow → Result Unit NotClosed) → (ℕ → List PartialRow → Result Unit NotClosed) → Result ℕ NotClosed → Type 0
+Leads here from (Ok end) = (parts : List PartialRow) → here parts ≡ from end parts
+Leads here from (Err e) = (parts : List PartialRow) → here parts ≡ Err e
 
-unfoldable pub ReachedSays : List ℕ → List ℕ → List ℕ → List ℕ → ℕ → ℕ → Branch → ℕ → Reached → Type 0
+unfoldable pub ReachedSays : List ℕ → List ℕ → List ℕ → List ℕ → ℕ → ℕ → Branch → ℕ → Result ℕ NotClosed → Type 0
 ReachedSays words code ends list many contacts b at r =
     (names : ℕ) (atoms : List (Atom ℕ)) (rules : List (Form ℕ)) → Comes code ends list many contacts names atoms rules
     → (part : PartialRow) → IsBranch many b part
@@ -104,12 +101,12 @@ ReachedSays words code ends list many contacts b at r =
     (λ end parts. run many rules (no_floor plain names atoms) end parts (drop end words)) r
 
 -- the end lies past the place, and not past the words
-abbrev pub Moves : ℕ → ℕ → Reached → Type 0
-Moves at long (End end) = (at < end) × (end ≤ long)
-Moves at long (Stop j) = Unit {0}
+abbrev pub Moves : ℕ → ℕ → Result ℕ NotClosed → Type 0
+Moves at long (Ok end) = (at < end) × (end ≤ long)
+Moves at long (Err e) = Unit {0}
 
 -- the verdict is that of the machine, for the plain question
-unfoldable pub CheckSays : List ℕ → List ℕ → List ℕ → Chart → Verdict → Type 0
+unfoldable pub CheckSays : List ℕ → List ℕ → List ℕ → Chart → Result Unit NotClosed → Type 0
 CheckSays words code ends chart r =
     (atoms : List (Atom ℕ)) (rules : List (Form ℕ)) → ComesFrom code ends chart atoms rules
     → r ≡ checked (length atoms) rules (no_floor plain chart.names atoms) words

@@ -1,6 +1,6 @@
 -- What is computed: the checker, a machine over the words with a list of branches to come, and the writer. `no_plan_said` tests whether no plan
 -- gives a partial row's decided atoms their values. Assumes nothing.
-use Rattle.std.specs.Prelude.{Bool, true, false, not, ◌&&◌, cond, List, [], ◌∷◌, ◌++◌, map, ℕ, zero, suc, ◌/◌, ◌%◌, eqb, ltb, length, get_or}
+use Rattle.std.specs.Prelude.{Bool, true, false, not, ◌&&◌, cond, List, [], ◌∷◌, ◌++◌, map, ℕ, zero, suc, ◌/◌, ◌%◌, eqb, ltb, length, get_or, Result, Ok, Err}
 use Rattle.formula.specs.Formula.{Atom, Form, Formula, Name}
 use Rattle.lists.specs.Search.{first, from, or_else}
 use Rattle.contact.specs.Row.{Row, Three, is, unknown, PartialRow}
@@ -10,8 +10,7 @@ use Rattle.contact.specs.Plan.{marks_of}
 use Rattle.contact.specs.Check.{passes}
 use Rattle.contact.specs.Kleene.{kleene_value}
 use Rattle.contact.specs.Tableau.{refuted}
-use Rattle.trees.specs.declared.Verdict.{Verdict}
-use Rattle.trees.specs.declared.Verdict.TheVariants.{Accepts, Refuses}
+use Rattle.trees.specs.declared.NotClosed.{NotClosed}
 use Rattle.trees.specs.Trees.{Tree, split, rule, floorless}
 use Rattle.trees.specs.Closed.{value_in, decided, root}
 
@@ -38,10 +37,14 @@ after (splits a) part parts = decided part a true ∷ (decided part a false ∷ 
 after closes part parts = parts
 after wrong part parts = parts
 
-abbrev pub unless : Does → ℕ → Verdict → Verdict
+-- refusal 16 with this index
+abbrev pub not_closed_at : {A : Type 0} → ℕ → Result A NotClosed
+not_closed_at i = Err (record { at = i })
+
+abbrev pub unless : Does → ℕ → Result Unit NotClosed → Result Unit NotClosed
 unless (splits a) i r = r
 unless closes i r = r
-unless wrong i r = Refuses i
+unless wrong i r = not_closed_at i
 
 module _ (many : ℕ) (rules : List (Form ℕ)) (no_plan_said : PartialRow → Bool) where
   -- a word by its kind and the rest of its bits
@@ -55,16 +58,16 @@ module _ (many : ℕ) (rules : List (Form ℕ)) (no_plan_said : PartialRow → B
   does part w = by_kind part (w / 0x10000000) (w % 0x10000000)
 
   -- what the words from index i on give, with these branches to come
-  abbrev pub run : ℕ → List PartialRow → List ℕ → Verdict
-  run i [] [] = Accepts
-  run i [] (w ∷ ws) = Refuses i
-  run i (part ∷ parts) [] = Refuses i
+  abbrev pub run : ℕ → List PartialRow → List ℕ → Result Unit NotClosed
+  run i [] [] = Ok tt
+  run i [] (w ∷ ws) = not_closed_at i
+  run i (part ∷ parts) [] = not_closed_at i
   run i (part ∷ parts) (w ∷ ws) =
       let d = does part w in
       let r = run (suc i) (after d part parts) ws in
       unless d i r
 
-  unfoldable pub checked : List ℕ → Verdict
+  unfoldable pub checked : List ℕ → Result Unit NotClosed
   checked ws = run 0 (root ∷ []) ws
 
 -- ---- the writer: by how many atoms are left; a list of one tree, or of none where a row stays open
@@ -101,7 +104,7 @@ no_floor q names atoms part = not (passes q names (marks_of atoms part))
 abbrev pub no_plan_in : List (Formula Name) → PartialRow → Bool
 no_plan_in rules part = no_floor plain (length (names_of rules)) (row_atoms rules) part
 
-unfoldable pub checked_of : List (Formula Name) → List ℕ → Verdict
+unfoldable pub checked_of : List (Formula Name) → List ℕ → Result Unit NotClosed
 checked_of rules ws = checked (length (different_atoms rules)) (numbered_atoms rules) (no_plan_in rules) ws
 
 -- one tree where there is no plan, and none where there is one

@@ -23,18 +23,10 @@ pub struct Branch {
     truth: u32,
 }
 
-// Where the words of a branch's tree end, or the index of refusal 16.
+// The words are not those of a closed tree: the index of refusal 16.
 #[derive(Clone, Copy)]
-enum Reached {
-    End(usize),
-    Stop(usize),
-}
-
-// What the checker answers: the words are a closed tree's, or the index of refusal 16.
-#[derive(Clone, Copy)]
-pub enum Verdict {
-    Accepts,
-    Refuses(usize),
+pub struct NotClosed {
+    pub at: usize,
 }
 
 // ---- kind 7
@@ -52,10 +44,8 @@ fn served(list: &[u16], left: u32) -> u32
     ensures { (p : ℕ) → bit result p ≡ served_by left list.now p }
 {
     let mut all: u32 = 0;
-    let mut i: usize = 0;
-    while i < list.len() {
-        all = all | kept(list[i], left);
-        i += 1;
+    for w in list {
+        all |= kept(*w, left);
     }
     all
 }
@@ -72,8 +62,8 @@ fn some_floor(list: &[u16], contacts: u32, b: Branch) -> bool
 
 // ---- words
 
-// The bit of the atom that a word splits the branch on, or 0: "the atom in bits 7..0", one of the table that the branch has not decided.
-fn split_bit(w: u32, many: usize, known: u32) -> u32
+// The bit of the atom that a word splits the branch on: "the atom in bits 7..0", one of the table that the branch has not decided.
+fn split_bit(w: u32, many: usize, known: u32) -> Option<u32>
     requires { many ≤ limit }
     ensures { SplitSays many known w result }
 {
@@ -82,18 +72,18 @@ fn split_bit(w: u32, many: usize, known: u32) -> u32
         5 => match a {
             0..=0xFF => {
                 if a >= many {
-                    return 0;
+                    return None;
                 }
                 let at = many - 1 - a;
                 if (known >> at) % 2 == 1 {
-                    return 0;
+                    return None;
                 }
                 let one: u32 = 1;
-                one << at
+                Some(one << at)
             }
-            _ => 0,
+            _ => None,
         },
-        _ => 0,
+        _ => None,
     }
 }
 
@@ -103,10 +93,8 @@ fn leaves(word: u32, many: usize) -> [u64; ATOMS]
     ensures { LeavesSay word many result }
 {
     let mut out = [0u64; ATOMS];
-    let mut i: usize = 0;
-    while i < many {
+    for i in 0..many {
         out[i] = (word >> (many - 1 - i)) as u64;
-        i += 1;
     }
     out
 }
@@ -190,29 +178,25 @@ fn tree_from(
     b: Branch,
     ys: &mut [u64; 128],
     ns: &mut [u64; 128],
-) -> Reached
+) -> Result<usize, NotClosed>
     requires { SafeFrom code.now 0 ends.now × (many ≤ limit) × (length ys.old ≡ 128) × (length ns.old ≡ 128) × (at ≤ length words.now) }
     ensures { (length ys.new ≡ 128) × (length ns.new ≡ 128) × Moves at (length words.now) result × ReachedSays words.now code.now ends.now list.now many contacts b at result }
 {
     if at == words.len() {
-        return Reached::Stop(at);
+        return Err(NotClosed { at });
     }
     let w = words[at];
     let next = at + 1;
-    let bit = split_bit(w, many, b.known);
-    if bit == 0 {
+    let Some(bit) = split_bit(w, many, b.known) else {
         if closes(w, code, ends, list, many, contacts, b, ys, ns) {
-            return Reached::End(next);
+            return Ok(next);
         }
-        return Reached::Stop(at);
-    }
+        return Err(NotClosed { at });
+    };
     let known = b.known | bit;
     let truth = b.truth | bit;
     let yes = Branch { known, truth };
-    let first = tree_from(words, next, code, ends, list, many, contacts, yes, ys, ns);
-    let Reached::End(middle) = first else {
-        return first;
-    };
+    let middle = tree_from(words, next, code, ends, list, many, contacts, yes, ys, ns)?;
     let truth = b.truth;
     let no = Branch { known, truth };
     tree_from(words, middle, code, ends, list, many, contacts, no, ys, ns)
@@ -226,7 +210,7 @@ fn judged(
     chart: Chart,
     seen: &mut [u64],
     list: &mut [u16],
-) -> Verdict
+) -> Result<(), NotClosed>
     requires { Runnable code.now ends.now chart × Roomy chart seen.old list.old }
     ensures { CheckSays words.now code.now ends.now chart result }
 {
@@ -236,7 +220,7 @@ fn judged(
     let top = solver::all_evaluations(chart.names);
     let count = pairing::words_of(chart, contacts, top, seen, list);
     let root = Branch { known: 0, truth: 0 };
-    let all = tree_from(
+    let end = tree_from(
         words,
         0,
         code,
@@ -247,21 +231,22 @@ fn judged(
         root,
         &mut ys,
         &mut ns,
-    );
-    match all {
-        Reached::Stop(j) => Verdict::Refuses(j),
-        Reached::End(end) => {
-            if end == words.len() {
-                Verdict::Accepts
-            } else {
-                Verdict::Refuses(end)
-            }
-        }
+    )?;
+    if end == words.len() {
+        Ok(())
+    } else {
+        Err(NotClosed { at: end })
     }
 }
 
 // The same with room for the list of words by the number of names: sheets of few names do not clear more than they need.
-fn listed(words: &[u32], code: &[u8], ends: &[usize], chart: Chart, seen: &mut [u64]) -> Verdict
+fn listed(
+    words: &[u32],
+    code: &[u8],
+    ends: &[usize],
+    chart: Chart,
+    seen: &mut [u64],
+) -> Result<(), NotClosed>
     requires { Runnable code.now ends.now chart × Unseen chart seen.old }
     ensures { CheckSays words.now code.now ends.now chart result }
 {
@@ -278,7 +263,7 @@ fn listed(words: &[u32], code: &[u8], ends: &[usize], chart: Chart, seen: &mut [
 }
 
 // "A separate small checker takes words from anyone against a table": whether the words are those of a closed tree of the rules.
-pub fn check_tree(words: &[u32], code: &[u8], ends: &[usize], chart: Chart) -> Verdict
+pub fn check_tree(words: &[u32], code: &[u8], ends: &[usize], chart: Chart) -> Result<(), NotClosed>
     requires { Runnable code.now ends.now chart }
     ensures { CheckSays words.now code.now ends.now chart result }
 {

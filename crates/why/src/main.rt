@@ -6,7 +6,6 @@
 // then the one rule is false or the other. The folder examples has shorter ones.
 #![tactic(auto)]
 
-use reading::Got;
 use report::{Piece, TextAnswer};
 use std::io;
 use table::AtomText;
@@ -21,6 +20,7 @@ fn write_tree(
 ) -> io::Result<()> {
     let mut text = report::no_text();
     let mut next: usize = 0;
+    // By index: a piece ends where it has no more room, and says where the next begins.
     while next < count {
         let piece = report::why_piece(words, depths, count, atoms, next, &mut text);
         let len = piece.len;
@@ -33,7 +33,7 @@ fn write_tree(
 fn main(rt: HostRuntime) {
     let mut sheet = reading::no_bytes();
     let got = reading::read_sheet(&mut rt.stdin(), &mut sheet);
-    let Got::Bytes(n) = got else {
+    let Ok(n) = got else {
         let _ = rt.eprintln("why: the sheet cannot be read");
         return;
     };

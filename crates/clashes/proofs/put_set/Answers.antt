@@ -11,25 +11,20 @@ use Rattle.clashes.proofs.Lines.{put_none, put_pass, put_more, put_all, rule_lin
 use Rattle.clashes.proofs.put_set.Goals as goal
 
 pub loop-i-init : goal.loop-i-init
-loop-i-init c = (omega arith, put_none _ _ _ _)
+loop-i-init c = put_none _ _ _ _
 
-pub bounds-set-here : goal.bounds-set-here
-bounds-set-here c =
+pub bounds-set-i : goal.bounds-set-i
+bounds-set-i c =
     let few : c.args.count ≤ 16 = omega (arith, c.requires.1, c.requires.0.standing.few) in
     omega (arith, few)
 
-pub offset_bounds-numbers-here : goal.offset_bounds-numbers-here
-offset_bounds-numbers-here c =
+pub offset_bounds-numbers-i : goal.offset_bounds-numbers-i
+offset_bounds-numbers-i c =
     let few : c.args.count ≤ 16 = omega (arith, c.requires.1, c.requires.0.standing.few) in
     omega (arith, few)
 
-pub bounds-numbers-here : goal.bounds-numbers-here
-bounds-numbers-here c =
-    let few : c.args.count ≤ 16 = omega (arith, c.requires.1, c.requires.0.standing.few) in
-    omega (arith, few)
-
-pub overflow_add-i : goal.overflow_add-i
-overflow_add-i c =
+pub bounds-numbers-i : goal.bounds-numbers-i
+bounds-numbers-i c =
     let few : c.args.count ≤ 16 = omega (arith, c.requires.1, c.requires.0.standing.few) in
     omega (arith, few)
 
@@ -40,13 +35,13 @@ loop-i-preserved-then-not-needed c =
     let few : c.args.count ≤ 16 = omega (arith, c.requires.1, c.requires.0.standing.few) in
     let k = c.loop-i in
     let rule_there : k.i < length (formulas_of (rules_of c.args.table)) = omega (arith, c.requires.1, length-map (rules_of c.args.table) meaning_of) in
-    (omega arith, put_pass _ _ _ _ _ _ _ k.invariant.1 (omega (arith, few, numbers_long)) rule_there (omega (arith, few, set_long)) c.if-not-needed.true)
+    put_pass _ _ _ _ _ _ _ k.invariant (omega (arith, few, numbers_long)) rule_there (omega (arith, few, set_long)) c.if-not-needed.true
 
 pub put_rule-end-requires : goal.put_rule-end-requires
 put_rule-end-requires c =
     let few : c.args.count ≤ 16 = omega (arith, c.requires.1, c.requires.0.standing.few) in
     let k = c.loop-i in
-    (c.requires.0, omega (arith, few), omega (arith, c.requires.2, few, k.invariant.1.few, puts_length k.invariant.1.puts))
+    (c.requires.0, omega (arith, few), omega (arith, c.requires.2, few, k.invariant.few, puts_length k.invariant.puts))
 
 pub loop-i-preserved : goal.loop-i-preserved
 loop-i-preserved c =
@@ -55,15 +50,10 @@ loop-i-preserved c =
     let few : c.args.count ≤ 16 = omega (arith, c.requires.1, c.requires.0.standing.few) in
     let k = c.loop-i in
     let rule_there : k.i < length (formulas_of (rules_of c.args.table)) = omega (arith, c.requires.1, length-map (rules_of c.args.table) meaning_of) in
-    let e = c.put_rule-end.ensures in (
-      omega arith,
-      put_more _ _ _ _ _ _ _ k.invariant.1 (omega (arith, few, numbers_long)) rule_there (omega (arith, few, set_long)) c.if-not-needed.false _ _ _
-          (rule_line (rules_of c.args.table) k.i (omega (arith, c.requires.1)) _) e.0 e.1,
-    )
-
-pub shape_of-out : goal.shape_of-out
-shape_of-out c = puts_length c.loop-i.invariant.1.puts
+    let e = c.put_rule-end.ensures in
+    put_more _ _ _ _ _ _ _ k.invariant (omega (arith, few, numbers_long)) rule_there (omega (arith, few, set_long)) c.if-not-needed.false _ _ _
+    (rule_line (rules_of c.args.table) k.i (omega (arith, c.requires.1)) _) e.0 e.1
 
 pub returns : goal.returns
 returns c =
-    put_all _ _ _ _ _ _ _ c.loop-i.invariant.1 (omega (arith, c.requires.1, length-map (rules_of c.args.table) meaning_of))
+    put_all _ _ _ _ _ _ _ c.loop-i.invariant (omega (arith, c.requires.1, length-map (rules_of c.args.table) meaning_of))

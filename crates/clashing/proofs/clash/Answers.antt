@@ -5,12 +5,12 @@ use native.Mathlib.Omega.{arith}
 use Rattle.clashing.proofs.Trying.{clash_plan, clash_few, clash_placed}
 use Rattle.clashing.proofs.clash.Goals as goal
 
-pub returns-then-is_found : goal.returns-then-is_found
-returns-then-is_found c = clash_plan _ _ _ _ c.row_of-found.ensures (sym c.is_found.ensures ∙ c.if-is_found.true)
+pub returns-then-is_some : goal.returns-then-is_some
+returns-then-is_some c = clash_plan _ _ _ _ c.row_of-found.ensures (sym c.is_some.ensures ∙ c.if-is_some.true)
 
 pub returns-then-places-count : goal.returns-then-places-count
-returns-then-places-count c = clash_few _ _ _ _ c.row_of-found.ensures (sym c.is_found.ensures ∙ c.if-is_found.false) (omega arith)
+returns-then-places-count c = clash_few _ _ _ _ c.row_of-found.ensures (sym c.is_some.ensures ∙ c.if-is_some.false) (omega arith)
 
 pub returns : goal.returns
 returns c =
-    clash_placed _ _ _ _ c.row_of-found.ensures (sym c.is_found.ensures ∙ c.if-is_found.false) (omega arith) _ _ c.kept-set.ensures c.put_set.ensures
+    clash_placed _ _ _ _ c.row_of-found.ensures (sym c.is_some.ensures ∙ c.if-is_some.false) (omega arith) _ _ c.kept-set.ensures c.put_set.ensures

@@ -11,6 +11,3 @@ use Rattle.clashing.proofs.kept.Given as goal
 abbrev pub invariant-loop-i : goal.invariant-loop-i
 invariant-loop-i l =
     (l.i ≤ l.c.known.count) × (length l.room ≡ length l.initial.room) × ((rules : List (Formula Name)) (kept : List ℕ) → CompiledRules rules l.c kept l.code → l.set ≡ tried_to rules l.i)
-
-abbrev pub decreases-loop-i : goal.decreases-loop-i
-decreases-loop-i l = l.i

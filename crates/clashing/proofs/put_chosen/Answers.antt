@@ -12,9 +12,6 @@ loop-i-init c = put_none _ _ _ _ _ c.requires.0 refl
 pub bounds-set-i : goal.bounds-set-i
 bounds-set-i c = omega (arith, c.requires.1)
 
-pub overflow_add-i : goal.overflow_add-i
-overflow_add-i c = omega (arith, c.requires.1)
-
 pub loop-i-preserved-then-not-needed : goal.loop-i-preserved-then-not-needed
 loop-i-preserved-then-not-needed c =
     let wide : length c.args.set ≡ 16 = search rules in

@@ -1,11 +1,6 @@
 -- `clashing::put_chosen` meets its contract: so far the chosen ones of the first i rules are put. Assumes nothing.
-use Prim.Native.Nat.{◌-◌}
-use lib.ListN.{length}
 use Rattle.clashing.proofs.Gathering.{PutTo}
 use Rattle.clashing.proofs.put_chosen.Given as goal
 
 abbrev pub invariant-loop-i : goal.invariant-loop-i
 invariant-loop-i l = PutTo l.code l.ends l.set l.initial.out l.out l.chosen l.count l.at l.from l.i
-
-abbrev pub decreases-loop-i : goal.decreases-loop-i
-decreases-loop-i l = length l.ends - l.i

@@ -1,41 +1,19 @@
--- `clashing::put_part` meets its contract: so far the first i bytes are put. Assumes nothing.
-use mathlib.Core.Path.{refl, sym, ap, ◌∙◌}
-use mathlib.Core.List.{List}
-use Prim.Native.Nat.{ℕ, ◌+◌}
+-- `clashing::put_part` meets its contract: what was copied into the part of the slice stands at the place. Assumes nothing.
+use mathlib.Core.Path.{◌≡◌, ap, ap₂, sym, ◌∙◌}
+use mathlib.Core.List.{List, ◌++◌, append_assoc}
+use Prim.Native.Nat.{ℕ, ◌+◌, ◌≤◌}
 use native.Mathlib.Omega.{arith}
-use lib.ListN.{length, take, get_or, set}
-use lib.Seq.{sets, length-sets, length-take-le, take_all}
-use Rattle.lists.proofs.Lists.{take_next, sets_more}
+use lib.ListN.{length, take, drop}
+use lib.Seq.{sets, sets-eq, drop-drop}
 use Rattle.clashing.proofs.put_part.Goals as goal
 
-pub loop-i-init : goal.loop-i-init
-loop-i-init c = (omega arith, refl)
-
-pub bounds-out-at : goal.bounds-out-at
-bounds-out-at c =
-    let k = c.loop-i in
-    let a = c.args in
-    omega (arith, ap length k.invariant.1, length-sets a.out.now a.at (take k.i a.part.now))
-
-pub loop-i-preserved : goal.loop-i-preserved
-loop-i-preserved c =
-    let a = c.args in
-    let k = c.loop-i in
-    let part = a.part.now in (
-      omega arith,
-      ap (λ (l : List ℕ). set l (a.at + k.i) (get_or part k.i 0)) k.invariant.1
-          ∙ sets_more (take k.i part) a.at (get_or part k.i 0) a.out.now (a.at + k.i) (omega (arith, length-take-le k.i part (omega arith)))
-          ∙ ap (sets a.out.now a.at) (sym (take_next part k.i 0 (omega arith))),
-    )
-
-pub shape_of-out : goal.shape_of-out
-shape_of-out c =
-    let k = c.loop-i in
-    let a = c.args in
-    ap length k.invariant.1 ∙ length-sets a.out.now a.at (take k.i a.part.now)
+copied : (out part : List ℕ) (at n : ℕ) (rest : List ℕ) → at + length part ≤ length out → n ≡ length part → rest ≡ part
+    → take at out ++ (rest ++ drop n (drop at out)) ≡ sets out at part
+copied out part at n rest h m e =
+    ap₂ (λ (k : ℕ) (l : List ℕ). take at out ++ (l ++ drop k (drop at out))) m e
+    ∙ ap (λ (l : List ℕ). take at out ++ (part ++ l)) (drop-drop (length part) at out)
+    ∙ sym (append_assoc (take at out) part (drop (at + length part) out))
+    ∙ sym (sets-eq part out at h)
 
 pub returns : goal.returns
-returns c =
-    let a = c.args in
-    let k = c.loop-i in
-    (omega arith, k.invariant.1 ∙ ap (sets a.out.now a.at) (take_all k.i a.part.now (omega arith)))
+returns c = (omega arith, copied c.args.out.now c.args.part.now c.args.at _ c.copy_from_slice.new.self c.requires (omega arith) c.copy_from_slice.ensures.after)

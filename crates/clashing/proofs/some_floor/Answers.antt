@@ -48,6 +48,6 @@ pub returns : goal.returns
 unfolding SomeFloorSays
 returns c =
     let e = c.put_chosen-chosen.ensures in (
-      λ rules kept h. c.is_found.ensures ∙ chosen_found rules _ kept _ h _ _ _ (e.0.coded _ _ h.coded) _ c.first_row-found.ensures,
+      λ rules kept h. c.is_some.ensures ∙ chosen_found rules _ kept _ h _ _ _ (e.0.coded _ _ h.coded) _ c.first_row-found.ensures,
       e.1,
     )

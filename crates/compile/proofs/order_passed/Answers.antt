@@ -1,6 +1,7 @@
 -- `compile::order_passed` meets its contract: the loop follows the machine, symbol by symbol (Follow.antt), and the symbols that are left
 -- fall. Assumes nothing.
 use Prim.Native.Nat.{◌<◌}
+use Rattle.std.specs.Prelude.{Some}
 use native.Mathlib.Omega.{arith}
 use mathlib.Core.Bool.{false}
 use mathlib.Core.Path.{◌≡◌, refl, sym, ap, ap₂, subst, ◌∙◌}
@@ -59,8 +60,7 @@ shape_of-stack-then-sign-ge-SEVENTEENTH c = c.loop-i.invariant.2
 pub returns-then-sign-ge-SEVENTEENTH : goal.returns-then-sign-ge-SEVENTEENTH
 returns-then-sign-ge-SEVENTEENTH c =
     let at = c.loop-i in (
-      subst (λ (r : CompiledRule). Compiles c.args.order.now c.args.numbers.now (atoms_with c.args.chart c.args.lens) c.args.kept.now c.args.code.now c.args.end r c.signed-sign.new.kept at.code) (sym c.whole.ensures)
-          (refused c.requires.0 at.invariant.0 (omega arith) _ refl (sym c.is_term.ensures ∙ c.if-is_term.false) (seventeenth at.chart at.lens c.signed-sign.ensures at.end at.code _ _ c.if-sign-ge-SEVENTEENTH.true) refl),
+      refused c.requires.0 at.invariant.0 (omega arith) _ refl (sym c.is_term.ensures ∙ c.if-is_term.false) (seventeenth at.chart at.lens c.signed-sign.ensures at.end at.code _ _ c.if-sign-ge-SEVENTEENTH.true) refl,
       at.invariant.0.long,
     )
 
@@ -149,7 +149,7 @@ shape_of-stack c = c.loop-i.invariant.2
 pub returns : goal.returns
 returns c =
     let at = c.loop-i in (
-      subst (λ (r : CompiledRule). Compiles c.args.order.now c.args.numbers.now (atoms_with c.args.chart c.args.lens) c.args.kept.now c.args.code.now c.args.end r at.kept at.code) (sym c.whole-2.ensures)
+      subst (λ (r : CompiledRule). Compiles c.args.order.now c.args.numbers.now (atoms_with c.args.chart c.args.lens) c.args.kept.now c.args.code.now c.args.end (Some r) at.kept at.code) (sym c.whole.ensures)
           (finished at.invariant.0 (omega (arith, c.loop-i-test.false))),
       at.invariant.0.long,
     )

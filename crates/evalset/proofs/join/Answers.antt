@@ -1,10 +1,17 @@
 -- `evalset::join` meets its contract: a bit of a disjunction is set in one of the words.
 -- Assumes nothing.
 use mathlib.Core.Bool.{◌||◌}
-use mathlib.Core.Path.{refl}
+use mathlib.Core.Path.{◌≡◌, refl, ap, ◌∙◌}
+use Prim.Native.Nat.{ℕ}
+use Rattle.std.proofs.Common.{rules, bit_or}
+use Rattle.evalset.specs.Bit.{bit}
 use Rattle.evalset.proofs.Bits.{bit_or_lem}
-use Rattle.evalset.proofs.Words.{paired}
+use Rattle.evalset.proofs.Words.{word, paired}
 use Rattle.evalset.proofs.join.Goals as goal
 
 pub returns : goal.returns
-returns c = paired ◌||◌ refl _ _ _ _ _ _ (bit_or_lem _ _) (bit_or_lem _ _) (bit_or_lem _ _) (bit_or_lem _ _)
+returns c =
+    paired ◌||◌ refl _ _ _
+    (λ k l e.
+    let h : word c.by_words.result k ≡ bit_or (word c.args.a k) (word c.args.b k) = search (rules, c.by_words.ensures k l) in
+    ap (λ (x : ℕ). bit x e) h ∙ bit_or_lem _ _ e)

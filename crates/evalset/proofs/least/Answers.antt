@@ -9,26 +9,21 @@ use Rattle.evalset.proofs.Words.{clear_more, clear_all, least_at}
 use Rattle.evalset.proofs.least.Goals as goal
 
 pub loop-k-init : goal.loop-k-init
-loop-k-init c = (omega arith, λ d l. absurd (omega arith))
-
-pub overflow_mul-result : goal.overflow_mul-result
-overflow_mul-result c = omega (arith, c.loop-k.invariant.0)
+loop-k-init c = λ d l. absurd (omega arith)
 
 pub overflow_add-result : goal.overflow_add-result
 overflow_add-result c =
-    let e = c.in-At.e in
-    let found = found_least (bit _) word_bits e (sym c.word_least.ensures ∙ c.in-At.is) in
+    let found = found_least (bit _) word_bits c.in-Some.e (sym c.word_least.ensures ∙ c.in-Some.is) in
     omega (arith, found.within)
 
-pub returns-in-At : goal.returns-in-At
-returns-in-At c =
-    let e = c.in-At.e in
-    let found = found_least (bit _) word_bits e (sym c.word_least.ensures ∙ c.in-At.is) in
-    sym (ap found_of (least_at _ _ (omega arith) c.loop-k.invariant.1 e found))
+pub returns-in-Some : goal.returns-in-Some
+returns-in-Some c =
+    let found = found_least (bit _) word_bits c.in-Some.e (sym c.word_least.ensures ∙ c.in-Some.is) in
+    sym (ap found_of (least_at _ _ (omega arith) c.loop-k.invariant c.in-Some.e found))
 
 pub loop-k-preserved : goal.loop-k-preserved
 loop-k-preserved c =
-    (omega arith, clear_more _ _ (omega arith) c.loop-k.invariant.1 (found_nothing (bit _) word_bits (sym c.word_least.ensures ∙ c.in_default.is)))
+    clear_more _ _ (omega arith) c.loop-k.invariant (found_nothing (bit _) word_bits (sym c.word_least.ensures ∙ c.in_default.is))
 
 pub returns : goal.returns
-returns c = sym (ap found_of (clear_all _ (λ d l. c.loop-k.invariant.1 d (omega (arith, c.loop-k.invariant.0)))))
+returns c = sym (ap found_of (clear_all _ (λ d l. c.loop-k.invariant d (omega arith))))

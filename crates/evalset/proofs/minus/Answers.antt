@@ -1,10 +1,18 @@
 -- `evalset::minus` meets its contract: each word less the other set's.
 -- Assumes nothing.
 use mathlib.Core.Bool.{Bool, not, ◌&&◌}
-use mathlib.Core.Path.{refl}
-use mathlib.Mathlib.Logic.Function.Defs.{congr_fun}
-use Rattle.evalset.proofs.Words.{paired}
+use mathlib.Core.Path.{◌≡◌, refl, ap, ◌∙◌}
+use Prim.Native.Nat.{ℕ, ◌-◌, ◌^◌, ◌<◌}
+use Rattle.std.proofs.Common.{rules, bit_and}
+use Rattle.evalset.specs.Bit.{word_bits, bit}
+use Rattle.evalset.proofs.Bits.{bit_minus}
+use Rattle.evalset.proofs.Words.{word, paired}
 use Rattle.evalset.proofs.minus.Goals as goal
 
 pub returns : goal.returns
-returns c = paired (λ (a b : Bool). a && not b) refl _ _ _ _ _ _ (congr_fun c.word_minus.ensures) (congr_fun c.word_minus-2.ensures) (congr_fun c.word_minus-3.ensures) (congr_fun c.word_minus-4.ensures)
+returns c =
+    paired (λ (x y : Bool). x && not y) refl _ _ _
+    (λ k l e.
+    let h : word c.by_words.result k ≡ bit_and (word c.args.a k) ((2 ^ word_bits - 1) - word c.args.b k) = search (rules, c.by_words.ensures k l) in
+    let t : (word c.args.a k < 2 ^ word_bits) × (word c.args.b k < 2 ^ word_bits) = search rules in
+    ap (λ (x : ℕ). bit x e) h ∙ bit_minus word_bits _ _ e t.0 t.1)

@@ -1,13 +1,12 @@
 -- `evalset::name_set` meets its contract: four words of the name; from NAMES up no evaluation has the bit.
 -- Assumes nothing.
-use mathlib.Core.Path.{◌≡◌, refl, sym, ap, ◌∙◌}
+use mathlib.Core.Path.{◌≡◌, sym, ap, ◌∙◌}
 use mathlib.Core.Bool.{Bool, ◌&&◌}
 use Prim.Native.Nat.{ℕ, ◌+◌, ◌*◌, ◌<◌}
 use native.Mathlib.Omega.{arith}
 use borrow.Author.Tests.{lt-ltb, le-ltb}
 use Rattle.evalset.specs.Bit.{word_bits, bit}
-use Rattle.evalset.specs.Sets.{room, none_of, name_set}
-use Rattle.evalset.proofs.Bits.{bit_none}
+use Rattle.evalset.specs.Sets.{room, name_set}
 use Rattle.evalset.proofs.Members.{name_none}
 use Rattle.evalset.proofs.Words.{Bits, made}
 use Rattle.evalset.proofs.name_set.Goals as goal
@@ -26,4 +25,4 @@ returns-then-i-lt-NAMES c =
     (λ e l. ap (λ (b : Bool). b && bit e i) (le-ltb e room l))
 
 pub returns-else-i-lt-NAMES : goal.returns-else-i-lt-NAMES
-returns-else-i-lt-NAMES c = made none_of 0 0 0 0 (λ e l. bit_none e) (λ e l. bit_none e) (λ e l. bit_none e) (λ e l. bit_none e) (λ e l. refl) ∙ sym (name_none _ c.if-i-lt-NAMES.false)
+returns-else-i-lt-NAMES c = c.empty.ensures ∙ sym (name_none _ c.if-i-lt-NAMES.false)

@@ -10,8 +10,8 @@ use Rattle.evalset.specs.Sets.{found_of}
 use Rattle.evalset.proofs.Bits.{first_bit, first_zero}
 use Rattle.evalset.proofs.word_least.Goals as goal
 
-pub overflow_cast-e : goal.overflow_cast-e
-overflow_cast-e c = record { fits = lt_of_le_of_lt (trailing_le _ _) (lit< tt) }
+pub overflow_cast-result : goal.overflow_cast-result
+overflow_cast-result c = record { fits = lt_of_le_of_lt (trailing_le _ _) (lit< tt) }
 
 pub returns-then-w-eq0 : goal.returns-then-w-eq0
 returns-then-w-eq0 c = sym (ap found_of (first_zero word_bits _ c.if-w-eq0.true))

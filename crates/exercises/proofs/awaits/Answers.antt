@@ -3,4 +3,4 @@ use Rattle.exercises.proofs.Tables.{awaits_right}
 use Rattle.exercises.proofs.awaits.Goals as goal
 
 pub returns : goal.returns
-returns c = awaits_right c.place-i.result c.args.k c.place-i.ensures.0 c.place-i.ensures.1
+returns c = awaits_right c.place.result c.args.k c.place.ensures.0 c.place.ensures.1

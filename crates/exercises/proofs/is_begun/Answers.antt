@@ -1,20 +1,15 @@
 -- `exercises::is_begun` meets its contract. Assumes nothing.
-use borrow.Author.Rules.{rules}
-use mathlib.Core.Path.{◌≡◌}
-use native.Mathlib.Omega.{arith}
-use lib.ListN.{length}
-use lib.Seq.{length-take-le}
-use Rattle.exercises.proofs.Judging.{is_begun, refused_begun, many_begun}
+use Rattle.std.specs.Prelude.{Err}
+use mathlib.Core.Path.{ap, ◌∙◌}
+use Rattle.syntax.specs.declared.NotAFormula.{NotAFormula}
+use Rattle.exercises.proofs.Judging.{is_begun}
 use Rattle.exercises.proofs.is_begun.Goals as goal
 
-pub returns-in-Formula : goal.returns-in-Formula
-returns-in-Formula c = is_begun _ _ c.judged-j.ensures c.in-Formula.is
+pub returns-in-Ok : goal.returns-in-Ok
+returns-in-Ok c = is_begun _ _ c.judged.ensures _ c.in-Ok.is
 
-pub returns-in-RefusedAt : goal.returns-in-RefusedAt
-returns-in-RefusedAt c =
-    let a = c.args in
-    let full : length a.ks ≡ 6 = search rules in
-    refused_begun _ _ c.judged-j.ensures c.in-RefusedAt.i a.n (length-take-le a.n a.ks (omega arith)) c.in-RefusedAt.is
+pub returns-in-Err-At : goal.returns-in-Err-At
+returns-in-Err-At c = is_begun _ _ c.judged.ensures (Err (NotAFormula.At c.in-Err-At.i)) (c.in-Err-At.is ∙ ap Err c.in-Err-At.field-0-is)
 
-pub returns-in-TooMany : goal.returns-in-TooMany
-returns-in-TooMany c = many_begun _ _ c.judged-j.ensures c.in-TooMany.is
+pub returns-in-Err-TooMany : goal.returns-in-Err-TooMany
+returns-in-Err-TooMany c = is_begun _ _ c.judged.ensures (Err NotAFormula.TooMany) (c.in-Err-TooMany.is ∙ ap Err c.in-Err-TooMany.field-0-is)

@@ -3,4 +3,4 @@ use Rattle.exercises.proofs.Tables.{kind_right}
 use Rattle.exercises.proofs.kind.Goals as goal
 
 pub returns : goal.returns
-returns c = kind_right c.place-i.result c.args.k c.place-i.ensures.0 c.place-i.ensures.1
+returns c = kind_right c.place.result c.args.k c.place.ensures.0 c.place.ensures.1

@@ -2,31 +2,18 @@
 use mathlib.Core.Path.{◌≡◌, ap}
 use native.Mathlib.Omega.{arith}
 use Rattle.exercises.specs.Book.{text}
-use Rattle.lists.proofs.Putting.{puts_text, puts_length}
+use Rattle.lists.proofs.Putting.{puts_text}
 use Rattle.exercises.proofs.Sizes.{text_none, length_fits, length_puts}
 use Rattle.exercises.proofs.put_book.Goals as goal
 
-pub no_kinds-ks-requires : goal.no_kinds-ks-requires
-no_kinds-ks-requires c = tt
-
 pub loop-m-init : goal.loop-m-init
-loop-m-init c = (omega arith, text_none c.args.out.now)
+loop-m-init c = text_none c.args.out.now
 
 pub put_walk-end-requires : goal.put_walk-end-requires
-put_walk-end-requires c =
-    let k = c.loop-m in
-    (omega arith, length_fits k.m k.invariant.1 (omega arith) c.requires)
+put_walk-end-requires c = let k = c.loop-m in (omega arith, length_fits k.m k.invariant (omega arith) c.requires)
 
 pub loop-m-preserved : goal.loop-m-preserved
-loop-m-preserved c =
-    let k = c.loop-m in
-    (omega arith, length_puts k.m k.invariant.1 c.put_walk-end.ensures)
-
-pub shape_of-out : goal.shape_of-out
-shape_of-out c = puts_length c.loop-m.invariant.1
+loop-m-preserved c = length_puts c.loop-m.m c.loop-m.invariant c.put_walk-end.ensures
 
 pub returns : goal.returns
-returns c =
-    let k = c.loop-m in
-    let e : k.m ≡ 6 = omega arith in
-    puts_text (ap text e) k.invariant.1
+returns c = let e : c.loop-m.m ≡ 6 = omega arith in puts_text (ap text e) c.loop-m.invariant

@@ -1,11 +1,7 @@
 -- `exercises::put_book` meets its contract: so far the strings of at most m tokens are put. Assumes nothing.
-use Prim.Native.Nat.{◌-◌, ◌≤◌}
 use Rattle.exercises.specs.Book.{text}
 use Rattle.lists.specs.Putting.{Puts}
 use Rattle.exercises.proofs.put_book.Given as goal
 
 abbrev pub invariant-loop-m : goal.invariant-loop-m
-invariant-loop-m l = (l.m ≤ 6) × Puts 0 (text l.m) l.initial.out l.out l.end
-
-abbrev pub decreases-loop-m : goal.decreases-loop-m
-decreases-loop-m l = 6 - l.m
+invariant-loop-m l = Puts 0 (text l.m) l.initial.out l.out l.end

@@ -4,15 +4,18 @@ use native.Mathlib.Omega.{arith}
 use Rattle.explaining.proofs.Closings.{word_rule, word_floor, word_none}
 use Rattle.explaining.proofs.closing_word.Goals as goal
 
-pub returns-then-k-gt0 : goal.returns-then-k-gt0
-returns-then-k-gt0 c = word_rule _ _ _ _ _ c.first_false-k.ensures.1 (omega (arith, c.if-k-gt0.true))
+pub overflow_cast-result : goal.overflow_cast-result
+overflow_cast-result c = omega (arith, c.in-Some.ensures.0, c.requires.0)
 
-pub returns-then-some : goal.returns-then-some
-returns-then-some c =
-    word_none _ _ _ _ _ c.first_false-k.ensures.1 (omega (arith, c.if-k-gt0.false))
-    (sym c.some_floor-some.ensures ∙ c.if-some.true)
+pub returns-in-Some : goal.returns-in-Some
+returns-in-Some c = word_rule _ _ _ _ _ c.in-Some.ensures.1
 
-pub returns-else-some : goal.returns-else-some
-returns-else-some c =
-    word_floor _ _ _ _ _ c.first_false-k.ensures.1 (omega (arith, c.if-k-gt0.false))
-    (sym c.some_floor-some.ensures ∙ c.if-some.false)
+pub returns-then-some_floor : goal.returns-then-some_floor
+returns-then-some_floor c =
+    word_none _ _ _ _ (sym c.in_default.is ∙ c.first_false.ensures.1)
+    (sym c.some_floor.ensures ∙ c.if-some_floor.true)
+
+pub returns-else-some_floor : goal.returns-else-some_floor
+returns-else-some_floor c =
+    word_floor _ _ _ _ (sym c.in_default.is ∙ c.first_false.ensures.1)
+    (sym c.some_floor.ensures ∙ c.if-some_floor.false)

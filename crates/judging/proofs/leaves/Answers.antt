@@ -10,33 +10,24 @@ use Rattle.squares.specs.Square.{square_at}
 use Rattle.judging.specs.Values.{atom_of, value_of, Sure, LeavesSay}
 use Rattle.judging.proofs.Atoms.{sure_none, sure_more}
 use Rattle.judging.proofs.leaves.Goals as goal
+use Rattle.judging.proofs.leaves.Goals.{then-chart-i, else-chart-i}
 
 pub loop-i-init : goal.loop-i-init
-loop-i-init c = (omega arith, refl, sure_none _ _)
+loop-i-init c = (refl, sure_none _ _)
 
-pub loop-i-preserved-then-chart-i : goal.loop-i-preserved-then-chart-i
-unfolding value_of mem_at
-loop-i-preserved-then-chart-i c =
-    let a = c.args in
-    let loop = c.loop-i in (
-      omega arith,
-      length-set loop.out loop.i _ ∙ loop.invariant.1,
-      sure_more loop.out loop.i _ _ (omega arith) loop.invariant.2
-          (c.settled.ensures 0 (omega arith) ∙ c.touches.ensures
-          ∙ sym (ap (λ (b : Bool). atom_of a.plan (square_at a.square.now) b (mem_at a.chart.xs loop.i) (mem_at a.chart.ys loop.i)) c.if-chart-i.true)),
-    )
-
+-- `value`: that of the atom at hand
 pub loop-i-preserved : goal.loop-i-preserved
 unfolding value_of mem_at
 loop-i-preserved c =
     let a = c.args in
-    let loop = c.loop-i in (
-      omega arith,
-      length-set loop.out loop.i _ ∙ loop.invariant.1,
-      sure_more loop.out loop.i _ _ (omega arith) loop.invariant.2
-          (c.settled-in-loop-i.ensures 0 (omega arith) ∙ c.is_vacant.ensures
-          ∙ sym (ap (λ (b : Bool). atom_of a.plan (square_at a.square.now) b (mem_at a.chart.xs loop.i) (mem_at a.chart.ys loop.i)) c.if-chart-i.false)),
-    )
+    let i = c.loop-i.i in
+    let atom : Bool → Bool = λ b. atom_of a.plan (square_at a.square.now) b (mem_at a.chart.xs i) (mem_at a.chart.ys i) in
+    let value : c.if-chart-i.value ≡ value_of a.plan (square_at a.square.now) a.chart i =
+    elim c.if-chart-i.branch [
+      | then-chart-i w ↦ w.value-is ∙ w.touches-value.ensures ∙ sym (ap atom w.if-chart-i.true)
+      | else-chart-i w ↦ w.value-is ∙ w.is_vacant-value.ensures ∙ sym (ap atom w.if-chart-i.false)
+    ] in
+    (length-set c.loop-i.out i _ ∙ c.loop-i.invariant.0, sure_more c.loop-i.out i _ _ (omega arith) c.loop-i.invariant.1 (c.all_bits.ensures 0 (omega arith) ∙ value))
 
 pub returns : goal.returns
 unfolding LeavesSay
@@ -44,4 +35,4 @@ returns c =
     let loop = c.loop-i in
     let a = c.args in
     let z : loop.i ≡ a.chart.atoms = omega arith in
-    subst (λ (n : ℕ). Sure loop.out n (value_of a.plan (square_at a.square.now) a.chart)) z loop.invariant.2
+    subst (λ (n : ℕ). Sure loop.out n (value_of a.plan (square_at a.square.now) a.chart)) z loop.invariant.1

@@ -1,14 +1,10 @@
--- `lexer::run_end` meets its contract: what is left of the run at the start is what has been passed and what is left from here on (the
--- invariant); what is left of the text falls. Assumes nothing.
+-- `lexer::run_end` meets its contract: what is left of the run at the start is what has been passed and what is left from here on.
+-- Assumes nothing.
 use mathlib.Core.Path.{◌≡◌}
-use Prim.Native.Nat.{◌≤◌, ◌+◌, ◌-◌}
-use lib.ListN.{length, drop}
-use Rattle.lexer.specs.ClassTable.{ClassTable}
+use Prim.Native.Nat.{◌+◌}
+use lib.ListN.{drop}
 use Rattle.lexer.specs.Cutter.{run_length}
 use Rattle.lexer.proofs.run_end.Given as goal
 
 abbrev pub invariant-loop-e : goal.invariant-loop-e
-invariant-loop-e l = (l.e ≤ length l.text) × ClassTable l.table × (l.e + run_length (drop l.e l.text) ≡ l.at + run_length (drop l.at l.text))
-
-abbrev pub decreases-loop-e : goal.decreases-loop-e
-decreases-loop-e l = length l.text - l.e
+invariant-loop-e l = l.e + run_length (drop l.e l.text) ≡ l.at + run_length (drop l.at l.text)

@@ -6,7 +6,4 @@ use Rattle.lists.specs.Search.{elem}
 use Rattle.pairing.proofs.among.Given as goal
 
 abbrev pub invariant-loop-i : goal.invariant-loop-i
-invariant-loop-i l = (l.i ≤ l.count) × (l.there ≡ elem l.m (take l.i l.masks))
-
-abbrev pub decreases-loop-i : goal.decreases-loop-i
-decreases-loop-i l = l.count - l.i
+invariant-loop-i l = (l.there ≡ elem l.m (take l.i l.masks))

@@ -8,20 +8,18 @@ use Rattle.pairing.proofs.Words.{spelt_none, spelt_more, spelt_few}
 use Rattle.pairing.proofs.contacts_of.Goals as goal
 
 pub loop-i-init : goal.loop-i-init
-loop-i-init c = (omega arith, spelt_none _)
+loop-i-init c = spelt_none _
 
 pub pushed-k-requires : goal.pushed-k-requires
-pushed-k-requires c = let l = spelt_few _ _ _ c.loop-i.invariant.1 (omega arith) in omega (arith, l)
+pushed-k-requires c = let l = spelt_few _ _ _ c.loop-i.invariant (omega arith) in omega (arith, l)
 
 pub loop-i-preserved : goal.loop-i-preserved
 loop-i-preserved c =
-    let k = c.loop-i in (
-      omega arith,
-      subst (Spelt (k.i + 1) _) (sym c.pushed-k.ensures) (spelt_more _ k.i k.k _ k.invariant.1 refl),
-    )
+    let k = c.loop-i in
+    subst (Spelt (k.i + 1) _) (sym c.pushed-k.ensures) (spelt_more _ k.i k.k _ k.invariant refl)
 
 pub returns : goal.returns
 returns c =
     let k = c.loop-i in
     let e : k.i ≡ c.args.chart.atoms = omega arith in
-    subst (λ (x : ℕ). Spelt x (contact_at c.args.chart) k.k) e k.invariant.1
+    subst (λ (x : ℕ). Spelt x (contact_at c.args.chart) k.k) e k.invariant

@@ -5,7 +5,4 @@ use Rattle.pairing.specs.Words.{Spelt}
 use Rattle.pairing.proofs.contacts_of.Given as goal
 
 abbrev pub invariant-loop-i : goal.invariant-loop-i
-invariant-loop-i l = (l.i ≤ l.n) × Spelt l.i (contact_at l.chart) l.k
-
-abbrev pub decreases-loop-i : goal.decreases-loop-i
-decreases-loop-i l = l.n - l.i
+invariant-loop-i l = Spelt l.i (contact_at l.chart) l.k

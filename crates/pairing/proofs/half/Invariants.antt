@@ -6,7 +6,4 @@ use Rattle.pairing.specs.Sums.{Joined}
 use Rattle.pairing.proofs.half.Given as goal
 
 abbrev pub invariant-loop-j : goal.invariant-loop-j
-invariant-loop-j l = (l.from ≤ l.j) × (l.j ≤ l.end) × (length l.initial.table ≡ 1024) × Joined (l.from + l.h) (l.j + l.h) l.h l.initial.table l.table
-
-abbrev pub decreases-loop-j : goal.decreases-loop-j
-decreases-loop-j l = l.end - l.j
+invariant-loop-j l = (length l.initial.table ≡ 1024) × Joined (l.from + l.h) (l.j + l.h) l.h l.initial.table l.table

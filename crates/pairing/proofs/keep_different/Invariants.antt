@@ -8,7 +8,4 @@ use Rattle.pairing.proofs.keep_different.Given as goal
 
 abbrev pub invariant-loop-e : goal.invariant-loop-e
 invariant-loop-e l =
-    (lowest_of l.names ≤ l.e) × (l.e ≤ l.top) × Kept (lowest_of l.names) l.e l.initial.masks l.masks l.count × ((d : ℕ) → l.e ≤ d → entry l.masks d ≡ entry l.initial.masks d)
-
-abbrev pub decreases-loop-e : goal.decreases-loop-e
-decreases-loop-e l = l.top - l.e
+    (lowest_of l.names ≤ l.e) × Kept (lowest_of l.names) l.e l.initial.masks l.masks l.count × ((d : ℕ) → l.e ≤ d → entry l.masks d ≡ entry l.initial.masks d)

@@ -12,20 +12,17 @@ pub loop-k-init : goal.loop-k-init
 loop-k-init c =
     let a = c.args in
     let z : 0 ≡ min a.top (word_bits * 0) = omega arith in
-    (omega arith, subst (λ (n : ℕ). MarkedTo a.x a.y n a.masks.now a.masks.now) z (marked_none _ _ _))
+    subst (λ (n : ℕ). MarkedTo a.x a.y n a.masks.now a.masks.now) z (marked_none _ _ _)
 
 pub returns-then-top-from : goal.returns-then-top-from
 returns-then-top-from c =
     let k = c.loop-k in
     let a = c.args in
     let z : min a.top (word_bits * k.k) ≡ a.top = omega (arith, c.if-top-from.true) in
-    subst (λ (n : ℕ). MarkedTo a.x a.y n a.masks.now k.masks) z k.invariant.1
+    subst (λ (n : ℕ). MarkedTo a.x a.y n a.masks.now k.masks) z k.invariant
 
 pub overflow_sub-top : goal.overflow_sub-top
 overflow_sub-top c = omega (arith, c.if-top-from.false)
-
-pub at_most_word-n-requires : goal.at_most_word-n-requires
-at_most_word-n-requires c = tt
 
 pub word_of-requires : goal.word_of-requires
 word_of-requires c = tt
@@ -38,11 +35,11 @@ unfolding room
 mark_word-requires c =
     let k = c.loop-k in
     let left = c.if-top-from.false in
-    let n = c.at_most_word-n.ensures in (
+    let n = c.min-n.ensures in (
       omega (arith, left, n, c.requires.0),
       omega (arith, n),
-      k.invariant.1.long ∙ c.requires.1,
-      λ e l. subst (λ (m : ℕ). Spare m) (sym (k.invariant.1.others (word_bits * k.k + e) (omega (arith, left)))) (c.requires.2 (word_bits * k.k + e) (omega (arith, left, n))),
+      k.invariant.long ∙ c.requires.1,
+      λ e l. subst (λ (m : ℕ). Spare m) (sym (k.invariant.others (word_bits * k.k + e) (omega (arith, left)))) (c.requires.2 (word_bits * k.k + e) (omega (arith, left, n))),
     )
 
 pub loop-k-preserved : goal.loop-k-preserved
@@ -50,15 +47,13 @@ loop-k-preserved c =
     let k = c.loop-k in
     let a = c.args in
     let left = c.if-top-from.false in
-    let n = c.at_most_word-n in
+    let n = c.min-n in
     let start : min a.top (word_bits * k.k) ≡ word_bits * k.k = omega (arith, left) in
-    let next : word_bits * k.k + n.result ≡ min a.top (word_bits * (k.k + 1)) = omega (arith, left, n.ensures) in (
-      omega arith,
-      subst (λ (m : ℕ). MarkedTo a.x a.y m a.masks.now c.mark_word.new.masks) next
-          (marked_word a.x a.y a.masks.now (word_bits * k.k) n.result c.word_of.result c.word_of-in-loop-k.result k.masks c.mark_word.new.masks
-          (subst (λ (m : ℕ). MarkedTo a.x a.y m a.masks.now k.masks) start k.invariant.1) c.mark_word.ensures
-          (λ e l. c.word_of.ensures e (omega (arith, n.ensures))) (λ e l. c.word_of-in-loop-k.ensures e (omega (arith, n.ensures)))),
-    )
+    let next : word_bits * k.k + n.result ≡ min a.top (word_bits * (k.k + 1)) = omega (arith, left, n.ensures) in
+    subst (λ (m : ℕ). MarkedTo a.x a.y m a.masks.now c.mark_word.new.masks) next
+    (marked_word a.x a.y a.masks.now (word_bits * k.k) n.result c.word_of.result c.word_of-in-loop-k.result k.masks c.mark_word.new.masks
+    (subst (λ (m : ℕ). MarkedTo a.x a.y m a.masks.now k.masks) start k.invariant) c.mark_word.ensures
+    (λ e l. c.word_of.ensures e (omega (arith, n.ensures))) (λ e l. c.word_of-in-loop-k.ensures e (omega (arith, n.ensures))))
 
 pub returns : goal.returns
 unfolding room
@@ -66,4 +61,4 @@ returns c =
     let k = c.loop-k in
     let a = c.args in
     let z : min a.top (word_bits * k.k) ≡ a.top = omega (arith, c.requires.0) in
-    subst (λ (n : ℕ). MarkedTo a.x a.y n a.masks.now k.masks) z k.invariant.1
+    subst (λ (n : ℕ). MarkedTo a.x a.y n a.masks.now k.masks) z k.invariant

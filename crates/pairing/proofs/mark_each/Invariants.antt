@@ -5,7 +5,4 @@ use Rattle.pairing.specs.Masks.{MarkedTo}
 use Rattle.pairing.proofs.mark_each.Given as goal
 
 abbrev pub invariant-loop-k : goal.invariant-loop-k
-invariant-loop-k l = (l.k ≤ 4) × MarkedTo l.x l.y (min l.top (word_bits * l.k)) l.initial.masks l.masks
-
-abbrev pub decreases-loop-k : goal.decreases-loop-k
-decreases-loop-k l = 4 - l.k
+invariant-loop-k l = MarkedTo l.x l.y (min l.top (word_bits * l.k)) l.initial.masks l.masks

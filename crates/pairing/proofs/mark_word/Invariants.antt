@@ -4,7 +4,4 @@ use Rattle.pairing.specs.Masks.{MarkedIn}
 use Rattle.pairing.proofs.mark_word.Given as goal
 
 abbrev pub invariant-loop-e : goal.invariant-loop-e
-invariant-loop-e l = (l.e ≤ l.n) × MarkedIn l.x l.y l.from l.e l.initial.masks l.masks
-
-abbrev pub decreases-loop-e : goal.decreases-loop-e
-decreases-loop-e l = l.n - l.e
+invariant-loop-e l = MarkedIn l.x l.y l.from l.e l.initial.masks l.masks

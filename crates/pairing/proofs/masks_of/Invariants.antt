@@ -6,7 +6,4 @@ use Rattle.pairing.specs.Masks.{MasksAre}
 use Rattle.pairing.proofs.masks_of.Given as goal
 
 abbrev pub invariant-loop-i : goal.invariant-loop-i
-invariant-loop-i l = (l.i ≤ l.n) × (length l.masks ≡ 256) × MasksAre l.xs l.ys l.i l.top l.masks
-
-abbrev pub decreases-loop-i : goal.decreases-loop-i
-decreases-loop-i l = l.n - l.i
+invariant-loop-i l = (length l.masks ≡ 256) × MasksAre l.xs l.ys l.i l.top l.masks

@@ -9,7 +9,7 @@ use Rattle.pairing.proofs.note_words.Goals as goal
 
 pub loop-f-init : goal.loop-f-init
 unfolding entries_of
-loop-f-init c = (omega arith, noted_none _ _ _)
+loop-f-init c = noted_none _ _ _
 
 pub offset_bounds-words-f : goal.offset_bounds-words-f
 unfolding room
@@ -23,30 +23,22 @@ pub note-noted-requires : goal.note-noted-requires
 note-noted-requires c =
     let k = c.loop-f in
     let small = c.requires.2 k.f (omega arith) in
-    (small.0, omega (arith, small.1, k.invariant.1.long_seen), omega (arith, k.invariant.1.few, k.invariant.1.long_list, entries_length c.args.words.now k.f))
-
-pub overflow_add-f : goal.overflow_add-f
-unfolding room
-overflow_add-f c = omega arith
-
-pub loop-f-smaller : goal.loop-f-smaller
-unfolding room
-loop-f-smaller c = omega arith
+    (small.0, omega (arith, small.1, k.invariant.long_seen), omega (arith, k.invariant.few, k.invariant.long_list, entries_length c.args.words.now k.f))
 
 pub loop-f-preserved : goal.loop-f-preserved
 loop-f-preserved c =
     let k = c.loop-f in
-    (omega arith, entry_noted c.args.words.now k.f k.invariant.1 c.note-noted.ensures)
+    entry_noted c.args.words.now k.f k.invariant c.note-noted.ensures
 
 pub shape_of-seen : goal.shape_of-seen
-shape_of-seen c = c.loop-f.invariant.1.long_seen
+shape_of-seen c = c.loop-f.invariant.long_seen
 
 pub shape_of-list : goal.shape_of-list
-shape_of-list c = c.loop-f.invariant.1.long_list
+shape_of-list c = c.loop-f.invariant.long_list
 
 pub returns : goal.returns
 returns c =
     let k = c.loop-f in
     let a = c.args in
     let z : k.f ≡ a.e + 1 = omega arith in
-    subst (λ (x : ℕ). Noted (entries_of a.words.now x) a.seen.now a.list.now a.count k.seen k.list k.noted) z k.invariant.1
+    subst (λ (x : ℕ). Noted (entries_of a.words.now x) a.seen.now a.list.now a.count k.seen k.list k.noted) z k.invariant

@@ -15,8 +15,12 @@ pub bounds-masks-e : goal.bounds-masks-e
 unfolding room
 bounds-masks-e c = omega arith
 
+pub overflow_add-f-end : goal.overflow_add-f-end
+unfolding room
+overflow_add-f-end c = omega arith
+
 pub loop-f-init : goal.loop-f-init
-loop-f-init c = (omega arith, pairs_in_none _ _ _ _ c.requires.1)
+loop-f-init c = pairs_in_none _ _ _ _ c.requires.1
 
 pub offset_bounds-masks-f : goal.offset_bounds-masks-f
 unfolding room
@@ -34,24 +38,16 @@ pub bounds-words-f : goal.bounds-words-f
 unfolding room
 bounds-words-f c = omega arith
 
-pub overflow_add-f : goal.overflow_add-f
-unfolding room
-overflow_add-f c = omega arith
-
-pub loop-f-smaller : goal.loop-f-smaller
-unfolding room
-loop-f-smaller c = omega arith
-
 pub loop-f-preserved : goal.loop-f-preserved
 unfolding pair_word room
 loop-f-preserved c =
     let a = c.args in
     let k = c.loop-f in
-    (omega arith, pairs_in_more a.zeros a.masks.now a.e k.f k.words k.invariant.1 (omega arith))
+    pairs_in_more a.zeros a.masks.now a.e k.f k.words k.invariant (omega arith)
 
 pub returns : goal.returns
 returns c =
     let k = c.loop-f in
     let a = c.args in
     let z : k.f ≡ a.e + 1 = omega arith in
-    subst (λ (x : ℕ). PairsIn a.zeros a.masks.now a.e x k.words) z k.invariant.1
+    subst (λ (x : ℕ). PairsIn a.zeros a.masks.now a.e x k.words) z k.invariant

@@ -4,7 +4,4 @@ use Rattle.pairing.specs.Masks.{PairsIn}
 use Rattle.pairing.proofs.pair_words.Given as goal
 
 abbrev pub invariant-loop-f : goal.invariant-loop-f
-invariant-loop-f l = (l.f ≤ l.e + 1) × PairsIn l.zeros l.masks l.e l.f l.words
-
-abbrev pub decreases-loop-f : goal.decreases-loop-f
-decreases-loop-f l = l.e + 1 - l.f
+invariant-loop-f l = PairsIn l.zeros l.masks l.e l.f l.words

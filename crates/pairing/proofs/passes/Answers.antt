@@ -19,16 +19,16 @@ bounds-table-at c = masked (bit_xor c.args.row c.args.contacts) c.args.low 1024 
 pub returns-then-lone : goal.returns-then-lone
 returns-then-lone c =
     let a = c.args in
-    c.if-lone.true ∙ sym (test_on a.table.now a.lone a.contacts a.low a.row (sym c.wide.ensures ∙ c.if-wide-t.true)
+    c.if-lone.true ∙ sym (test_on a.table.now a.lone a.contacts a.low a.row (sym c.from.ensures ∙ c.if-from-t.true)
     ∙ ap (λ (b : Bool). b || not (eqb (bit_xor a.row a.contacts) 0)) c.if-lone.true)
 
 pub returns-else-lone : goal.returns-else-lone
 returns-else-lone c =
     let a = c.args in
-    sym (test_on a.table.now a.lone a.contacts a.low a.row (sym c.wide.ensures ∙ c.if-wide-t.true)
+    sym (test_on a.table.now a.lone a.contacts a.low a.row (sym c.from.ensures ∙ c.if-from-t.true)
     ∙ ap (λ (b : Bool). b || not (eqb (bit_xor a.row a.contacts) 0)) c.if-lone.false)
 
-pub returns-else-wide-t : goal.returns-else-wide-t
-returns-else-wide-t c =
+pub returns-else-from-t : goal.returns-else-from-t
+returns-else-from-t c =
     let a = c.args in
-    sym (test_off a.table.now a.lone a.contacts a.low a.row (λ h. c.if-wide-t.false (c.wide.ensures ∙ h)))
+    sym (test_off a.table.now a.lone a.contacts a.low a.row (λ h. c.if-from-t.false (c.from.ensures ∙ h)))

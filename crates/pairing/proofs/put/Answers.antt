@@ -21,9 +21,6 @@ offset_bounds-table-at c = omega (arith, (masked c.args.k c.args.low 1024 c.requ
 pub bounds-table-at : goal.bounds-table-at
 bounds-table-at c = masked c.args.k c.args.low 1024 c.requires.1
 
-pub offset_bounds-table-at-2 : goal.offset_bounds-table-at-2
-offset_bounds-table-at-2 c = omega (arith, (masked c.args.k c.args.low 1024 c.requires.1))
-
 pub bounds-table-at-2 : goal.bounds-table-at-2
 bounds-table-at-2 c = masked c.args.k c.args.low 1024 c.requires.1
 

@@ -11,37 +11,33 @@ use Rattle.pairing.specs.Listed.{Takes, puts, puts_all}
 use Rattle.pairing.proofs.Words.{takes_none, takes_more, puts_next}
 use Rattle.pairing.proofs.put_all.Goals as goal
 
-pub loop-i-init : goal.loop-i-init
+pub loop-word-init : goal.loop-word-init
 unfolding puts_all
-loop-i-init c = (omega arith, c.requires.0, takes_none _ _ (λ s p. refl))
-
-pub wide-requires : goal.wide-requires
-wide-requires c = tt
+loop-word-init c = (c.requires.0, takes_none _ _ (λ s p. refl))
 
 pub put-requires : goal.put-requires
 put-requires c =
-    let k = c.loop-i in
-    let w = get_or c.args.list.now k.i 0 in (
-      k.invariant.2.long ∙ k.invariant.1,
+    let k = c.loop-word in
+    let w = get_or c.args.list.now k.word-index 0 in (
+      k.invariant.1.long ∙ k.invariant.0,
       c.requires.1,
-      omega (arith, c.wide.ensures, shr_le c.wide.result c.args.s, c.type_inv.list k.i),
+      omega (arith, c.from.ensures, shr_le c.from.result c.args.s, c.type_inv.list k.word-index),
     )
 
-pub loop-i-preserved : goal.loop-i-preserved
-loop-i-preserved c =
-    let k = c.loop-i in
+pub loop-word-preserved : goal.loop-word-preserved
+loop-word-preserved c =
+    let k = c.loop-word in
     let a = c.args in (
-      omega arith,
-      k.invariant.1,
-      takes_more _ _ _ _ _ _ k.invariant.2 c.put.ensures
-          (λ t p. puts_next a.s a.left a.low a.list.now k.i (omega arith) t p
-          ∙ ap (λ (x : ℕ). puts_all a.s a.left a.low (take k.i a.list.now) t p || puts a.left a.low (x / 2 ^ a.s) t p) (sym c.wide.ensures)),
+      k.invariant.0,
+      takes_more _ _ _ _ _ _ k.invariant.1 c.put.ensures
+          (λ t p. puts_next a.s a.left a.low a.list.now k.word-index (omega arith) t p
+          ∙ ap (λ (x : ℕ). puts_all a.s a.left a.low (take k.word-index a.list.now) t p || puts a.left a.low (x / 2 ^ a.s) t p) (sym c.from.ensures)),
     )
 
 pub returns : goal.returns
 returns c =
-    let k = c.loop-i in
+    let k = c.loop-word in
     let a = c.args in
-    let z : k.i ≡ length a.list.now = omega arith in
+    let z : k.word-index ≡ length a.list.now = omega arith in
     subst (λ (x : List ℕ). Takes (puts_all a.s a.left a.low x) a.table.now k.table)
-    (ap (λ (x : ℕ). take x a.list.now) z ∙ take-length a.list.now) k.invariant.2
+    (ap (λ (x : ℕ). take x a.list.now) z ∙ take-length a.list.now) k.invariant.1

@@ -5,9 +5,6 @@ use lib.ListN.{length, take}
 use Rattle.pairing.specs.Listed.{Takes, puts_all}
 use Rattle.pairing.proofs.put_all.Given as goal
 
-abbrev pub invariant-loop-i : goal.invariant-loop-i
-invariant-loop-i l =
-    (l.i ≤ length l.list) × (length l.initial.table ≡ 1024) × Takes (puts_all l.s l.left l.low (take l.i l.list)) l.initial.table l.table
-
-abbrev pub decreases-loop-i : goal.decreases-loop-i
-decreases-loop-i l = length l.list - l.i
+abbrev pub invariant-loop-word : goal.invariant-loop-word
+invariant-loop-word l =
+    (length l.initial.table ≡ 1024) × Takes (puts_all l.s l.left l.low (take l.word-index l.list)) l.initial.table l.table

@@ -1,15 +1,16 @@
--- `pairing::tested` meets its contract: so far the rows below `at` are tested. Assumes nothing.
+-- `pairing::tested` meets its contract: so far the rows below some place are tested, and those from it on are left. Assumes nothing.
 use mathlib.Core.Path.{◌≡◌}
-use Prim.Native.Nat.{◌+◌, ◌-◌, ◌≤◌}
-use Rattle.evalset.specs.Bit.{word_bits, bit}
+use Prim.Native.Nat.{ℕ, ◌+◌}
+use Rattle.evalset.specs.Bit.{bit}
 use Rattle.evalset.specs.Sets.{from_of}
 use Rattle.pairing.specs.Words.{row_test}
 use Rattle.pairing.proofs.Testing.{TestedTo}
+use Rattle.pairing.proofs.Walking.{places_left}
 use Rattle.pairing.proofs.tested.Given as goal
 
-abbrev pub invariant-loop-at : goal.invariant-loop-at
-invariant-loop-at l =
-    (l.at ≤ word_bits) × (l.initial.out ≡ l.initial.rest) × (bit l.rest ≡ from_of l.at (bit l.initial.rest)) × TestedTo (λ e. row_test l.table l.lone l.contacts l.low (l.start + e)) (bit l.initial.rest) l.at (bit l.out)
+abbrev pub invariant-loop-e : goal.invariant-loop-e
+invariant-loop-e l =
+    (at : ℕ) × (bit l.rest ≡ from_of at (bit l.set)) × TestedTo (λ e. row_test l.table l.lone l.contacts l.low (l.start + e)) (bit l.set) at (bit l.out)
 
-abbrev pub decreases-loop-at : goal.decreases-loop-at
-decreases-loop-at l = word_bits - l.at
+abbrev pub decreases-loop-e : goal.decreases-loop-e
+decreases-loop-e l = places_left l.rest

@@ -26,11 +26,11 @@ overflow_sub-zeros c =
 
 pub loop-e-init : goal.loop-e-init
 unfolding all_pairs
-loop-e-init c = (omega arith, refl, noted_none _ _ _)
+loop-e-init c = (refl, noted_none _ _ _)
 
 pub pair_words-requires : goal.pair_words-requires
 pair_words-requires c =
-    (omega (arith, c.requires.fits, c.keep_different-classes.ensures.few), c.loop-e.invariant.1)
+    (omega (arith, c.requires.fits, c.keep_different-classes.ensures.few), c.loop-e.invariant.0)
 
 pub note_words-count-requires : goal.note_words-count-requires
 unfolding room
@@ -46,8 +46,8 @@ note_words-count-requires c =
       omega (arith, c.requires.fits, kept.ensures.few),
       omega (
         arith,
-        c.loop-e.invariant.2.few,
-        c.loop-e.invariant.2.long_list,
+        c.loop-e.invariant.1.few,
+        c.loop-e.invariant.1.long_list,
         all_length (65535 - c.args.contacts) kept.new.masks e,
         count_next e kept.result (omega arith),
         count_grows kept.result c.args.top kept.ensures.few,
@@ -58,23 +58,22 @@ note_words-count-requires c =
           let b = member f (omega arith) in
           let small = pair_small chart.atoms c.args.contacts (entry kept.new.masks e) (entry kept.new.masks f) few a.3.first_is.small b.3.first_is.small in
           let is = words.are f (omega arith) in
-          (omega (arith, is, small, pow_mono {i = chart.atoms} {j = 16} c.requires.few), omega (arith, is, small, c.requires.bits, c.loop-e.invariant.2.long_seen)),
+          (omega (arith, is, small, pow_mono {i = chart.atoms} {j = 16} c.requires.few), omega (arith, is, small, c.requires.bits, c.loop-e.invariant.1.long_seen)),
     )
 
 pub loop-e-preserved : goal.loop-e-preserved
 loop-e-preserved c =
     let words = c.pair_words.ensures in (
-      omega (arith, c.loop-e-test.true),
       words.long,
-      all_noted (65535 - c.args.contacts) c.keep_different-classes.new.masks c.loop-e.e _ words c.loop-e.invariant.2
+      all_noted (65535 - c.args.contacts) c.keep_different-classes.new.masks c.loop-e.e _ words c.loop-e.invariant.1
           c.note_words-count.ensures,
     )
 
 pub shape_of-seen : goal.shape_of-seen
-shape_of-seen c = c.loop-e.invariant.2.long_seen
+shape_of-seen c = c.loop-e.invariant.1.long_seen
 
 pub shape_of-list : goal.shape_of-list
-shape_of-list c = c.loop-e.invariant.2.long_list
+shape_of-list c = c.loop-e.invariant.1.long_list
 
 pub returns : goal.returns
 unfolding room
@@ -87,19 +86,19 @@ returns c =
     let z : c.loop-e.e ≡ kept.result = omega arith in
     let few : c.loop-e.count ≤ pair_count a.top = omega (
       arith,
-      c.loop-e.invariant.2.few,
+      c.loop-e.invariant.1.few,
       all_length zeros classes c.loop-e.e,
       ap pair_count z,
       count_grows kept.result a.top kept.ensures.few,
     ) in
     record {
-      long = c.loop-e.invariant.2.long_list;
-      fits = omega (arith, few, c.loop-e.invariant.2.long_list, c.requires.places);
+      long = c.loop-e.invariant.1.long_list;
+      fits = omega (arith, few, c.loop-e.invariant.1.long_list, c.requires.places);
       are = λ atoms h.
           let top : a.top ≡ 2 ^ a.chart.names = c.requires.top_is h.few in
           list_serves a.chart atoms h a.contacts c.requires.few c.requires.contacts_are masks.result classes kept.result
           (omega (arith, top, masks.ensures.0, c.requires.fits))
           (subst (λ (x : ℕ). MasksAre a.chart.xs a.chart.ys a.chart.atoms x masks.result) top masks.ensures.1)
           (subst (λ (x : ℕ). Kept (lowest_of a.chart.names) x masks.result classes kept.result) top kept.ensures) a.seen.now a.list.now c.loop-e.seen c.loop-e.list c.loop-e.count
-          c.requires.none (subst (λ (x : ℕ). Noted (all_pairs zeros classes x) a.seen.now a.list.now 0 c.loop-e.seen c.loop-e.list c.loop-e.count) z c.loop-e.invariant.2);
+          c.requires.none (subst (λ (x : ℕ). Noted (all_pairs zeros classes x) a.seen.now a.list.now 0 c.loop-e.seen c.loop-e.list c.loop-e.count) z c.loop-e.invariant.1);
     }

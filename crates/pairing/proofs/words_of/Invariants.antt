@@ -8,7 +8,4 @@ use Rattle.pairing.proofs.words_of.Given as goal
 
 abbrev pub invariant-loop-e : goal.invariant-loop-e
 invariant-loop-e l =
-    (l.e ≤ l.classes) × (length l.words ≡ 256) × Noted (all_pairs l.zeros l.masks l.e) l.initial.seen l.initial.list 0 l.seen l.list l.count
-
-abbrev pub decreases-loop-e : goal.decreases-loop-e
-decreases-loop-e l = l.classes - l.e
+    (length l.words ≡ 256) × Noted (all_pairs l.zeros l.masks l.e) l.initial.seen l.initial.list 0 l.seen l.list l.count

@@ -14,15 +14,15 @@ use Rattle.evalset.proofs.Walk.{from_zero, Step, step, stop}
 use Rattle.plan.proofs.ascending.Goals as goal
 
 -- the evaluation that was taken
-taken : (c : goal.In-At)
-    → Step room c.loop-from.from c.in-At.e
+taken : (c : goal.In-Some)
+    → Step room c.loop-from.from c.in-Some.e
     (mem c.args.s) (mem c.loop-from.rest)
 taken c =
     step room _ _ _ c.loop-from.invariant.1 _
-    (sym c.least.ensures ∙ c.in-At.is)
+    (sym c.least.ensures ∙ c.in-Some.is)
 
 -- there is room for it
-fits : (c : goal.In-At) → c.loop-from.count < room
+fits : (c : goal.In-Some) → c.loop-from.count < room
 fits c =
     let loop = c.loop-from in
     omega (arith, loop.invariant.2, (taken c).within, (taken c).low, keep_length (mem c.args.s) loop.from)
@@ -62,7 +62,7 @@ pub loop-from-preserved : goal.loop-from-preserved
 loop-from-preserved c =
     let t = taken c.before in
     let loop = c.loop-from in
-    let e = c.in-At.e in
+    let e = c.in-Some.e in
     let so_far : List ℕ = keep (mem c.args.s) (below loop.from) in (
       omega (arith, t.within),
       c.without-rest.ensures ∙ t.rest,

@@ -2,8 +2,8 @@
 use borrow.Enum.Refused.{opened}
 use mathlib.Core.Path.{sym, ap, ◌∙◌}
 use native.Mathlib.Omega.{arith}
-use Rattle.plan.specs.declared.Linking.TheVariants.{Over}
-use Rattle.plan.specs.Private.{linking_of}
+use Rattle.std.proofs.lemmas.Result.{err_from_is_err_and}
+use Rattle.plan.specs.Private.{over_by, linking_of}
 use Rattle.plan.proofs.ReadLoop.{not_link, link_equal, link_far, link_late, link_taken}
 use Rattle.plan.proofs.contact.Goals as goal
 
@@ -32,10 +32,16 @@ returns-else-key-low c =
     link_taken a.count a.low a.at a.len a.word w.smaller w.larger w.is
     (omega arith) (omega arith) (omega arith)
 
-pub returns-in-Last : goal.returns-in-Last
-returns-in-Last c =
+pub returns-in_err-last-in-Last : goal.returns-in_err-last-in-Last
+returns-in_err-last-in-Last c =
     let a = c.args in
-    ap Over c.last.ensures ∙ sym (ap (linking_of a.count a.low a.at a.len) c.in-Last.is)
+    let p = err_from_is_err_and c.from_residual.result c.from_residual.ensures.1 in
+    rw (p.1, p.2) (ap over_by c.in_err-last-in-Last.ensures ∙ sym (ap (linking_of a.count a.low a.at a.len) c.in-Last.is))
+
+pub returns-in_ok-last-in-Last : goal.returns-in_ok-last-in-Last
+returns-in_ok-last-in-Last c =
+    let a = c.args in
+    ap over_by c.in_ok-last-in-Last.ensures ∙ sym (ap (linking_of a.count a.low a.at a.len) c.in-Last.is)
 
 pub returns-in_default : goal.returns-in_default
 returns-in_default c =

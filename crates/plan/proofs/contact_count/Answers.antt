@@ -14,10 +14,7 @@ use Rattle.plan.proofs.contact_count.Goals as goal
 pub loop-i-init : goal.loop-i-init
 loop-i-init c =
     let a = c.args in
-    (omega arith, sym (ap length (links_none a.n (rows_by a.n a.points (mem a.given) (square_at a.apart.now)))))
-
-pub row_size-size-requires : goal.row_size-size-requires
-row_size-size-requires c = (omega arith, omega arith)
+    sym (ap length (links_none a.n (rows_by a.n a.points (mem a.given) (square_at a.apart.now))))
 
 pub overflow_add-size : goal.overflow_add-size
 overflow_add-size c =
@@ -27,7 +24,7 @@ overflow_add-size c =
       arith,
       c.row_size-size.ensures,
       row_small a.n k.i (mem c.contact_row-row.result),
-      k.invariant.1,
+      k.invariant,
       links_small k.i a.n (rows_by a.n a.points (mem a.given) (square_at a.apart.now)) c.requires.0,
     )
 
@@ -35,15 +32,13 @@ pub loop-i-preserved : goal.loop-i-preserved
 loop-i-preserved c =
     let a = c.args in
     let k = c.loop-i in
-    let t = rows_by a.n a.points (mem a.given) (square_at a.apart.now) in (
-      omega arith,
-      ap₂ ◌+◌ k.invariant.1 (c.row_size-size.ensures ∙ ap (λ (row : ℕ → Bool). length (row_to a.n k.i row)) c.contact_row-row.ensures)
-          ∙ sym (length-append (links_to k.i a.n t) (row_to a.n k.i (t k.i))) ∙ ap length (links_more k.i a.n t),
-    )
+    let t = rows_by a.n a.points (mem a.given) (square_at a.apart.now) in
+    ap₂ ◌+◌ k.invariant (c.row_size-size.ensures ∙ ap (λ (row : ℕ → Bool). length (row_to a.n k.i row)) c.contact_row-row.ensures)
+    ∙ sym (length-append (links_to k.i a.n t) (row_to a.n k.i (t k.i))) ∙ ap length (links_more k.i a.n t)
 
 pub returns : goal.returns
 returns c =
     let a = c.args in
     let k = c.loop-i in
     let e : k.i ≡ a.n = omega arith in
-    k.invariant.1 ∙ ap (λ (x : ℕ). length (links_to x a.n (rows_by a.n a.points (mem a.given) (square_at a.apart.now)))) e
+    k.invariant ∙ ap (λ (x : ℕ). length (links_to x a.n (rows_by a.n a.points (mem a.given) (square_at a.apart.now)))) e

@@ -1,5 +1,4 @@
 -- `plan::contact_count` meets its contract: the contacts are the rows' one after the other. Assumes nothing.
-use Prim.Native.Nat.{◌-◌, ◌≤◌}
 use mathlib.Core.Path.{◌≡◌}
 use lib.ListN.{length}
 use Rattle.evalset.specs.Sets.{mem}
@@ -9,7 +8,4 @@ use Rattle.plan.specs.Private.{rows_by}
 use Rattle.plan.proofs.contact_count.Given as goal
 
 abbrev pub invariant-loop-i : goal.invariant-loop-i
-invariant-loop-i l = (l.i ≤ l.n) × (l.size ≡ length (links_to l.i l.n (rows_by l.n l.points (mem l.given) (square_at l.apart))))
-
-abbrev pub decreases-loop-i : goal.decreases-loop-i
-decreases-loop-i l = l.n - l.i
+invariant-loop-i l = l.size ≡ length (links_to l.i l.n (rows_by l.n l.points (mem l.given) (square_at l.apart)))

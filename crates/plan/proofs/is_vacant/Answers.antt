@@ -12,6 +12,6 @@ pub returns : goal.returns
 unfolding room
 returns c =
     let a = c.args in
-    let n = c.clamped-n.ensures in
+    let n = c.min-n.ensures in
     c.is_empty.ensures ∙ ap (λ (p : ℕ → Bool). not (any p (below room))) c.places.ensures
     ∙ vacant_is a.plan _ n (omega arith) (mem a.t)

@@ -15,29 +15,29 @@ overflow_add-j c =
     let a = c.args in
     let loop = c.loop-j in
     let word = c.word_of-word in
-    let least = c.word_least-found in
+    let least = c.word_least in
     let small : word.result < 2 ^ word_bits = omega arith in
-    let given = c.in-At in
+    let given = c.in-Some in
     let x = next_within (mem a.row) a.from a.n loop.j word.result loop.invariant.0 (omega arith) loop.invariant.1 word.ensures small given.x (sym least.ensures ∙ given.is) in
     omega (arith, x)
 
-pub returns-in-At : goal.returns-in-At
-returns-in-At c =
+pub returns-in-Some : goal.returns-in-Some
+returns-in-Some c =
     let a = c.args in
     let loop = c.loop-j in
     let word = c.word_of-word in
-    let least = c.word_least-found in
+    let least = c.word_least in
     let small : word.result < 2 ^ word_bits = omega arith in
-    let given = c.in-At in
+    let given = c.in-Some in
     next_found (mem a.row) a.from a.n loop.j word.result loop.invariant.0 (omega arith) loop.invariant.1 word.ensures small given.x (sym least.ensures ∙ given.is)
-    c.least_of.result c.least_of.ensures
+    c.min.result c.min.ensures
 
 pub loop-j-preserved : goal.loop-j-preserved
 loop-j-preserved c =
     let a = c.args in
     let loop = c.loop-j in
     let word = c.word_of-word in
-    let least = c.word_least-found in
+    let least = c.word_least in
     let small : word.result < 2 ^ word_bits = omega arith in
     (omega arith, next_none (mem a.row) a.from a.n loop.j word.result loop.invariant.0 (omega arith) loop.invariant.1 word.ensures small (sym least.ensures ∙ c.in_default.is))
 

@@ -3,9 +3,10 @@ use native.Mathlib.Omega.{arith}
 use Prim.Native.Nat.{◌+◌, ◌*◌}
 use mathlib.Core.Path.{sym, ap, ◌∙◌}
 use mathlib.Core.Bool.{Bool, ◌&&◌}
-use mathlib.Core.Logic.{inl, inr}
+use mathlib.Core.Logic.{inl, inr, ⊎_elim}
 use borrow.Author.Tests.{le-ltb}
 use lib.ListN.{get_or}
+use Rattle.lists.proofs.Truth.{side}
 use Rattle.evalset.specs.Sets.{mem}
 use Rattle.evalset.specs.Arrays.{positions_of}
 use Rattle.evalset.proofs.Bits.{bit_none}
@@ -16,24 +17,15 @@ pub loop-j-init : goal.loop-j-init
 loop-j-init c =
     let a = c.args in (
       omega arith,
-      omega arith,
       λ e. bit_none e ∙ sym (ap (λ (b : Bool). b && mem a.x (get_or a.points (64 * a.k + e) 0)) (le-ltb (64 * a.k + e) (64 * a.k) (omega arith))),
     )
-
-pub returns-then-start-j : goal.returns-then-start-j
-unfolding positions_of
-returns-then-start-j c =
-    let a = c.args in
-    let at = c.loop-j in
-    λ e l. held_all (64 * a.k) at.j a.n (λ i. mem a.x (get_or a.points i 0)) at.word e at.invariant.2 at.invariant.1 (inr (omega arith))
 
 pub loop-j-preserved : goal.loop-j-preserved
 loop-j-preserved c =
     let a = c.args in
     let at = c.loop-j in (
       omega arith,
-      omega arith,
-      held_more (64 * a.k) at.j (λ i. mem a.x (get_or a.points i 0)) at.word _ _ at.invariant.0 at.invariant.2 c.contains.ensures c.with_place-word.ensures,
+      held_more (64 * a.k) at.j (λ i. mem a.x (get_or a.points i 0)) at.word _ _ (omega arith) at.invariant.1 c.contains.ensures c.with_place-word.ensures,
     )
 
 pub returns : goal.returns
@@ -41,4 +33,5 @@ unfolding positions_of
 returns c =
     let a = c.args in
     let at = c.loop-j in
-    λ e l. held_all (64 * a.k) at.j a.n (λ i. mem a.x (get_or a.points i 0)) at.word e at.invariant.2 at.invariant.1 (inl (omega arith))
+    λ e l. held_all (64 * a.k) at.j a.n (λ i. mem a.x (get_or a.points i 0)) at.word e at.invariant.1 at.invariant.0
+    (⊎_elim (λ m. inr (omega arith)) (λ m. inl (omega arith)) (side (64 * a.k + 64) a.n))

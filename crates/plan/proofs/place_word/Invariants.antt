@@ -6,7 +6,4 @@ use Rattle.plan.proofs.WordOf.{Held}
 use Rattle.plan.proofs.place_word.Given as goal
 
 abbrev pub invariant-loop-j : goal.invariant-loop-j
-invariant-loop-j l = (l.start ≤ l.j) × (l.j ≤ l.start + (l.n - l.start)) × Held l.start l.j (λ i. mem l.x (get_or l.points i 0)) l.word
-
-abbrev pub decreases-loop-j : goal.decreases-loop-j
-decreases-loop-j l = l.n - l.j
+invariant-loop-j l = (l.j ≤ l.start + (l.n - l.start)) × Held l.start l.j (λ i. mem l.x (get_or l.points i 0)) l.word

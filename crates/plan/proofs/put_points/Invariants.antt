@@ -1,15 +1,11 @@
 -- `plan::put_points` meets its contract: so far the first i points are written. Assumes nothing.
-use Prim.Native.Nat.{◌-◌, ◌≤◌}
 use mathlib.Core.Path.{◌≡◌}
 use mathlib.Core.List.{map}
-use lib.ListN.{length, take}
+use lib.ListN.{take}
 use Rattle.lists.specs.Putting.{written}
 use Rattle.plan.specs.Words.{point_word}
 use Rattle.plan.proofs.put_points.Given as goal
 
 abbrev pub invariant-loop-i : goal.invariant-loop-i
 invariant-loop-i l =
-    (l.i ≤ l.n) × (length l.buffer ≡ length l.initial.buffer) × (l.buffer ≡ written 1 (map point_word (take l.i l.points)) l.initial.buffer)
-
-abbrev pub decreases-loop-i : goal.decreases-loop-i
-decreases-loop-i l = l.n - l.i
+    l.buffer ≡ written 1 (map point_word (take l.i l.points)) l.initial.buffer

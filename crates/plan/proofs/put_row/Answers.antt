@@ -7,13 +7,10 @@ use lib.ListN.{length}
 use Rattle.evalset.specs.Sets.{mem}
 use Rattle.plan.specs.Links.{row_to}
 use Rattle.plan.specs.Private.{Wrote}
-use Rattle.plan.proofs.Buffer.{wrote_none, wrote_next, wrote_length, wrote_one}
+use Rattle.plan.proofs.Buffer.{wrote_none, wrote_next, wrote_one}
 use Rattle.plan.proofs.Contacts.{row_first, row_next, row_within}
 use Rattle.plan.proofs.Writing.{row_fits}
 use Rattle.plan.proofs.put_row.Goals as goal
-
-pub next-j-requires : goal.next-j-requires
-next-j-requires c = (omega arith, omega arith)
 
 pub loop-j-init : goal.loop-j-init
 loop-j-init c =
@@ -53,12 +50,6 @@ overflow_add-end c =
     let room = row_fits a.at k.end a.n k.j a.i t a.buffer.now k.buffer k.invariant.0 (omega arith) (k.invariant.2 (omega arith)) fits k.invariant.3 in
     omega (arith, room.1)
 
-pub next-j-requires-in-loop-j : goal.next-j-requires-in-loop-j
-next-j-requires-in-loop-j c = (omega arith, omega arith)
-
-pub loop-j-smaller : goal.loop-j-smaller
-loop-j-smaller c = let next = c.next-j-in-loop-j.ensures in omega (arith, next.least, next.most)
-
 pub loop-j-preserved : goal.loop-j-preserved
 loop-j-preserved c =
     let a = c.args in
@@ -76,15 +67,6 @@ loop-j-preserved c =
           k.buffer k.end (row_next k.j a.n c.next-j-in-loop-j.result a.i t k.invariant.0 (k.invariant.2 (omega arith)) next)
           (omega arith) k.invariant.3 _ _ (wrote_one k.end key k.buffer room.0),
     )
-
-pub shape_of-buffer : goal.shape_of-buffer
-shape_of-buffer c =
-    let a = c.args in
-    let k = c.loop-j in
-    let t = mem a.row in
-    let fits : a.at + length (row_to a.n a.i t) ≤ length a.buffer.now = c.requires.2 in
-    let whole : length (row_to k.j a.i t) ≤ length (row_to a.n a.i t) = row_within k.j a.n a.i t (omega arith) in
-    wrote_length a.at (row_to k.j a.i t) a.buffer.now k.buffer k.end (omega arith) k.invariant.3
 
 pub returns : goal.returns
 returns c =

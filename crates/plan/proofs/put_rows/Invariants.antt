@@ -1,5 +1,4 @@
 -- `plan::put_rows` meets its contract: so far the rows below i are written. Assumes nothing.
-use Prim.Native.Nat.{◌-◌, ◌≤◌}
 use Rattle.evalset.specs.Sets.{mem}
 use Rattle.squares.specs.Square.{square_at}
 use Rattle.plan.specs.Links.{links_to}
@@ -7,7 +6,4 @@ use Rattle.plan.specs.Private.{rows_by, Wrote}
 use Rattle.plan.proofs.put_rows.Given as goal
 
 abbrev pub invariant-loop-i : goal.invariant-loop-i
-invariant-loop-i l = (l.i ≤ l.n) × Wrote l.at (links_to l.i l.n (rows_by l.n l.points (mem l.given) (square_at l.apart))) l.initial.buffer l.buffer l.end
-
-abbrev pub decreases-loop-i : goal.decreases-loop-i
-decreases-loop-i l = l.n - l.i
+invariant-loop-i l = Wrote l.at (links_to l.i l.n (rows_by l.n l.points (mem l.given) (square_at l.apart))) l.initial.buffer l.buffer l.end

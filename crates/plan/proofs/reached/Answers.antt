@@ -17,7 +17,7 @@ here : (square points : List ℕ) (k : ℕ) (row x ys : ℕ → Bool) (r : Bool)
 here square points k row x ys r e f = sym (e ∙ ap (λ (row : ℕ → Bool). reaches_of row (get_or points k 0) x ys) f)
 
 pub loop-a-init : goal.loop-a-init
-loop-a-init c = (omega arith, reached_none _ _ _ _)
+loop-a-init c = reached_none _ _ _ _
 
 pub returns-then-reaches : goal.returns-then-reaches
 returns-then-reaches c =
@@ -29,14 +29,12 @@ returns-then-reaches c =
 pub loop-a-preserved : goal.loop-a-preserved
 loop-a-preserved c =
     let a = c.args in
-    let k = c.loop-a in (
-      omega arith,
-      reached_more a.points (square_at a.square.now) (mem a.x) (mem a.ys) k.a k.invariant.1 (here a.square.now a.points k.a _ (mem a.x) (mem a.ys) _ c.reaches.ensures c.row_at-row.ensures ∙ c.if-reaches.false),
-    )
+    let k = c.loop-a in
+    reached_more a.points (square_at a.square.now) (mem a.x) (mem a.ys) k.a k.invariant (here a.square.now a.points k.a _ (mem a.x) (mem a.ys) _ c.reaches.ensures c.row_at-row.ensures ∙ c.if-reaches.false)
 
 pub returns : goal.returns
 returns c =
     let a = c.args in
     let k = c.loop-a in
     let z : k.a ≡ a.n = omega arith in
-    sym k.invariant.1 ∙ ap (λ (m : ℕ). reached_of m a.points (square_at a.square.now) (mem a.x) (mem a.ys)) z
+    sym k.invariant ∙ ap (λ (m : ℕ). reached_of m a.points (square_at a.square.now) (mem a.x) (mem a.ys)) z

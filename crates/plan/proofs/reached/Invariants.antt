@@ -1,5 +1,4 @@
 -- `plan::reached` meets its contract: no row so far reaches ys. Assumes nothing.
-use Prim.Native.Nat.{◌-◌, ◌≤◌}
 use mathlib.Core.Path.{◌≡◌}
 use mathlib.Core.Bool.{false}
 use Rattle.evalset.specs.Sets.{mem}
@@ -8,7 +7,4 @@ use Rattle.plan.specs.Private.{reached_of}
 use Rattle.plan.proofs.reached.Given as goal
 
 abbrev pub invariant-loop-a : goal.invariant-loop-a
-invariant-loop-a l = (l.a ≤ l.n) × (reached_of l.a l.points (square_at l.square) (mem l.x) (mem l.ys) ≡ false)
-
-abbrev pub decreases-loop-a : goal.decreases-loop-a
-decreases-loop-a l = l.n - l.a
+invariant-loop-a l = reached_of l.a l.points (square_at l.square) (mem l.x) (mem l.ys) ≡ false

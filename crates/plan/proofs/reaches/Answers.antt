@@ -20,5 +20,6 @@ pub returns-else-contains : goal.returns-else-contains
 unfolding reaches_of
 returns-else-contains c =
     let a = c.args in
-    sym (ap (λ (v : Bool). v && any (meet_of (mem a.row) (mem a.ys)) (below room))
+    c.if-contains.false
+    ∙ sym (ap (λ (v : Bool). v && any (meet_of (mem a.row) (mem a.ys)) (below room))
     (sym c.contains.ensures ∙ c.if-contains.false))

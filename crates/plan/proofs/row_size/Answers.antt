@@ -9,9 +9,6 @@ use Rattle.plan.specs.Links.{row_to}
 use Rattle.plan.proofs.Contacts.{row_first, row_next, row_small}
 use Rattle.plan.proofs.row_size.Goals as goal
 
-pub next-j-requires : goal.next-j-requires
-next-j-requires c = (omega arith, omega arith)
-
 pub loop-j-init : goal.loop-j-init
 loop-j-init c =
     let a = c.args in
@@ -23,12 +20,6 @@ overflow_add-size c =
     let a = c.args in
     let loop = c.loop-j in
     omega (arith, loop.invariant.3, row_small loop.j a.i (mem a.row))
-
-pub next-j-requires-in-loop-j : goal.next-j-requires-in-loop-j
-next-j-requires-in-loop-j c = (omega arith, omega arith)
-
-pub loop-j-smaller : goal.loop-j-smaller
-loop-j-smaller c = let next = c.next-j-in-loop-j.ensures in omega (arith, next.least, next.most)
 
 pub loop-j-preserved : goal.loop-j-preserved
 loop-j-preserved c =

@@ -11,7 +11,7 @@ pub returns : goal.returns
 unfolding room
 returns c =
     let a = c.args in
-    let n = c.clamped-n in
+    let n = c.min-n in
     c.reached.ensures ∙ ap (reached_of n.result a.plan.points (square_at a.square.now) (mem a.x))
     c.places-ys.ensures
     ∙ touches_is a.plan n.result n.ensures (omega arith) (square_at a.square.now) (mem a.x) (mem a.y)

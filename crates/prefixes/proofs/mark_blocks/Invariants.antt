@@ -1,11 +1,7 @@
 -- `prefixes::mark_blocks` meets its contract: block after block is filled. Assumes nothing.
-use Prim.Native.Nat.{◌+◌, ◌-◌, ◌*◌, ◌^◌, ◌≤◌}
+use Prim.Native.Nat.{◌+◌, ◌*◌, ◌^◌}
 use Rattle.prefixes.specs.Filled.{Fills}
 use Rattle.prefixes.proofs.mark_blocks.Given as goal
 
 abbrev pub invariant-loop-row : goal.invariant-loop-row
-invariant-loop-row l =
-    (l.row ≤ l.end) × Fills l.list l.contacts (l.k + l.d + l.s) (2 ^ (l.k + l.d)) (2 ^ (l.k + l.d) + l.row * 2 ^ l.d) l.initial.bits l.bits
-
-abbrev pub decreases-loop-row : goal.decreases-loop-row
-decreases-loop-row l = l.end - l.row
+invariant-loop-row l = Fills l.list l.contacts (l.k + l.d + l.s) (2 ^ (l.k + l.d)) (2 ^ (l.k + l.d) + l.row * 2 ^ l.d) l.initial.bits l.bits

@@ -1,10 +1,7 @@
 -- `prefixes::mark_levels` meets its contract: the rows of one atom more come after those of m atoms. Assumes nothing.
-use Prim.Native.Nat.{◌+◌, ◌-◌, ◌^◌, ◌≤◌}
+use Prim.Native.Nat.{◌^◌}
 use Rattle.prefixes.specs.Filled.{Fills}
 use Rattle.prefixes.proofs.mark_levels.Given as goal
 
 abbrev pub invariant-loop-m : goal.invariant-loop-m
-invariant-loop-m l = (l.m ≤ l.n + 1) × Fills l.list l.contacts l.n 1 (2 ^ l.m) l.initial.bits l.bits
-
-abbrev pub decreases-loop-m : goal.decreases-loop-m
-decreases-loop-m l = l.n + 1 - l.m
+invariant-loop-m l = Fills l.list l.contacts l.n 1 (2 ^ l.m) l.initial.bits l.bits

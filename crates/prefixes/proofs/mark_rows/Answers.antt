@@ -8,38 +8,32 @@ use Rattle.prefixes.proofs.Filling.{tested_none, tested_more}
 use Rattle.prefixes.proofs.mark_rows.Goals as goal
 
 pub loop-row-init : goal.loop-row-init
-loop-row-init c = (omega arith, c.requires.1, tested_none _ _ _ _)
+loop-row-init c = tested_none _ _ _ _
 
 pub passes-value-requires : goal.passes-value-requires
 passes-value-requires c = (c.requires.0, omega (arith, c.requires))
 
 pub overflow_add-top : goal.overflow_add-top
-overflow_add-top c = omega (arith, c.requires, c.loop-row.invariant)
+overflow_add-top c = omega (arith, c.requires)
 
 pub mark-requires : goal.mark-requires
 mark-requires c =
     let k = c.loop-row in
-    omega (arith, c.requires, k.invariant.2.long)
-
-pub overflow_add-row : goal.overflow_add-row
-overflow_add-row c = omega (arith, c.requires)
+    omega (arith, c.requires, k.invariant.long)
 
 pub loop-row-preserved : goal.loop-row-preserved
 loop-row-preserved c =
     let k = c.loop-row in
-    let a = c.args in (
-      omega (arith, k.invariant),
-      omega arith,
-      tested_more _ _ _ _ _ _ _ k.invariant.0 k.invariant.2
-          (subst (λ b. Marked (a.top + k.row) b k.bits c.mark.new.bits) c.passes-value.ensures c.mark.ensures),
-    )
+    let a = c.args in
+    tested_more _ _ _ _ _ _ _ (omega arith) k.invariant
+    (subst (λ b. Marked (a.top + k.row) b k.bits c.mark.new.bits) c.passes-value.ensures c.mark.ensures)
 
 pub shape_of-bits : goal.shape_of-bits
-shape_of-bits c = c.loop-row.invariant.2.long
+shape_of-bits c = c.loop-row.invariant.long
 
 pub returns : goal.returns
 returns c =
     let k = c.loop-row in
     let a = c.args in
-    let z : k.row ≡ a.end = omega (arith, k.invariant) in
-    subst (λ (x : ℕ). Tested (row_test a.table.now a.some a.contacts a.low) a.top a.start x a.bits.now k.bits) z k.invariant.2
+    let z : k.row ≡ a.end = omega (arith, c.requires) in
+    subst (λ (x : ℕ). Tested (row_test a.table.now a.some a.contacts a.low) a.top a.start x a.bits.now k.bits) z k.invariant

@@ -8,23 +8,23 @@ use native.Mathlib.Omega.{arith}
 use borrow.Author.Tests.{le-leb, lt-leb}
 use lib.ListN.{length, take, drop, length-drop}
 use lib.Seq.{take_all}
+use Rattle.std.specs.Prelude.{Ok, Err}
 use Rattle.lists.specs.Buffer.{over}
 use Rattle.printing.specs.Prints.{fits, Prints}
 use Rattle.printing.specs.Places.{text_to, Filled}
-use Rattle.printing.specs.declared.Printed.TheVariants.{Text, Needs}
 use Rattle.printing.proofs.print_to.Goals as goal
 
 module _ (ws made : List ℕ) (from : ℕ) (f : Filled ws made from) (buf : List ℕ) where
   long : 256 - from ≡ length ws
   long = omega (arith, ap length f.text, length-drop from made, f.whole)
 
-  too_short : length buf < 256 - from → Prints ws buf (Needs (256 - from)) buf
+  too_short : length buf < 256 - from → Prints ws buf (Err (record { needed = 256 - from })) buf
   too_short h =
       let b : fits ws buf ≡ false = lt-leb (length ws) (length buf) (omega (arith, long)) in
       record { answer = rw (b, long); bytes = rw b }
 
   enough : 256 - from ≤ length buf → (part : List ℕ) → part ≡ take (256 - from) (drop from made)
-      → Prints ws buf (Text (256 - from)) (part ++ drop (256 - from) buf)
+      → Prints ws buf (Ok (256 - from)) (part ++ drop (256 - from) buf)
   unfolding over
   enough h part e =
       let b : fits ws buf ≡ true = le-leb (length ws) (length buf) (omega (arith, long)) in

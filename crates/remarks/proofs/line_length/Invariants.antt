@@ -1,13 +1,9 @@
 -- `remarks::line_length` meets its contract: the first line is what was passed, and the first line of what is left. Assumes nothing.
 use mathlib.Core.Path.{◌≡◌}
 use mathlib.Core.List.{[], ◌++◌}
-use Prim.Native.Nat.{◌-◌, ◌≤◌}
-use lib.ListN.{length, get_or, take, drop}
+use lib.ListN.{get_or, take, drop}
 use Rattle.table.specs.Sheet.{lines_of}
 use Rattle.remarks.proofs.line_length.Given as goal
 
 abbrev pub invariant-loop-i : goal.invariant-loop-i
-invariant-loop-i l = (l.i ≤ length l.rest) × (take l.i l.rest ++ get_or (lines_of (drop l.i l.rest)) 0 [] ≡ get_or (lines_of l.rest) 0 [])
-
-abbrev pub decreases-loop-i : goal.decreases-loop-i
-decreases-loop-i l = length l.rest - l.i
+invariant-loop-i l = take l.i l.rest ++ get_or (lines_of (drop l.i l.rest)) 0 [] ≡ get_or (lines_of l.rest) 0 []

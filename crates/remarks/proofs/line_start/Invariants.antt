@@ -2,13 +2,10 @@
 -- Assumes nothing.
 use mathlib.Core.List.{[]}
 use mathlib.Core.Path.{◌≡◌}
-use Prim.Native.Nat.{◌-◌, ◌≤◌}
-use lib.ListN.{length, get_or, drop}
+use Prim.Native.Nat.{◌-◌}
+use lib.ListN.{get_or, drop}
 use Rattle.table.specs.Sheet.{lines_of}
 use Rattle.remarks.proofs.line_start.Given as goal
 
 abbrev pub invariant-loop-i : goal.invariant-loop-i
-invariant-loop-i l = (l.i ≤ length l.sheet) × (get_or (lines_of (drop l.i l.sheet)) (l.left - 1) [] ≡ get_or (lines_of l.sheet) (l.number - 1) [])
-
-abbrev pub decreases-loop-i : goal.decreases-loop-i
-decreases-loop-i l = length l.sheet - l.i
+invariant-loop-i l = get_or (lines_of (drop l.i l.sheet)) (l.left - 1) [] ≡ get_or (lines_of l.sheet) (l.number - 1) []

@@ -1,29 +1,22 @@
--- `remarks::put_about` meets its contract: each arm knows what is expected. Assumes nothing.
+-- `remarks::put_about` meets its contract: what is expected, then the text behind it; nothing where nothing is known. Assumes nothing.
+use mathlib.Core.Path.{sym, ap, ◌∙◌}
+use mathlib.Core.List.{List, ◌++◌}
+use Prim.Native.Nat.{ℕ}
 use native.Mathlib.Omega.{arith}
-use Rattle.lists.proofs.Putting.{puts_none}
-use Rattle.remarks.proofs.Parts.{about_told}
+use Rattle.std.specs.Prelude.{Option}
+use Rattle.lists.proofs.Putting.{puts_none, puts_text, puts_more}
+use Rattle.remarks.specs.declared.Expected.{Expected}
+use Rattle.remarks.specs.Remark.{about}
 use Rattle.remarks.proofs.put_about.Goals as goal
 
-pub returns-in-Formula : goal.returns-in-Formula
-returns-in-Formula c = (about_told c.args.tail.now c.in-Formula.is c.put_both.ensures, omega (arith, c.put_both.ensures.place))
+pub returns-in-Some : goal.returns-in-Some
+returns-in-Some c =
+    let a = c.args in
+    let one = c.put_text-end.ensures in
+    let two = c.put_text.ensures in
+    (puts_text (ap (λ (l : List ℕ). l ++ a.tail.now) c.named.ensures.0 ∙ ap (λ (o : Option Expected). about o a.tail.now) (sym c.in-Some.is)) (puts_more one two), omega (arith, one.place, two.place, c.named.ensures.1))
 
-pub returns-in-Region : goal.returns-in-Region
-returns-in-Region c = (about_told c.args.tail.now c.in-Region.is c.put_both-in-Region.ensures, omega (arith, c.put_both-in-Region.ensures.place))
-
-pub returns-in-Opening : goal.returns-in-Opening
-returns-in-Opening c = (about_told c.args.tail.now c.in-Opening.is c.put_both-in-Opening.ensures, omega (arith, c.put_both-in-Opening.ensures.place))
-
-pub returns-in-Comma : goal.returns-in-Comma
-returns-in-Comma c = (about_told c.args.tail.now c.in-Comma.is c.put_both-in-Comma.ensures, omega (arith, c.put_both-in-Comma.ensures.place))
-
-pub returns-in-Closing : goal.returns-in-Closing
-returns-in-Closing c = (about_told c.args.tail.now c.in-Closing.is c.put_both-in-Closing.ensures, omega (arith, c.put_both-in-Closing.ensures.place))
-
-pub returns-in-Zero : goal.returns-in-Zero
-returns-in-Zero c = (about_told c.args.tail.now c.in-Zero.is c.put_both-in-Zero.ensures, omega (arith, c.put_both-in-Zero.ensures.place))
-
-pub returns-in-Sign : goal.returns-in-Sign
-returns-in-Sign c = (about_told c.args.tail.now c.in-Sign.is c.put_both-in-Sign.ensures, omega (arith, c.put_both-in-Sign.ensures.place))
-
-pub returns-in-Nothing : goal.returns-in-Nothing
-returns-in-Nothing c = let a = c.args in (about_told a.tail.now c.in-Nothing.is (puts_none a.at a.out.now (omega (arith, c.requires))), omega arith)
+pub returns-in-None : goal.returns-in-None
+returns-in-None c =
+    let a = c.args in
+    (puts_text (ap (λ (o : Option Expected). about o a.tail.now) (sym c.in-None.is)) (puts_none a.at a.out.now (omega (arith, c.requires))), omega arith)

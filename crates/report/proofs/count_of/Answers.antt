@@ -5,12 +5,7 @@ use lib.ListN.{length}
 use Rattle.report.proofs.Kept.{known_count}
 use Rattle.report.proofs.count_of.Goals as goal
 
-pub returns-then-count-lt8 : goal.returns-then-count-lt8
-returns-then-count-lt8 c =
+pub returns : goal.returns
+returns c =
     let long : length c.args.names.list ≡ 8 = c.well_formed.0.1.1.0.1.0.1 in
-    (omega (arith, known_count c.args.names, long, c.if-count-lt8.true), omega (arith, c.if-count-lt8.true))
-
-pub returns-else-count-lt8 : goal.returns-else-count-lt8
-returns-else-count-lt8 c =
-    let long : length c.args.names.list ≡ 8 = c.well_formed.0.1.1.0.1.0.1 in
-    (omega (arith, known_count c.args.names, long, c.if-count-lt8.false), omega arith)
+    (omega (arith, known_count c.args.names, long, c.min.ensures), omega (arith, c.min.ensures))

@@ -8,24 +8,24 @@ use Rattle.report.proofs.put_margin.Goals as goal
 
 pub loop-level-init : goal.loop-level-init
 loop-level-init c =
-    (omega arith, puts_none c.args.at c.args.out.now (omega (arith, c.requires)))
+    puts_none c.args.at c.args.out.now (omega (arith, c.requires))
 
 pub put_text-end-requires : goal.put_text-end-requires
 unfolding margin
 put_text-end-requires c =
     let k = c.loop-level in
-    turn_fits blanks k.level k.invariant.1 c.args.depth (omega arith) (omega (arith, c.requires))
+    turn_fits blanks k.level k.invariant c.args.depth (omega arith) (omega (arith, c.requires))
 
 pub loop-level-preserved : goal.loop-level-preserved
 loop-level-preserved c =
     let k = c.loop-level in
-    (omega arith, turn_puts blanks k.level k.invariant.1 c.put_text-end.ensures)
+    turn_puts blanks k.level k.invariant c.put_text-end.ensures
 
 pub shape_of-out : goal.shape_of-out
-shape_of-out c = puts_length c.loop-level.invariant.1
+shape_of-out c = puts_length c.loop-level.invariant
 
 pub returns : goal.returns
 unfolding margin
 returns c =
     let k = c.loop-level in
-    turns_put blanks k.level k.invariant.1 c.args.depth (omega arith) refl
+    turns_put blanks k.level k.invariant c.args.depth (omega arith) refl

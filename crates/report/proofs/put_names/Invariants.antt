@@ -1,6 +1,6 @@
 -- `report::put_names` meets its contract: so far the names with numbers below i are put. Assumes nothing.
 use mathlib.Core.List.{List}
-use Prim.Native.Nat.{ℕ, ◌+◌, ◌*◌, ◌-◌, ◌≤◌}
+use Prim.Native.Nat.{ℕ, ◌+◌, ◌*◌, ◌≤◌}
 use Rattle.lists.specs.Search.{collect, below}
 use Rattle.lists.specs.Putting.{Puts}
 use Rattle.names.specs.Gather.{known_of}
@@ -14,7 +14,4 @@ name_text names e i = collect blanked (name_if (known_of names) e i)
 
 abbrev pub invariant-loop-i : goal.invariant-loop-i
 invariant-loop-i l =
-    (l.i ≤ l.count) × Puts l.at (collect (name_text l.names l.e) (below l.i)) l.initial.out l.out l.end × (l.end ≤ l.at + l.i * 17)
-
-abbrev pub decreases-loop-i : goal.decreases-loop-i
-decreases-loop-i l = l.count - l.i
+    Puts l.at (collect (name_text l.names l.e) (below l.i)) l.initial.out l.out l.end × (l.end ≤ l.at + l.i * 17)

@@ -8,4 +8,4 @@ pub returns-in-Text : goal.returns-in-Text
 returns-in-Text c = answered_text _ c.put_report-told.ensures.answers _ c.in-Text.is
 
 pub returns-in-Lines : goal.returns-in-Lines
-returns-in-Lines c = told_whole c.put_report-told.ensures (omega arith) c.in-Lines.is c.put_words-piece.ensures
+returns-in-Lines c = told_whole c.put_report-told.ensures (omega arith) c.in-Lines.is c.put_piece.ensures

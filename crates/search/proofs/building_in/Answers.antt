@@ -1,5 +1,5 @@
 -- `search::building_in` meets its contract: a piece is looked for on the row's state. Assumes nothing.
-use mathlib.Core.Path.{◌≡◌}
+use mathlib.Core.Path.{◌≡◌, ◌∙◌}
 use native.Mathlib.Omega.{arith}
 use Rattle.squares.specs.Square.{reach}
 use Rattle.squares.proofs.Rows.{same_reach, same_square}
@@ -7,8 +7,8 @@ use Rattle.search.specs.Planned.{StateSays}
 use Rattle.search.specs.Building.{FoundSays, BuildingIn}
 use Rattle.search.proofs.building_in.Goals as goal
 
-pub first_piece-first-requires : goal.first_piece-first-requires
-first_piece-first-requires c =
+pub first_piece-requires : goal.first_piece-requires
+first_piece-requires c =
     let s = c in
     let st = c.state_of-allowed in
     (s.requires.0, same_square st.new.rows s.args.rows.now st.ensures.0 s.requires.1)
@@ -19,4 +19,4 @@ returns c = λ atoms h wide.
     let a = c.args in
     let st = c.state_of-allowed in
     let same : reach st.new.rows ≡ reach a.rows.now = same_reach st.new.rows a.rows.now st.ensures.0 in
-    (c.first_piece-first.ensures atoms h (st.ensures.1 atoms h (omega (arith, same, wide)))).checked
+    c.is_some.ensures ∙ (c.first_piece.ensures atoms h (st.ensures.1 atoms h (omega (arith, same, wide)))).checked

@@ -20,7 +20,6 @@ use Rattle.search.proofs.gathered.Goals as goal
 
 pub loop-i-init : goal.loop-i-init
 loop-i-init c = (
-  omega arith,
   refl,
   λ atoms h ms f e.
       congr_fun c.empty-acc.ensures e ∙ sym (ap (λ (marks : List Mark). elem e (collect (gives c.args.chart.names ms) marks)) (no_marks atoms)),
@@ -33,12 +32,11 @@ loop-i-preserved c =
     let loop = c.loop-i in
     let row = row_bits a.chart.atoms a.row in
     let long = row_length a.chart.atoms a.row in (
-      omega arith,
       refl,
       λ atoms h ms f e.
           let within : loop.i < length atoms = omega (arith, h.counted) in
           congr_fun c.join-acc.ensures e
-          ∙ ap₂ ◌||◌ (loop.invariant.2 atoms h ms f e)
+          ∙ ap₂ ◌||◌ (loop.invariant.1 atoms h ms f e)
           (c.gives.ensures e
           ∙ ap (elem e) (gives_is _ h.few _ ms f _ _ _ _ (atom_at atoms loop.i) (h.atom_is loop.i within)
           ∙ ap (λ (v : Bool). gives a.chart.names ms (mark (atom_at atoms loop.i) v)) c.value_in.ensures))
@@ -52,5 +50,5 @@ unfolding GatheredSays
 returns c = λ atoms h ms f e.
     let a = c.args in
     let loop = c.loop-i in
-    loop.invariant.2 atoms h ms f e
+    loop.invariant.1 atoms h ms f e
     ∙ ap (λ (marks : List Mark). elem e (collect (gives a.chart.names ms) marks)) (marks_whole atoms a.chart.atoms a.row loop.i (omega arith))

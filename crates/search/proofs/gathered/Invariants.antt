@@ -1,7 +1,7 @@
 -- `search::gathered` meets its contract: what the marks of the atoms passed give is gathered. Assumes nothing.
 use mathlib.Core.Path.{◌≡◌}
 use mathlib.Core.List.{List}
-use Prim.Native.Nat.{ℕ, ◌-◌, ◌≤◌}
+use Prim.Native.Nat.{ℕ}
 use lib.ListN.{take}
 use Rattle.formula.specs.Formula.{Atom}
 use Rattle.lists.specs.Search.{collect, elem}
@@ -13,9 +13,6 @@ use Rattle.search.proofs.gathered.Given as goal
 
 abbrev pub invariant-loop-i : goal.invariant-loop-i
 invariant-loop-i l =
-    (l.i ≤ l.n) × (l.n ≡ l.chart.atoms)
+    (l.n ≡ l.chart.atoms)
     × ((atoms : List (Atom ℕ)) → Compiled l.chart atoms → (ms : List Mark) → Fit l.chart.names (state l.allowed l.rows) ms
     → (e : ℕ) → mem l.acc e ≡ elem e (collect (gives l.chart.names ms) (row_marks atoms (take l.i (row_bits l.n l.row)))))
-
-abbrev pub decreases-loop-i : goal.decreases-loop-i
-decreases-loop-i l = l.n - l.i

@@ -8,13 +8,13 @@ use Rattle.evalset.specs.Sets.{room, add_of}
 use Rattle.search.proofs.Walks.{one_found, none_found}
 use Rattle.search.proofs.least_of.Goals as goal
 
-pub returns-in_default : goal.returns-in_default
-returns-in_default c = λ e.
-    congr_fun c.empty.ensures e
-    ∙ none_found _ (found_nothing _ room (sym c.least.ensures ∙ c.in_default.is)) e
+pub returns-in-Some : goal.returns-in-Some
+returns-in-Some c = λ e.
+    let p = c.in-Some.e in
+    congr_fun (c.insert.ensures ∙ ap (λ (s : ℕ → Bool). add_of s p) c.empty.ensures) e
+    ∙ one_found _ p (found_least _ room p (sym c.least.ensures ∙ c.in-Some.is)) e
 
-pub returns : goal.returns
-returns c = λ e.
-    let p = c.in-At.e in
-    congr_fun (c.insert.ensures ∙ ap (λ (s : ℕ → Bool). add_of s p) c.empty-2.ensures) e
-    ∙ one_found _ p (found_least _ room p (sym c.least.ensures ∙ c.in-At.is)) e
+pub returns-in-None : goal.returns-in-None
+returns-in-None c = λ e.
+    congr_fun c.empty-in-None.ensures e
+    ∙ none_found _ (found_nothing _ room (sym c.least.ensures ∙ c.in-None.is)) e

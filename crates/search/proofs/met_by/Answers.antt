@@ -22,7 +22,6 @@ use Rattle.search.proofs.met_by.Goals as goal
 
 pub loop-i-init : goal.loop-i-init
 loop-i-init c = (
-  omega arith,
   refl,
   λ atoms h ms are set same ok. ap (all (met ms set)) (no_marks atoms),
 )
@@ -67,12 +66,11 @@ loop-i-preserved c =
     let loop = c.loop-i in
     let row = row_bits a.chart.atoms a.row in
     let long = row_length a.chart.atoms a.row in (
-      omega arith,
       refl,
       λ atoms h ms are set same ok.
           ap (all (met ms set)) (marks_take atoms row loop.i (omega (arith, long)) (omega (arith, long, h.counted)))
           ∙ all_last (met ms set) (row_marks atoms (take loop.i row)) _
-          ∙ ap₂ ◌&&◌ (loop.invariant.2 atoms h ms are set same ok)
+          ∙ ap₂ ◌&&◌ (loop.invariant.1 atoms h ms are set same ok)
           (sym (here atoms h ms are set same ok) ∙ c.if-not-met.false),
     )
 
@@ -81,4 +79,4 @@ unfolding MetSays
 returns c = λ atoms h ms are set same ok.
     let a = c.args in
     let loop = c.loop-i in
-    sym (ap (all (met ms set)) (sym (marks_whole atoms a.chart.atoms a.row loop.i (omega arith))) ∙ loop.invariant.2 atoms h ms are set same ok)
+    sym (ap (all (met ms set)) (sym (marks_whole atoms a.chart.atoms a.row loop.i (omega arith))) ∙ loop.invariant.1 atoms h ms are set same ok)

@@ -2,7 +2,7 @@
 use mathlib.Core.Bool.{true}
 use mathlib.Core.Path.{◌≡◌}
 use mathlib.Core.List.{List}
-use Prim.Native.Nat.{ℕ, ◌-◌, ◌≤◌}
+use Prim.Native.Nat.{ℕ}
 use lib.ListN.{take}
 use Rattle.formula.specs.Formula.{Atom}
 use Rattle.lists.specs.Search.{In, all, elem}
@@ -15,10 +15,7 @@ use Rattle.search.proofs.met_by.Given as goal
 
 abbrev pub invariant-loop-i : goal.invariant-loop-i
 invariant-loop-i l =
-    (l.i ≤ l.n) × (l.n ≡ l.chart.atoms)
+    (l.n ≡ l.chart.atoms)
     × ((atoms : List (Atom ℕ)) → Compiled l.chart atoms → (ms : List Mark) → RowsAre l.chart.names l.rows ms
     → (set : List ℕ) → ((f : ℕ) → mem l.piece f ≡ elem f set) → ((f : ℕ) → In f set → allowed l.chart.names ms f ≡ true)
     → all (met ms set) (row_marks atoms (take l.i (row_bits l.n l.row))) ≡ true)
-
-abbrev pub decreases-loop-i : goal.decreases-loop-i
-decreases-loop-i l = l.n - l.i

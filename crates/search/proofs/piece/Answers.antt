@@ -29,8 +29,8 @@ loop-p-init c =
       λ names few ms f ok. growing (sym piece) (sym looked) (grow_start names ms _),
     )
 
-pub returns-in_default : goal.returns-in_default
-returns-in_default c =
+pub returns : goal.returns
+returns c =
     let loop = c.loop-p in
     record {
       own = loop.invariant.0;
@@ -45,9 +45,9 @@ returns-in_default c =
 -- `taken`: the evaluation that is looked at: the least that was not
 pub loop-p-smaller : goal.loop-p-smaller
 loop-p-smaller c =
-    let taken : let loop = c.loop-p in Least room c.in-At.p (minus_of (mem loop.piece) (mem loop.looked)) = found_least _ room _
+    let taken : let loop = c.loop-p in Least room c.in-Some.p (minus_of (mem loop.piece) (mem loop.looked)) = found_least _ room _
     (ap (λ (p : ℕ → Bool). found_of (first p (below room))) (sym c.minus.ensures)
-    ∙ sym c.least.ensures ∙ c.in-At.is) in
+    ∙ sym c.least.ensures ∙ c.in-Some.is) in
     let t = taken in
     let loop = c.loop-p in
     subst (λ (set : ℕ → Bool). unseen set < unseen (mem loop.looked)) (sym c.insert-looked.ensures)
@@ -55,16 +55,16 @@ loop-p-smaller c =
 
 pub loop-p-preserved : goal.loop-p-preserved
 loop-p-preserved c =
-    let taken : let loop = c.loop-p in Least room c.in-At.p (minus_of (mem loop.piece) (mem loop.looked)) = found_least _ room _
+    let taken : let loop = c.loop-p in Least room c.in-Some.p (minus_of (mem loop.piece) (mem loop.looked)) = found_least _ room _
     (ap (λ (p : ℕ → Bool). found_of (first p (below room))) (sym c.minus.ensures)
-    ∙ sym c.least.ensures ∙ c.in-At.is) in
+    ∙ sym c.least.ensures ∙ c.in-Some.is) in
     let a = c.args in
     let t = taken in
     let loop = c.loop-p in
-    let near : ℕ → Bool = minus_of (mem a.allowed) (square_at a.rows.now c.in-At.p) in
+    let near : ℕ → Bool = minus_of (mem a.allowed) (square_at a.rows.now c.in-Some.p) in
     let piece : mem c.join-piece.result ≡ join_of (mem loop.piece) near =
     c.join-piece.ensures ∙ ap (join_of (mem loop.piece))
-    (c.minus-in-loop-p.ensures ∙ ap (minus_of (mem a.allowed)) c.row_at-r.ensures) in (
+    (c.minus-in-Some.ensures ∙ ap (minus_of (mem a.allowed)) c.row_at-r.ensures) in (
       λ l. congr_fun piece _ ∙ join_own (mem loop.piece) near a.e (loop.invariant.0 l),
       λ names few ms f ok.
           growing (sym piece) (sym c.insert-looked.ensures)

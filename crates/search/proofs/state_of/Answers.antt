@@ -17,7 +17,6 @@ use Rattle.search.proofs.state_of.Goals as goal
 
 pub loop-i-init : goal.loop-i-init
 loop-i-init c = (
-  omega arith,
   refl,
   refl,
   λ atoms h wide. subst (Fit _ _) (sym (no_marks atoms)) (fit_start _ _ c.possible-allowed.ensures c.requires.2 h.few),
@@ -25,7 +24,7 @@ loop-i-init c = (
 
 pub step-allowed-requires : goal.step-allowed-requires
 step-allowed-requires c =
-    (omega arith, same_square c.loop-i.rows c.args.rows.now c.loop-i.invariant.2 c.requires.1)
+    (omega arith, same_square c.loop-i.rows c.args.rows.now c.loop-i.invariant.1 c.requires.1)
 
 pub loop-i-preserved : goal.loop-i-preserved
 unfolding StepSays
@@ -36,28 +35,27 @@ loop-i-preserved c =
     let step = c.step-allowed in
     let row = row_bits a.chart.atoms a.row in
     let long = row_length a.chart.atoms a.row in
-    let same : reach loop.rows ≡ reach a.rows.now = same_reach loop.rows a.rows.now loop.invariant.2 in (
-      omega arith,
+    let same : reach loop.rows ≡ reach a.rows.now = same_reach loop.rows a.rows.now loop.invariant.1 in (
       refl,
-      step.ensures.0 ∙ loop.invariant.2,
+      step.ensures.0 ∙ loop.invariant.1,
       λ atoms h wide.
           subst (Fit _ _)
           (ap (λ (v : Bool). row_marks atoms (take loop.i row) ++ mark (atom_at atoms loop.i) v ∷ []) c.value_in.ensures
           ∙ sym (marks_take atoms row loop.i (omega (arith, long)) (omega (arith, long, h.counted))))
-          (step.ensures.1 atoms h (omega (arith, h.counted)) below.ensures (omega (arith, same, wide)) _ (loop.invariant.3 atoms h wide)),
+          (step.ensures.1 atoms h (omega (arith, h.counted)) below.ensures (omega (arith, same, wide)) _ (loop.invariant.2 atoms h wide)),
     )
 
 pub shape_of-rows : goal.shape_of-rows
-shape_of-rows c = c.loop-i.invariant.2
+shape_of-rows c = c.loop-i.invariant.1
 
 pub returns : goal.returns
 unfolding StateSays
 returns c =
     let a = c.args in
     let loop = c.loop-i in
-    let same : reach loop.rows ≡ reach a.rows.now = same_reach loop.rows a.rows.now loop.invariant.2 in (
-      loop.invariant.2,
+    let same : reach loop.rows ≡ reach a.rows.now = same_reach loop.rows a.rows.now loop.invariant.1 in (
+      loop.invariant.1,
       λ atoms h wide.
           subst (Fit a.chart.names (state loop.allowed loop.rows))
-          (marks_whole atoms a.chart.atoms a.row loop.i (omega arith)) (loop.invariant.3 atoms h (omega (arith, same, wide))),
+          (marks_whole atoms a.chart.atoms a.row loop.i (omega arith)) (loop.invariant.2 atoms h (omega (arith, same, wide))),
     )

@@ -8,6 +8,6 @@ use Rattle.solver.proofs.all_evaluations.Goals as goal
 
 pub returns : goal.returns
 returns c =
-    let n = c.least_of.result in
-    ap (λ (x : ℕ). x % 18446744073709551616) (one-mul (2 ^ n)) ∙ mod-eq_of_lt (pow-lt {i = n} {j = 64} (omega (arith, c.least_of.ensures)))
-    ∙ ap (λ (x : ℕ). 2 ^ x) c.least_of.ensures
+    let n = c.min.result in
+    ap (λ (x : ℕ). x % 18446744073709551616) (one-mul (2 ^ n)) ∙ mod-eq_of_lt (pow-lt {i = n} {j = 64} (omega (arith, c.min.ensures)))
+    ∙ ap (λ (x : ℕ). 2 ^ x) c.min.ensures

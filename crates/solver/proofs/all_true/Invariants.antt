@@ -7,9 +7,6 @@ use Rattle.solver.specs.Coded.{SafeFrom}
 use Rattle.solver.proofs.Whole.{SoFar}
 use Rattle.solver.proofs.all_true.Given as goal
 
-abbrev pub invariant-loop-i : goal.invariant-loop-i
-invariant-loop-i l =
-    SafeFrom l.code l.from (drop l.i l.ends) × (length l.stack ≡ 128) × SoFar l.code l.ends l.leaves l.from l.left (drop l.i l.ends)
-
-abbrev pub decreases-loop-i : goal.decreases-loop-i
-decreases-loop-i l = length l.ends - l.i
+abbrev pub invariant-loop-end : goal.invariant-loop-end
+invariant-loop-end l =
+    SafeFrom l.code l.from (drop l.end-index l.ends) × (length l.stack ≡ 128) × SoFar l.code l.ends l.leaves l.from l.left (drop l.end-index l.ends)

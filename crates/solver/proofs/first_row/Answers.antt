@@ -6,18 +6,18 @@ use Prim.Native.Nat.{ℕ}
 use native.Mathlib.Omega.{arith}
 use lib.ListN.{length}
 use lib.Pow.{pow_mono}
+use Rattle.std.specs.Prelude.{Option}
 use Rattle.lists.specs.Search.{first}
 use Rattle.contact.specs.Question.{Question}
 use Rattle.contact.specs.Row.{Row}
 use Rattle.contact.specs.Check.{rows, good, first_row}
 use Rattle.search.specs.declared.Chart.{Chart}
-use Rattle.solver.specs.declared.RowAnswer.{RowAnswer}
 use Rattle.solver.specs.Tree.{answer_for, SearchSays, FirstRowSays}
 use Rattle.solver.proofs.Root.{unseen}
 use Rattle.solver.proofs.first_row.Goals as goal
 
 -- what the search finds is the answer
-all_rows : (q : Question) (code ends : List ℕ) (chart : Chart) (r : RowAnswer) → SearchSays q code ends chart r → FirstRowSays q code ends chart r
+all_rows : (q : Question) (code ends : List ℕ) (chart : Chart) (r : Option ℕ) → SearchSays q code ends chart r → FirstRowSays q code ends chart r
 unfolding SearchSays FirstRowSays first_row
 all_rows q code ends chart r says = λ atoms rules h.
     says atoms rules h ∙ ap (λ (rs : List Row). answer_for (first (good q chart.names atoms rules) rs)) (map-id (rows (length atoms)))

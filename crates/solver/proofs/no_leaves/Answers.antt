@@ -11,7 +11,7 @@ use Rattle.solver.proofs.no_leaves.Invariants.{Opposite}
 use Rattle.solver.proofs.no_leaves.Goals as goal
 
 pub loop-i-init : goal.loop-i-init
-loop-i-init c = (omega arith, refl, λ j a b. absurd (omega arith), λ j l. repeated_at (λ (x : ℕ). x ≡ 0) refl refl 16 j)
+loop-i-init c = (refl, λ j a b. absurd (omega arith), λ j l. repeated_at (λ (x : ℕ). x ≡ 0) refl refl 16 j)
 
 pub bounds-yes-i : goal.bounds-yes-i
 bounds-yes-i c = omega (arith, c.requires)
@@ -25,14 +25,13 @@ bounds-out-i c = omega (arith, c.requires)
 pub loop-i-preserved : goal.loop-i-preserved
 loop-i-preserved c =
     let loop = c.loop-i in
-    let within : loop.i < length loop.out = omega (arith, loop.invariant.1, c.requires) in (
-      omega arith,
-      length-set loop.out _ _ ∙ loop.invariant.1,
-      set_next (Opposite c.args.yes.now) 0 loop.i c.flipped.result loop.out within loop.invariant.2 c.flipped.ensures,
-      λ j l. get_or-set_other loop.out loop.i j _ 0 (λ z. omega arith) ∙ loop.invariant.3 j (omega arith),
+    let within : loop.i < length loop.out = omega (arith, loop.invariant.0, c.requires) in (
+      length-set loop.out _ _ ∙ loop.invariant.0,
+      set_next (Opposite c.args.yes.now) 0 loop.i c.flipped.result loop.out within loop.invariant.1 c.flipped.ensures,
+      λ j l. get_or-set_other loop.out loop.i j _ 0 (λ z. omega arith) ∙ loop.invariant.2 j (omega arith),
     )
 
 pub returns : goal.returns
 returns c =
     let loop = c.loop-i in
-    record { are = λ i l. loop.invariant.2 i (omega arith) (omega arith); none = λ i l. loop.invariant.3 i (omega arith) }
+    record { are = λ i l. loop.invariant.1 i (omega arith) (omega arith); none = λ i l. loop.invariant.2 i (omega arith) }

@@ -15,7 +15,4 @@ Opposite ts i w = (e : ℕ) → e < word_rows → bit w e ≡ not (bit (get_or t
 
 abbrev pub invariant-loop-i : goal.invariant-loop-i
 invariant-loop-i l =
-    (l.i ≤ l.n) × (length l.out ≡ 16) × ((j : ℕ) → 0 ≤ j → j < l.i → Opposite l.yes j (get_or l.out j 0)) × ((j : ℕ) → l.i ≤ j → get_or l.out j 0 ≡ 0)
-
-abbrev pub decreases-loop-i : goal.decreases-loop-i
-decreases-loop-i l = l.n - l.i
+    (length l.out ≡ 16) × ((j : ℕ) → 0 ≤ j → j < l.i → Opposite l.yes j (get_or l.out j 0)) × ((j : ℕ) → l.i ≤ j → get_or l.out j 0 ≡ 0)

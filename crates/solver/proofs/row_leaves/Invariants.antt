@@ -8,8 +8,5 @@ use Rattle.solver.proofs.row_leaves.Given as goal
 
 abbrev pub invariant-loop-i : goal.invariant-loop-i
 invariant-loop-i l =
-    (l.i ≤ l.k) × (length l.leaves ≡ 16) × ((j : ℕ) → 0 ≤ j → j < l.i → OfRow l.row l.k j (get_or l.leaves j 0))
+    (length l.leaves ≡ 16) × ((j : ℕ) → 0 ≤ j → j < l.i → OfRow l.row l.k j (get_or l.leaves j 0))
     × ((j : ℕ) → l.i ≤ j → get_or l.leaves j 0 ≡ get_or l.initial.leaves j 0)
-
-abbrev pub decreases-loop-i : goal.decreases-loop-i
-decreases-loop-i l = l.k - l.i

@@ -16,32 +16,32 @@ use Rattle.solver.proofs.Codes.{Joined, joined_none, joined_next, joined_all}
 use Rattle.solver.proofs.some_refuted.Invariants.{Known}
 use Rattle.solver.proofs.some_refuted.Goals as goal
 
-pub loop-i-init : goal.loop-i-init
-loop-i-init c =
+pub loop-end-init : goal.loop-end-init
+loop-end-init c =
     (c.requires, refl, refl, λ many rules h. joined_none (Known c.args.yes.now c.args.no.now) many c.args.code.now rules c.args.ends.now (bit 0) (λ e row v. bit_none e) h)
 
 -- `this_part`: the part that is run next
 pub slice_bounds-run_rails-count : goal.slice_bounds-run_rails-count
 slice_bounds-run_rails-count c =
-    let this_part : PartSafe c.args.code.now c.loop-i.from (get_or c.args.ends.now c.loop-i.i 0) = let loop = c.loop-i in
+    let this_part : PartSafe c.args.code.now c.loop-end.from (get_or c.args.ends.now c.loop-end.end-index 0) = let loop = c.loop-end in
     let a = c.args in
-    (subst (SafeFrom a.code.now loop.from) (rest a.ends.now loop.i 0 (omega arith)) loop.invariant.0).0 in
+    (subst (SafeFrom a.code.now loop.from) (rest a.ends.now loop.end-index 0 (omega arith)) loop.invariant.0).0 in
     this_part.ordered
 
 pub run_rails-found-requires : goal.run_rails-found-requires
 run_rails-found-requires c =
-    let this_part : PartSafe c.args.code.now c.loop-i.from (get_or c.args.ends.now c.loop-i.i 0) = let loop = c.loop-i in
+    let this_part : PartSafe c.args.code.now c.loop-end.from (get_or c.args.ends.now c.loop-end.end-index 0) = let loop = c.loop-end in
     let a = c.args in
-    (subst (SafeFrom a.code.now loop.from) (rest a.ends.now loop.i 0 (omega arith)) loop.invariant.0).0 in
-    let loop = c.loop-i in
+    (subst (SafeFrom a.code.now loop.from) (rest a.ends.now loop.end-index 0 (omega arith)) loop.invariant.0).0 in
+    let loop = c.loop-end in
     (this_part.safe, loop.invariant.1, loop.invariant.2)
 
-pub loop-i-preserved : goal.loop-i-preserved
-loop-i-preserved c =
-    let loop = c.loop-i in
+pub loop-end-preserved : goal.loop-end-preserved
+loop-end-preserved c =
+    let loop = c.loop-end in
     let a = c.args in
     let ran = c.run_rails-found in
-    let now-first = rest a.ends.now loop.i 0 (omega arith) in (
+    let now-first = rest a.ends.now loop.end-index 0 (omega arith) in (
       (subst (SafeFrom a.code.now loop.from) now-first loop.invariant.0).1,
       ran.ensures.0,
       ran.ensures.1,
@@ -56,10 +56,10 @@ loop-i-preserved c =
 pub returns : goal.returns
 unfolding RefutedSays
 returns c = λ many rules h e l row v.
-    let loop = c.loop-i in
+    let loop = c.loop-end in
     let a = c.args in
-    let past : length a.ends.now ≤ loop.i = omega arith in
-    let none_left : drop loop.i a.ends.now ≡ [] = drop_of_length-le a.ends.now past in
+    let past : length a.ends.now ≤ loop.end-index = omega arith in
+    let none_left : drop loop.end-index a.ends.now ≡ [] = drop_of_length-le a.ends.now past in
     joined_all (Known a.yes.now a.no.now) many a.code.now rules loop.from (bit loop.acc)
     (subst (λ (es : List ℕ). Joined (Known a.yes.now a.no.now) many a.code.now loop.from es (bit loop.acc) rules) none_left
     (loop.invariant.3 many rules h)) e row (l, v)

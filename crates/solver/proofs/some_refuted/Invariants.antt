@@ -18,10 +18,7 @@ use Rattle.solver.proofs.some_refuted.Given as goal
 abbrev pub Known : List ℕ → List ℕ → ℕ → PartialRow → Type 0
 Known ts fs e row = (e < word_rows) × Values ts fs e row
 
-abbrev pub invariant-loop-i : goal.invariant-loop-i
-invariant-loop-i l =
-    SafeFrom l.code l.from (drop l.i l.ends) × (length l.ys ≡ 128) × (length l.ns ≡ 128)
-    × ((many : ℕ) (rules : List (Form ℕ)) → Coded many l.code l.ends rules → Joined (Known l.yes l.no) many l.code l.from (drop l.i l.ends) (bit l.acc) rules)
-
-abbrev pub decreases-loop-i : goal.decreases-loop-i
-decreases-loop-i l = length l.ends - l.i
+abbrev pub invariant-loop-end : goal.invariant-loop-end
+invariant-loop-end l =
+    SafeFrom l.code l.from (drop l.end-index l.ends) × (length l.ys ≡ 128) × (length l.ns ≡ 128)
+    × ((many : ℕ) (rules : List (Form ℕ)) → Coded many l.code l.ends rules → Joined (Known l.yes l.no) many l.code l.from (drop l.end-index l.ends) (bit l.acc) rules)

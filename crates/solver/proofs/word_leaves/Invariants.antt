@@ -8,7 +8,4 @@ use Rattle.solver.proofs.word_leaves.Given as goal
 
 abbrev pub invariant-loop-i : goal.invariant-loop-i
 invariant-loop-i l =
-    (l.k ≤ l.i) × (l.i ≤ l.n) × (l.n ≡ l.k + l.d) × (length l.out ≡ 16) × ((j : ℕ) → l.k ≤ j → j < l.i → OfWord l.k l.d j (get_or l.out j 0))
-
-abbrev pub decreases-loop-i : goal.decreases-loop-i
-decreases-loop-i l = l.n - l.i
+    (l.n ≡ l.k + l.d) × (length l.out ≡ 16) × ((j : ℕ) → l.k ≤ j → j < l.i → OfWord l.k l.d j (get_or l.out j 0))

@@ -15,7 +15,4 @@ Says row k d i w = (e : ℕ) → e < 2 ^ d → sure (bit w e) ≡ decided_at k r
 
 abbrev pub invariant-loop-i : goal.invariant-loop-i
 invariant-loop-i l =
-    (l.i ≤ l.n) × (l.n ≡ l.k + l.d) × (length l.out ≡ 16) × ((j : ℕ) → 0 ≤ j → j < l.i → Says l.row l.k l.d j (get_or l.out j 0)) × ((j : ℕ) → l.i ≤ j → get_or l.out j 0 ≡ 0)
-
-abbrev pub decreases-loop-i : goal.decreases-loop-i
-decreases-loop-i l = l.n - l.i
+    (length l.out ≡ 16) × ((j : ℕ) → 0 ≤ j → j < l.i → Says l.row l.k l.d j (get_or l.out j 0)) × ((j : ℕ) → l.i ≤ j → get_or l.out j 0 ≡ 0)

@@ -1,22 +1,17 @@
--- `spelling::agree` meets its contract: so far the symbols agree, and those that are left fall. Assumes nothing.
+-- `spelling::agree` meets its contract: so far the symbols agree. Assumes nothing.
 use mathlib.Core.Path.{sym, ◌∙◌}
 use native.Mathlib.Omega.{arith}
 use Rattle.spelling.proofs.Rows.{agree_none, agree_more, agree_not, agree_whole}
 use Rattle.spelling.proofs.agree.Goals as goal
 
 pub loop-i-init : goal.loop-i-init
-loop-i-init c = (omega arith, omega arith, agree_none _ _ _ _ _)
-
-pub symbol_at-requires : goal.symbol_at-requires
-symbol_at-requires c = (omega arith, omega arith)
+loop-i-init c = agree_none _ _ _ _ _
 
 pub returns-then-row-i : goal.returns-then-row-i
-returns-then-row-i c = let k = c.loop-i in agree_not _ _ _ _ _ _ k.i k.invariant.0 c.loop-i-test.true (λ e. c.if-row-i.true (e ∙ sym c.symbol_at.ensures))
+returns-then-row-i c = let k = c.loop-i in agree_not _ _ _ _ _ _ k.i (omega arith) c.loop-i-test.true (λ e. c.if-row-i.true (e ∙ sym c.symbol_at.ensures))
 
 pub loop-i-preserved : goal.loop-i-preserved
-loop-i-preserved c =
-    let k = c.loop-i in
-    (omega arith, omega arith, agree_more _ _ _ _ _ k.i k.invariant.2 (c.if-row-i.false ∙ c.symbol_at.ensures))
+loop-i-preserved c = let k = c.loop-i in agree_more _ _ _ _ _ k.i k.invariant (c.if-row-i.false ∙ c.symbol_at.ensures)
 
 pub returns : goal.returns
-returns c = agree_whole _ _ _ _ _ _ c.loop-i.i (omega arith) c.loop-i.invariant.2
+returns c = agree_whole _ _ _ _ _ _ c.loop-i.i (omega arith) c.loop-i.invariant

@@ -1,11 +1,11 @@
--- `spelling::keep_row` meets its contract: so far the first i bytes are stored (Storing.antt), and those that are left fall. Assumes nothing.
+-- `spelling::keep_row` meets its contract: so far the first i bytes are stored (Storing.antt). Assumes nothing.
 use Prim.Native.Nat.{◌+◌, ◌*◌, ◌<◌}
 use native.Mathlib.Omega.{arith}
 use Rattle.spelling.proofs.Storing.{symbol_small, stored_none, stored_all, stored_more}
 use Rattle.spelling.proofs.keep_row.Goals as goal
 
 pub loop-i-init : goal.loop-i-init
-loop-i-init c = (omega arith, stored_none _ _ _ _ c.requires.whole)
+loop-i-init c = stored_none _ _ _ _ c.requires.whole
 
 -- `symbols_small`: the two symbols fit half a byte each
 pub overflow_mul-kept : goal.overflow_mul-kept
@@ -27,7 +27,7 @@ overflow_add-kept c =
 pub loop-i-preserved : goal.loop-i-preserved
 loop-i-preserved c =
     let k = c.loop-i in
-    (omega arith, stored_more _ _ _ _ c.requires k.i k.kept k.invariant.1 c.loop-i-test.true _ _ c.symbol_in.ensures c.symbol_in-in-loop-i.ensures)
+    stored_more _ _ _ _ c.requires k.i k.kept k.invariant (omega arith) _ _ c.symbol_in.ensures c.symbol_in-in-loop-i.ensures
 
 pub returns : goal.returns
-returns c = stored_all _ _ _ _ c.loop-i.i _ c.loop-i-test.false c.loop-i.invariant.1
+returns c = stored_all _ _ _ _ c.loop-i.i _ (omega arith) c.loop-i.invariant

@@ -1,5 +1,5 @@
 -- What is left to read decreases with each call of the readers that call each other. Assumes nothing.
-use Rattle.syntax.proofs.Readers.{left, left_at, left_after}
+use Rattle.syntax.proofs.Readers.{left, left_at}
 use Rattle.syntax.proofs.+formula_prefix_level_more_parenthesis_relation_term_prefix.Given as goal
 
 abbrev pub decreases-formula_prefix : goal.decreases-formula_prefix
@@ -9,7 +9,7 @@ abbrev pub decreases-level : goal.decreases-level
 decreases-level l = left_at l.kinds.now l.at l.k
 
 abbrev pub decreases-more : goal.decreases-more
-decreases-more l = left_after l.kinds.now l.r
+decreases-more l = left l.kinds.now l.v.at 18
 
 abbrev pub decreases-parenthesis : goal.decreases-parenthesis
 decreases-parenthesis l = left l.kinds.now l.at 15

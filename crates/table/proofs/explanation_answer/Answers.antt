@@ -3,8 +3,5 @@ use mathlib.Core.Path.{sym, ap}
 use Rattle.table.specs.Explaining.{explanation_answer}
 use Rattle.table.proofs.explanation_answer.Goals as goal
 
-pub returns-in-Tells : goal.returns-in-Tells
-returns-in-Tells c = sym (ap explanation_answer c.in-Tells.is)
-
-pub returns-in-Short : goal.returns-in-Short
-returns-in-Short c = sym (ap explanation_answer c.in-Short.is)
+pub returns-in-Ok : goal.returns-in-Ok
+returns-in-Ok c = sym (ap explanation_answer c.in-Ok.is)

@@ -1,7 +1,9 @@
 -- `table::line_end` meets its contract: the lines from the start on are those of what is left, with what was passed in front of the first. Assumes nothing.
-use Prim.Native.Nat.{ℕ, ◌-◌}
-use mathlib.Core.Path.{◌≡◌, sym, ap, ◌∙◌}
+use Prim.Native.Nat.{ℕ, ◌+◌, ◌-◌}
+use mathlib.Core.List.{◌∷◌}
+use mathlib.Core.Path.{◌≡◌, sym, ap, subst, ◌∙◌}
 use lib.ListN.{length, take, drop}
+use Rattle.table.specs.Calls.{lines_from}
 use Rattle.table.specs.Sheet.{lines_of}
 use Rattle.table.proofs.Scan.{on_head, head_none, lines_next, lines_cut, lines_last}
 use native.Mathlib.Omega.{arith}
@@ -26,5 +28,10 @@ loop-i-preserved c =
 pub returns : goal.returns
 returns c =
     let inv = c.loop-i.invariant in
-    let e : c.loop-i.i ≡ length c.args.file.now = omega arith in
-    (inv.0, inv.1, sym inv.2 ∙ lines_last _ _ _ inv.0 e)
+    let file = c.args.file.now in
+    let from = c.args.from in
+    let e : c.loop-i.i ≡ length file = omega arith in (
+      omega arith,
+      omega arith,
+      subst (λ (n : ℕ). lines_of (drop from file) ≡ take (n - from) (drop from file) ∷ lines_from file (n + 1)) e (sym inv.2 ∙ lines_last _ _ _ inv.0 e),
+    )

@@ -8,6 +8,3 @@ use Rattle.table.proofs.line_end.Given as goal
 
 abbrev pub invariant-loop-i : goal.invariant-loop-i
 invariant-loop-i l = (l.from ≤ l.i) × (l.i ≤ length l.file) × (on_head (take (l.i - l.from) (drop l.from l.file)) (lines_of (drop l.i l.file)) ≡ lines_of (drop l.from l.file))
-
-abbrev pub decreases-loop-i : goal.decreases-loop-i
-decreases-loop-i l = length l.file - l.i

@@ -3,5 +3,5 @@ use mathlib.Core.Path.{sym, ap}
 use Rattle.table.specs.Explaining.{verdict_answer}
 use Rattle.table.proofs.verdict_answer.Goals as goal
 
-pub returns-in-Refuses : goal.returns-in-Refuses
-returns-in-Refuses c = sym (ap verdict_answer c.in-Refuses.is)
+pub returns-in-Err : goal.returns-in-Err
+returns-in-Err c = sym (ap verdict_answer c.in-Err.is)

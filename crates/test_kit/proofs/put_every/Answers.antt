@@ -1,5 +1,4 @@
--- `test_kit::put_every` meets its contract: so far the contacts of the first i positions are put, and the positions left fall.
--- Assumes nothing.
+-- `test_kit::put_every` meets its contract: so far the contacts of the first i positions are put. Assumes nothing.
 use mathlib.Core.Path.{◌≡◌, ap}
 use Prim.Native.Nat.{ℕ, ◌+◌, ◌<◌, ◌^◌}
 use native.Mathlib.Omega.{arith}
@@ -17,7 +16,7 @@ unfolding every_before
 before_last c =
     let n = c.args.last + 1 in
     let all : c.loop-i.i ≡ n = omega arith in
-    puts_more (puts_more c.put_word-at.ensures c.put_rising-end.ensures) (puts_as (ap (λ (i : ℕ). collect (contacts_of n) (below i)) all) c.loop-i.invariant.1)
+    puts_more (puts_more c.put_word-at.ensures c.put_rising-end.ensures) (puts_as (ap (λ (i : ℕ). collect (contacts_of n) (below i)) all) c.loop-i.invariant)
 
 few : (c : After-loop-i) → c.loop-i.end < 2 ^ 28
 few c =
@@ -25,12 +24,12 @@ few c =
     omega (arith, (before_last c).place, every_few a.first (a.last + 1) (omega arith))
 
 pub loop-i-init : goal.loop-i-init
-loop-i-init c = (omega arith, puts_none _ _)
+loop-i-init c = puts_none _ _
 
 pub loop-i-preserved : goal.loop-i-preserved
 loop-i-preserved c =
     let n = c.args.last + 1 in
-    (omega arith, puts_as (collect_more (contacts_of n) c.loop-i.i) (puts_more c.loop-i.invariant.1 c.put_rising-end-in-loop-i.ensures))
+    puts_as (collect_more (contacts_of n) c.loop-i.i) (puts_more c.loop-i.invariant c.put_rising-end-in-loop-i.ensures)
 
 pub overflow_cast-end : goal.overflow_cast-end
 overflow_cast-end c = omega (arith, few c.before)

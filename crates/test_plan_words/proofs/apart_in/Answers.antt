@@ -1,4 +1,4 @@
--- `test_plan_words::apart_in` is safe and ends: each index is tested, the number of turns left falls, and 1,024 words are a square. Assumes nothing.
+-- `test_plan_words::apart_in` is safe: 1,024 words are a square. Assumes nothing.
 use mathlib.Core.Logic.{inr}
 use mathlib.Core.Path.{◌∙◌}
 use borrow.Author.Rules.{rules}

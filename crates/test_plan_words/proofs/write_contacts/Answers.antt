@@ -1,5 +1,4 @@
--- `test_plan_words::write_contacts` is safe and ends: each index is tested, the number of turns left falls, and 1,024 words are a square.
--- Assumes nothing.
+-- `test_plan_words::write_contacts` is safe: 1,024 words are a square. Assumes nothing.
 use mathlib.Core.Logic.{inr}
 use borrow.Author.Rules.{rules}
 use Rattle.test_plan_words.proofs.write_contacts.Goals as goal

@@ -1,10 +1,6 @@
 -- `trees::leaves` meets its contract: so far the first i leaves are set. Assumes nothing.
-use Prim.Native.Nat.{◌-◌, ◌≤◌}
 use Rattle.trees.proofs.Rules.{LeavesTo}
 use Rattle.trees.proofs.leaves.Given as goal
 
 abbrev pub invariant-loop-i : goal.invariant-loop-i
-invariant-loop-i l = (l.i ≤ l.many) × LeavesTo l.word l.many l.i l.out
-
-abbrev pub decreases-loop-i : goal.decreases-loop-i
-decreases-loop-i l = l.many - l.i
+invariant-loop-i l = LeavesTo l.word l.many l.i l.out

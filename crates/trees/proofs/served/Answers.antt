@@ -1,4 +1,4 @@
--- `trees::served` meets its contract: so far the words before i are joined. Assumes nothing.
+-- `trees::served` meets its contract: so far the words before the index are joined. Assumes nothing.
 use mathlib.Core.Path.{◌≡◌, ap, ◌∙◌}
 use mathlib.Core.List.{List}
 use Prim.Native.Nat.{ℕ}
@@ -10,22 +10,19 @@ use Rattle.trees.specs.Branch.{served_by}
 use Rattle.trees.proofs.Floors.{served_next}
 use Rattle.trees.proofs.served.Goals as goal
 
-pub loop-i-init : goal.loop-i-init
+pub loop-w-init : goal.loop-w-init
 unfolding served_by
-loop-i-init c = (omega arith, bit_none)
+loop-w-init c = bit_none
 
-pub kept-all-requires : goal.kept-all-requires
-kept-all-requires c = tt
-
-pub loop-i-preserved : goal.loop-i-preserved
-loop-i-preserved c =
-    let k = c.loop-i in
+pub loop-w-preserved : goal.loop-w-preserved
+loop-w-preserved c =
+    let k = c.loop-w in
     let a = c.args in
-    (omega arith, served_next a.left a.list.now k.i c.kept-all.result k.all (omega arith) k.invariant.1 c.kept-all.ensures)
+    served_next a.left a.list.now k.w-index _ k.all (omega arith) k.invariant c.kept-all.ensures
 
 pub returns : goal.returns
 returns c = λ p.
-    let k = c.loop-i in
+    let k = c.loop-w in
     let a = c.args in
-    let z : k.i ≡ length a.list.now = omega arith in
-    k.invariant.1 p ∙ ap (λ (x : List ℕ). served_by a.left x p) (ap (λ (x : ℕ). take x a.list.now) z ∙ take-length a.list.now)
+    let z : k.w-index ≡ length a.list.now = omega arith in
+    k.invariant p ∙ ap (λ (x : List ℕ). served_by a.left x p) (ap (λ (x : ℕ). take x a.list.now) z ∙ take-length a.list.now)

@@ -26,22 +26,22 @@ put_plan-written-requires c =
     may_plan _ _ _ _ all
 
 -- the answer is the writer's
-pub returns-in-Words : goal.returns-in-Words
+pub returns-in-Ok : goal.returns-in-Ok
 unfolding PlanPut
-returns-in-Words c =
+returns-in-Ok c =
     let all : CompiledRules (formulas_of (rules_of c.args.self)) c.searched-searched.result.compiled c.searched-searched.ensures.compiled.kept c.searched-searched.ensures.code = reached_all c.args.self _ _ c.requires c.searched-searched.ensures.compiled in
     let t = c.args.self in
     let put = c.put_plan-written in
     let out = wrote_plan _ c.args.buffer.now put.result put.new.buffer (put.ensures _ _ _ all) in
     asks_some _ t c.requires _ c.if-standing-le0.false _
-    (plan_given (formulas_of (rules_of t)) _ _ _ all _ _ _ c.searched-searched.ensures.first c.in-At.is) _ _ (sym (ap written_answer c.in-Words.is) ∙ out.0) out.1
+    (plan_given (formulas_of (rules_of t)) _ _ _ all _ _ _ c.searched-searched.ensures.first c.in-Some.is) _ _ (sym (ap written_answer c.in-Ok.is) ∙ out.0) out.1
 
-pub returns-in-Needs : goal.returns-in-Needs
+pub returns-in-Err : goal.returns-in-Err
 unfolding PlanPut
-returns-in-Needs c =
+returns-in-Err c =
     let all : CompiledRules (formulas_of (rules_of c.args.self)) c.searched-searched.result.compiled c.searched-searched.ensures.compiled.kept c.searched-searched.ensures.code = reached_all c.args.self _ _ c.requires c.searched-searched.ensures.compiled in
     let t = c.args.self in
     let put = c.put_plan-written in
     let out = wrote_plan _ c.args.buffer.now put.result put.new.buffer (put.ensures _ _ _ all) in
     asks_some _ t c.requires _ c.if-standing-le0.false _
-    (plan_given (formulas_of (rules_of t)) _ _ _ all _ _ _ c.searched-searched.ensures.first c.in-At.is) _ _ (sym (ap written_answer c.in-Needs.is) ∙ out.0) out.1
+    (plan_given (formulas_of (rules_of t)) _ _ _ all _ _ _ c.searched-searched.ensures.first c.in-Some.is) _ _ (sym (ap written_answer c.in-Err.is) ∙ out.0) out.1

@@ -3,8 +3,8 @@ use Rattle.table.proofs.Atoms.{length_in, kept_atom}
 use mathlib.Core.Path.{ap}
 use Rattle.table.proofs.Table.atom_text.Goals as goal
 
-pub returns-in-Text : goal.returns-in-Text
-returns-in-Text c = kept_atom _ c.requires.0 _ _ c.zeros-bytes.ensures _ _ c.atom_by-printed.ensures _ (ap length_in c.in-Text.is)
+pub returns-in-Ok : goal.returns-in-Ok
+returns-in-Ok c = kept_atom _ c.requires.0 _ _ c.zeros-bytes.ensures _ _ c.atom_by-printed.ensures _ (ap length_in c.in-Ok.is)
 
-pub returns-in-Needs : goal.returns-in-Needs
-returns-in-Needs c = kept_atom _ c.requires.0 _ _ c.zeros-bytes.ensures _ _ c.atom_by-printed.ensures _ (ap length_in c.in-Needs.is)
+pub returns-in-Err : goal.returns-in-Err
+returns-in-Err c = kept_atom _ c.requires.0 _ _ c.zeros-bytes.ensures _ _ c.atom_by-printed.ensures _ (ap length_in c.in-Err.is)

@@ -7,7 +7,4 @@ use Rattle.table.proofs.Atoms.{KeptTo}
 use Rattle.table.proofs.Table.atom_texts.Given as goal
 
 abbrev pub invariant-loop-i : goal.invariant-loop-i
-invariant-loop-i l = (l.i ≤ 16) × KeptTo (atom_text_of (formulas_of (rules_of l.self))) l.texts l.i
-
-abbrev pub decreases-loop-i : goal.decreases-loop-i
-decreases-loop-i l = 16 - l.i
+invariant-loop-i l = KeptTo (atom_text_of (formulas_of (rules_of l.self))) l.texts l.i

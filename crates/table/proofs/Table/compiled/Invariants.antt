@@ -6,7 +6,4 @@ use Rattle.table.proofs.Compiled.{Reached}
 use Rattle.table.proofs.Table.compiled.Given as goal
 
 abbrev pub invariant-loop-i : goal.invariant-loop-i
-invariant-loop-i l = (l.i ≤ l.rules) × (length l.code ≡ length l.initial.code) × Reached l.self l.c l.kept l.code l.i
-
-abbrev pub decreases-loop-i : goal.decreases-loop-i
-decreases-loop-i l = l.rules - l.i
+invariant-loop-i l = (length l.code ≡ length l.initial.code) × Reached l.self l.c l.kept l.code l.i

@@ -6,11 +6,11 @@ use Rattle.table.proofs.Table.judge.Goals as goal
 pub returns-then-count-le0 : goal.returns-then-count-le0
 returns-then-count-le0 c = judges_none _ c.requires _ c.if-count-le0.true
 
-pub returns-in-Refused : goal.returns-in-Refused
-returns-in-Refused c = judges_words _ c.requires _ _ c.read_plan-read.ensures c.if-count-le0.false _ c.in-Refused.is
-
-pub returns : goal.returns
-returns c =
+pub returns-in-Ok : goal.returns-in-Ok
+returns-in-Ok c =
     let by = c.judgement-answer.ensures in
-    judges_plan _ c.requires _ _ c.read_plan-read.ensures c.if-count-le0.false c.in_default.is _ _ _
+    judges_plan _ c.requires _ c.if-count-le0.false _ c.in-Ok.ensures _ _ _
     (reached_all c.args.self by.compiling by.code c.requires by.compiled) _ by.says
+
+pub returns-in-Err : goal.returns-in-Err
+returns-in-Err c = judges_words _ c.requires _ c.if-count-le0.false _ c.in-Err.ensures

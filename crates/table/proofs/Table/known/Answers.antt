@@ -23,14 +23,11 @@ slice_bounds-bytes-end c = text_within c.requires.0 c.loop-i-test.true
 pub slice_bounds-with_text-end : goal.slice_bounds-with_text-end
 slice_bounds-with_text-end c = text_length c.requires.0 c.loop-i-test.true
 
-pub with_text-tried-requires : goal.with_text-tried-requires
-with_text-tried-requires c = known_so_far c.requires.0 c.loop-i-test.true _ _ c.loop-i.invariant
-
-pub overflow_add-i : goal.overflow_add-i
-overflow_add-i c = omega (arith, few c.before.before.before.before.before.before)
+pub with_text-requires : goal.with_text-requires
+with_text-requires c = known_so_far c.requires.0 c.loop-i-test.true _ _ c.loop-i.invariant
 
 pub loop-i-preserved : goal.loop-i-preserved
-loop-i-preserved c = known_more c.requires.0 c.loop-i-test.true _ _ c.loop-i.invariant _ _ c.with_text-tried.ensures
+loop-i-preserved c = known_more c.requires.0 c.loop-i-test.true _ _ c.loop-i.invariant _ _ _ c.with_text.ensures
 
 pub returns : goal.returns
 returns c = known_all _ _ _ _ c.requires.0 c.loop-i.invariant c.loop-i-test.false

@@ -26,9 +26,6 @@ slice_bounds-text-end c = text_length c.requires c.loop-i-test.true
 pub gather-gathered-requires : goal.gather-gathered-requires
 gather-gathered-requires c = text_gathers c.requires c.loop-i-test.true _ c.loop-i.invariant _ c.read_rule-rule.ensures
 
-pub overflow_add-i : goal.overflow_add-i
-overflow_add-i c = omega (arith, few c.before.before.before.before.before.before)
-
 pub loop-i-preserved : goal.loop-i-preserved
 loop-i-preserved c = named_more c.requires c.loop-i-test.true _ c.loop-i.invariant _ c.gather-gathered.ensures
 

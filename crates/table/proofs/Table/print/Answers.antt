@@ -43,14 +43,14 @@ print-printed-requires c =
     let e = c.read_rule-rule.ensures in
     record { read = e; formula = ap (λ r. r.answer) e ∙ text_read c.requires low }
 
-pub returns-in-Text : goal.returns-in-Text
-returns-in-Text c =
+pub returns-in-Ok : goal.returns-in-Ok
+returns-in-Ok c =
     let v = c.requires in
     let low : c.args.k - 1 < c.args.self.count = omega arith in
-    prints_text _ v _ _ (omega arith) (omega arith) _ (text_is v low) _ _ c.print-printed.ensures _ (ap printed_answer c.in-Text.is)
+    prints_text _ v _ _ (omega arith) (omega arith) _ (text_is v low) _ _ c.print-printed.ensures _ (ap printed_answer c.in-Ok.is)
 
-pub returns-in-Needs : goal.returns-in-Needs
-returns-in-Needs c =
+pub returns-in-Err : goal.returns-in-Err
+returns-in-Err c =
     let v = c.requires in
     let low : c.args.k - 1 < c.args.self.count = omega arith in
-    prints_text _ v _ _ (omega arith) (omega arith) _ (text_is v low) _ _ c.print-printed.ensures _ (ap printed_answer c.in-Needs.is)
+    prints_text _ v _ _ (omega arith) (omega arith) _ (text_is v low) _ _ c.print-printed.ensures _ (ap printed_answer c.in-Err.is)

@@ -1,10 +1,12 @@
 -- `table::Table::tree_checked` meets its contract: the rules are compiled into the smaller or the larger room, and the checker judges the words by them. Assumes
 -- nothing.
+use Prim.Native.Nat.{ℕ}
 use native.Mathlib.Omega.{arith}
+use lib.ListN.{length-replicate}
 use Rattle.table.proofs.Lines.{count_few}
 use Rattle.table.proofs.Table.tree_checked.Goals as goal
 
 pub compiled-c-requires-2 : goal.compiled-c-requires-2
 compiled-c-requires-2 c =
     let pre = c.requires in
-    (pre.0, pre.1, omega (arith, count_few _ pre.0, pre.1, c.no_code-code.ensures))
+    (pre.0, pre.1, omega (arith, count_few _ pre.0, pre.1, length-replicate {A = ℕ} 4096 0))

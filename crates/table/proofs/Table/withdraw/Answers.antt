@@ -46,9 +46,6 @@ offset_bounds-table-i c = omega (arith, count_few c.args.self c.requires)
 pub bounds-table-i : goal.bounds-table-i
 bounds-table-i c = omega (arith, count_few c.args.self c.requires)
 
-pub overflow_add-i : goal.overflow_add-i
-overflow_add-i c = omega (arith, count_few c.args.self c.requires)
-
 pub loop-i-preserved : goal.loop-i-preserved
 loop-i-preserved c =
     let t = c.args.self in

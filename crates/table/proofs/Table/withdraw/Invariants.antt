@@ -9,6 +9,3 @@ use Rattle.table.proofs.Table.withdraw.Given as goal
 
 abbrev pub invariant-loop-i : goal.invariant-loop-i
 invariant-loop-i l = (l.k ≤ l.i) × (l.i ≤ l.count) × (l.table.lines ≡ set (moved l.self.lines l.k l.i) (l.count - 1) (kept_line []))
-
-abbrev pub decreases-loop-i : goal.decreases-loop-i
-decreases-loop-i l = l.count - l.i

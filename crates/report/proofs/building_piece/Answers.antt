@@ -1,0 +1,5 @@
+-- `report::building_piece` meets its contract: it is that of `put_piece`. Assumes nothing.
+use Rattle.report.proofs.building_piece.Goals as goal
+
+pub returns : goal.returns
+returns c = c.put_piece.ensures

@@ -1,6 +1,0 @@
--- `test_small_floors::test_sheets` is safe and ends: the sheets left fall. Assumes nothing.
-use Prim.Native.Nat.{◌-◌}
-use Rattle.test_small_floors.proofs.test_sheets.Given as goal
-
-abbrev pub decreases-loop-k : goal.decreases-loop-k
-decreases-loop-k g l = 3012 - l.k
