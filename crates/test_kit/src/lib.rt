@@ -63,8 +63,24 @@ pub fn write_words(rt: &impl Print, before: &[u8], words: &[u32], after: &[u8]) 
     }
 }
 
-// Counts, each behind its label in 14 columns, one a line.
-pub fn write_counts(rt: &impl Print, labels: &[&str], counts: &[usize]) {
+// The label with this number, of labels of 14 bytes each.
+fn write_label(rt: &impl Print, labels: &[u8], i: usize) {
+    if i < labels.len() / 14 {
+        write_bytes(rt, &labels[i * 14..i * 14 + 14]);
+    }
+}
+
+// Counts, each behind its label, one a line.
+pub fn write_counts(rt: &impl Print, labels: &[u8], counts: &[usize]) {
+    for (i, n) in counts.iter().enumerate() {
+        write_label(rt, labels, i);
+        write_number(rt, *n);
+        write_bytes(rt, b"\n");
+    }
+}
+
+// Counts that have a label, each behind it in 14 columns, one a line.
+pub fn write_named_counts(rt: &impl Print, labels: &[&str], counts: &[usize]) {
     for (label, n) in labels.iter().zip(counts.iter()) {
         let _ = println!(rt; "{label:14}{n}");
     }
