@@ -30,7 +30,7 @@ use small_floors::{
 };
 use small_sheets::{Numbers, Sheet, Sign, numbers_of, sheet_at};
 use table::{LoadAnswer, Outcome, Table};
-use test_kit::{raise, write_bytes, write_counts, write_labelled, write_refusal};
+use test_kit::{raise, write_bytes, write_labelled, write_named_counts, write_refusal};
 
 // ---- what clash says
 
@@ -573,7 +573,7 @@ const RULES: usize = 13;
 
 // What was counted.
 fn show_counts(rt: &impl Print, counts: [usize; 21]) {
-    write_counts(
+    write_named_counts(
         rt,
         &[
             "sheets",

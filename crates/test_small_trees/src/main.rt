@@ -11,7 +11,7 @@ ghost use Rattle.table.specs.Calls.{FromUs};
 
 use small_sheets::{Numbers, Sign, numbers_of, sheet_at};
 use table::{AskAnswer, CheckAnswer, ExplainAnswer, LoadAnswer, Table};
-use test_kit::{raise, write_bytes, write_counts};
+use test_kit::{raise, write_bytes, write_named_counts};
 
 // ---- what the table answers
 
@@ -146,7 +146,7 @@ static LABELS: [&str; 34] = [
 
 // What was counted.
 fn show_counts(rt: &impl Print, counts: [usize; 34]) {
-    write_counts(rt, &LABELS, &counts);
+    write_named_counts(rt, &LABELS, &counts);
 }
 
 fn raise_if(counts: &mut [usize; 34], i: usize, b: bool) {
