@@ -2,13 +2,13 @@
 // generated ones. A sheet is made twice at once: as text, which the table reads, and in a form of its own, which the tests evaluate, so that
 // no reader stands between the two. Now and then a generated sheet repeats an atom, a contact also with its terms exchanged; the form's atoms
 // are compared here sign by sign and numbered, those that are the same alike, as document 02, T-03, says. Nothing here shares code with the
-// table. What a contract states are the bounds that callers use; what a sheet holds is held to the stored outputs of the four programs, whose
-// counts of names, signs and atoms a separate program gave. No public function has a requires. Assumes nothing.
+// table. What a contract states are the bounds that callers use, and of is_atom the answer; what a sheet holds is held to the stored outputs of
+// the four programs, whose counts of names, signs and atoms a separate program gave. No public function has a requires. Assumes nothing.
 #![tactic(auto)]
 
-ghost use Rattle.std.specs.Prelude.{◌≡◌, ◌<◌, ◌≤◌, length, MatchOption};
+ghost use Rattle.std.specs.Prelude.{◌≡◌, refl, Bool, true, ℕ, ◌<◌, ◌≤◌, length, MatchOption};
 ghost use Rattle.small_sheets.specs.Bounds.{Bounded, Few};
-ghost use Rattle.small_sheets.specs.Signs.{is_of_atom};
+ghost use Rattle.small_sheets.specs.Signs.{code_of, is_of_atom, is_number_of_atom, of_atom_by_code};
 
 // ---- the signs of a sheet's form
 
@@ -36,6 +36,84 @@ pub enum Sign {
     Second,
     Third,
     Rule,
+}
+
+// Their numbers, from 0 on.
+pub const NOTHING: u8 = Sign::Nothing as u8;
+
+pub const ALL: u8 = Sign::All as u8;
+
+pub const TRUE: u8 = Sign::True as u8;
+
+pub const FALSE: u8 = Sign::False as u8;
+
+pub const REST: u8 = Sign::Rest as u8;
+
+pub const NOT: u8 = Sign::Not as u8;
+
+pub const EMPTY: u8 = Sign::Empty as u8;
+
+pub const SPACED_EMPTY: u8 = Sign::SpacedEmpty as u8;
+
+pub const COMMON: u8 = Sign::Common as u8;
+
+pub const EITHER: u8 = Sign::Either as u8;
+
+pub const CONTACT: u8 = Sign::Contact as u8;
+
+pub const PART: u8 = Sign::Part as u8;
+
+pub const AND: u8 = Sign::And as u8;
+
+pub const OR: u8 = Sign::Or as u8;
+
+pub const IF: u8 = Sign::If as u8;
+
+pub const EXACTLY_IF: u8 = Sign::ExactlyIf as u8;
+
+pub const NAME: u8 = Sign::Name as u8;
+
+pub const SECOND: u8 = Sign::Second as u8;
+
+pub const THIRD: u8 = Sign::Third as u8;
+
+pub const RULE: u8 = Sign::Rule as u8;
+
+// What stands for a sign: the sign itself, or its number, a byte. A byte from 20 on is the number of none, and stands for itself.
+pub trait AsSign: Copy {
+    ghost code: { Self → ℕ };
+
+    ghost of_atom: { Self → Bool };
+
+    // The sign's number.
+    fn number(self) -> u8
+        ensures { result ≡ code self };
+
+    ghost of_atom_by_code: { (s : Self) → of_atom s ≡ is_number_of_atom (code s) };
+}
+
+impl AsSign for u8 {
+    ghost code = { λ n. n };
+
+    ghost of_atom = { is_number_of_atom };
+
+    ghost of_atom_by_code = { λ _. refl };
+
+    fn number(self) -> u8 {
+        self
+    }
+}
+
+impl AsSign for Sign {
+    ghost code = { code_of };
+
+    ghost of_atom = { is_of_atom };
+
+    ghost of_atom_by_code = { of_atom_by_code };
+
+    fn number(self) -> u8 {
+        self as u8
+    }
 }
 
 // ---- the sheets
@@ -844,29 +922,37 @@ pub struct Numbers {
 }
 
 // How many operands a sign has.
-pub fn operands(sign: Sign) -> usize
+pub fn operands<S: AsSign>(sign: S) -> usize
     ensures { result < 3 }
 {
-    match sign {
-        Sign::Rest | Sign::Not | Sign::Empty | Sign::SpacedEmpty => 1,
-        Sign::Common | Sign::Either | Sign::Contact | Sign::Part => 2,
-        Sign::And | Sign::Or | Sign::If | Sign::ExactlyIf => 2,
+    match sign.number() {
+        REST | NOT | EMPTY | SPACED_EMPTY => 1,
+        COMMON | EITHER | CONTACT | PART | AND | OR | IF | EXACTLY_IF => 2,
         _ => 0,
     }
 }
 
 // Whether a sign is an atom's.
-pub fn is_atom(sign: Sign) -> bool
-    ensures { result ≡ is_of_atom sign }
+pub fn is_atom<S: AsSign>(sign: S) -> bool
+    ensures within { result ≡ true → (5 < S.code sign) × (S.code sign < 12) }
+    ensures all { result ≡ S.of_atom sign }
 {
-    matches!(
-        sign,
-        Sign::Contact | Sign::Part | Sign::Empty | Sign::SpacedEmpty
-    )
+    match sign.number() {
+        CONTACT | PART | EMPTY | SPACED_EMPTY => true,
+        _ => false,
+    }
 }
 
-// How many terms are still to come after a sign of them.
-fn still_wanted(wanted: usize, sign: Sign) -> usize {
+// The number of the sign so many places after a place; past the form's end that of a rule.
+fn number_after<S: AsSign>(code: &[S], p: usize, i: usize) -> u8 {
+    if p < code.len() && i < code.len() - p {
+        return code[p + i].number();
+    }
+    RULE
+}
+
+// How many terms are still to come after a sign of them, given by its number.
+fn still_wanted(wanted: usize, sign: u8) -> usize {
     match operands(sign) {
         0 => wanted.saturating_sub(1),
         1 => wanted,
@@ -875,7 +961,7 @@ fn still_wanted(wanted: usize, sign: Sign) -> usize {
 }
 
 // The place after the term at a place.
-fn after_term(code: &[Sign], p: usize) -> usize
+fn after_term<S: AsSign>(code: &[S], p: usize) -> usize
     ensures within { result ≤ length code.now }
     ensures after { p ≤ length code.now → p ≤ result }
 {
@@ -884,29 +970,31 @@ fn after_term(code: &[Sign], p: usize) -> usize
         if wanted == 0 {
             return i;
         }
-        wanted = still_wanted(wanted, code[i]);
+        wanted = still_wanted(wanted, code[i].number());
     }
     code.len()
 }
 
-// The signs of the term at a place.
-fn term_at(code: &[Sign], p: usize) -> &[Sign] {
-    let start = p.min(code.len());
-    &code[start..after_term(code, start)]
-}
-
-// The signs of the term after that one.
-fn term_after(code: &[Sign], p: usize) -> &[Sign] {
-    term_at(code, after_term(code, p))
-}
-
-// The sign of an atom: `= 0` is `=0`.
-fn atom_sign(code: &[Sign], p: usize) -> Sign {
-    if code.len() <= p {
-        return Sign::Rule;
+// Whether the terms at two places are the same.
+fn same_term<S: AsSign>(code: &[S], p: usize, q: usize) -> bool {
+    let mut wanted: usize = 1;
+    for i in 0..code.len() {
+        if wanted == 0 {
+            return true;
+        }
+        let sign = number_after(code, p, i);
+        if sign != number_after(code, q, i) {
+            return false;
+        }
+        wanted = still_wanted(wanted, sign);
     }
-    match code[p] {
-        Sign::SpacedEmpty => Sign::Empty,
+    false
+}
+
+// The number of an atom's sign: `= 0` is `=0`.
+fn atom_number<S: AsSign>(code: &[S], p: usize) -> u8 {
+    match number_after(code, p, 0) {
+        SPACED_EMPTY => EMPTY,
         sign => sign,
     }
 }
@@ -917,29 +1005,30 @@ fn next_place(p: usize) -> usize {
 }
 
 // Whether two atoms with one sign have the same terms in the same order.
-fn alike(code: &[Sign], p: usize, q: usize) -> bool {
+fn alike<S: AsSign>(code: &[S], p: usize, q: usize) -> bool {
     let first = next_place(p);
     let other = next_place(q);
-    term_at(code, first) == term_at(code, other)
-        && (atom_sign(code, p) == Sign::Empty || term_after(code, first) == term_after(code, other))
+    same_term(code, first, other)
+        && (atom_number(code, p) == EMPTY
+            || same_term(code, after_term(code, first), after_term(code, other)))
 }
 
 // Whether two atoms with one sign are contacts whose terms are exchanged.
-fn exchanged(code: &[Sign], p: usize, q: usize) -> bool {
+fn exchanged<S: AsSign>(code: &[S], p: usize, q: usize) -> bool {
     let first = next_place(p);
     let other = next_place(q);
-    atom_sign(code, p) == Sign::Contact
-        && term_at(code, first) == term_after(code, other)
-        && term_after(code, first) == term_at(code, other)
+    atom_number(code, p) == CONTACT
+        && same_term(code, first, after_term(code, other))
+        && same_term(code, after_term(code, first), other)
 }
 
 // Whether the atoms at two places are the same.
-fn same_atom(code: &[Sign], p: usize, q: usize) -> bool {
-    atom_sign(code, p) == atom_sign(code, q) && (alike(code, p, q) || exchanged(code, p, q))
+fn same_atom<S: AsSign>(code: &[S], p: usize, q: usize) -> bool {
+    atom_number(code, p) == atom_number(code, q) && (alike(code, p, q) || exchanged(code, p, q))
 }
 
 // The number of the first atom that is the same as the one at a place.
-fn number_of(code: &[Sign], numbers: Numbers, p: usize) -> Option<usize>
+fn number_of<S: AsSign>(code: &[S], numbers: Numbers, p: usize) -> Option<usize>
     requires { Few numbers }
 {
     let firsts = &numbers.firsts[..numbers.count];
@@ -975,7 +1064,7 @@ fn with_place(numbers: Numbers, number: usize) -> Numbers
 }
 
 // One atom more, that at a place.
-fn with_numbered(code: &[Sign], numbers: Numbers, p: usize) -> Numbers
+fn with_numbered<S: AsSign>(code: &[S], numbers: Numbers, p: usize) -> Numbers
     requires { Few numbers }
     ensures { Few result }
 {
@@ -990,7 +1079,7 @@ fn with_numbered(code: &[Sign], numbers: Numbers, p: usize) -> Numbers
 }
 
 // The numbers of a form's atoms.
-pub fn numbers_of(code: &[Sign]) -> Numbers
+pub fn numbers_of<S: AsSign>(code: &[S]) -> Numbers
     ensures { Few result }
 {
     let mut numbers = Numbers {
