@@ -215,7 +215,7 @@ fn count_sheet(counts: &mut [usize; 34], file: &[u8], code: &[Sign], names: usiz
 fn count_word(counts: &mut [usize; 34], word: u32) {
     let w = word as usize;
     raise(counts, TREES + 1, 1);
-    raise(counts, TREES + w / 0x1000_0000 % 16 - 3, 1);
+    raise(counts, (TREES + w / 0x1000_0000 % 16 - 3) % 34, 1);
     counts[MIXED] = (counts[MIXED] % 0x1_0000_0000 * 31 + w) % 0x1_0000_0000;
 }
 
