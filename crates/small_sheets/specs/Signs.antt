@@ -1,4 +1,4 @@
--- What is computed: the number of a sign of a form, and whether it is an atom's. Assumes nothing.
+-- What is computed: the number of a sign of a form, and whether it is an atom's; last, for proofs, that sign and number agree. Assumes nothing.
 use Rattle.std.specs.Prelude.{Bool, true, false, cond, ◌≡◌, refl, ℕ, eqb}
 use Rattle.small_sheets.specs.declared.Sign.{Sign}
 
@@ -36,7 +36,7 @@ is_of_atom _ = false
 abbrev pub is_number_of_atom : ℕ → Bool
 is_number_of_atom n = cond (eqb n 6) true (cond (eqb n 7) true (cond (eqb n 10) true (eqb n 11)))
 
--- The two agree.
+-- For proofs: of a sign and of its number the answer is the same.
 pub of_atom_by_code : (s : Sign) → is_of_atom s ≡ is_number_of_atom (code_of s)
 of_atom_by_code Sign.Nothing = refl
 of_atom_by_code Sign.All = refl
