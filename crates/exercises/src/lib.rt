@@ -45,6 +45,12 @@ static AWAITS: [bool; 20] = [
     true, true, true, false, true, true,
 ];
 
+// How each is written.
+static SPELLINGS: [&[u8]; 20] = [
+    b"T", b"F", b"C", b"0", b"1", b"a", b"b", b"(", b")", b",", b"*", b"+", b"-", b"&", b"|", b"~",
+    b"<=", b"=0", b"->", b"<->",
+];
+
 // The tokens that may come where a value does, and those of them that may be the last; and where none does.
 static VALUES: [u8; 11] = [0, 1, 2, 3, 4, 5, 6, 7, 12, 15, 16];
 
@@ -53,36 +59,6 @@ static LAST_VALUES: [u8; 2] = [0, 1];
 static SIGNS: [u8; 9] = [8, 9, 10, 11, 13, 14, 17, 18, 19];
 
 static LAST_SIGNS: [u8; 2] = [8, 17];
-
-// How a token is written.
-#[tactic(auto, unfolding(crate::specs::Tokens::entry, crate::specs::Tokens::table))]
-fn spelling(k: u8) -> &'static [u8]
-    ensures { result.now ≡ spelling k }
-{
-    match k {
-        0 => b"T",
-        1 => b"F",
-        2 => b"C",
-        3 => b"0",
-        4 => b"1",
-        5 => b"a",
-        6 => b"b",
-        7 => b"(",
-        8 => b")",
-        9 => b",",
-        10 => b"*",
-        11 => b"+",
-        12 => b"-",
-        13 => b"&",
-        14 => b"|",
-        15 => b"~",
-        16 => b"<=",
-        17 => b"=0",
-        18 => b"->",
-        19 => b"<->",
-        _ => b"T",
-    }
-}
 
 // The place of a token in these tables. A number that is none stands for the first, as in the definition.
 fn place(k: u8) -> usize
@@ -103,6 +79,13 @@ fn awaits(k: u8) -> bool
     ensures { result ≡ awaits (token_at k) }
 {
     AWAITS[place(k)]
+}
+
+// How a token is written.
+fn spelling(k: u8) -> &'static [u8]
+    ensures { result.now ≡ spelling k }
+{
+    SPELLINGS[place(k)]
 }
 
 // Whether a value comes behind a string.

@@ -96,10 +96,12 @@ impl Tokens {
         requires { self.old.n < 256 }
         ensures { self.new ≡ push self.old kind start len }
     {
-        self.kinds[self.n] = code_of(kind);
-        self.starts[self.n] = start;
-        self.lens[self.n] = len;
-        self.n += 1;
+        // n is read once, since the compiler can't tell that no write into an array changes it.
+        let n = self.n;
+        self.kinds[n] = code_of(kind);
+        self.starts[n] = start;
+        self.lens[n] = len;
+        self.n = n + 1;
     }
 }
 

@@ -3,7 +3,10 @@
 // function answers: what these functions say is held to the stored outputs of the two programs. No function has a requires. Assumes nothing.
 #![tactic(auto)]
 
-use small_sheets::{Numbers, Sign, is_atom, operands};
+use small_sheets::{
+    ALL, AND, AsSign, COMMON, CONTACT, EITHER, EMPTY, FALSE, IF, NAME, NOT, NOTHING, Numbers, OR,
+    PART, REST, RULE, SECOND, SPACED_EMPTY, THIRD, TRUE, is_atom, operands,
+};
 
 // ---- floors, and what rules mean on them
 
@@ -67,10 +70,10 @@ pub fn evaluations(names: usize) -> u8 {
 }
 
 // The evaluations in which a name holds: those with the bit of its number.
-fn name_set(name: Sign) -> u8 {
+fn name_set(name: u8) -> u8 {
     match name {
-        Sign::Name => 0xAA,
-        Sign::Second => 0xCC,
+        NAME => 0xAA,
+        SECOND => 0xCC,
         _ => 0xF0,
     }
 }
@@ -80,9 +83,9 @@ fn name_set(name: Sign) -> u8 {
 fn somewhere(names: usize) -> u8 {
     match names {
         0 => 1,
-        1 => name_set(Sign::Name),
-        2 => name_set(Sign::Name) | name_set(Sign::Second),
-        _ => name_set(Sign::Name) | name_set(Sign::Second) | name_set(Sign::Third),
+        1 => name_set(NAME),
+        2 => name_set(NAME) | name_set(SECOND),
+        _ => name_set(NAME) | name_set(SECOND) | name_set(THIRD),
     }
 }
 
@@ -161,47 +164,47 @@ pub fn touching(x: u8, y: u8, touch: [u8; 8]) -> bool {
     (0..8).any(|e| has(x, e) && touch[e] & y != 0)
 }
 
-// What a term is on a floor, from its operands: "- is complement, * intersection, + union".
-fn term_value(sign: Sign, x: u8, y: u8, points: u8) -> u8 {
+// What a term is on a floor, from its operands: "- is complement, * intersection, + union". A number of no sign is a name's, as THIRD.
+fn term_value(sign: u8, x: u8, y: u8, points: u8) -> u8 {
     match sign {
-        Sign::Nothing => 0,
-        Sign::All => points,
-        Sign::Rest => points & (255 - x),
-        Sign::Common => x & y,
-        Sign::Either => x | y,
+        NOTHING => 0,
+        ALL => points,
+        REST => points & (255 - x),
+        COMMON => x & y,
+        EITHER => x | y,
         _ => points & name_set(sign),
     }
 }
 
-// Whether a formula holds, from its operands: "t=0 holds if t is empty. <=(x,y) means x*-y=0."
-fn formula_value(sign: Sign, a: u8, b: u8, touch: [u8; 8]) -> bool {
+// 1 if a formula holds, else 0, from its operands: "t=0 holds if t is empty. <=(x,y) means x*-y=0." Operands of `&`, `|` and `->` that are
+// points of a term, as in a list of signs that is no form, are taken bit by bit.
+fn formula_value(sign: u8, a: u8, b: u8, touch: [u8; 8]) -> u8 {
     match sign {
-        Sign::True => true,
-        Sign::False => false,
-        Sign::Not | Sign::Empty | Sign::SpacedEmpty => a == 0,
-        Sign::Contact => touching(a, b, touch),
-        Sign::Part => a & (255 - b) == 0,
-        Sign::And => a & b != 0,
-        Sign::Or => a | b != 0,
-        Sign::If => a == 0 || b != 0,
-        _ => a == b,
+        TRUE => 1,
+        FALSE => 0,
+        NOT | EMPTY | SPACED_EMPTY => (a == 0) as u8,
+        CONTACT => touching(a, b, touch) as u8,
+        PART => (a & (255 - b) == 0) as u8,
+        AND => a & b,
+        OR => a | b,
+        IF => (a == 0) as u8 | b,
+        _ => (a == b) as u8,
     }
 }
 
-fn is_term(sign: Sign) -> bool {
+fn is_term(sign: u8) -> bool {
     match sign {
-        Sign::Nothing | Sign::All | Sign::Rest | Sign::Common | Sign::Either => true,
-        Sign::Name | Sign::Second | Sign::Third => true,
-        _ => false,
+        NOTHING | ALL | REST | COMMON | EITHER => true,
+        _ => NAME <= sign,
     }
 }
 
 // The value of a sign: the points of a term; 1 if a formula holds, else 0. So both stand in one list of values.
-fn value_of(sign: Sign, a: u8, b: u8, floor: Floor) -> u8 {
+fn value_of(sign: u8, a: u8, b: u8, floor: Floor) -> u8 {
     if is_term(sign) {
         return term_value(sign, a, b, floor.points);
     }
-    formula_value(sign, a, b, floor.touch) as u8
+    formula_value(sign, a, b, floor.touch)
 }
 
 // The number of the atom that comes next.
@@ -251,23 +254,24 @@ fn with_rule_end(m: Machine, value: u8) -> Machine {
     next
 }
 
-// One sign more.
-pub fn step(m: Machine, sign: Sign, floor: Floor) -> Machine {
+// One sign more, or its number.
+pub fn step<S: AsSign>(m: Machine, sign: S, floor: Floor) -> Machine {
     let a = operand(m, 0);
     let b = operand(m, 1);
-    if sign == Sign::Rule {
+    let number = sign.number();
+    if number == RULE {
         return with_rule_end(m, a);
     }
-    let value = value_of(sign, a, b, floor);
-    let taken = operands(sign);
-    if is_atom(sign) {
+    let value = value_of(number, a, b, floor);
+    let taken = operands(number);
+    if is_atom(number) {
         return with_value(with_atom_value(m, value), taken, value);
     }
     with_value(m, taken, value)
 }
 
 // The rules on a floor.
-pub fn on_floor(code: &[Sign], numbers: Numbers, floor: Floor) -> Machine {
+pub fn on_floor<S: AsSign>(code: &[S], numbers: Numbers, floor: Floor) -> Machine {
     let mut m = start(numbers);
     for sign in code.iter().rev() {
         m = step(m, *sign, floor);

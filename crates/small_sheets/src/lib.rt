@@ -2,13 +2,13 @@
 // generated ones. A sheet is made twice at once: as text, which the table reads, and in a form of its own, which the tests evaluate, so that
 // no reader stands between the two. Now and then a generated sheet repeats an atom, a contact also with its terms exchanged; the form's atoms
 // are compared here sign by sign and numbered, those that are the same alike, as document 02, T-03, says. Nothing here shares code with the
-// table. What a contract states are the bounds that callers use; what a sheet holds is held to the stored outputs of the four programs, whose
-// counts of names, signs and atoms a separate program gave. No public function has a requires. Assumes nothing.
+// table. What a contract states are the bounds that callers use, and of is_atom the answer; what a sheet holds is held to the stored outputs of
+// the four programs, whose counts of names, signs and atoms a separate program gave. No public function has a requires. Assumes nothing.
 #![tactic(auto)]
 
-ghost use Rattle.std.specs.Prelude.{◌≡◌, ◌<◌, ◌≤◌, length, MatchOption};
+ghost use Rattle.std.specs.Prelude.{◌≡◌, refl, Bool, true, ℕ, ◌<◌, ◌≤◌, length, MatchOption};
 ghost use Rattle.small_sheets.specs.Bounds.{Bounded, Few};
-ghost use Rattle.small_sheets.specs.Signs.{is_of_atom};
+ghost use Rattle.small_sheets.specs.Signs.{code_of, is_of_atom, is_number_of_atom, of_atom_by_code};
 
 // ---- the signs of a sheet's form
 
@@ -36,6 +36,84 @@ pub enum Sign {
     Second,
     Third,
     Rule,
+}
+
+// Their numbers, from 0 on.
+pub const NOTHING: u8 = Sign::Nothing as u8;
+
+pub const ALL: u8 = Sign::All as u8;
+
+pub const TRUE: u8 = Sign::True as u8;
+
+pub const FALSE: u8 = Sign::False as u8;
+
+pub const REST: u8 = Sign::Rest as u8;
+
+pub const NOT: u8 = Sign::Not as u8;
+
+pub const EMPTY: u8 = Sign::Empty as u8;
+
+pub const SPACED_EMPTY: u8 = Sign::SpacedEmpty as u8;
+
+pub const COMMON: u8 = Sign::Common as u8;
+
+pub const EITHER: u8 = Sign::Either as u8;
+
+pub const CONTACT: u8 = Sign::Contact as u8;
+
+pub const PART: u8 = Sign::Part as u8;
+
+pub const AND: u8 = Sign::And as u8;
+
+pub const OR: u8 = Sign::Or as u8;
+
+pub const IF: u8 = Sign::If as u8;
+
+pub const EXACTLY_IF: u8 = Sign::ExactlyIf as u8;
+
+pub const NAME: u8 = Sign::Name as u8;
+
+pub const SECOND: u8 = Sign::Second as u8;
+
+pub const THIRD: u8 = Sign::Third as u8;
+
+pub const RULE: u8 = Sign::Rule as u8;
+
+// What stands for a sign: the sign itself, or its number, a byte. A byte from 20 on is the number of none, and stands for itself.
+pub trait AsSign: Copy {
+    ghost code: { Self → ℕ };
+
+    ghost of_atom: { Self → Bool };
+
+    // The sign's number.
+    fn number(self) -> u8
+        ensures { result ≡ code self };
+
+    ghost of_atom_by_code: { (s : Self) → of_atom s ≡ is_number_of_atom (code s) };
+}
+
+impl AsSign for u8 {
+    ghost code = { λ n. n };
+
+    ghost of_atom = { is_number_of_atom };
+
+    ghost of_atom_by_code = { λ _. refl };
+
+    fn number(self) -> u8 {
+        self
+    }
+}
+
+impl AsSign for Sign {
+    ghost code = { code_of };
+
+    ghost of_atom = { is_of_atom };
+
+    ghost of_atom_by_code = { of_atom_by_code };
+
+    fn number(self) -> u8 {
+        self as u8
+    }
 }
 
 // ---- the sheets
@@ -67,7 +145,7 @@ pub fn sheet_at(k: u64) -> Sheet
 }
 
 // The sheet that was made.
-fn sheet_of(m: Maker, text: [u8; 1100], form: [Sign; 512], withdrawn: usize) -> Sheet
+fn sheet_of(m: &Maker, text: [u8; 1100], form: [Sign; 512], withdrawn: usize) -> Sheet
     ensures { Bounded result }
 {
     Sheet {
@@ -97,8 +175,8 @@ enum Sort {
 #[derive(Clone, Copy)]
 enum Item {
     Byte(u8),
-    Grown(Sort, u64, u64),
-    Name(u64),
+    Grown(Sort, u8, u8),
+    Name(u8),
     Mark(Sign),
     Again,
     NextSign,
@@ -110,7 +188,7 @@ enum Item {
 
 // What is being made: items still to be written, the next one on top; the seed that numbers are drawn from; the names so far, and how
 // many there may be; the style of spelling; how far text and form have come; where in the form the next sign of an atom stands that is
-// repeated, and its first term; and whether there was room for all of it.
+// repeated, and its first term; and whether there was room for all of it. It is lent to each step, so that none copies it.
 #[derive(Clone, Copy)]
 struct Maker {
     items: [Item; 64],
@@ -146,6 +224,11 @@ fn sheet_maker(k: u64) -> Maker {
         first: 0,
         whole: true,
     }
+}
+
+// A formula or term still to be made, as an item.
+fn growing(sort: Sort, level: u64, leaves: u64) -> Item {
+    Item::Grown(sort, (level % 4) as u8, (leaves % 8) as u8)
 }
 
 // The level of a sign with two operands.
@@ -210,239 +293,219 @@ fn choices(names: u64, most: u64) -> u64
 }
 
 impl Maker {
-    fn advanced(self) -> Maker {
-        let mut next = self;
-        next.seed = next_seed(self.seed);
-        next
+    fn advance(&mut self) {
+        self.seed = next_seed(self.seed);
     }
 
     // A number below n, from the seed.
-    fn drawn(self, n: u64) -> u64
+    fn drawn(&self, n: u64) -> u64
         requires { 0 < n }
         ensures { result < n }
     {
         self.seed / 0x1_0000 % n
     }
 
-    fn broken(self) -> Maker {
-        let mut next = self;
-        next.whole = false;
-        next
-    }
-
-    fn push(self, item: Item) -> Maker {
-        let mut next = self;
+    fn push(&mut self, item: Item) {
         let height = self.height;
         if height < 64 {
-            next.items[height] = item;
-            next.height = height + 1;
-            return next;
+            self.items[height] = item;
+            self.height = height + 1;
+        } else {
+            self.whole = false;
         }
-        self.broken()
     }
 
-    // The next item; none where all are written.
-    fn top(self) -> Option<Item> {
+    // The next item is taken; none where all are written.
+    fn pop(&mut self) -> Option<Item> {
         let height = self.height;
         if 0 < height && height <= 64 {
+            self.height = height - 1;
             return Some(self.items[height - 1]);
         }
         None
     }
 
-    fn popped(self) -> Maker {
-        let mut next = self;
-        if 0 < self.height {
-            next.height = self.height - 1;
+    fn push_if(&mut self, is: bool, item: Item) {
+        if is {
+            self.push(item);
         }
-        next
-    }
-
-    fn push_if(self, is: bool, item: Item) -> Maker {
-        if is { self.push(item) } else { self }
     }
 
     // Items in the order of the text: the last is pushed first, so that the first comes first.
-    fn push_all(self, items: &[Item]) -> Maker {
-        let mut next = self;
+    fn push_all(&mut self, items: &[Item]) {
         for item in items.iter().rev() {
-            next = next.push(*item);
+            self.push(*item);
         }
-        next
     }
 
     // The bytes of a text, in their order.
-    fn push_text(self, text: &str) -> Maker {
-        let mut next = self;
+    fn push_text(&mut self, text: &str) {
         for b in text.as_bytes().iter().rev() {
-            next = next.push(Item::Byte(*b));
+            self.push(Item::Byte(*b));
         }
-        next
     }
 
     // A blank, where the style has blanks.
-    fn push_blank(self) -> Maker {
+    fn push_blank(&mut self) {
         match self.style {
-            1 => self.push_text(" "),
-            3 => self.push_text("\t"),
-            _ => self,
+            1 => self.push(Item::Byte(b' ')),
+            3 => self.push(Item::Byte(b'\t')),
+            _ => {}
         }
     }
 
     // Parentheses that need not be there; the loosest level of a formula is 0, of a term 1.
-    fn push_group(self, sort: Sort, leaves: u64) -> Maker {
+    fn push_group(&mut self, sort: Sort, leaves: u64) {
         let level = match sort {
             Sort::Formula => 0,
             Sort::Term => 1,
         };
-        let inner = self.push_text(")").push(Item::Grown(sort, level, leaves));
-        inner.push_text("(")
+        self.push_all(&[
+            Item::Byte(b'('),
+            growing(sort, level, leaves),
+            Item::Byte(b')'),
+        ]);
     }
 
-    fn push_prefix(self, sort: Sort, leaves: u64) -> Maker {
-        let operand = self.push(Item::Grown(sort, 3, leaves));
+    fn push_prefix(&mut self, sort: Sort, leaves: u64) {
+        let operand = growing(sort, 3, leaves);
         match sort {
-            Sort::Formula => operand.push_text("~").push(Item::Mark(Sign::Not)),
-            Sort::Term => operand.push_text("-").push(Item::Mark(Sign::Rest)),
+            Sort::Formula => self.push_all(&[Item::Mark(Sign::Not), Item::Byte(b'~'), operand]),
+            Sort::Term => self.push_all(&[Item::Mark(Sign::Rest), Item::Byte(b'-'), operand]),
         }
     }
 
     // Two operands, in parentheses where the place asks for a tighter sign. Signs group to the left.
-    fn push_infix(self, sort: Sort, level: u64, sign: Sign, left: u64, right: u64) -> Maker {
+    fn push_infix(&mut self, sort: Sort, level: u64, sign: Sign, left: u64, right: u64) {
         let own = level_of(sign);
-        let closed = self.push_if(own < level, Item::Byte(b')'));
-        let second = closed.push(Item::Grown(sort, own + 1, right));
-        let between = second.push_blank().push_text(spelled(sign)).push_blank();
-        let first = between.push(Item::Grown(sort, own, left));
-        first
-            .push_if(own < level, Item::Byte(b'('))
-            .push(Item::Mark(sign))
+        self.push_if(own < level, Item::Byte(b')'));
+        self.push(growing(sort, own + 1, right));
+        self.push_blank();
+        self.push_text(spelled(sign));
+        self.push_blank();
+        self.push(growing(sort, own, left));
+        self.push_if(own < level, Item::Byte(b'('));
+        self.push(Item::Mark(sign));
     }
 
     // A sign with two operands, which share the leaves.
-    fn push_binary(self, sort: Sort, level: u64, leaves: u64) -> Maker
+    fn push_binary(&mut self, sort: Sort, level: u64, leaves: u64)
         requires { 1 < leaves }
     {
-        let chosen = self.advanced();
-        let parted = chosen.advanced();
-        let left = parted.drawn(leaves - 1) + 1;
-        let right = leaves - left;
+        self.advance();
         let sign = match sort {
-            Sort::Formula => formula_sign(chosen.drawn(4)),
-            Sort::Term => term_sign(chosen.drawn(2)),
+            Sort::Formula => formula_sign(self.drawn(4)),
+            Sort::Term => term_sign(self.drawn(2)),
         };
-        parted.push_infix(sort, level, sign, left, right)
+        self.advance();
+        let left = self.drawn(leaves - 1) + 1;
+        self.push_infix(sort, level, sign, left, leaves - left);
     }
 
-    // A term of one to three leaves.
-    fn push_term(self) -> Maker {
-        self.push(Item::Grown(Sort::Term, 1, self.drawn(3) + 1))
+    // A term of one to three leaves, by the seed.
+    fn term(&self) -> Item {
+        growing(Sort::Term, 1, self.drawn(3) + 1)
     }
 
     // Two terms in parentheses.
-    fn push_arguments(self) -> Maker {
-        let one = self.advanced();
-        let two = one.advanced();
-        let second = two.push_text(")").push_term();
-        let between = second.push_blank().push_text(",");
-        let first = between.push(Item::Grown(Sort::Term, 1, one.drawn(3) + 1));
-        first.push_text("(")
+    fn push_arguments(&mut self) {
+        self.advance();
+        let first = self.term();
+        self.advance();
+        let second = self.term();
+        self.push_all(&[second, Item::Byte(b')')]);
+        self.push_blank();
+        self.push_all(&[Item::Byte(b'('), first, Item::Byte(b',')]);
     }
 
-    fn push_empty(self, spaced: bool) -> Maker {
-        let next = self.advanced();
-        let zero = next.push_text("0").push_if(spaced, Item::Byte(b' '));
-        zero.push_text("=").push_term()
+    fn push_empty(&mut self, spaced: bool) {
+        self.advance();
+        let term = self.term();
+        self.push(Item::Byte(b'0'));
+        self.push_if(spaced, Item::Byte(b' '));
+        self.push_all(&[term, Item::Byte(b'=')]);
     }
 
     // An atom by its sign.
-    fn push_atom(self, r: u64) -> Maker {
+    fn push_atom(&mut self, r: u64) {
         match r {
-            0..=6 => self
-                .push_arguments()
-                .push_text("C")
-                .push(Item::Mark(Sign::Contact)),
-            7..=9 => self
-                .push_arguments()
-                .push_text("<=")
-                .push(Item::Mark(Sign::Part)),
-            10..=11 => self.push_empty(true).push(Item::Mark(Sign::SpacedEmpty)),
-            _ => self.push_empty(false).push(Item::Mark(Sign::Empty)),
+            0..=6 => {
+                self.push_arguments();
+                self.push_all(&[Item::Mark(Sign::Contact), Item::Byte(b'C')]);
+            }
+            7..=9 => {
+                self.push_arguments();
+                self.push_text("<=");
+                self.push(Item::Mark(Sign::Part));
+            }
+            10..=11 => {
+                self.push_empty(true);
+                self.push(Item::Mark(Sign::SpacedEmpty));
+            }
+            _ => {
+                self.push_empty(false);
+                self.push(Item::Mark(Sign::Empty));
+            }
         }
     }
 
-    fn push_formula_leaf(self) -> Maker {
-        let next = self.advanced();
-        let r = next.drawn(20);
+    fn push_formula_leaf(&mut self) {
+        self.advance();
+        let r = self.drawn(20);
         match r {
-            0 => next.push_text("T").push(Item::Mark(Sign::True)),
-            1 => next.push_text("F").push(Item::Mark(Sign::False)),
-            2..=15 => next.push_atom(r),
-            _ => next.push(Item::Again),
+            0 => self.push_all(&[Item::Mark(Sign::True), Item::Byte(b'T')]),
+            1 => self.push_all(&[Item::Mark(Sign::False), Item::Byte(b'F')]),
+            2..=15 => self.push_atom(r),
+            _ => self.push(Item::Again),
         }
     }
 
     // A name that occurs already, or a new one: names are numbered as they come.
-    fn push_name(self) -> Maker {
-        let mut next = self.advanced();
+    fn push_name(&mut self) {
+        self.advance();
         let names = self.names;
-        let k = next.drawn(choices(names, self.most));
+        let k = self.drawn(choices(names, self.most));
         if k == names {
-            next.names = k + 1;
+            self.names = k + 1;
         }
-        next.push_all(&[Item::Mark(name_sign(k)), Item::Name(k)])
+        self.push_all(&[Item::Mark(name_sign(k)), Item::Name(k as u8)]);
     }
 
-    fn push_term_leaf(self) -> Maker {
-        let next = self.advanced();
-        match next.drawn(16) {
-            0 => next.push_text("0").push(Item::Mark(Sign::Nothing)),
-            1 => next.push_text("1").push(Item::Mark(Sign::All)),
-            _ => next.push_name(),
+    fn push_term_leaf(&mut self) {
+        self.advance();
+        match self.drawn(16) {
+            0 => self.push_all(&[Item::Mark(Sign::Nothing), Item::Byte(b'0')]),
+            1 => self.push_all(&[Item::Mark(Sign::All), Item::Byte(b'1')]),
+            _ => self.push_name(),
         }
     }
 
     // A formula or a term, by its first sign: what is in it is pushed.
-    fn grown(self, sort: Sort, level: u64, leaves: u64) -> Maker {
-        let next = self.advanced();
-        let r = next.drawn(16);
-        if r < 3 {
-            return next.push_prefix(sort, leaves);
+    fn push_grown(&mut self, sort: Sort, level: u64, leaves: u64) {
+        self.advance();
+        match self.drawn(16) {
+            0..=2 => self.push_prefix(sort, leaves),
+            3..=4 => self.push_group(sort, leaves),
+            _ if 1 < leaves => self.push_binary(sort, level, leaves),
+            _ => self.push_leaf(sort),
         }
-        if r < 5 {
-            return next.push_group(sort, leaves);
-        }
-        if 1 < leaves {
-            return next.push_binary(sort, level, leaves);
-        }
+    }
+
+    fn push_leaf(&mut self, sort: Sort) {
         match sort {
-            Sort::Formula => next.push_formula_leaf(),
-            Sort::Term => next.push_term_leaf(),
+            Sort::Formula => self.push_formula_leaf(),
+            Sort::Term => self.push_term_leaf(),
         }
-    }
-
-    // The signs from a place of the form on are next to be repeated.
-    fn copying(self, source: usize) -> Maker {
-        let mut next = self;
-        next.source = source;
-        next
-    }
-
-    // The first term of a contact that is repeated with its terms exchanged.
-    fn with_first(self, first: usize) -> Maker {
-        let mut next = self;
-        next.first = first;
-        next
     }
 
     // What a sign that is repeated has in the text: parentheses that need not be there, and no blanks.
-    fn push_copy(self, sign: Sign) -> Maker {
+    fn push_copy(&mut self, sign: Sign) {
         match sign {
             Sign::Nothing => self.push_text("0"),
             Sign::All => self.push_text("1"),
-            Sign::Rest => self.push(Item::NextSign).push_text("-"),
-            Sign::Empty => self.push_text("=0").push(Item::NextSign),
-            Sign::SpacedEmpty => self.push_text("= 0").push(Item::NextSign),
+            Sign::Rest => self.push_all(&[Item::Byte(b'-'), Item::NextSign]),
+            Sign::Empty => self.push_before("=0"),
+            Sign::SpacedEmpty => self.push_before("= 0"),
             Sign::Common | Sign::Either => self.push_between("(", spelled(sign)),
             Sign::Contact => self.push_between("C(", ","),
             Sign::Part => self.push_between("<=(", ","),
@@ -452,58 +515,61 @@ impl Maker {
         }
     }
 
+    // The next term, and what stands after it.
+    fn push_before(&mut self, after: &str) {
+        self.push_text(after);
+        self.push(Item::NextSign);
+    }
+
     // The next two terms in parentheses, with what stands before them and between them.
-    fn push_between(self, before: &str, between: &str) -> Maker {
-        let second = self.push_text(")").push(Item::NextSign);
-        let first = second.push_text(between).push(Item::NextSign);
-        first.push_text(before)
+    fn push_between(&mut self, before: &str, between: &str) {
+        self.push_before(")");
+        self.push_before(between);
+        self.push_text(before);
     }
 
     // A contact of the next term with the one that is the first of the contact that is repeated, or of their complements.
-    fn push_exchanged(self, outside: bool) -> Maker {
-        let first = self.push_all(&[Item::FirstTerm, Item::NextSign, Item::Byte(b')')]);
-        let second = first
-            .push_if(outside, Item::Outside)
-            .push_all(&[Item::NextSign, Item::Byte(b',')]);
-        let terms = second.push_if(outside, Item::Outside);
-        terms.push_text("C(").push(Item::Mark(Sign::Contact))
+    fn push_exchanged(&mut self, outside: bool) {
+        self.push_all(&[Item::FirstTerm, Item::NextSign, Item::Byte(b')')]);
+        self.push_if(outside, Item::Outside);
+        self.push_all(&[Item::NextSign, Item::Byte(b',')]);
+        self.push_if(outside, Item::Outside);
+        self.push_text("C(");
+        self.push(Item::Mark(Sign::Contact));
     }
 
     // A contact, the same with its terms exchanged, and none between their complements, so that the plan tells which was written first.
-    fn push_contact_rules(self) -> Maker {
-        let denied = self.push_text("\n").push(Item::ExchangedOutside);
-        let third = denied
-            .push_text("~")
-            .push_all(&[Item::Mark(Sign::Rule), Item::Mark(Sign::Not)]);
-        let second = third.push_text("\n").push(Item::Exchanged);
-        let first = second
-            .push(Item::Mark(Sign::Rule))
-            .push_text("\n")
-            .push_arguments();
-        first
-            .push_text("C")
-            .push_all(&[Item::Mark(Sign::Rule), Item::Mark(Sign::Contact)])
+    fn push_contact_rules(&mut self) {
+        let denied = [Item::Byte(b'~'), Item::ExchangedOutside, Item::Byte(b'\n')];
+        self.push_all(&denied);
+        self.push_all(&[Item::Mark(Sign::Rule), Item::Mark(Sign::Not)]);
+        self.push_all(&[Item::Mark(Sign::Rule), Item::Exchanged, Item::Byte(b'\n')]);
+        self.push(Item::Byte(b'\n'));
+        self.push_arguments();
+        let first = [
+            Item::Mark(Sign::Rule),
+            Item::Mark(Sign::Contact),
+            Item::Byte(b'C'),
+        ];
+        self.push_all(&first);
     }
 }
 
-fn put_byte(m: Maker, text: &mut [u8; 1100], b: u8) -> Maker {
-    let mut next = m;
+fn put_byte(m: &mut Maker, text: &mut [u8; 1100], b: u8) {
     let at = m.text;
     if at < 1100 {
         text[at] = b;
-        next.text = at + 1;
-        return next;
+        m.text = at + 1;
+    } else {
+        m.whole = false;
     }
-    m.broken()
 }
 
 // Bytes of text, as they are.
-fn put_lines(m: Maker, text: &mut [u8; 1100], lines: &[u8]) -> Maker {
-    let mut next = m;
+fn put_lines(m: &mut Maker, text: &mut [u8; 1100], lines: &[u8]) {
     for b in lines {
-        next = put_byte(next, text, *b);
+        put_byte(m, text, *b);
     }
-    next
 }
 
 // The spellings of the three names, in each of the four styles.
@@ -515,21 +581,20 @@ const SPELLINGS: [[&str; 3]; 4] = [
 ];
 
 // The spelling of name k, by the style.
-fn put_name(m: Maker, text: &mut [u8; 1100], k: u64) -> Maker {
+fn put_name(m: &mut Maker, text: &mut [u8; 1100], k: u8) {
     let name = SPELLINGS[(m.style % 4) as usize][(k % 3) as usize];
-    put_lines(m, text, name.as_bytes())
+    put_lines(m, text, name.as_bytes());
 }
 
 // A sign at the form's end. This is put_byte with the other array and the other count of the maker: a function of both would be lent both.
-fn put_sign(m: Maker, form: &mut [Sign; 512], sign: Sign) -> Maker {
-    let mut next = m;
+fn put_sign(m: &mut Maker, form: &mut [Sign; 512], sign: Sign) {
     let at = m.form;
     if at < 512 {
         form[at] = sign;
-        next.form = at + 1;
-        return next;
+        m.form = at + 1;
+    } else {
+        m.whole = false;
     }
-    m.broken()
 }
 
 // `=0` is repeated as `= 0`, and the other way round: they are one sign.
@@ -542,13 +607,16 @@ fn repeated_sign(sign: Sign) -> Sign {
 }
 
 // One sign more of the atom that is repeated.
-fn with_copy(m: Maker, form: &[Sign; 512]) -> Maker {
+fn put_copy(m: &mut Maker, form: &[Sign; 512]) {
     let at = m.source;
     if at < 511 {
         let sign = repeated_sign(form[at]);
-        return m.copying(at + 1).push_copy(sign).push(Item::Mark(sign));
+        m.source = at + 1;
+        m.push_copy(sign);
+        m.push(Item::Mark(sign));
+    } else {
+        m.whole = false;
     }
-    m.broken()
 }
 
 // The place of the last atom that a form has.
@@ -559,85 +627,78 @@ fn last_atom(form: &[Sign]) -> Option<usize>
 }
 
 // A contact with its terms exchanged, or with their complements.
-fn with_exchanged(m: Maker, form: &[Sign; 512], contact: usize, outside: bool) -> Maker {
+fn put_exchanged(m: &mut Maker, form: &[Sign; 512], contact: usize, outside: bool) {
     if contact < 511 {
-        let first = contact + 1;
-        let second = after_term(form, first);
-        return m.with_first(first).copying(second).push_exchanged(outside);
+        m.first = contact + 1;
+        m.source = after_term(form, contact + 1);
+        m.push_exchanged(outside);
+    } else {
+        m.whole = false;
     }
-    m.broken()
 }
 
 // An atom of the form once more, a contact half the time with its terms exchanged; where there is none yet, another formula.
-fn again(m: Maker, form: &[Sign; 512]) -> Maker {
-    let chosen = m.advanced();
-    let turned = chosen.advanced();
-    let place = chosen.drawn((m.form % 512) as u64 + 1) as usize;
+fn put_again(m: &mut Maker, form: &[Sign; 512]) {
+    m.advance();
+    let place = m.drawn((m.form % 512) as u64 + 1) as usize;
     let Some(atom) = last_atom(&form[..place]) else {
-        return chosen.push(Item::Grown(Sort::Formula, 3, 1));
+        m.push(growing(Sort::Formula, 3, 1));
+        return;
     };
-    if form[atom] == Sign::Contact && turned.drawn(2) == 0 {
-        return with_exchanged(turned, form, atom, false);
+    m.advance();
+    if form[atom] == Sign::Contact && m.drawn(2) == 0 {
+        put_exchanged(m, form, atom, false);
+        return;
     }
-    turned.copying(atom).push(Item::NextSign)
+    m.source = atom;
+    m.push(Item::NextSign);
 }
 
 // An item: a byte, a name or a sign is written, any other gives way to what is in it.
-fn with_item(m: Maker, item: Item, text: &mut [u8; 1100], form: &mut [Sign; 512]) -> Maker {
+fn put_item(m: &mut Maker, item: Item, text: &mut [u8; 1100], form: &mut [Sign; 512]) {
     match item {
         Item::Byte(b) => put_byte(m, text, b),
         Item::Name(k) => put_name(m, text, k),
         Item::Mark(sign) => put_sign(m, form, sign),
-        Item::Grown(sort, level, leaves) => m.grown(sort, level, leaves),
-        Item::Again => again(m, form),
-        Item::NextSign => with_copy(m, form),
-        Item::Outside => m.push_text("-").push(Item::Mark(Sign::Rest)),
-        Item::FirstTerm => m.copying(m.first),
-        Item::Exchanged => with_exchanged(m, form, 1, false),
-        Item::ExchangedOutside => with_exchanged(m, form, 1, true),
+        Item::Grown(sort, level, leaves) => m.push_grown(sort, level as u64, leaves as u64),
+        Item::Again => put_again(m, form),
+        Item::NextSign => put_copy(m, form),
+        Item::Outside => m.push_all(&[Item::Mark(Sign::Rest), Item::Byte(b'-')]),
+        Item::FirstTerm => m.source = m.first,
+        Item::Exchanged => put_exchanged(m, form, 1, false),
+        Item::ExchangedOutside => put_exchanged(m, form, 1, true),
     }
 }
 
 // All items, of which there are never so many that the turns run out.
-fn with_items(m: Maker, text: &mut [u8; 1100], form: &mut [Sign; 512]) -> Maker {
-    let mut next = m;
+fn put_items(m: &mut Maker, text: &mut [u8; 1100], form: &mut [Sign; 512]) {
     for _i in 0..4000 {
-        let Some(item) = next.top() else {
-            return next;
+        let Some(item) = m.pop() else {
+            return;
         };
-        next = with_item(next.popped(), item, text, form);
+        put_item(m, item, text, form);
     }
-    next.broken()
+    m.whole = false;
 }
 
 // A rule of one to four leaves: atoms, T or F.
-fn with_rule(m: Maker, text: &mut [u8; 1100], form: &mut [Sign; 512]) -> Maker {
-    let begun = m.advanced();
-    let rule = Item::Grown(Sort::Formula, 0, begun.drawn(4) + 1);
-    let items = [Item::Mark(Sign::Rule), rule, Item::Byte(b'\n')];
-    with_items(begun.push_all(&items), text, form)
+fn put_rule(m: &mut Maker, text: &mut [u8; 1100], form: &mut [Sign; 512]) {
+    m.advance();
+    let rule = growing(Sort::Formula, 0, m.drawn(4) + 1);
+    m.push_all(&[Item::Mark(Sign::Rule), rule, Item::Byte(b'\n')]);
+    put_items(m, text, form);
 }
 
 // So many rules at least, and at most three more.
-fn with_rules(m: Maker, fewest: u64, text: &mut [u8; 1100], form: &mut [Sign; 512]) -> Maker {
-    let mut next = m.advanced();
-    let rules = next.drawn(4) + fewest % 8;
+fn put_rules(m: &mut Maker, fewest: u64, text: &mut [u8; 1100], form: &mut [Sign; 512]) {
+    m.advance();
+    let rules = m.drawn(4) + fewest % 8;
     for _i in 0..rules {
-        next = with_rule(next, text, form);
+        put_rule(m, text, form);
     }
-    next
 }
 
-// Of seven sheets one has the three rules of a contact first.
-fn begun_sheet(k: u64) -> Maker {
-    let m = sheet_maker(k);
-    if k % 7 == 3 {
-        return m.push_contact_rules();
-    }
-    m
-}
-
-// And one is long.
+// And one of seven is long.
 fn fewest_rules(k: u64) -> u64 {
     match k % 7 {
         3 => 0,
@@ -646,25 +707,28 @@ fn fewest_rules(k: u64) -> u64 {
     }
 }
 
+// Of seven sheets one has the three rules of a contact first.
 fn generated_sheet(k: u64) -> Sheet
     ensures { Bounded result }
 {
     let mut text = [0u8; 1100];
     let mut form = [Sign::Rule; 512];
-    let begun = with_items(begun_sheet(k), &mut text, &mut form);
-    let m = with_rules(begun, fewest_rules(k), &mut text, &mut form);
-    sheet_of(m, text, form, 0)
+    let mut m = sheet_maker(k);
+    if k % 7 == 3 {
+        m.push_contact_rules();
+    }
+    put_items(&mut m, &mut text, &mut form);
+    put_rules(&mut m, fewest_rules(k), &mut text, &mut form);
+    sheet_of(&m, text, form, 0)
 }
 
 // ---- document 01's sheets
 
 // Signs of the form, as they are.
-fn put_signs(m: Maker, form: &mut [Sign; 512], signs: &[Sign]) -> Maker {
-    let mut next = m;
+fn put_signs(m: &mut Maker, form: &mut [Sign; 512], signs: &[Sign]) {
     for sign in signs {
-        next = put_sign(next, form, *sign);
+        put_sign(m, form, *sign);
     }
-    next
 }
 
 // A sheet with so many names that is written out.
@@ -673,10 +737,11 @@ fn written(lines: &[u8], signs: &[Sign], names: u64, withdrawn: usize) -> Sheet
 {
     let mut text = [0u8; 1100];
     let mut form = [Sign::Rule; 512];
-    let lined = put_lines(sheet_maker(0), &mut text, lines);
-    let mut m = put_signs(lined, &mut form, signs);
+    let mut m = sheet_maker(0);
+    put_lines(&mut m, &mut text, lines);
+    put_signs(&mut m, &mut form, signs);
     m.names = names;
-    sheet_of(m, text, form, withdrawn)
+    sheet_of(&m, text, form, withdrawn)
 }
 
 // P3 to P5: two regions apart, neither of them empty; a part of the other; and that withdrawn.
@@ -857,29 +922,37 @@ pub struct Numbers {
 }
 
 // How many operands a sign has.
-pub fn operands(sign: Sign) -> usize
+pub fn operands<S: AsSign>(sign: S) -> usize
     ensures { result < 3 }
 {
-    match sign {
-        Sign::Rest | Sign::Not | Sign::Empty | Sign::SpacedEmpty => 1,
-        Sign::Common | Sign::Either | Sign::Contact | Sign::Part => 2,
-        Sign::And | Sign::Or | Sign::If | Sign::ExactlyIf => 2,
+    match sign.number() {
+        REST | NOT | EMPTY | SPACED_EMPTY => 1,
+        COMMON | EITHER | CONTACT | PART | AND | OR | IF | EXACTLY_IF => 2,
         _ => 0,
     }
 }
 
 // Whether a sign is an atom's.
-pub fn is_atom(sign: Sign) -> bool
-    ensures { result ≡ is_of_atom sign }
+pub fn is_atom<S: AsSign>(sign: S) -> bool
+    ensures within { result ≡ true → (5 < S.code sign) × (S.code sign < 12) }
+    ensures all { result ≡ S.of_atom sign }
 {
-    matches!(
-        sign,
-        Sign::Contact | Sign::Part | Sign::Empty | Sign::SpacedEmpty
-    )
+    match sign.number() {
+        CONTACT | PART | EMPTY | SPACED_EMPTY => true,
+        _ => false,
+    }
 }
 
-// How many terms are still to come after a sign of them.
-fn still_wanted(wanted: usize, sign: Sign) -> usize {
+// The number of the sign so many places after a place; past the form's end that of a rule.
+fn number_after<S: AsSign>(code: &[S], p: usize, i: usize) -> u8 {
+    if p < code.len() && i < code.len() - p {
+        return code[p + i].number();
+    }
+    RULE
+}
+
+// How many terms are still to come after a sign of them, given by its number.
+fn still_wanted(wanted: usize, sign: u8) -> usize {
     match operands(sign) {
         0 => wanted.saturating_sub(1),
         1 => wanted,
@@ -888,7 +961,7 @@ fn still_wanted(wanted: usize, sign: Sign) -> usize {
 }
 
 // The place after the term at a place.
-fn after_term(code: &[Sign], p: usize) -> usize
+fn after_term<S: AsSign>(code: &[S], p: usize) -> usize
     ensures within { result ≤ length code.now }
     ensures after { p ≤ length code.now → p ≤ result }
 {
@@ -897,29 +970,31 @@ fn after_term(code: &[Sign], p: usize) -> usize
         if wanted == 0 {
             return i;
         }
-        wanted = still_wanted(wanted, code[i]);
+        wanted = still_wanted(wanted, code[i].number());
     }
     code.len()
 }
 
-// The signs of the term at a place.
-fn term_at(code: &[Sign], p: usize) -> &[Sign] {
-    let start = p.min(code.len());
-    &code[start..after_term(code, start)]
-}
-
-// The signs of the term after that one.
-fn term_after(code: &[Sign], p: usize) -> &[Sign] {
-    term_at(code, after_term(code, p))
-}
-
-// The sign of an atom: `= 0` is `=0`.
-fn atom_sign(code: &[Sign], p: usize) -> Sign {
-    if code.len() <= p {
-        return Sign::Rule;
+// Whether the terms at two places are the same.
+fn same_term<S: AsSign>(code: &[S], p: usize, q: usize) -> bool {
+    let mut wanted: usize = 1;
+    for i in 0..code.len() {
+        if wanted == 0 {
+            return true;
+        }
+        let sign = number_after(code, p, i);
+        if sign != number_after(code, q, i) {
+            return false;
+        }
+        wanted = still_wanted(wanted, sign);
     }
-    match code[p] {
-        Sign::SpacedEmpty => Sign::Empty,
+    false
+}
+
+// The number of an atom's sign: `= 0` is `=0`.
+fn atom_number<S: AsSign>(code: &[S], p: usize) -> u8 {
+    match number_after(code, p, 0) {
+        SPACED_EMPTY => EMPTY,
         sign => sign,
     }
 }
@@ -930,29 +1005,30 @@ fn next_place(p: usize) -> usize {
 }
 
 // Whether two atoms with one sign have the same terms in the same order.
-fn alike(code: &[Sign], p: usize, q: usize) -> bool {
+fn alike<S: AsSign>(code: &[S], p: usize, q: usize) -> bool {
     let first = next_place(p);
     let other = next_place(q);
-    term_at(code, first) == term_at(code, other)
-        && (atom_sign(code, p) == Sign::Empty || term_after(code, first) == term_after(code, other))
+    same_term(code, first, other)
+        && (atom_number(code, p) == EMPTY
+            || same_term(code, after_term(code, first), after_term(code, other)))
 }
 
 // Whether two atoms with one sign are contacts whose terms are exchanged.
-fn exchanged(code: &[Sign], p: usize, q: usize) -> bool {
+fn exchanged<S: AsSign>(code: &[S], p: usize, q: usize) -> bool {
     let first = next_place(p);
     let other = next_place(q);
-    atom_sign(code, p) == Sign::Contact
-        && term_at(code, first) == term_after(code, other)
-        && term_after(code, first) == term_at(code, other)
+    atom_number(code, p) == CONTACT
+        && same_term(code, first, after_term(code, other))
+        && same_term(code, after_term(code, first), other)
 }
 
 // Whether the atoms at two places are the same.
-fn same_atom(code: &[Sign], p: usize, q: usize) -> bool {
-    atom_sign(code, p) == atom_sign(code, q) && (alike(code, p, q) || exchanged(code, p, q))
+fn same_atom<S: AsSign>(code: &[S], p: usize, q: usize) -> bool {
+    atom_number(code, p) == atom_number(code, q) && (alike(code, p, q) || exchanged(code, p, q))
 }
 
 // The number of the first atom that is the same as the one at a place.
-fn number_of(code: &[Sign], numbers: Numbers, p: usize) -> Option<usize>
+fn number_of<S: AsSign>(code: &[S], numbers: Numbers, p: usize) -> Option<usize>
     requires { Few numbers }
 {
     let firsts = &numbers.firsts[..numbers.count];
@@ -988,7 +1064,7 @@ fn with_place(numbers: Numbers, number: usize) -> Numbers
 }
 
 // One atom more, that at a place.
-fn with_numbered(code: &[Sign], numbers: Numbers, p: usize) -> Numbers
+fn with_numbered<S: AsSign>(code: &[S], numbers: Numbers, p: usize) -> Numbers
     requires { Few numbers }
     ensures { Few result }
 {
@@ -1003,7 +1079,7 @@ fn with_numbered(code: &[Sign], numbers: Numbers, p: usize) -> Numbers
 }
 
 // The numbers of a form's atoms.
-pub fn numbers_of(code: &[Sign]) -> Numbers
+pub fn numbers_of<S: AsSign>(code: &[S]) -> Numbers
     ensures { Few result }
 {
     let mut numbers = Numbers {

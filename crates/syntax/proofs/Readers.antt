@@ -2,7 +2,9 @@
 -- answer speaks of goes on as theirs, turn by turn, and each call has less to read. Assumes nothing.
 use Prim.Native.Nat.{ℕ, suc, ◌+◌, ◌*◌, ◌-◌, ◌≤◌, ◌<◌}
 use native.Mathlib.Omega.{arith}
-use Rattle.std.specs.Prelude.{Result as Answer, Ok, Err}
+use Rattle.std.specs.Prelude.{Result as Answer, Ok, Err, Some, None}
+use Rattle.std.specs.Option.{is_none}
+use Rattle.std.proofs.lemmas.Option.{none-some, cond_some}
 use mathlib.Core.Path.{◌≡◌, refl, sym, ap, subst, ◌∙◌}
 use mathlib.Core.List.{List, [], ◌∷◌, ◌++◌}
 use mathlib.Core.Bool.{Bool, true, false, not, cond, true≢false, beq}
@@ -15,7 +17,7 @@ use Rattle.formula.specs.Sign.{joins_terms}
 use Rattle.formula.specs.Formula.{Name}
 use Rattle.syntax.specs.Symbol.{Leaf, Relation, leaf, binary, constant, relation, contact, part}
 use Rattle.syntax.specs.Machine.{Sym, Frame, in_parenthesis, after_minus, after_tilde, after_binary, first_of, second_of, rank_of, allow, State, want, have, call, Popped, guard, join, step, Result, run, reading}
-use Rattle.syntax.specs.Reader.{code, codes, kind_at, top, binding_of, goes_at, Holds, EndsAs, StopsBelow, Sorted, Within, Inside, Room, expected_of, ended_of, ended_in, related_of, related_in, zeroed_of, zeroed_in, Asked, Said, MoreAsked, MoreSaid, ParenthesisSaid, RelationAsked, RelationSaid, start_of, ParseSaid}
+use Rattle.syntax.specs.Reader.{code, codes, kind_at, top, binding_of, goes_at, above, follows_of, Holds, EndsAs, StopsBelow, Sorted, Within, Inside, Room, expected_of, ended_of, ended_in, related_of, related_in, zeroed_of, zeroed_in, Asked, Said, MoreAsked, MoreSaid, ParenthesisSaid, RelationAsked, RelationSaid, start_of, ParseSaid}
 use Rattle.syntax.specs.Reader.{Read, Value, Refused, read_of}
 use Rattle.syntax.specs.declared.Value.{Value as ValueRead}
 use Rattle.syntax.proofs.MachineLaws.{pop_keep}
@@ -191,6 +193,62 @@ more_none ks k s t p n c b A a v q r h =
 pub more_refused : (ks : List ℕ) (k : ℕ) (s : Read) (p : ℕ) (A : List ℕ) → s ≡ Refused p → MoreSaid ks k s A (Refused p) A
 more_refused ks k s p A v = subst (λ (z : Read). MoreSaid ks k z A (Refused p) A) (sym v) (record { says = λ xs e K l R g. g; stops = tt; sorted = λ w g. g; within = λ m d g. g })
 
+-- ---- the signs that `more` reads, one after the other
+
+-- what the loop holds: the value x that it has is asked as s was, and what is said of x is said of s
+pub record MoreHeld (ks : List ℕ) (k : ℕ) (s : Read) (A : List ℕ) (x : Read) (B : List ℕ) : Type 0 where
+  pub asked : MoreAsked ks k x
+  pub later : left_after ks x ≤ left_after ks s
+  pub goes : (r : Read) (D : List ℕ) → MoreSaid ks k x B r D → MoreSaid ks k s A r D
+
+-- none of rank k or tighter
+above_none : (k b : ℕ) → None ≡ above k b → b ≤ k
+above_none k b e = by_test (ltb k b) refl e
+  where
+    by_test : (v : Bool) → ltb k b ≡ v → None ≡ cond v (Some b) None → b ≤ k
+    by_test true q h = absurd (none-some b h)
+    by_test false q h = ltb-false k b q
+
+module _ (ks : List ℕ) (k : ℕ) (s : Read) (A : List ℕ) (t : Bool) (p n : ℕ) (B : List ℕ) (held : MoreHeld ks k s A (Value t p n) B) where
+  -- none follows
+  pub held_none : None ≡ follows_of ks k (Value t p n) → MoreSaid ks k s A (Value t p n) B
+  held_none e = held.goes (Value t p n) B (more_none ks k (Value t p n) t p n (kind_at ks p) (binding_of t (kind_at ks p)) B held.asked refl refl refl (above_none k (binding_of t (kind_at ks p)) e))
+
+  module _ (b c : ℕ) (e : Some b ≡ follows_of ks k (Value t p n)) (kind : c ≡ kind_at ks p) where
+    held_found : Found ks k (Value t p n) t p n c b
+    held_found =
+        let i : (ltb k (binding_of t (kind_at ks p)) ≡ true) × (binding_of t (kind_at ks p) ≡ b) = cond_some (ltb k (binding_of t (kind_at ks p))) (binding_of t (kind_at ks p)) b (sym e) in
+        found held.asked refl kind (sym i.1 ∙ sym (ap (binding_of t) kind)) (subst (λ (z : ℕ). k < z) i.1 (ltb-true k (binding_of t (kind_at ks p)) i.0))
+
+    pub held_level_asked : (u : ℕ) → left_after ks s ≡ u → (left_at ks (p + 1) b < u) × Asked ks (p + 1) b (not t) n
+    held_level_asked u v = let z : (left_at ks (p + 1) b < left ks p 18) × Asked ks (p + 1) b (not t) n = more_level_asked ks k (Value t p n) t p n c b held_found (left ks p 18) refl in (omega (arith, z.0, held.later, v), z.1)
+
+    module _ (x : Read) (C : List ℕ) (g : Said ks (p + 1) b (not t) n B x C) where
+      -- the sign or its right value is refused
+      pub held_refused : (q : ℕ) (D : List ℕ) → (Refused q ≡ ended_of t x) × (D ≡ ended_in t c x C) → MoreSaid ks k s A (Refused q) D
+      held_refused q D d = held.goes (Refused q) D (more_said ks k (Value t p n) t p n c b held_found B x C g (Refused q) D d (Refused q) D (more_refused ks k (Refused q) q D refl))
+
+      pub held_next : (y : Read) (D : List ℕ) → (y ≡ ended_of t x) × (D ≡ ended_in t c x C) → MoreHeld ks k s A y D
+      held_next y D d =
+          let z : (left_after ks y < left ks p 18) × MoreAsked ks k y = more_more_asked ks k (Value t p n) t p n c b held_found B x C g y D d (left ks p 18) refl in
+          record {
+            asked = z.1;
+            later = omega (arith, z.0, held.later);
+            goes = λ r E m. held.goes r E (more_said ks k (Value t p n) t p n c b held_found B x C g y D d r E m);
+          }
+
+-- an answer on which no binary sign goes is the answer
+none_follows : (ks : List ℕ) (k : ℕ) (s : Read) (A : List ℕ) → MoreAsked ks k s → is_none (follows_of ks k s) ≡ true → MoreSaid ks k s A s A
+none_follows ks k (Value t p n) A a h = more_none ks k (Value t p n) t p n (kind_at ks p) (binding_of t (kind_at ks p)) A a refl refl refl (by_test (ltb k (binding_of t (kind_at ks p))) refl h)
+  where
+    by_test : (v : Bool) → ltb k (binding_of t (kind_at ks p)) ≡ v → is_none (cond v (Some (binding_of t (kind_at ks p))) None) ≡ true → binding_of t (kind_at ks p) ≤ k
+    by_test true q g = absurd (true≢false (sym g))
+    by_test false q g = ltb-false k (binding_of t (kind_at ks p)) q
+none_follows ks k (Refused p) A a h = more_refused ks k (Refused p) p A refl
+
+pub level_alone : (ks : List ℕ) (a k : ℕ) (w : Bool) (n j : ℕ) (v : Bool) (A : List ℕ) (x : Read) (B : List ℕ) → Asked ks a k w n → v ≡ w → k ≤ j → (k < 4 → j ≤ 3) → Said ks a j v n A x B → is_none (follows_of ks k x) ≡ true → Said ks a k w n A x B
+level_alone ks a k w n j v A x B q u h l s f = level_said ks a k w n j v A x B x B u h s (none_follows ks k x B (level_more_asked ks a k w n (left_at ks a k) j v A x B q refl l s).1 f)
+
 -- ---- what the readers ask of one another
 
 -- a term alone may stand here
@@ -364,6 +422,9 @@ module _ (ks : List ℕ) (a n : ℕ) (q : Asked ks a 3 true n) (c : ℕ) (kind :
 
     pub opening_joined : (y : Read) (C : List ℕ) → MoreSaid ks 4 x B y C → Said ks a 4 true n A y C
     opening_joined y C m = level_said ks a 4 true n 6 true A x B y C refl (omega arith) opening_read m
+
+    pub opening_alone : is_none (follows_of ks 4 x) ≡ true → Said ks a 4 true n A x B
+    opening_alone f = level_alone ks a 4 true n 6 true A x B opening_plain refl (omega arith) (λ l. absurd (omega arith)) opening_read f
 
     -- what the parenthesis holds is refused
     pub opening_refused : (p : ℕ) → x ≡ Refused p → Said ks a 3 true n A (Refused p) B

@@ -129,6 +129,14 @@ Room (Refused p) = Unit {0}
 
 -- ---- the functions that call no reader
 
+-- the rank of the right value of a binary sign of rank k or tighter that goes on the value
+abbrev pub above : ℕ → ℕ → Option ℕ
+above k b = cond (ltb k b) (Some b) None
+
+abbrev pub follows_of : List ℕ → ℕ → Read → Option ℕ
+follows_of ks k (Value t p n) = above k (binding_of t (kind_at ks p))
+follows_of ks k (Refused p) = None
+
 -- a value with the kind c after it
 abbrev pub expected_of : List ℕ → ℕ → Read → Read
 expected_of ks c (Value t p n) = cond (eqb (kind_at ks p) c) (Value t (p + 1) n) (Refused p)

@@ -9,7 +9,7 @@ ghost use Rattle.lexer.specs.Token.{Token};
 ghost use Rattle.lexer.specs.Arrays.{tokens_of};
 ghost use Rattle.syntax.specs.Symbol.{binary};
 ghost use Rattle.syntax.specs.Machine.{Sym, reading};
-ghost use Rattle.syntax.specs.Reader.{kind_at, goes, or_zero, binding_of, value_of, read_of, Inside, Room, expected_of, ended_of, ended_in, related_of, related_in, zeroed_of, zeroed_in, Asked, Said, MoreAsked, MoreSaid, ParenthesisSaid, RelationAsked, RelationSaid, start_of, ParseSaid, codes, judged_of};
+ghost use Rattle.syntax.specs.Reader.{kind_at, goes, or_zero, binding_of, follows_of, value_of, read_of, Inside, Room, expected_of, ended_of, ended_in, related_of, related_in, zeroed_of, zeroed_in, Asked, Said, MoreAsked, MoreSaid, ParenthesisSaid, RelationAsked, RelationSaid, start_of, ParseSaid, codes, judged_of};
 ghost use Rattle.syntax.specs.RuleText.{symbols_of, place_of};
 ghost use Rattle.syntax.specs.Rule.{refusal_of, read_tokens, not_cut, rule_of};
 
@@ -95,6 +95,15 @@ fn binding(term: bool, kind: u8) -> Option<u8>
     }
 }
 
+// The rank of the right value of the binary sign that goes on a value, where the sign is of rank k or
+// tighter.
+fn follows(kinds: &[u8], k: u8, v: Value) -> Option<u8>
+    ensures { result ≡ follows_of kinds.now k (value_of v) }
+{
+    let b = binding(v.term, kind_at(kinds, v.at))?;
+    if k < b { Some(b) } else { None }
+}
+
 // A value and the token that must stand after it.
 fn expected(kinds: &[u8], kind: u8, v: Value) -> Result<Value, usize>
     requires { Inside (length kinds.now) (value_of v) }
@@ -152,8 +161,10 @@ fn zeroed(kinds: &[u8], v: Value, order: &mut [u8; 256]) -> Value
 }
 
 // A value of rank k or tighter: 0 to 3 are the levels of formulas, 4 to 6 those of terms from level 1 on.
-// A parenthesis in front may hold a formula only where one may stand (w).
+// A parenthesis in front may hold a formula only where one may stand (w). Most values have no such sign
+// after them, so that is asked before `more` is called.
 #[cycle(formula_prefix_level_more_parenthesis_relation_term_prefix)]
+#[inline]
 fn level(
     kinds: &[u8],
     at: usize,
@@ -167,28 +178,32 @@ fn level(
 {
     if k < 4 {
         let x = formula_prefix(kinds, at, order, n)?;
+        if follows(kinds, k, x).is_none() {
+            return Ok(x);
+        }
         return more(kinds, k, x, order);
     }
     let x = term_prefix(kinds, at, w, order, n)?;
+    if follows(kinds, k, x).is_none() {
+        return Ok(x);
+    }
     more(kinds, k, x, order)
 }
 
-// The binary signs of rank k or tighter after a value, each with its right value.
+// The binary signs of rank k or tighter after a value, each with its right value. A loop keeps the value
+// in registers, where a call for each sign would copy it through memory.
 #[cycle(formula_prefix_level_more_parenthesis_relation_term_prefix)]
 fn more(kinds: &[u8], k: u8, v: Value, order: &mut [u8; 256]) -> Result<Value, usize>
     requires { MoreAsked kinds.now k (value_of v) }
     ensures { MoreSaid kinds.now k (value_of v) order.old (read_of result) order.new }
 {
-    let c = kind_at(kinds, v.at);
-    let Some(b) = binding(v.term, c) else {
-        return Ok(v);
-    };
-    if b <= k {
-        return Ok(v);
+    let mut v = v;
+    while let Some(b) = follows(kinds, k, v) {
+        let c = kind_at(kinds, v.at);
+        let x = level(kinds, v.at + 1, b, !v.term, order, v.len)?;
+        v = ended(x, v.term, c, order)?;
     }
-    let x = level(kinds, v.at + 1, b, !v.term, order, v.len)?;
-    let y = ended(x, v.term, c, order)?;
-    more(kinds, k, y, order)
+    Ok(v)
 }
 
 // A formula with no binary sign in front, or a whole term. A parenthesis in front, of either sort, is read
@@ -215,6 +230,9 @@ fn formula_prefix(kinds: &[u8], at: usize, order: &mut [u8; 256], n: usize) -> R
         CONTACT..=PART => relation(kinds, at + 1, c, order, n),
         OPEN => {
             let x = parenthesis(kinds, at + 1, true, order, n)?;
+            if follows(kinds, 4, x).is_none() {
+                return Ok(zeroed(kinds, x, order));
+            }
             let y = more(kinds, 4, x, order)?;
             Ok(zeroed(kinds, y, order))
         }
@@ -287,6 +305,7 @@ fn start(w: bool) -> u8
 
 // What stands in a parenthesis, and the sign that closes it.
 #[cycle(formula_prefix_level_more_parenthesis_relation_term_prefix)]
+#[inline]
 fn parenthesis(
     kinds: &[u8],
     at: usize,

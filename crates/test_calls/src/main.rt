@@ -97,7 +97,9 @@ fn after(s: &[u8], from: usize, b: u8) -> usize
 }
 
 // A text without a last byte b.
-fn without_last(s: &[u8], b: u8) -> &[u8] {
+fn without_last(s: &[u8], b: u8) -> &[u8]
+    ensures { length result.now ≤ length s.now }
+{
     s.strip_suffix(&[b]).unwrap_or(s)
 }
 

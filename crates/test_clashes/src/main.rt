@@ -30,17 +30,17 @@ use small_floors::{
 };
 use small_sheets::{Numbers, Sheet, Sign, numbers_of, sheet_at};
 use table::{LoadAnswer, Outcome, Table};
-use test_kit::{raise, write_bytes, write_counts, write_labelled, write_refusal};
+use test_kit::{raise, write_bytes, write_labelled, write_named_counts, write_refusal};
 
 // ---- what clash says
 
 // What clash says: rules clash, with the number of places; a refusal, its number and what it carries; or anything else, also where two
-// answers are not the same.
+// answers are not the same, with what the first of them carries.
 #[derive(Clone, Copy, PartialEq, Eq)]
 enum Said {
     Clash(usize),
     Refused(usize, usize),
-    Other,
+    Other(usize),
 }
 
 // What clash hands back, and the places after it.
@@ -63,7 +63,16 @@ fn said_by(outcome: Outcome) -> Said {
     match outcome {
         Outcome::Clash(n) => Said::Clash(n),
         Outcome::Refused(number, carried) => Said::Refused(number, carried),
-        _ => Said::Other,
+        _ => Said::Other(0),
+    }
+}
+
+// What an answer carries.
+fn carried_by(said: Said) -> usize {
+    match said {
+        Said::Clash(n) => n,
+        Said::Refused(_, n) => n,
+        Said::Other(n) => n,
     }
 }
 
@@ -122,7 +131,7 @@ fn answer_of(table: Table, n: usize) -> Answer
     let said = if one.said == other.said {
         one.said
     } else {
-        Said::Other
+        Said::Other(carried_by(one.said))
     };
     Answer { said, places }
 }
@@ -168,7 +177,7 @@ fn write_clash(rt: &impl Print, asked: &[u8], table: Table, n: usize)
     match answer.said {
         Said::Clash(n) => write_labelled(rt, b"clash of ", n),
         Said::Refused(number, carried) => write_refusal(rt, number, carried),
-        Said::Other => write_bytes(rt, b"another answer"),
+        Said::Other(_) => write_bytes(rt, b"another answer"),
     }
     write_marks(rt, places, n);
 }
@@ -573,7 +582,7 @@ const RULES: usize = 13;
 
 // What was counted.
 fn show_counts(rt: &impl Print, counts: [usize; 21]) {
-    write_counts(
+    write_named_counts(
         rt,
         &[
             "sheets",

@@ -3,7 +3,7 @@
 // have. No public function has a requires. Assumes nothing.
 #![tactic(auto)]
 
-ghost use Rattle.std.specs.Prelude.{◌≡◌, true, [], ◌∷◌, ◌+◌, ◌^◌, ◌<◌, length, replicate, slice_index, slice_set};
+ghost use Rattle.std.specs.Prelude.{◌≡◌, true, [], ◌∷◌, ◌+◌, ◌-◌, ◌^◌, ◌≤◌, ◌<◌, min, length, replicate, slice_index, slice_set};
 ghost use Rattle.lists.specs.Search.{from};
 ghost use Rattle.test_kit.specs.Digits.{word_digits};
 ghost use Rattle.test_kit.specs.Putting.{Puts, times};
@@ -63,8 +63,24 @@ pub fn write_words(rt: &impl Print, before: &[u8], words: &[u32], after: &[u8]) 
     }
 }
 
-// Counts, each behind its label in 14 columns, one a line.
-pub fn write_counts(rt: &impl Print, labels: &[&str], counts: &[usize]) {
+// The label with this number, of labels of 14 bytes each.
+fn write_label(rt: &impl Print, labels: &[u8], i: usize) {
+    if i < labels.len() / 14 {
+        write_bytes(rt, &labels[i * 14..i * 14 + 14]);
+    }
+}
+
+// Counts, each behind its label, one a line.
+pub fn write_counts(rt: &impl Print, labels: &[u8], counts: &[usize]) {
+    for (i, n) in counts.iter().enumerate() {
+        write_label(rt, labels, i);
+        write_number(rt, *n);
+        write_bytes(rt, b"\n");
+    }
+}
+
+// Counts that have a label, each behind it in 14 columns, one a line.
+pub fn write_named_counts(rt: &impl Print, labels: &[&str], counts: &[usize]) {
     for (label, n) in labels.iter().zip(counts.iter()) {
         let _ = println!(rt; "{label:14}{n}");
     }
@@ -72,11 +88,11 @@ pub fn write_counts(rt: &impl Print, labels: &[&str], counts: &[usize]) {
 
 // ---- counting
 
-// Raises count i by n, where there is such a count.
+// Raises count i by n, to 2^64 - 1 at most; where there is no such count all stay as they are.
 pub fn raise(counts: &mut [usize], i: usize, n: usize)
     ensures kept { length counts.new ≡ length counts.old }
-    ensures raised { slice_index counts.old i + n < 2 ^ 64
-        → counts.new ≡ slice_set counts.old i (slice_index counts.old i + n) }
+    ensures raised { counts.new ≡ slice_set counts.old i (min (slice_index counts.old i + n) (2 ^ 64 - 1)) }
+    ensures outside { length counts.old ≤ i → counts.new ≡ counts.old }
 {
     if i < counts.len() {
         counts[i] = counts[i].saturating_add(n);

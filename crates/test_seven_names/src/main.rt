@@ -13,7 +13,7 @@ ghost use Rattle.table.specs.Calls.{FromUs};
 
 use small_sheets::{Sheet, WORKED, numbers_of, sheet_at};
 use table::{AskAnswer, Outcome, Table};
-use test_kit::{put_bytes, raise, write_counts};
+use test_kit::{put_bytes, raise, write_named_counts};
 
 // A word that no plan has: what the buffers hold before a question.
 const UNWRITTEN: u32 = 0xFFFF_FFFF;
@@ -186,5 +186,5 @@ fn main(rt: HostRuntime) {
         "their words",
         "disagreements",
     ];
-    write_counts(&rt, &labels, &counts);
+    write_named_counts(&rt, &labels, &counts);
 }

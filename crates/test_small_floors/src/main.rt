@@ -24,7 +24,7 @@ use small_floors::{
 };
 use small_sheets::{Numbers, Sheet, Sign, WORKED, is_atom, numbers_of, sheet_at};
 use table::{AddAnswer, AskAnswer, Table};
-use test_kit::{raise, write_bytes, write_counts, write_labelled, write_words};
+use test_kit::{raise, write_bytes, write_labelled, write_named_counts, write_words};
 
 // ---- the search over small floors
 
@@ -654,7 +654,7 @@ const BUILDINGS: usize = 6;
 
 // What was counted.
 fn show_counts(rt: &impl Print, counts: [usize; 10]) {
-    write_counts(
+    write_named_counts(
         rt,
         &[
             "sheets",

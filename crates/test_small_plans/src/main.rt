@@ -17,7 +17,7 @@ use small_floors::{
 };
 use small_sheets::{Numbers, Sheet, Sign, numbers_of, sheet_at};
 use table::{AskAnswer, LoadAnswer, StillAnswer, Table};
-use test_kit::{raise, write_bytes, write_counts};
+use test_kit::{raise, write_bytes, write_named_counts};
 
 // ---- what still says
 
@@ -250,7 +250,7 @@ const DISAGREEMENTS: usize = 5;
 
 // What was counted.
 fn show_counts(rt: &impl Print, counts: [usize; 6]) {
-    write_counts(
+    write_named_counts(
         rt,
         &[
             "sheets",

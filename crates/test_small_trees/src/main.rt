@@ -11,7 +11,7 @@ ghost use Rattle.table.specs.Calls.{FromUs};
 
 use small_sheets::{Numbers, Sign, numbers_of, sheet_at};
 use table::{AskAnswer, CheckAnswer, ExplainAnswer, LoadAnswer, Table};
-use test_kit::{raise, write_bytes, write_counts};
+use test_kit::{raise, write_bytes, write_named_counts};
 
 // ---- what the table answers
 
@@ -146,7 +146,7 @@ static LABELS: [&str; 34] = [
 
 // What was counted.
 fn show_counts(rt: &impl Print, counts: [usize; 34]) {
-    write_counts(rt, &LABELS, &counts);
+    write_named_counts(rt, &LABELS, &counts);
 }
 
 fn raise_if(counts: &mut [usize; 34], i: usize, b: bool) {
@@ -215,7 +215,7 @@ fn count_sheet(counts: &mut [usize; 34], file: &[u8], code: &[Sign], names: usiz
 fn count_word(counts: &mut [usize; 34], word: u32) {
     let w = word as usize;
     raise(counts, TREES + 1, 1);
-    raise(counts, TREES + w / 0x1000_0000 % 16 - 3, 1);
+    raise(counts, (TREES + w / 0x1000_0000 % 16 - 3) % 34, 1);
     counts[MIXED] = (counts[MIXED] % 0x1_0000_0000 * 31 + w) % 0x1_0000_0000;
 }
 

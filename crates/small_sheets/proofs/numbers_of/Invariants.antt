@@ -3,4 +3,4 @@ use Rattle.small_sheets.specs.Bounds.{Few}
 use Rattle.small_sheets.proofs.numbers_of.Given as goal
 
 abbrev pub invariant-loop-p : goal.invariant-loop-p
-invariant-loop-p l = Few l.numbers
+invariant-loop-p g l = Few l.numbers

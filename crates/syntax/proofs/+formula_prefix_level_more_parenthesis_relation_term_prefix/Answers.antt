@@ -1,10 +1,15 @@
 -- The readers that call each other meet their contracts: each answer cites the law of the call or the return that asks it.
 -- Assumes nothing.
-use mathlib.Core.Path.{refl, sym}
+use mathlib.Core.Path.{◌≡◌, refl, sym, ap, ◌∙◌}
 use native.Mathlib.Omega.{arith}
+use Rattle.std.specs.Prelude.{Option, ℕ, true}
+use Rattle.std.specs.Option.{is_none}
 use Rattle.std.proofs.Common.{rules}
-use Rattle.syntax.proofs.Readers.{level_said, found, more_level_asked, more_more_asked, more_said, more_none, more_refused, tilde_said, constant_said, relation_prefix_said, zeroed_said, minus_said, parenthesis_prefix_said, leaf_said, no_term_said, opening_joined, opening_refused, parenthesis_said, first_refused, no_opening_said, relation_said, said_err, more_err, parenthesis_err, relation_err}
+use Rattle.syntax.proofs.Readers.{level_said, level_alone, held_level_asked, held_refused, held_next, held_none, tilde_said, constant_said, relation_prefix_said, zeroed_said, minus_said, parenthesis_prefix_said, leaf_said, no_term_said, opening_joined, opening_alone, opening_refused, parenthesis_said, first_refused, no_opening_said, relation_said, said_err, more_err, parenthesis_err, relation_err}
 use Rattle.syntax.proofs.+formula_prefix_level_more_parenthesis_relation_term_prefix.Goals as goal
+
+none_found : {r f : Option ℕ} → r ≡ f → is_none r ≡ true → is_none f ≡ true
+none_found e h = ap is_none (sym e) ∙ h
 
 pub formula_prefix-returns-in_err-x-in-7 : goal.formula_prefix-returns-in_err-x-in-7
 formula_prefix-returns-in_err-x-in-7 t c =
@@ -18,13 +23,17 @@ pub formula_prefix-returns-in_err-x-in-8 : goal.formula_prefix-returns-in_err-x-
 formula_prefix-returns-in_err-x-in-8 t c =
     said_err (search rules) (opening_refused _ _ _ c.requires _ c.kind_at-c.ensures c.in-8.is _ _ _ c.in_err-x-in-8.ensures _ refl)
 
+pub formula_prefix-returns-then-is_none : goal.formula_prefix-returns-then-is_none
+formula_prefix-returns-then-is_none t c =
+    zeroed_said _ _ _ c.requires _ _ _ _ _ (opening_alone _ _ _ c.requires _ c.kind_at-c.ensures c.in-8.is _ _ _ c.in_ok-x-in-8.ensures (none_found c.follows.ensures (search rules))) c.zeroed.ensures
+
 pub formula_prefix-returns-in_err-y-in-8 : goal.formula_prefix-returns-in_err-y-in-8
 formula_prefix-returns-in_err-y-in-8 t c =
     said_err (search rules) (zeroed_said _ _ _ c.requires _ _ _ _ _ (opening_joined _ _ _ c.requires _ c.kind_at-c.ensures c.in-8.is _ _ _ c.in_ok-x-in-8.ensures _ _ c.in_err-y-in-8.ensures) (refl, refl))
 
 pub formula_prefix-returns-in_ok-y-in-8 : goal.formula_prefix-returns-in_ok-y-in-8
 formula_prefix-returns-in_ok-y-in-8 t c =
-    zeroed_said _ _ _ c.requires _ _ _ _ _ (opening_joined _ _ _ c.requires _ c.kind_at-c.ensures c.in-8.is _ _ _ c.in_ok-x-in-8.ensures _ _ c.in_ok-y-in-8.ensures) c.zeroed.ensures
+    zeroed_said _ _ _ c.requires _ _ _ _ _ (opening_joined _ _ _ c.requires _ c.kind_at-c.ensures c.in-8.is _ _ _ c.in_ok-x-in-8.ensures _ _ c.in_ok-y-in-8.ensures) c.zeroed-in-8.ensures
 
 pub formula_prefix-returns-in-12-to-13 : goal.formula_prefix-returns-in-12-to-13
 formula_prefix-returns-in-12-to-13 t c =
@@ -38,6 +47,14 @@ pub formula_prefix-returns-in_ok-x-in_default : goal.formula_prefix-returns-in_o
 formula_prefix-returns-in_ok-x-in_default t c =
     zeroed_said _ _ _ c.requires _ _ _ _ _ c.in_ok-x-in_default.ensures c.zeroed-in_default.ensures
 
+pub level-returns-then-is_none : goal.level-returns-then-is_none
+level-returns-then-is_none t c =
+    level_alone _ _ _ _ _ _ _ _ _ _ c.requires (sym (c.requires.formula c.if-k-lt4.true)) (omega (arith, c.if-k-lt4.true)) (λ h. omega arith) c.in_ok-x.ensures (none_found c.follows.ensures (search rules))
+
+pub level-returns-then-is_none-2 : goal.level-returns-then-is_none-2
+level-returns-then-is_none-2 t c =
+    level_alone _ _ _ _ _ _ _ _ _ _ c.requires refl c.requires.deep (λ h. omega (arith, h, c.if-k-lt4.false)) c.in_ok-x-2.ensures (none_found c.follows-2.ensures (search rules))
+
 pub level-returns-then-k-lt4 : goal.level-returns-then-k-lt4
 level-returns-then-k-lt4 t c =
     level_said _ _ _ _ _ _ _ _ _ _ _ _ (sym (c.requires.formula c.if-k-lt4.true)) (omega (arith, c.if-k-lt4.true)) c.in_ok-x.ensures c.more.ensures
@@ -46,33 +63,24 @@ pub level-returns : goal.level-returns
 level-returns t c =
     level_said _ _ _ _ _ _ _ _ _ _ _ _ refl c.requires.deep c.in_ok-x-2.ensures c.more-2.ensures
 
-pub more-returns-then-b-k : goal.more-returns-then-b-k
-more-returns-then-b-k t c =
-    more_none _ _ _ _ _ _ _ _ _ c.requires refl c.kind_at-c.ensures c.in-Some.ensures c.if-b-k.true
-
-pub more-returns-in_default : goal.more-returns-in_default
-more-returns-in_default t c =
-    more_none _ _ _ _ _ _ _ 0 _ c.requires refl c.kind_at-c.ensures c.in_default.ensures (omega arith)
-
 pub more-level-requires : goal.more-level-requires
 more-level-requires t c =
-    more_level_asked _ _ _ _ _ _ _ _ (found c.requires refl c.kind_at-c.ensures c.in-Some.ensures c.if-b-k.false) _ c.decreases
+    held_level_asked _ _ _ _ _ _ _ _ c.loop-b.invariant _ _ c.in-Some.ensures c.kind_at-c.ensures _ c.decreases
 
 pub more-returns-in_err-x : goal.more-returns-in_err-x
 more-returns-in_err-x t c =
-    more_err (search rules) (more_said _ _ _ _ _ _ _ _ (found c.requires refl c.kind_at-c.ensures c.in-Some.ensures c.if-b-k.false) _ _ _ c.in_err-x.ensures _ _ (refl, refl) _ _ (more_refused _ _ _ _ _ refl))
+    more_err (search rules) (held_refused _ _ _ _ _ _ _ _ c.loop-b.invariant _ _ c.in-Some.ensures c.kind_at-c.ensures _ _ c.in_err-x.ensures _ _ (refl, refl))
 
-pub more-returns-in_err-y : goal.more-returns-in_err-y
-more-returns-in_err-y t c =
-    more_err (search rules) (more_said _ _ _ _ _ _ _ _ (found c.requires refl c.kind_at-c.ensures c.in-Some.ensures c.if-b-k.false) _ _ _ c.in_ok-x.ensures _ _ c.in_err-y.ensures _ _ (more_refused _ _ _ _ _ refl))
+pub more-returns-in_err-v : goal.more-returns-in_err-v
+more-returns-in_err-v t c =
+    more_err (search rules) (held_refused _ _ _ _ _ _ _ _ c.loop-b.invariant _ _ c.in-Some.ensures c.kind_at-c.ensures _ _ c.in_ok-x.ensures _ _ c.in_err-v.ensures)
 
-pub more-more-requires : goal.more-more-requires
-more-more-requires t c =
-    more_more_asked _ _ _ _ _ _ _ _ (found c.requires refl c.kind_at-c.ensures c.in-Some.ensures c.if-b-k.false) _ _ _ c.in_ok-x.ensures _ _ c.in_ok-y.ensures _ c.decreases
+pub more-loop-b-preserved : goal.more-loop-b-preserved
+more-loop-b-preserved t c =
+    held_next _ _ _ _ _ _ _ _ c.loop-b.invariant _ _ c.in-Some.ensures c.kind_at-c.ensures _ _ c.in_ok-x.ensures _ _ c.in_ok-v.ensures
 
 pub more-returns : goal.more-returns
-more-returns t c =
-    more_said _ _ _ _ _ _ _ _ (found c.requires refl c.kind_at-c.ensures c.in-Some.ensures c.if-b-k.false) _ _ _ c.in_ok-x.ensures _ _ c.in_ok-y.ensures _ _ c.more.ensures
+more-returns t c = held_none _ _ _ _ _ _ _ _ c.loop-b.invariant c.in_default.ensures
 
 pub parenthesis-returns-in_err-x : goal.parenthesis-returns-in_err-x
 parenthesis-returns-in_err-x t c =
